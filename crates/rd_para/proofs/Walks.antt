@@ -10,7 +10,7 @@ use Rattle.rd_text.proofs.Characters.{clash, blank_else, blank_not_ink, newline_
 use Rattle.rd_text.proofs.Searches.{next_before, next_at, ink_after, ink_at, prev_ink_bound, between_at, between_size, all_blank, some_ink, blank_at}
 use Rattle.rd_ucd.specs.declared.spans.Span.{Span}
 use Rattle.rd_para.specs.Paragraphs.{line_level, decided, level_by, levels_of, text_level}
-use Rattle.rd_para.proofs.Cuts.{line_cut, some_line, levels_here, levels_next}
+use Rattle.rd_para.proofs.Cuts.{line_cut, line_cut_at, some_line, levels_here, levels_next}
 
 -- the lines from a position on
 abbrev pub rows : TextValue → ℕ → List (List ℕ)
@@ -319,12 +319,12 @@ ends_itself t right pos low high =
     ]
 
 -- the end of a position's line, and the place behind the last character before it that is no blank
-pub line_bounds : (t : TextValue) (right : IsText t) (pos : ℕ) → t.begin ≤ pos → pos ≤ t.end → let to = next_newline t pos in
-    (pos ≤ to) × (to ≤ t.end) × (t.begin ≤ prev_ink t to) × (prev_ink t to ≤ to)
-line_bounds t right pos low high =
-    let c = line_cut t pos right low high in
+pub line_bounds : (t : TextValue) (right : IsText t) (pos to : ℕ) → t.begin ≤ pos → pos ≤ t.end → to ≡ next_newline t pos
+    → (pos ≤ to) × (to ≤ t.end) × (t.begin ≤ prev_ink t to) × (prev_ink t to ≤ to)
+line_bounds t right pos to low high is =
+    let c = line_cut_at t pos to right low high is in
     let order = c.order in
-    let ink = prev_ink_bound t right (next_newline t pos) (omega arith) c.within in
+    let ink = prev_ink_bound t right to (omega arith) c.within in
     (order, c.within, ink.0, ink.1)
 
 -- the start of a paragraph, by the places that the code finds, stands before the position
@@ -334,7 +334,7 @@ start_before t right pos ink place start low high ink_is place_is begins = elim 
   | inr fine ↦ fine
   | inl past ↦
       let to = next_newline t pos in
-      let (order, within, ink_low, ink_high) = line_bounds t right pos low high in
+      let (order, within, ink_low, ink_high) = line_bounds t right pos to low high refl in
       let b_order = begins.order in
       elim begins.begins [
         | inl is ↦ absurd (omega arith)
@@ -348,7 +348,7 @@ pub paragraph_is : (classes : List Span) (t : TextValue) (right : IsText t) (pos
 paragraph_is classes t right pos ink place start low high ink_is place_is begins p at p_high =
     let first = right.first in
     let to = next_newline t pos in
-    let (order, within, ink_low, ink_high) = line_bounds t right pos low high in
+    let (order, within, ink_low, ink_high) = line_bounds t right pos to low high refl in
     level_is classes t right pos place start low high (omega arith) (omega arith) begins
     (λ k past before. ink_after t right to k (omega arith) within (omega arith) (omega arith) before)
     (elim (cases_lt t.begin (prev_ink t to)) [

@@ -17,10 +17,9 @@ within : (c : goal.After-next_newline-to) → Within c.args.text.now c.args.pos 
 within c =
     let t = c.args.text.now in
     let right = c.begin-begin.ensures.right in
-    let is = c.next_newline-to.ensures in
     let first = right.first in
     let low = c.requires.0 in
-    let (order, last, ink_low, ink_high) = line_bounds t right c.args.pos low c.requires.1 in
+    let (order, last, ink_low, ink_high) = line_bounds t right c.args.pos c.next_newline-to.result low c.requires.1 c.next_newline-to.ensures in
     record {
       order = omega arith;
       low = omega arith;
