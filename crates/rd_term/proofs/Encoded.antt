@@ -1,5 +1,5 @@
 -- The bytes of a character, read by a terminal that stands between two sequences.
-use Rattle.std.proofs.Common.{◌≡◌, ℕ, ◌+◌, ◌-◌, ◌*◌, ◌/◌, ◌%◌, ◌<◌, ◌≤◌, ◌==◌, Bool, true, false, nat_lt, nat_le, List, [], ◌∷◌, Option, Some, refl, sym, ap, ◌∙◌, arith, inl, inr}
+use Rattle.std.proofs.Common.{◌≡◌, ℕ, ◌+◌, ◌*◌, ◌/◌, ◌%◌, ◌<◌, ◌≤◌, ◌==◌, Bool, true, false, nat_lt, nat_le, List, [], ◌∷◌, Option, Some, refl, sym, ap, ◌∙◌, arith, inl, inr}
 use Rattle.std.specs.Char.{encode_utf8}
 use Rattle.std.proofs.lemmas.Bool.{cases_lt, cases_eq, le-ltb, ne_eqb}
 use Rattle.std.proofs.lemmas.Bool.Decides.{nat_tests}
@@ -80,36 +80,13 @@ four-fed region rows cursor wait pen latest code a b c d bits low high p q e l h
 -- ---- first bytes
 
 begun-two : (n : ℕ) → 2 ≤ n → n < 32 → begun (192 + n) ≡ read n 1 128 191
-begun-two n low high =
-    let e : 192 + n - 192 ≡ n = omega arith in
-    let t : nat_le 194 (192 + n) ≡ true = grind (arith, nat_tests) in
-    let u : nat_le (192 + n) 223 ≡ true = grind (arith, nat_tests) in
-    rw (t, u, e) refl
+begun-two n low high = grind (arith, nat_tests)
 
 begun-three : (n : ℕ) → 1 ≤ n → n < 16 → (n == 13) ≡ false → begun (224 + n) ≡ read n 2 128 191
-begun-three n low high other =
-    let e : 224 + n - 224 ≡ n = omega arith in
-    let t : nat_le 194 (224 + n) ≡ true = grind (arith, nat_tests) in
-    let u : nat_le (224 + n) 223 ≡ false = grind (arith, nat_tests) in
-    let v : (224 + n == 224) ≡ false = grind (arith, nat_tests) in
-    let w : (224 + n == 237) ≡ false = grind (arith, nat_tests) in
-    let x : nat_le 225 (224 + n) ≡ true = grind (arith, nat_tests) in
-    let y : nat_le (224 + n) 239 ≡ true = grind (arith, nat_tests) in
-    rw (t, u, v, w, x, y, e) refl
+begun-three n low high other = grind (arith, nat_tests)
 
 begun-four : (n : ℕ) → 1 ≤ n → n < 4 → begun (240 + n) ≡ read n 3 128 191
-begun-four n low high =
-    let e : 240 + n - 240 ≡ n = omega arith in
-    let t : nat_le 194 (240 + n) ≡ true = grind (arith, nat_tests) in
-    let u : nat_le (240 + n) 223 ≡ false = grind (arith, nat_tests) in
-    let v : (240 + n == 224) ≡ false = grind (arith, nat_tests) in
-    let w : (240 + n == 237) ≡ false = grind (arith, nat_tests) in
-    let x : nat_le 225 (240 + n) ≡ true = grind (arith, nat_tests) in
-    let y : nat_le (240 + n) 239 ≡ false = grind (arith, nat_tests) in
-    let z : (240 + n == 240) ≡ false = grind (arith, nat_tests) in
-    let i : nat_le 241 (240 + n) ≡ true = grind (arith, nat_tests) in
-    let j : nat_le (240 + n) 243 ≡ true = grind (arith, nat_tests) in
-    rw (t, u, v, w, x, y, z, i, j, e) refl
+begun-four n low high = grind (arith, nat_tests)
 
 -- ---- all characters
 
