@@ -1,5 +1,5 @@
 -- Between a position and its next stop nothing changes, nor from the last stop up to a position.
-use Rattle.std.proofs.Common.{◌≡◌, ◌⊎◌, inl, inr, ℕ, ◌+◌, ◌<◌, ◌≤◌, Bool, false, if◌then◌else◌, List, [], Option, None, Some, refl, sym, ap, ◌∙◌, arith}
+use Rattle.std.proofs.Common.{◌≡◌, ◌⊎◌, inl, inr, ℕ, ◌+◌, ◌<◌, ◌≤◌, Bool, true, false, nat_lt, if◌then◌else◌, List, [], Option, None, Some, refl, sym, ap, ◌∙◌, arith}
 use Rattle.std.proofs.lemmas.Bool.Decides.{nat_tests}
 use Rattle.std.proofs.lemmas.Bool.{lt-ltb}
 use Rattle.rd_overlays.specs.declared.overlay.Overlay.{Overlay}
@@ -60,23 +60,17 @@ module _ (agree : ListingsAgree) (s : BufferValue) (p stop q : ℕ) (next : IsQu
       let parts = outside k o lives in
       covers-by p q o later parts.0 parts.1))
 
+  here : nat_lt q s.text.end ≡ true
+  here = let within = next.within in lt-ltb q s.text.end (omega arith)
+
+  first : nat_lt p s.text.end ≡ true
+  first = let within = next.within in lt-ltb p s.text.end (omega arith)
+
   value-same : (kind : Kind) → effective s q kind ≡ effective s p kind
-  value-same kind =
-      let same = covering-same in
-      let property = next.same q later before (place_of kind) in
-      let within = next.within in
-      let here = lt-ltb q s.text.end (omega arith) in
-      let first = lt-ltb p s.text.end (omega arith) in
-      rw (here, first, same, property)
+  value-same kind = rw (here, first, covering-same, next.same q later before (place_of kind)) refl
 
   face-same : (objects : ObjectLists) → face_at s objects q ≡ face_at s objects p
-  face-same objects =
-      let same = covering-same in
-      let property = next.same q later before (place_of Face) in
-      let within = next.within in
-      let here = lt-ltb q s.text.end (omega arith) in
-      let first = lt-ltb p s.text.end (omega arith) in
-      rw (here, first, same, property)
+  face-same objects = rw (here, first, covering-same, next.same q later before (place_of Face)) refl
 
   appearance-same : (objects : ObjectLists) → appearance_in (seen_at s objects q) ≡ appearance_in (seen_at s objects p)
   appearance-same objects = λ i. record {
