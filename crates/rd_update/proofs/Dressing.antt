@@ -1,5 +1,5 @@
 -- What renditions do to the pen.
-use Rattle.std.proofs.Common.{◌≡◌, if◌then◌else◌, ℕ, ◌+◌, ◌-◌, ◌<◌, ◌≤◌, ◌==◌, ◌&&◌, Bool, true, false, not, nat_lt, List, [], ◌++◌, length, Option, None, Some, inl, inr, refl, sym, ap, ◌∙◌, arith, append-nil}
+use Rattle.std.proofs.Common.{◌≡◌, if◌then◌else◌, ℕ, ◌+◌, ◌<◌, ◌≤◌, ◌==◌, ◌&&◌, Bool, true, false, not, List, [], ◌++◌, length, Option, None, Some, inl, inr, refl, sym, ap, ◌∙◌, arith, append-nil}
 use Rattle.std.specs.List.{AllByRecursion}
 use Rattle.std.proofs.lemmas.Bool.{cases_eq}
 use Rattle.std.proofs.lemmas.Bool.Decides.{nat_tests}
@@ -28,26 +28,11 @@ flags-pen true false true rest = refl
 flags-pen true true false rest = refl
 flags-pen true true true rest = refl
 
--- a number behind those of the flags
-dressed-colour : (k : ℕ) (f : Attributes) → 8 ≤ k → dressed k f ≡ (if nat_lt k 40 then record f { fg = k - 30 } else record f { bg = k - 40 })
-dressed-colour k f le =
-    let reset : (k == 0) ≡ false = grind (arith, nat_tests) in
-    let bold : (k == 1) ≡ false = grind (arith, nat_tests) in
-    let underline : (k == 4) ≡ false = grind (arith, nat_tests) in
-    let inverse : (k == 7) ≡ false = grind (arith, nat_tests) in
-    rw (reset, bold, underline, inverse) refl
-
 front-dressed : (n : ℕ) (f : Attributes) → n < 8 → dressed (30 + n) f ≡ record f { fg = n }
-front-dressed n f lt =
-    let front : nat_lt (30 + n) 40 ≡ true = grind (arith, nat_tests) in
-    let colour : 30 + n - 30 ≡ n = omega arith in
-    dressed-colour (30 + n) f (omega arith) ∙ rw (front, colour) refl
+front-dressed n f lt = grind (arith, nat_tests)
 
 back-dressed : (n : ℕ) (f : Attributes) → n < 8 → dressed (40 + n) f ≡ record f { bg = n }
-back-dressed n f lt =
-    let back : nat_lt (40 + n) 40 ≡ false = grind (arith, nat_tests) in
-    let colour : 40 + n - 40 ≡ n = omega arith in
-    dressed-colour (40 + n) f (omega arith) ∙ rw (back, colour) refl
+back-dressed n f lt = grind (arith, nat_tests)
 
 -- a colour's number changes the pen unless the colour is the terminal's own
 colour-pen : (base n : ℕ) (rest : List ℕ) (f : Attributes) (with_colour : ℕ → Attributes) → n ≤ 8 → f ≡ with_colour 8 → ((k : ℕ) → k < 8 → dressed (base + k) f ≡ with_colour k)
