@@ -1,5 +1,5 @@
 -- The faces of lines and prefixes have their colours in range, where those that are read and those of all objects have.
-use Rattle.std.proofs.Common.{ℕ, suc, zero, ◌+◌, ◌==◌, Bool, true, false, List, [], ◌∷◌, ◌++◌, length, ◌-◌, map, Option, None, Some, All, IfSome}
+use Rattle.std.proofs.Common.{ℕ, ◌==◌, Bool, true, false, List, [], ◌∷◌, ◌++◌, length, ◌-◌, map, Option, None, Some, All, IfSome}
 use Rattle.std.specs.Prelude.{if◌then◌else◌, slice_get}
 use Rattle.std.specs.List.{flat_map, range_with_len, AllByRecursion}
 use Rattle.std.proofs.lemmas.Bool.{cond_both}
@@ -25,8 +25,8 @@ use Rattle.rd_props.specs.Seen.{Seen}
 use Rattle.rd_props.specs.declared.hiding.Hidden.{Hidden}
 use Rattle.rd_props.specs.declared.hiding.Hidden.TheVariants.{No, Plain, Ellipsis}
 use Rattle.rd_items.specs.Readings.{showing_of}
-use Rattle.rd_items.specs.Pieces.{Scene, same_spec, spec_in, string_pieces, spec_piece, char_piece, ender_piece, open_piece, unreplaced_piece, piece_by, piece_at, run_in, pieces_from}
-use Rattle.rd_items.specs.Items.{piece_joins, items_by, covered_to, covering, items_of}
+use Rattle.rd_items.specs.Pieces.{Scene, same_spec, spec_in, string_pieces, spec_piece, char_piece, ender_piece, open_piece, unreplaced_piece, piece_by}
+use Rattle.rd_items.specs.Items.{piece_joins, items_by, items_of}
 use Rattle.rd_items.specs.declared.item.Item.{Item}
 use Rattle.rd_items.specs.declared.item.ItemKind.{ItemKind}
 use Rattle.rd_items.specs.declared.item.ItemKind.TheVariants as item
@@ -38,6 +38,7 @@ use Rattle.rd_stack.specs.Lines.{ellipsis_glyphs, text_elements, item_elements_b
 use Rattle.rd_stack.specs.declared.part.Place.{Place}
 use Rattle.rd_stack.specs.declared.part.Part.{Part}
 use Rattle.rd_stack.specs.declared.part.Shown.{Shown}
+use Rattle.rd_stack.proofs.EachItem.{items-each}
 use Rattle.rd_stack.specs.declared.part.PartKind.{PartKind}
 use Rattle.rd_stack.specs.declared.part.PartKind.TheVariants as kind
 use Rattle.rd_stack.proofs.Good.{found-by, found}
@@ -164,16 +165,6 @@ module _ (s : Scene) where
   piece-coloured (Some n) hidden face ch p to h = spec-pieced (spec_in s.objects n) face p to h
   piece-coloured None hidden face ch p to h = unreplaced-pieced hidden face ch p to h
 
-  pieces-coloured : (due k : ℕ) (es : List Seen) → AllByRecursion (λ (e : Seen). HasColours e.face) es → AllByRecursion PieceColours (pieces_from s due k es)
-  pieces-coloured due k [] all = tt
-  pieces-coloured (suc due) k (e ∷ es) all = pieces-coloured due (suc k) es all.1
-  pieces-coloured zero k (e ∷ es) all =
-      let showing = showing_of s.parts.settings.invisible e in
-      let to = suc k + run_in s e es in
-      each-append PieceColours (string_pieces k e.face e.strings) (piece_at s showing e.character k to ∷ pieces_from s (run_in s e es) (suc k) es)
-      (strings-pieced k e.face e.strings all.0)
-      (piece-coloured showing.display showing.hidden showing.face e.character k to all.0, pieces-coloured (run_in s e es) (suc k) es all.1)
-
   pieces-grow : Grows piece_joins PieceColours
   pieces-grow held next glyph these those e = these
 
@@ -181,14 +172,10 @@ module _ (s : Scene) where
   by-kind since x None h = tt
   by-kind since x (Some k) h = (h, tt)
 
-  covering-coloured : (since : ℕ) (xs : List Piece) → AllByRecursion PieceColours xs → AllByRecursion ItemColours (covering since xs)
-  covering-coloured since [] all = tt
-  covering-coloured since (x ∷ xs) all =
-      each-append ItemColours (items_by x.kind since x) (covering (covered_to since x) xs) (by-kind since x x.kind all.0) (covering-coloured (covered_to since x) xs all.1)
-
   items-coloured : (es : List Seen) → AllByRecursion (λ (e : Seen). HasColours e.face) es → AllByRecursion ItemColours (items_of s es)
-  items-coloured es all =
-      covering-coloured 0 (marks_joined piece_joins (pieces_from s 0 0 es)) (marks_joined-all piece_joins PieceColours pieces-grow (pieces_from s 0 0 es) (pieces-coloured 0 0 es all))
+  items-coloured = items-each s PieceColours ItemColours (λ (e : Seen). HasColours e.face) (λ k e h. strings-pieced k e.face e.strings h)
+      (λ k to e h. let showing = showing_of s.parts.settings.invisible e in piece-coloured showing.display showing.hidden showing.face e.character k to h)
+      pieces-grow (λ since x h. by-kind since x x.kind h)
 
 -- ---- lines and prefixes
 

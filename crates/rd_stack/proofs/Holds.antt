@@ -3,7 +3,6 @@ use Rattle.std.proofs.Common.{◌≡◌, ℕ, zero, suc, ◌+◌, ◌≤◌, Lis
 use Rattle.std.specs.List.{AllByRecursion}
 use Rattle.std.proofs.lemmas.List.{length-map}
 use Rattle.std.proofs.lemmas.Bool.{cond_both}
-use Rattle.rd_base.proofs.Lists.{each-append}
 use Rattle.rd_base.specs.Faces.{Attributes}
 use Rattle.rd_base.specs.declared.cell.Glyph.{Glyph}
 use Rattle.rd_base.specs.declared.class.Class.{Class}
@@ -12,7 +11,7 @@ use Rattle.rd_objects.specs.declared.run.Spec.{Spec}
 use Rattle.rd_objects.specs.declared.run.Spec.TheVariants.{Text, Width, Align}
 use Rattle.rd_text.specs.Texts.{is_newline}
 use Rattle.rd_glyphs.specs.Marks.{marks_joined}
-use Rattle.rd_glyphs.proofs.Joined.{Grows, marks_joined-all}
+use Rattle.rd_glyphs.proofs.Joined.{Grows}
 use Rattle.rd_props.specs.Seen.{Seen}
 use Rattle.rd_props.specs.declared.hiding.Hidden.{Hidden}
 use Rattle.rd_props.specs.declared.hiding.Hidden.TheVariants.{No, Plain, Ellipsis}
@@ -24,6 +23,7 @@ use Rattle.rd_items.specs.declared.item.ItemKind.{ItemKind}
 use Rattle.rd_items.specs.declared.item.ItemKind.TheVariants as kind
 use Rattle.rd_items.specs.declared.piece.Piece.{Piece}
 use Rattle.rd_stack.specs.Limits.{strings_in}
+use Rattle.rd_stack.proofs.EachItem.{items-each}
 use Rattle.rd_stack.proofs.Joined.{marks_joined-few}
 
 -- what holds of whatever a position can give, where its character is one of these
@@ -63,16 +63,6 @@ module _ (R : Class → ItemKind → Type 0) (C : ℕ → Type 0) (s : Scene) (g
   piece-holds (Some n) hidden face ch p to code = spec-holds n (spec_in s.objects n) face p to refl
   piece-holds None hidden face ch p to code = unreplaced-holds hidden face ch p to code
 
-  pieces-hold : (due k : ℕ) (es : List Seen) → AllByRecursion (λ (e : Seen). IfSome e.character C) es → AllByRecursion Holds (pieces_from s due k es)
-  pieces-hold due k [] codes = tt
-  pieces-hold (suc due) k (e ∷ es) codes = pieces-hold due (suc k) es codes.1
-  pieces-hold zero k (e ∷ es) codes =
-      let showing = showing_of s.parts.settings.invisible e in
-      let to = suc k + run_in s e es in
-      each-append Holds (string_pieces k e.face e.strings) (piece_at s showing e.character k to ∷ pieces_from s (run_in s e es) (suc k) es)
-      (strings-hold k e.face e.strings)
-      (piece-holds showing.display showing.hidden showing.face e.character k to codes.0, pieces-hold (run_in s e es) (suc k) es codes.1)
-
   grows : Grows piece_joins Holds
   grows held next glyph these those e = gives.marked held.class glyph
 
@@ -80,14 +70,10 @@ module _ (R : Class → ItemKind → Type 0) (C : ℕ → Type 0) (s : Scene) (g
   by-holds since x None holds = tt
   by-holds since x (Some k) holds = (holds, tt)
 
-  covering-holds : (since : ℕ) (xs : List Piece) → AllByRecursion Holds xs → AllByRecursion (λ (i : Item). R i.class i.kind) (covering since xs)
-  covering-holds since [] all = tt
-  covering-holds since (x ∷ xs) all =
-      each-append (λ (i : Item). R i.class i.kind) (items_by x.kind since x) (covering (covered_to since x) xs) (by-holds since x x.kind all.0) (covering-holds (covered_to since x) xs all.1)
-
   pub items-hold : (es : List Seen) → AllByRecursion (λ (e : Seen). IfSome e.character C) es → AllByRecursion (λ (i : Item). R i.class i.kind) (items_of s es)
-  items-hold es codes =
-      covering-holds 0 (marks_joined piece_joins (pieces_from s 0 0 es)) (marks_joined-all piece_joins Holds grows (pieces_from s 0 0 es) (pieces-hold 0 0 es codes))
+  items-hold = items-each s Holds (λ (i : Item). R i.class i.kind) (λ (e : Seen). IfSome e.character C) (λ k e code. strings-hold k e.face e.strings)
+      (λ k to e code. let showing = showing_of s.parts.settings.invisible e in piece-holds showing.display showing.hidden showing.face e.character k to code)
+      grows (λ since x holds. by-holds since x x.kind holds)
 
 -- whatever is read
 pub all-read : (es : List Seen) → AllByRecursion (λ (e : Seen). IfSome e.character (λ c. Unit {0})) es

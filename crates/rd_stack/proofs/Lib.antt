@@ -11,6 +11,7 @@ mod Joined
 mod TurnCounts
 mod Good
 mod Parts
+mod EachItem
 mod Holds
 mod Sound
 mod Codes

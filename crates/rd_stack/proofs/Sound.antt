@@ -1,7 +1,7 @@
 -- The elements of strings and of items of sound objects are sound and measured, and take few columns.
 use Rattle.std.proofs.Common.{◌≡◌, ℕ, ◌*◌, ◌≤◌, ◌^◌, ◌<◌, Bool, true, false, IsTrue, List, [], ◌∷◌, length, map, Option, None, Some, All, IfSome, refl, subst, ◌∙◌, arith}
 use Rattle.std.specs.Prelude.{slice_get, slice_index_or, replicate, if◌then◌else◌, unwrap_or}
-use Rattle.std.specs.List.{AllByRecursion}
+use Rattle.std.specs.List.{flat_map, AllByRecursion}
 use Rattle.std.proofs.Math.Nat.{mul-le-mul_right}
 use Rattle.std.proofs.lemmas.List.{length-map}
 use Rattle.std.proofs.lemmas.List.Elements.{All-from_recursion, recursion_from_All}
@@ -39,6 +39,7 @@ use Rattle.rd_stack.specs.Lines.{ellipsis_glyphs, text_elements, item_elements_b
 use Rattle.rd_stack.specs.Limits.{AreFew, AreRightWithin, most_display_columns, most_overlay_columns, most_columns}
 use Rattle.rd_stack.specs.declared.part.PartKind.{PartKind}
 use Rattle.rd_stack.specs.declared.part.PartKind.TheVariants as kind
+use Rattle.rd_stack.specs.declared.part.Shown.{Shown}
 use Rattle.rd_stack.proofs.Ends.{before-each}
 use Rattle.rd_stack.proofs.Good.{both-right, good-nil, good-one, good-more, good-each, found}
 use Rattle.rd_stack.proofs.Holds.{Gives, items-hold, all-read, items-few}
@@ -171,16 +172,18 @@ module _ (laws : GlyphLaws) (marks : MarkLaws) (levels : LevelsLaw) (s : Scene) 
 
   -- ---- strings
 
-  many : (n most : ℕ) (es : List Element) → n ≤ STRING_CHARACTERS → AreRightWithin (n * most) es → AreRightWithin (STRING_CHARACTERS * most) es
-  many n most es few good = good-more (n * most) (STRING_CHARACTERS * most) es (mul-le-mul_right most few) good
+  -- a string whose parts are good, whether its display runs are used or not
+  parts-good : (replaced : Bool) (f : Shown → List Element) (most : ℕ) → ((x : Shown) → IsFitShown x → AreRightWithin most (f x)) → (under : Attributes) (text : TextValue) → IsString text
+      → AreRightWithin (STRING_CHARACTERS * most) (flat_map f (string_parts s base replaced text under))
+  parts-good replaced f most each under text is =
+      let xs = string_parts s base replaced text under in
+      let fit = string-fit marks levels s base sound replaced text under is in
+      good-more (length xs * most) (STRING_CHARACTERS * most) (flat_map f xs) (mul-le-mul_right most fit.few) (good-each f IsFitShown most each xs fit.each)
 
   display-good : (origin : Origin) (under : Attributes) (text : Option TextValue) → IfSome text (λ t. IsString t) → AreRightWithin most_display_columns (display_elements s base origin under text)
   display-good origin under None is = good-nil most_display_columns
   display-good origin under (Some text) is =
-      let xs = string_parts s base false text under in
-      let fit = string-fit marks levels s base sound false text under is in
-      many (length xs) SPACE_COLUMNS (display_elements s base origin under (Some text)) fit.few
-      (good-each (display_part_elements s origin) IsFitShown SPACE_COLUMNS (λ x own. part-good x.kind x.face x.odd origin own) xs fit.each)
+      parts-good false (display_part_elements s origin) SPACE_COLUMNS (λ x own. part-good x.kind x.face x.odd origin own) under text is
 
   string-at : (n : ℕ) → IfSome (slice_get s.objects.strings n) (λ t. IsString t)
   string-at n = found (λ (t : TextValue). IsString t) s.objects.strings n sound.strings
@@ -199,10 +202,7 @@ module _ (laws : GlyphLaws) (marks : MarkLaws) (levels : LevelsLaw) (s : Scene) 
   overlay-good : (origin : Origin) (under : Attributes) (text : Option TextValue) → IfSome text (λ t. IsString t) → AreRightWithin most_overlay_columns (overlay_elements s base origin under text)
   overlay-good origin under None is = good-nil most_overlay_columns
   overlay-good origin under (Some text) is =
-      let xs = string_parts s base true text under in
-      let fit = string-fit marks levels s base sound true text under is in
-      many (length xs) most_display_columns (overlay_elements s base origin under (Some text)) fit.few
-      (good-each (overlay_part_elements s base origin) IsFitShown most_display_columns (λ x own. overlay-part origin x.kind x.face x.odd own) xs fit.each)
+      parts-good true (overlay_part_elements s base origin) most_display_columns (λ x own. overlay-part origin x.kind x.face x.odd own) under text is
 
   -- ---- items
 

@@ -1,5 +1,5 @@
 //! The steps of strings.
-ghost use Rattle.std.specs.Prelude.{◌≡◌, ◌≤◌, ◌∷◌, [], true, IfOk};
+ghost use Rattle.std.specs.Prelude.{◌≡◌, ◌≤◌, ◌∷◌, [], IfOk};
 ghost use Rattle.rd_items.specs.Pieces.{scene_of};
 ghost use Rattle.rd_stack.specs.Shown.{kind_elements};
 ghost use Rattle.rd_stack.specs.Steps.{part_steps};
@@ -62,7 +62,8 @@ impl<'a> StringFrame<'a> {
     }
 }
 
-/// The step of a part of a string, whose display runs are used where `replaced` is set.
+/// The step of a part of a string: where a display run of it names a string and display runs are used, which `replaced` says, that string
+/// is entered.
 fn step_of<'a>(
     alloc: Global,
     view: &View<'a>,
@@ -76,27 +77,8 @@ fn step_of<'a>(
     requires few { few.old ≡ [] }
     ensures { IfOk result (λ step. IsStep step few.new (part_steps (scene_of view.now) base replaced origin part.now) []) }
 {
-    if replaced {
-        return overlay_part_step(alloc, view, base, origin, part, few);
-    }
-    display_part_step(alloc, view, origin, part, few)
-}
-
-/// The step of a part of a string whose display runs are used: where a run names a string, that one is entered.
-fn overlay_part_step<'a>(
-    alloc: Global,
-    view: &View<'a>,
-    base: u8,
-    origin: Origin,
-    part: &Shown,
-    few: &mut Few,
-) -> Result<Step<'a>, Memory>
-    requires base { base ≤ 1 }
-    requires few { few.old ≡ [] }
-    ensures { IfOk result (λ step. IsStep step few.new (part_steps (scene_of view.now) base true origin part.now) []) }
-{
     match part.kind {
-        PartKind::Replaced(Spec::Text(number)) => Ok(Step::Enters(Entrance {
+        PartKind::Replaced(Spec::Text(number)) if replaced => Ok(Step::Enters(Entrance {
             view: *view,
             base,
             replaced: false,
