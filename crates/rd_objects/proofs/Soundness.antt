@@ -50,8 +50,9 @@ no_spec_fault o spec e =
     let b = none-chosen (nat_le 4096 (length o.specs)) _ _ a.1 in
     (not-false (is_spec_made o spec) a.0, let p = b.0 in grind (arith, nat_tests))
 
-pushed : {X : Type 0} (xs : List X) (x : X) (most : ℕ) → length xs < most → length (xs ++ x ∷ []) ≤ most
-pushed xs x most p = omega (arith, length-append xs (x ∷ []))
+-- one more of a kind of objects of which there can be so many
+pushed : {X : Type 0} (P : X → Type 0) (most : ℕ) (xs : List X) (x : X) → All P xs → P x → length xs < most → All P (xs ++ x ∷ []) × (length (xs ++ x ∷ []) ≤ most)
+pushed P most xs x right new few = (All-push P xs x right new, omega (arith, length-append xs (x ∷ [])))
 
 pushed_one : {X : Type 0} (xs : List X) (x : X) → length xs ≤ length (xs ++ x ∷ [])
 pushed_one xs x = omega (arith, length-append xs (x ∷ []))
@@ -89,55 +90,40 @@ nothing_sound = record {
   few_tables = omega arith;
 }
 
+-- all objects, kind by kind
+objects : (o : ObjectLists) → All IsString o.strings × (length o.strings ≤ 4096) → All IsSmallSpec o.specs × (length o.specs ≤ 4096)
+    → All HasColours o.faces × (length o.faces ≤ 1024) → All IsTable o.tables × (length o.tables ≤ 64) → AreObjects o
+objects o strings specs faces tables = record {
+  strings = strings.0;
+  specs = specs.0;
+  faces = faces.0;
+  tables = tables.0;
+  few_strings = strings.1;
+  few_specs = specs.1;
+  few_faces = faces.1;
+  few_tables = tables.1;
+}
+
 pub string_keeps : (o : ObjectLists) (chars : List ℕ) (runs : List Run) → AreCodes chars → string_fault o chars runs ≡ None → AreObjects o → AreObjects (string_added o chars runs)
 string_keeps o chars runs codes e sound =
     let f = no_string_fault o chars runs e in
-    record {
-      strings = All-push IsString o.strings (text_of chars runs o.faces) sound.strings (string_sound o chars runs codes f.short sound);
-      specs = sound.specs;
-      faces = sound.faces;
-      tables = sound.tables;
-      few_strings = pushed o.strings (text_of chars runs o.faces) 4096 f.few;
-      few_specs = sound.few_specs;
-      few_faces = sound.few_faces;
-      few_tables = sound.few_tables;
-    }
+    let strings = pushed IsString 4096 o.strings (text_of chars runs o.faces) sound.strings (string_sound o chars runs codes f.short sound) f.few in
+    objects (string_added o chars runs) strings (sound.specs, sound.few_specs) (sound.faces, sound.few_faces) (sound.tables, sound.few_tables)
 
 pub spec_keeps : (o : ObjectLists) (spec : Spec) → IsSmallSpec spec → spec_fault o spec ≡ None → AreObjects o → AreObjects (spec_added o spec)
-spec_keeps o spec small e sound = record {
-  strings = sound.strings;
-  specs = All-push IsSmallSpec o.specs spec sound.specs small;
-  faces = sound.faces;
-  tables = sound.tables;
-  few_strings = sound.few_strings;
-  few_specs = pushed o.specs spec 4096 (no_spec_fault o spec e).1;
-  few_faces = sound.few_faces;
-  few_tables = sound.few_tables;
-}
+spec_keeps o spec small e sound =
+    let specs = pushed IsSmallSpec 4096 o.specs spec sound.specs small (no_spec_fault o spec e).1 in
+    objects (spec_added o spec) (sound.strings, sound.few_strings) specs (sound.faces, sound.few_faces) (sound.tables, sound.few_tables)
 
 pub face_keeps : (o : ObjectLists) (face : Attributes) → HasColours face → full_fault 1024 (length o.faces) ≡ None → AreObjects o → AreObjects (face_added o face)
-face_keeps o face colours e sound = record {
-  strings = sound.strings;
-  specs = sound.specs;
-  faces = All-push HasColours o.faces face sound.faces colours;
-  tables = sound.tables;
-  few_strings = sound.few_strings;
-  few_specs = sound.few_specs;
-  few_faces = pushed o.faces face 1024 (not_full 1024 (length o.faces) e);
-  few_tables = sound.few_tables;
-}
+face_keeps o face colours e sound =
+    let faces = pushed HasColours 1024 o.faces face sound.faces colours (not_full 1024 (length o.faces) e) in
+    objects (face_added o face) (sound.strings, sound.few_strings) (sound.specs, sound.few_specs) faces (sound.tables, sound.few_tables)
 
 pub table_keeps : (o : ObjectLists) (table : TableValue) → IsTable table → full_fault 64 (length o.tables) ≡ None → AreObjects o → AreObjects (table_added o table)
-table_keeps o table right e sound = record {
-  strings = sound.strings;
-  specs = sound.specs;
-  faces = sound.faces;
-  tables = All-push IsTable o.tables table sound.tables right;
-  few_strings = sound.few_strings;
-  few_specs = sound.few_specs;
-  few_faces = sound.few_faces;
-  few_tables = pushed o.tables table 64 (not_full 64 (length o.tables) e);
-}
+table_keeps o table right e sound =
+    let tables = pushed IsTable 64 o.tables table sound.tables right (not_full 64 (length o.tables) e) in
+    objects (table_added o table) (sound.strings, sound.few_strings) (sound.specs, sound.few_specs) (sound.faces, sound.few_faces) tables
 
 -- the specs that runs name were made
 run_closed : (kind : RunKind) (o : ObjectLists) (run : Run) (runs : List (RunOf ℕ)) → is_numbered kind (length o.faces) (length o.specs) run.value ≡ true → AllByRecursion (λ run. run.value < length o.specs) runs → AllByRecursion (λ run. run.value < length o.specs) (with_run run (spec_by kind run.value) runs)
