@@ -1,14 +1,13 @@
 -- The gap moves, and what is kept of the stretches goes with it.
 use Rattle.std.proofs.Common.{◌≡◌, ℕ, ◌+◌, ◌-◌, ◌*◌, ◌<◌, ◌≤◌, List, ◌++◌, length, get_or, take, drop, sym, ap, subst, ◌∙◌, arith}
 use Rattle.std.specs.Prelude.{IsTrue, slice_range}
-use Rattle.std.specs.List.{CopiedTo, SameBelow, SameFrom}
 use Rattle.std.proofs.lemmas.Bool.{cases_lt}
 use Rattle.std.proofs.Common.{get_or-set_same, get_or-set_other, set, inl, inr}
 use Rattle.std.proofs.lemmas.Bool.{cases_eq}
 use Rattle.std.proofs.lemmas.List.{ext_get_or, take_at, drop_at, drop-drop, length-take-le, length-append, length-drop, append_assoc, get_or_append_left, get_or-append_right, get_or-take, get_or-drop}
 use Rattle.rd_base.specs.Chars.{is_code}
 use Rattle.rd_text.specs.Stretches.{summary}
-use Rattle.rd_text.specs.Gaps.{IsGapped, IsRecounted}
+use Rattle.rd_text.specs.Gaps.{IsGapped, IsCopied, IsRecounted}
 use Rattle.rd_text.specs.declared.stretch.Stretch.{Stretch}
 use Rattle.rd_text.proofs.Ranges.{range_same, length-gap, gap_front, gap_back}
 
@@ -18,13 +17,6 @@ stays : (old new : List ℕ) (k : ℕ) → length new ≡ length old → k * 102
 stays old new k size within same =
     ap summary (sym (range_same new old (k * 1024) (k * 1024 + 1024) (k * 1024) (k * 1024 + 1024) (omega arith) (omega arith) (omega arith) (omega arith) within
     (λ i less. same (k * 1024 + i) (omega arith) (omega arith))))
-
--- codes of which some were copied to another place
-pub record IsCopied (old new : List ℕ) (src dest n : ℕ) : Type 0 where
-  pub size : length new ≡ length old
-  pub copied : CopiedTo old new src dest n
-  pub below : SameBelow old new dest
-  pub from : SameFrom old new (dest + n)
 
 -- codes that were copied are codes
 copied_codes : (old new : List ℕ) (src dest n : ℕ) → IsCopied old new src dest n

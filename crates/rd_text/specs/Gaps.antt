@@ -1,5 +1,6 @@
 -- A text with a gap in it.
 use Rattle.std.specs.Prelude.{◌≡◌, ℕ, ◌+◌, ◌*◌, ◌<◌, ◌≤◌, IsTrue, List, ◌++◌, length, take, drop, slice_index, slice_index_or, slice_range}
+use Rattle.std.specs.List.{CopiedTo, SameBelow, SameFrom}
 use Rattle.rd_base.specs.Chars.{is_code}
 use Rattle.rd_text.specs.Texts.{most_characters}
 use Rattle.rd_text.specs.Stretches.{summary}
@@ -41,3 +42,10 @@ pub record IsRecounted (codes : List ℕ) (old new : List Stretch) (first last :
   pub counted : (k : ℕ) (d : Stretch) → first ≤ k → k < last → slice_index_or new k d ≡ summary (slice_range codes (k * 1024) (k * 1024 + 1024))
   pub below : (k : ℕ) (d : Stretch) → k < first → slice_index_or new k d ≡ slice_index_or old k d
   pub above : (k : ℕ) (d : Stretch) → last ≤ k → slice_index_or new k d ≡ slice_index_or old k d
+
+-- codes of which some were copied to another place
+pub record IsCopied (old new : List ℕ) (src dest n : ℕ) : Type 0 where
+  pub size : length new ≡ length old
+  pub copied : CopiedTo old new src dest n
+  pub below : SameBelow old new dest
+  pub from : SameFrom old new (dest + n)

@@ -1,8 +1,8 @@
 //! A text with a gap in it, where it is edited.
-ghost use Rattle.std.specs.Prelude.{◌≡◌, ℕ, ◌+◌, ◌*◌, ◌<◌, ◌≤◌, ◌++◌, IsTrue, OnOk, OnErr, [], length, take, drop, slice_index};
+ghost use Rattle.std.specs.Prelude.{◌≡◌, ℕ, ◌+◌, ◌-◌, ◌*◌, ◌<◌, ◌≤◌, ◌++◌, IsTrue, OnOk, OnErr, [], length, take, drop, slice_index};
 ghost use Rattle.rd_base.specs.Chars.{is_code};
 ghost use Rattle.rd_text.specs.Texts.{most_characters};
-ghost use Rattle.rd_text.specs.Gaps.{text_of, IsGapText, IsRecounted};
+ghost use Rattle.rd_text.specs.Gaps.{text_of, IsGapText, IsCopied, IsRecounted};
 
 use crate::stretch::Stretch;
 use rd_base::limits::TEXT_CHARACTERS;
@@ -148,6 +148,26 @@ impl GapText {
         }
     }
 
+    /// Copies the codes from one place up to another to the places from a third one on, and counts the stretches from one number to
+    /// another, that one not included, anew.
+    fn copy(&mut self, from: usize, to: usize, place: usize, first: usize, last: usize)
+        requires order { from ≤ to }
+        requires within { to ≤ length self.old.codes.items }
+        requires room { place + (to - from) ≤ length self.old.codes.items }
+        requires places { last * 1024 ≤ length self.old.codes.items }
+        requires covered { last ≤ length self.old.stretches.items }
+        ensures copied { IsCopied self.old.codes.items self.new.codes.items from place (to - from) }
+        ensures recounted { IsRecounted self.new.codes.items self.old.stretches.items self.new.stretches.items first last }
+    {
+        self.codes.as_mut_slice().copy_within(from..to, place);
+        recount(
+            self.codes.as_slice(),
+            self.stretches.as_mut_slice(),
+            first,
+            last,
+        );
+    }
+
     /// Moves the gap to an index before it: the characters between go behind it.
     fn move_left(&mut self, at: usize)
         requires right { IsGapText self.old }
@@ -159,13 +179,7 @@ impl GapText {
     {
         let back = self.back - (self.front - at);
         let last = self.back.div_ceil(STRETCH).min(self.codes.len() / STRETCH);
-        self.codes.as_mut_slice().copy_within(at..self.front, back);
-        recount(
-            self.codes.as_slice(),
-            self.stretches.as_mut_slice(),
-            back.div_ceil(STRETCH),
-            last,
-        );
+        self.copy(at, self.front, back, back.div_ceil(STRETCH), last);
         self.front = at;
         self.back = back;
     }
@@ -181,12 +195,10 @@ impl GapText {
         ensures places { length self.new.codes.items ≡ length self.old.codes.items }
     {
         let back = self.back + (at - self.front);
-        self.codes
-            .as_mut_slice()
-            .copy_within(self.back..back, self.front);
-        recount(
-            self.codes.as_slice(),
-            self.stretches.as_mut_slice(),
+        self.copy(
+            self.back,
+            back,
+            self.front,
             self.front / STRETCH,
             at / STRETCH,
         );
