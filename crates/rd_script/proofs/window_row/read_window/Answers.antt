@@ -1,6 +1,6 @@
 use Rattle.std.proofs.Common.{ap}
 use Rattle.std.specs.Prelude.{codes}
-use Rattle.rd_base.specs.declared.limits.TheConstants.{NUMBER_COLUMNS, STRING_COLUMNS}
+use Rattle.rd_base.specs.declared.limits.TheConstants.{STRING_COLUMNS}
 use Rattle.rd_script.specs.declared.op.Op.TheVariants as ops
 use Rattle.rd_script.specs.Fields.{within, required}
 use Rattle.rd_script.specs.Table.{window_row}
