@@ -88,6 +88,7 @@ impl<'a> Blocks<'a> {
     {
         blocks_are_listed();
         blocks_are_in_order();
+        self.stands(block);
         let state = self.view.state;
         let start = block.end;
         if state.text.end() < start {
@@ -104,8 +105,8 @@ impl<'a> Blocks<'a> {
         ensures prev { IfOk result (λ prev. (k : _) → slice_get (source_of self.old).blocks k ≡ Some block.now → prev ≡ block_before (source_of self.old).blocks k) }
         ensures stays { self.new ≡ self.old }
     {
-        blocks_are_listed();
         blocks_are_in_order();
+        self.stands(block);
         let state = self.view.state;
         let end = block.start;
         if end == state.text.begin() {

@@ -2,10 +2,11 @@ use Rattle.std.proofs.Common.{◌≡◌, ℕ, None, Some, sym, subst, ◌∙◌}
 use Rattle.std.specs.Prelude.{slice_get}
 use Rattle.rd_props.specs.Buffers.{meaning}
 use Rattle.rd_props.specs.declared.state.View.{View}
-use Rattle.rd_matrix.specs.Blocks.{IsAmong, block_before}
+use Rattle.rd_items.specs.Blocks.{IsBlock}
+use Rattle.rd_matrix.specs.Blocks.{block_before}
 use Rattle.rd_matrix.specs.declared.block.Block.{Block}
 use Rattle.rd_blocks.specs.Sources.{source_of}
-use Rattle.rd_blocks.proofs.Listed.{IsBehindNewline, are-listed, are-in-order, among-block, newline-before, prev-block, prev-none}
+use Rattle.rd_blocks.proofs.Listed.{IsBehindNewline, are-in-order, newline-before, prev-block, prev-none}
 use Rattle.rd_blocks.proofs.blocks.Blocks.before.Goals as goal
 
 pub returns-then-end-begin-clause-prev : goal.returns-then-end-begin-clause-prev
@@ -21,12 +22,9 @@ returns-then-end-begin-clause-prev c =
 -- the block does not begin the text, so that a newline is shown before it
 newline : (c : goal.Else-end-begin) → IsBehindNewline (meaning c.self.inside.view.state.now) c.args.block.now.start
 newline c =
-    let x = c.self.inside.view in
-    let law = c.blocks_are_listed.ensures in
-    let s = meaning x.state.now in
     let b = c.args.block.now in
-    let block = among-block x.classes.now s (are-listed law.blocks law.every law.adjoin s c.begin.ensures.right) b (subst (λ (w : View). IsAmong (source_of w).blocks b) (sym c.self.view_is) c.requires) in
-    newline-before s b.start b.end block (λ h. c.if-end-begin.false (h ∙ sym c.begin.ensures.value))
+    let block = subst (λ (w : View). IsBlock (meaning w.state.now) b.start b.end) (sym c.self.view_is) c.stands.ensures.block in
+    newline-before (meaning c.self.inside.view.state.now) b.start b.end block (λ h. c.if-end-begin.false (h ∙ sym c.begin.ensures.value))
 
 pub block_before-requires-clause-first : goal.block_before-requires-clause-first
 block_before-requires-clause-first c = (newline c).0

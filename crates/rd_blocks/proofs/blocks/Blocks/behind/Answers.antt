@@ -3,11 +3,10 @@ use Rattle.std.specs.Prelude.{slice_get}
 use Rattle.rd_text.specs.Texts.{IsAccessible}
 use Rattle.rd_props.specs.Buffers.{meaning}
 use Rattle.rd_props.specs.declared.state.View.{View}
-use Rattle.rd_items.specs.Blocks.{StartsBlock}
-use Rattle.rd_matrix.specs.Blocks.{IsAmong}
+use Rattle.rd_items.specs.Blocks.{IsBlock, StartsBlock}
 use Rattle.rd_matrix.specs.declared.block.Block.{Block}
 use Rattle.rd_blocks.specs.Sources.{source_of}
-use Rattle.rd_blocks.proofs.Listed.{are-listed, are-in-order, among-block, starts-behind, next-block, next-none}
+use Rattle.rd_blocks.proofs.Listed.{are-listed, are-in-order, starts-behind, next-block, next-none}
 use Rattle.rd_blocks.proofs.blocks.Blocks.behind.Goals as goal
 
 pub returns-then-end-start-clause-next : goal.returns-then-end-start-clause-next
@@ -26,14 +25,11 @@ returns-then-end-start-clause-next c =
 -- the block ends before the end of the text, so that another starts there
 starts : (c : goal.Else-end-start) → let s = meaning c.self.inside.view.state.now in IsAccessible s.text c.args.block.now.end × StartsBlock s c.args.block.now.end
 starts c =
-    let x = c.self.inside.view in
-    let law = c.blocks_are_listed.ensures in
-    let s = meaning x.state.now in
     let b = c.args.block.now in
+    let block = subst (λ (w : View). IsBlock (meaning w.state.now) b.start b.end) (sym c.self.view_is) c.stands.ensures.block in
     let value = c.end.ensures.value in
     let within = c.if-end-start.false in
-    let block = among-block x.classes.now s (are-listed law.blocks law.every law.adjoin s c.end.ensures.right) b (subst (λ (w : View). IsAmong (source_of w).blocks b) (sym c.self.view_is) c.requires) in
-    starts-behind s b.start b.end block (omega (arith, value, within))
+    starts-behind (meaning c.self.inside.view.state.now) b.start b.end block (omega (arith, value, within))
 
 pub block_from-requires-clause-accessible : goal.block_from-requires-clause-accessible
 block_from-requires-clause-accessible c = (starts c).0
