@@ -1,5 +1,5 @@
 //! The cells of a mode line.
-ghost use Rattle.std.specs.Prelude.{◌≡◌, ◌+◌, ◌++◌, IfOk, OnOk, Ok, length, decimal, List};
+ghost use Rattle.std.specs.Prelude.{◌≡◌, ◌+◌, ◌++◌, IfOk, OnOk, Ok, length, codes, decimal, List};
 ghost use Rattle.rd_modeline.specs.declared.piece.Field.TheVariants.{ReadOnly, Modified, Narrowing};
 ghost use Rattle.rd_modeline.specs.declared.piece.Piece.{Piece};
 ghost use Rattle.rd_base.specs.Glyphs.{IsRowAfter};
@@ -112,35 +112,22 @@ fn value_text(alloc: Global, field: Field, facts: &Facts) -> Result<ListOf<Ch>, 
         Field::Name => ListOf::from_slice(alloc, facts.name),
         Field::Line => number(alloc, facts.line),
         Field::Place => place_text(alloc, facts),
-        Field::ReadOnly => text_of_bytes(alloc, read_only_sign(facts)),
-        Field::Modified => text_of_bytes(alloc, modified_sign(facts)),
+        Field::ReadOnly => text_of_bytes(alloc, state_sign(facts, b"%")),
+        Field::Modified => text_of_bytes(alloc, state_sign(facts, b"*")),
         Field::Narrowing => text_of_bytes(alloc, narrowing(facts)),
     }
 }
 
-/// A percent sign where the buffer is read-only, else a star where it is modified, else a hyphen.
-fn read_only_sign(facts: &Facts) -> &'static [u8]
-    ensures { result.now ≡ value_text facts.now ReadOnly }
+/// A percent sign where the buffer is read-only, a star where it is modified, the one given where it is both, and else a hyphen.
+fn state_sign(facts: &Facts, both: &'static [u8]) -> &'static [u8]
+    ensures read_only { both.now ≡ codes "%" → result.now ≡ value_text facts.now ReadOnly }
+    ensures modified { both.now ≡ codes "*" → result.now ≡ value_text facts.now Modified }
 {
-    if facts.read_only {
-        b"%"
-    } else if facts.modified {
-        b"*"
-    } else {
-        b"-"
-    }
-}
-
-/// A star where the buffer is modified, else a percent sign where it is read-only, else a hyphen.
-fn modified_sign(facts: &Facts) -> &'static [u8]
-    ensures { result.now ≡ value_text facts.now Modified }
-{
-    if facts.modified {
-        b"*"
-    } else if facts.read_only {
-        b"%"
-    } else {
-        b"-"
+    match (facts.read_only, facts.modified) {
+        (true, true) => both,
+        (true, false) => b"%",
+        (false, true) => b"*",
+        (false, false) => b"-",
     }
 }
 
