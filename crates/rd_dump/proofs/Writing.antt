@@ -4,6 +4,7 @@ use Rattle.std.specs.Result.{IsErr}
 use Rattle.std.specs.Io.KnownBytes.{Appends}
 use Rattle.std.proofs.KnownBytes.{Appends-nil, Appends-trans}
 use Rattle.std.proofs.Math.Seq.{drop-cons}
+use Rattle.std.proofs.lemmas.List.{drop_all}
 use Rattle.std.specs.List.{flat_map}
 use Rattle.rd_io.specs.Devices.{Writes}
 use Rattle.rd_io.proofs.Bytes.{front-after, front-before, rose-after}
@@ -18,6 +19,11 @@ prints-fail a b f g xs e (Err d) p bad = record { whole = tt; front = p.front; n
 pub prints-stop : {U F : Type 0} (a b : Option (List ℕ)) (f g : ℕ) (xs ys : List ℕ) (s : Result U F) → Prints a b f g xs s → IsErr s → Prints a b f g (xs ++ ys) s
 prints-stop a b f g xs ys (Ok u) p bad = absurd (true≢false (sym bad))
 prints-stop a b f g xs ys (Err d) p bad = record { whole = tt; front = front-before a b xs ys p.front; never_falls = p.never_falls; failed = p.failed }
+
+-- a writer that failed, with what was to come behind it, as the answer of the one that called it
+pub prints-failed : {T E U F : Type 0} (a b : Option (List ℕ)) (f g : ℕ) (xs ys : List ℕ) (e : E) (s : Result U F) → Prints {T = T} {E = E} a b f g xs (Err e) → IsErr s
+    → Prints a b f g (xs ++ ys) s
+prints-failed a b f g xs ys e s p bad = prints-stop a b f g xs ys s (prints-fail a b f g xs e s p bad) bad
 
 -- one writer and then another
 pub prints-then : {T E U F : Type 0} (a b c : Option (List ℕ)) (f g h : ℕ) (xs ys : List ℕ) (t : T) (s : Result U F)
@@ -64,26 +70,25 @@ flat-step f xs i d less =
     ap (flat_map f) (drop-cons xs i d less) ∙ ap (λ k. f (get_or xs i d) ++ flat_map f (drop k xs)) next
 
 -- an element's text was written in a loop over a list
-pub going-each : {A T E : Type 0} (f : A → List ℕ) (xs : List A) (i : ℕ) (d : A) (a b c : Option (List ℕ)) (k l m : ℕ) (all : List ℕ) (t : T)
-    → i < length xs → Going a b k l all (flat_map f (drop i xs)) → Prints {T = T} {E = E} b c l m (f (get_or xs i d)) (Ok t) → Going a c k m all (flat_map f (drop (i + 1) xs))
-going-each f xs i d a b c k l m all t less going p = going-on a b c k l m all _ (f (get_or xs i d)) _ t going (flat-step f xs i d less) p
+pub going-each : {A T E : Type 0} (f : A → List ℕ) (xs : List A) (i : ℕ) (d x : A) (a b c : Option (List ℕ)) (k l m : ℕ) (all : List ℕ) (t : T)
+    → i < length xs → Going a b k l all (flat_map f (drop i xs)) → Prints {T = T} {E = E} b c l m (f x) (Ok t) → x ≡ get_or xs i d → Going a c k m all (flat_map f (drop (i + 1) xs))
+going-each {A} {T} {E} f xs i d x a b c k l m all t less going p is =
+    going-on a b c k l m all _ (f (get_or xs i d)) _ t going (flat-step f xs i d less) (subst (λ y. Prints {T = T} {E = E} b c l m (f y) (Ok t)) is p)
 
 -- it failed there
-pub going-failed : {A T E U F : Type 0} (f : A → List ℕ) (xs : List A) (i : ℕ) (d : A) (a b c : Option (List ℕ)) (k l m : ℕ) (all : List ℕ) (e : E) (s : Result U F)
-    → i < length xs → Going a b k l all (flat_map f (drop i xs)) → Prints {T = T} {E = E} b c l m (f (get_or xs i d)) (Err e) → IsErr s → Prints a c k m all s
-going-failed f xs i d a b c k l m all e s less going p bad =
-    going-stop a b c k l m all _ (f (get_or xs i d)) (flat_map f (drop (i + 1) xs)) s going (flat-step f xs i d less) (prints-fail b c l m (f (get_or xs i d)) e s p bad) bad
-
--- the same for an element that is told by an equation
-pub going-item : {A T E : Type 0} (f : A → List ℕ) (xs : List A) (i : ℕ) (d x : A) (a b c : Option (List ℕ)) (k l m : ℕ) (all : List ℕ) (t : T)
-    → i < length xs → Going a b k l all (flat_map f (drop i xs)) → Prints {T = T} {E = E} b c l m (f x) (Ok t) → x ≡ get_or xs i d → Going a c k m all (flat_map f (drop (i + 1) xs))
-going-item {A} {T} {E} f xs i d x a b c k l m all t less going p is =
-    going-each f xs i d a b c k l m all t less going (subst (λ y. Prints {T = T} {E = E} b c l m (f y) (Ok t)) is p)
-
-pub failed-item : {A T E U F : Type 0} (f : A → List ℕ) (xs : List A) (i : ℕ) (d x : A) (a b c : Option (List ℕ)) (k l m : ℕ) (all : List ℕ) (e : E) (s : Result U F)
+pub going-failed : {A T E U F : Type 0} (f : A → List ℕ) (xs : List A) (i : ℕ) (d x : A) (a b c : Option (List ℕ)) (k l m : ℕ) (all : List ℕ) (e : E) (s : Result U F)
     → i < length xs → Going a b k l all (flat_map f (drop i xs)) → Prints {T = T} {E = E} b c l m (f x) (Err e) → IsErr s → x ≡ get_or xs i d → Prints a c k m all s
-failed-item {A} {T} {E} {U} {F} f xs i d x a b c k l m all e s less going p bad is =
-    going-failed {A = A} {T = T} {E = E} f xs i d a b c k l m all e s less going (subst (λ y. Prints {T = T} {E = E} b c l m (f y) (Err e)) is p) bad
+going-failed f xs i d x a b c k l m all e s less going p bad is =
+    going-stop a b c k l m all _ (f (get_or xs i d)) (flat_map f (drop (i + 1) xs)) s going (flat-step f xs i d less)
+    (subst (λ y. Prints b c l m (f y) s) is (prints-fail b c l m (f x) e s p bad)) bad
+
+-- all were written
+pub going-done : {A T E : Type 0} (f : A → List ℕ) (xs : List A) (i : ℕ) (a b : Option (List ℕ)) (k l : ℕ) (all : List ℕ) (t : T)
+    → length xs ≤ i → Going a b k l all (flat_map f (drop i xs)) → Prints {T = T} {E = E} a b k l all (Ok t)
+going-done {A} {T} {E} f xs i a b k l all t past going =
+    let rest : flat_map f (drop i xs) ≡ [] = ap (flat_map f) (drop_all i xs past) in
+    going-last a b b k l l all _ (Ok t) going
+    (subst (λ ys. Prints {T = T} {E = E} b b l l ys (Ok t)) (sym rest) (record { whole = Appends-nil b; front = tt; never_falls = omega arith; failed = tt }))
 
 -- the same text in other words
 pub prints-as : {T E : Type 0} (a b : Option (List ℕ)) (f g : ℕ) (xs ys : List ℕ) (s : Result T E) → xs ≡ ys → Prints a b f g xs s → Prints a b f g ys s

@@ -1,13 +1,11 @@
 //! The dump of a screen and of the windows on it.
 ghost use Rattle.std.specs.Prelude.{◌≡◌, ◌≤◌, OnErr, take};
-ghost use Rattle.std.specs.List.{flat_map};
-ghost use Rattle.rd_base.specs.Chars.{encoded};
 ghost use Rattle.rd_base.specs.Glyphs.{glyph_bytes};
 ghost use Rattle.rd_io.specs.Devices.{Rose, Writes};
 ghost use Rattle.rd_dump.specs.Dumps.{dump_text, windows_text, window_line, place_text, cursor_line, rows_text, row_line, line_text, cells_text, cell_text};
 ghost use Rattle.rd_dump.specs.Prints.{Prints};
 
-use crate::print::{Token, print_bytes, print_character, print_tokens};
+use crate::print::{Token, print_bytes, print_character, print_each, print_tokens};
 use crate::runs::print_runs;
 use rd_base::{Anchor, Cell, Glyph, Pos};
 use rd_io::{Failed, Piece, Sink};
@@ -76,10 +74,14 @@ fn print_line_tokens<K: Sink>(sink: &mut K, line: &DumpLine) -> Result<(), Faile
 fn print_windows<K: Sink>(sink: &mut K, windows: &[WindowFacts]) -> Result<(), Failed>
     ensures { Prints (K.written sink.old) (K.written sink.new) (K.faults sink.old) (K.faults sink.new) (windows_text windows.now) result }
 {
-    for facts in windows {
-        print_line(sink, &DumpLine::Window(facts))?;
-    }
-    Ok(())
+    print_each(sink, windows, print_window)
+}
+
+/// Writes the line of a window.
+fn print_window<K: Sink>(sink: &mut K, facts: &WindowFacts) -> Result<(), Failed>
+    ensures { Prints (K.written sink.old) (K.written sink.new) (K.faults sink.old) (K.faults sink.new) (window_line facts.now) result }
+{
+    print_line(sink, &DumpLine::Window(facts))
 }
 
 /// Writes the tokens of a window's line.
@@ -167,10 +169,7 @@ fn print_row_tokens<K: Sink>(sink: &mut K, row: u32, cells: &[Cell]) -> Result<(
 fn print_cells<K: Sink>(sink: &mut K, cells: &[Cell]) -> Result<(), Failed>
     ensures { Prints (K.written sink.old) (K.written sink.new) (K.faults sink.old) (K.faults sink.new) (cells_text cells.now) result }
 {
-    for cell in cells {
-        print_cell(sink, cell)?;
-    }
-    Ok(())
+    print_each(sink, cells, print_cell)
 }
 
 /// Writes the text of a cell.
@@ -188,8 +187,8 @@ fn print_cell<K: Sink>(sink: &mut K, cell: &Cell) -> Result<(), Failed>
 fn print_glyph<K: Sink>(sink: &mut K, glyph: &Glyph) -> Result<(), Failed>
     ensures { Prints (K.written sink.old) (K.written sink.new) (K.faults sink.old) (K.faults sink.new) (glyph_bytes glyph.now) result }
 {
-    print_character(sink, glyph.base)?;
-    print_marks(sink, marks_of(glyph))
+    print_character(sink, &glyph.base)?;
+    print_each(sink, marks_of(glyph), print_character)
 }
 
 /// The marks that count.
@@ -198,14 +197,4 @@ fn marks_of(glyph: &Glyph) -> &[u32]
 {
     let count = (glyph.count as usize).min(6);
     &glyph.marks[..count]
-}
-
-/// Writes marks.
-fn print_marks<K: Sink>(sink: &mut K, marks: &[u32]) -> Result<(), Failed>
-    ensures { Prints (K.written sink.old) (K.written sink.new) (K.faults sink.old) (K.faults sink.new) (flat_map encoded marks.now) result }
-{
-    for mark in marks {
-        print_character(sink, *mark)?;
-    }
-    Ok(())
 }

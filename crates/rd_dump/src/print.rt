@@ -1,7 +1,9 @@
 //! Writing texts and numbers to a sink, without taking memory.
+ghost use Rattle.std.specs.Prelude.{ℕ, List};
+ghost use Rattle.std.specs.List.{flat_map};
 ghost use Rattle.rd_base.specs.Chars.{encoded};
 ghost use Rattle.rd_dump.specs.Dumps.{token_text, tokens_text};
-ghost use Rattle.rd_dump.specs.Prints.{Prints};
+ghost use Rattle.rd_dump.specs.Prints.{Prints, PrintsItems};
 
 use itoa::Buffer;
 use rd_io::{Failed, Sink, write_whole};
@@ -13,14 +15,26 @@ pub enum Token<'a> {
     Number(u64),
 }
 
+/// Writes the items of a list one after the other, each by `print`.
+pub fn print_each<K: Sink, T, P: Fn(&mut K, &T) -> Result<(), Failed>>(
+    sink: &mut K,
+    items: &[T],
+    print: P,
+) -> Result<(), Failed>
+    requires { P.IsAlwaysCallable print }
+    ensures { (text : T → List ℕ) → PrintsItems K.written K.faults text (P.post print) → Prints (K.written sink.old) (K.written sink.new) (K.faults sink.old) (K.faults sink.new) (flat_map text items.now) result }
+{
+    for item in items {
+        print(sink, item)?;
+    }
+    Ok(())
+}
+
 /// Writes the tokens of a line one after the other.
 pub fn print_tokens<K: Sink>(sink: &mut K, tokens: &[Token]) -> Result<(), Failed>
     ensures { Prints (K.written sink.old) (K.written sink.new) (K.faults sink.old) (K.faults sink.new) (tokens_text tokens.now) result }
 {
-    for token in tokens {
-        print_token(sink, token)?;
-    }
-    Ok(())
+    print_each(sink, tokens, print_token)
 }
 
 /// Writes a token.
@@ -34,10 +48,10 @@ fn print_token<K: Sink>(sink: &mut K, token: &Token) -> Result<(), Failed>
 }
 
 /// Writes a character's code as UTF-8.
-pub fn print_character<K: Sink>(sink: &mut K, code: u32) -> Result<(), Failed>
-    ensures { Prints (K.written sink.old) (K.written sink.new) (K.faults sink.old) (K.faults sink.new) (encoded code) result }
+pub fn print_character<K: Sink>(sink: &mut K, code: &u32) -> Result<(), Failed>
+    ensures { Prints (K.written sink.old) (K.written sink.new) (K.faults sink.old) (K.faults sink.new) (encoded code.now) result }
 {
-    match char::from_u32(code) {
+    match char::from_u32(*code) {
         Some(c) => print_bytes(sink, c.encode_utf8(&mut [0; 4]).as_bytes()),
         None => Ok(()),
     }

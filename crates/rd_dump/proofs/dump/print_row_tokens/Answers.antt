@@ -1,10 +1,10 @@
-use Rattle.rd_dump.proofs.Writing.{prints-then, prints-stop, prints-fail}
+use Rattle.rd_dump.proofs.Writing.{prints-failed, prints-then, prints-stop, prints-fail}
 use Rattle.rd_dump.proofs.dump.print_row_tokens.Goals as goal
 
 pub returns-in_err-print_tokens : goal.returns-in_err-print_tokens
 returns-in_err-print_tokens g c =
     let bad = c.from_residual.ensures.0 in
-    prints-stop _ _ _ _ _ _ _ (prints-stop _ _ _ _ _ _ _ (prints-stop _ _ _ _ _ _ _ (prints-stop _ _ _ _ _ _ _ (prints-fail _ _ _ _ _ _ _ c.in_err-print_tokens.ensures bad) bad) bad) bad) bad
+    prints-stop _ _ _ _ _ _ _ (prints-stop _ _ _ _ _ _ _ (prints-stop _ _ _ _ _ _ _ (prints-failed _ _ _ _ _ _ _ _ c.in_err-print_tokens.ensures bad) bad) bad) bad
 
 pub returns-in_err-print_cells : goal.returns-in_err-print_cells
 returns-in_err-print_cells g c =
