@@ -82,6 +82,11 @@ read-more place n face (m ∷ ns) p q =
 
 -- ---- the numbers of a face
 
+-- a number from 30 on is that of a colour
+of-colour : (n : ℕ) → 30 ≤ n → ((n == 0) ≡ false) × ((n == 1) ≡ false) × ((n == 4) ≡ false) × ((n == 7) ≡ false)
+    × (nat_le 30 n ≡ true) × (nat_lt n 30 ≡ false)
+of-colour n h = (grind (arith, nat_tests), grind (arith, nat_tests), grind (arith, nat_tests), grind (arith, nat_tests), grind (arith, nat_tests), grind (arith, nat_tests))
+
 background : (place : ℕ) (f : Attributes) (colour : ℕ) → f.bg ≡ 8 → nat_lt place 40 ≡ true → colour ≤ 8
     → with_numbers place f (there (colour_number colour 40 ∷ [])) ≡ Some (record f { bg = colour })
 background place f colour none behind range = elim (cases_eq colour 8) [
@@ -91,18 +96,13 @@ background place f colour none behind range = elim (cases_eq colour 8) [
       rw t (ap (λ c. Some (record f { bg = c })) e)
   | inr other ↦
       let t : (colour == 8) ≡ false = grind (arith, nat_tests) in
-      let a : (40 + colour == 0) ≡ false = grind (arith, nat_tests) in
-      let b : (40 + colour == 1) ≡ false = grind (arith, nat_tests) in
-      let c : (40 + colour == 4) ≡ false = grind (arith, nat_tests) in
-      let d : (40 + colour == 7) ≡ false = grind (arith, nat_tests) in
-      let e : nat_le 30 (40 + colour) ≡ true = grind (arith, nat_tests) in
+      let a = of-colour (40 + colour) (omega arith) in
       let g : nat_le (40 + colour) 37 ≡ false = grind (arith, nat_tests) in
       let h : nat_le 40 (40 + colour) ≡ true = grind (arith, nat_tests) in
       let i : nat_le (40 + colour) 47 ≡ true = grind (arith, nat_tests) in
-      let j : nat_lt (40 + colour) 30 ≡ false = grind (arith, nat_tests) in
       let k : nat_lt (40 + colour) 40 ≡ false = grind (arith, nat_tests) in
       let l : 40 + colour - 40 ≡ colour = omega arith in
-      rw (t, a, b, c, d, e, g, h, i, j, k, behind, l) refl
+      rw (t, a.0, a.1, a.2, a.3, a.4, a.5, g, h, i, k, behind, l) refl
 ]
 
 foreground : (place : ℕ) (f : Attributes) (colour other : ℕ) → f.fg ≡ 8 → f.bg ≡ 8 → nat_lt place 30 ≡ true → colour ≤ 8 → other ≤ 8
@@ -115,16 +115,11 @@ foreground place f colour other none none' behind range range' = elim (cases_eq 
       rw t (background place f other none' far range' ∙ ap (λ c. Some (record f { fg = c; bg = other })) e)
   | inr apart ↦
       let t : (colour == 8) ≡ false = grind (arith, nat_tests) in
-      let a : (30 + colour == 0) ≡ false = grind (arith, nat_tests) in
-      let b : (30 + colour == 1) ≡ false = grind (arith, nat_tests) in
-      let c : (30 + colour == 4) ≡ false = grind (arith, nat_tests) in
-      let d : (30 + colour == 7) ≡ false = grind (arith, nat_tests) in
-      let e : nat_le 30 (30 + colour) ≡ true = grind (arith, nat_tests) in
+      let a = of-colour (30 + colour) (omega arith) in
       let g : nat_le (30 + colour) 37 ≡ true = grind (arith, nat_tests) in
-      let j : nat_lt (30 + colour) 30 ≡ false = grind (arith, nat_tests) in
       let k : nat_lt (30 + colour) 40 ≡ true = grind (arith, nat_tests) in
       let l : 30 + colour - 30 ≡ colour = omega arith in
-      rw (t, a, b, c, d, e, g, j, k, behind, l) (background 30 (record f { fg = colour }) other none' refl range')
+      rw (t, a.0, a.1, a.2, a.3, a.4, a.5, g, k, behind, l) (background 30 (record f { fg = colour }) other none' refl range')
 ]
 
 abbrev face_by : Bool → Bool → Bool → ℕ → ℕ → Attributes
