@@ -5,7 +5,7 @@ use Rattle.std.specs.Str.{chars}
 use Rattle.rd_base.specs.declared.limits.TheConstants.{SCROLL_CONSERVATIVELY, SCROLL_MARGIN}
 use Rattle.rd_base.specs.declared.settings.Anchor.{Anchor}
 use Rattle.rd_text.specs.Texts.{TextValue, IsAccessible}
-use Rattle.rd_objects.specs.Sound.{AreCodes}
+use Rattle.rd_objects.specs.Sound.{AreCodes, Extends}
 use Rattle.rd_objects.specs.Things.{nothing_made}
 use Rattle.rd_script.specs.declared.op.Op.{Op}
 use Rattle.rd_script.specs.declared.op.Op.TheVariants as ops
@@ -24,7 +24,7 @@ use Rattle.rd_state.specs.Edits.{insertion, deletion, narrowing, widening, prope
 use Rattle.rd_state.specs.Making.{table_of}
 use Rattle.rd_state.specs.Moves.{moved, moved_in}
 use Rattle.rd_state.specs.Steps.{replaced, moving, changing, typing, raw_text, held, step, settled}
-use Rattle.rd_state.proofs.Below.{TextLaws, MadeLaws, ObjectLaws, GrowLaws, TreeLaws}
+use Rattle.rd_state.proofs.Below.{TextLaws, MadeLaws, ObjectLaws, TreeLaws}
 use Rattle.rd_state.proofs.Naming.{setting-keeps, margin-keeps, string-valid, spec-valid, face-valid, table-valid, making-valid, new-valid}
 use Rattle.rd_state.proofs.Options.{get-set}
 use Rattle.rd_state.proofs.Showing.{set-valid, found-ok, buffer-ok, setting-valid, placing-valid, point-keeps, start-keeps, look-keeps, scroll-keeps, showing-valid, splitting-valid, removing-valid, resizing-valid, selecting-valid, mode_lining-valid, margining-valid}
@@ -37,7 +37,7 @@ pub record Laws : Type 0 where
   pub texts : TextLaws
   pub made : MadeLaws
   pub objects : ObjectLaws
-  pub grow : GrowLaws
+  pub extends : (s t : StateValue) (op : Op) → IsValid s → IsInForm op → step s op ≡ Ok t → Extends s.objects t.objects
   pub trees : TreeLaws
 
 -- ---- typing
@@ -129,12 +129,15 @@ step-valid laws s t (ops.OverlayDrop name overlay) v form h = edited-valid s t n
 step-valid laws s t (ops.OverlayPut name overlay kind value) v form h =
     edited-valid s t name (overlay_putting s.objects overlay kind value) v (giving-keeps laws.made s.objects overlay kind value) h
 step-valid laws s t (ops.Setting name value) v form h = edited-valid s t name (setting_putting s.objects value) v (setting-keeps s.objects value form.1) h
-step-valid laws s t (ops.AddString text runs) v form h = string-valid laws.made laws.objects laws.grow s t text runs v (text-codes text form.0) h
-step-valid laws s t (ops.AddSpec spec) v form h = spec-valid laws.made laws.objects laws.grow s t spec v form h
-step-valid laws s t (ops.AddFace face) v form h = face-valid laws.made laws.objects laws.grow s t face v (record { fg = form.0; bg = form.1 }) h
+step-valid laws s t (ops.AddString text runs) v form h =
+    string-valid laws.made laws.objects s t text runs v (text-codes text form.0) (laws.extends s t (ops.AddString text runs) v form h) h
+step-valid laws s t (ops.AddSpec spec) v form h = spec-valid laws.made laws.objects s t spec v form (laws.extends s t (ops.AddSpec spec) v form h) h
+step-valid laws s t (ops.AddFace face) v form h =
+    face-valid laws.made laws.objects s t face v (record { fg = form.0; bg = form.1 }) (laws.extends s t (ops.AddFace face) v form h) h
 step-valid laws s t (ops.AddTable entries truncation continuation escape control ellipsis border) v form h =
-    table-valid laws.made laws.objects laws.grow s t (table_of entries truncation continuation escape control ellipsis border) v
-    (table-right entries truncation continuation escape control ellipsis border form.1 form.2 form.3 form.4 form.5 form.6 form.7) h
+    table-valid laws.made laws.objects s t (table_of entries truncation continuation escape control ellipsis border) v
+    (table-right entries truncation continuation escape control ellipsis border form.1 form.2 form.3 form.4 form.5 form.6 form.7)
+    (laws.extends s t (ops.AddTable entries truncation continuation escape control ellipsis border) v form h) h
 step-valid laws s t (ops.Split window side size) v form h = splitting-valid laws.trees s t window side size v h
 step-valid laws s t (ops.Remove window) v form h = removing-valid laws.trees s t window v h
 step-valid laws s t (ops.Select window) v form h = selecting-valid s t window v h
@@ -228,8 +231,8 @@ opening-valid laws = record {
     names = only-main (λ b. IsTrue (is_buffer_name b.name)) main-named;
     contents = only-main (λ b. IsContent nothing_made b.content) (new-valid nothing_made);
   };
-  objects = laws.objects.sound_nothing;
-  closed = laws.objects.closed_nothing;
+  objects = laws.objects.sound.nothing;
+  closed = laws.objects.closed.nothing;
   windows = record {
     tree = laws.trees.opening 80 23 (omega arith) (omega arith) (omega arith) (omega arith);
     leaves = λ number. opening-leaf (0 == number);

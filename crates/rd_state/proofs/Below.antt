@@ -22,56 +22,77 @@ use Rattle.rd_props.specs.Edits.{AreOrdered, IsInsertion, IsDeletion, IsPut, Has
 use Rattle.rd_props.specs.Made.{IsMade, SettingsMade, AreMade}
 
 -- edits leave texts in which the accessible range lies
-pub record TextLaws : Type 0 where
-  pub inserted : (t : TextValue) (pos : ℕ) (new : List ℕ) → IsText t → IsAccessible t pos → length t.text + length new ≤ most_characters → IsText (inserted t pos new)
-  pub deleted : (t : TextValue) (from to : ℕ) → IsText t → IsAccessibleRange t from to → IsText (deleted t from to)
-  pub narrowed : (t : TextValue) (from to : ℕ) → IsText t → IsRangeOfAll t from to → IsText (narrowed t from to)
-  pub widened : (t : TextValue) → IsText t → IsText (widened t)
+abbrev pub TextLaws : Type 0
+TextLaws = record {
+  inserted : (t : TextValue) (pos : ℕ) (new : List ℕ) → IsText t → IsAccessible t pos → length t.text + length new ≤ most_characters → IsText (inserted t pos new);
+  deleted : (t : TextValue) (from to : ℕ) → IsText t → IsAccessibleRange t from to → IsText (deleted t from to);
+  narrowed : (t : TextValue) (from to : ℕ) → IsText t → IsRangeOfAll t from to → IsText (narrowed t from to);
+  widened : (t : TextValue) → IsText t → IsText (widened t);
+}
 
 -- edits name no object that was not made
-pub record MadeLaws : Type 0 where
-  pub inserted : (old new : BufferValue) (objects : ObjectLists) (place : ℕ) (chars : List ℕ) → AreMade old objects → SettingsMade objects new.settings → IsInsertion old new place chars → AreMade new objects
-  pub deleted : (old new : BufferValue) (objects : ObjectLists) (from to : ℕ) → AreMade old objects → SettingsMade objects new.settings → IsDeletion old new from to → AreMade new objects
-  pub put : (old new : BufferValue) (objects : ObjectLists) (kind : Kind) (from to : ℕ) (value : Option ℕ) → AreMade old objects → SettingsMade objects new.settings
-      → ((v : ℕ) → value ≡ Some v → IsMade objects kind v) → IsPut old new kind from to value → AreMade new objects
-  pub made : (old new : BufferValue) (objects : ObjectLists) (overlay : Overlay) → AreMade old objects → SettingsMade objects new.settings
-      → ((kind : Kind) (v : ℕ) → value_of kind (Some overlay) ≡ Some v → IsMade objects kind v) → HasOverlays old new (old.overlays ++ Some overlay ∷ []) → AreMade new objects
-  pub dropped : (old new : BufferValue) (objects : ObjectLists) (number : ℕ) → AreMade old objects → SettingsMade objects new.settings → HasOverlays old new (dropped old.overlays number) → AreMade new objects
-  pub given : (old new : BufferValue) (objects : ObjectLists) (number : ℕ) (kind : Kind) (value : Option ℕ) → AreMade old objects → SettingsMade objects new.settings
-      → ((v : ℕ) → value ≡ Some v → IsMade objects kind v) → HasOverlays old new (given old.overlays number kind value) → AreMade new objects
-  pub moved : (old new : BufferValue) (objects : ObjectLists) (number from to : ℕ) → AreMade old objects → SettingsMade objects new.settings → HasOverlays old new (moved old.overlays number from to) → AreMade new objects
-  pub extended : (s : BufferValue) (old new : ObjectLists) → AreMade s old → Extends old new → AreMade s new
+abbrev pub MadeLaws : Type 0
+MadeLaws = record {
+  inserted : (old new : BufferValue) (objects : ObjectLists) (place : ℕ) (chars : List ℕ) → AreMade old objects → SettingsMade objects new.settings → IsInsertion old new place chars → AreMade new objects;
+  deleted : (old new : BufferValue) (objects : ObjectLists) (from to : ℕ) → AreMade old objects → SettingsMade objects new.settings → IsDeletion old new from to → AreMade new objects;
+  put : (old new : BufferValue) (objects : ObjectLists) (kind : Kind) (from to : ℕ) (value : Option ℕ) → AreMade old objects → SettingsMade objects new.settings
+      → ((v : ℕ) → value ≡ Some v → IsMade objects kind v) → IsPut old new kind from to value → AreMade new objects;
+  made : (old new : BufferValue) (objects : ObjectLists) (overlay : Overlay) → AreMade old objects → SettingsMade objects new.settings
+      → ((kind : Kind) (v : ℕ) → value_of kind (Some overlay) ≡ Some v → IsMade objects kind v) → HasOverlays old new (old.overlays ++ Some overlay ∷ []) → AreMade new objects;
+  dropped : (old new : BufferValue) (objects : ObjectLists) (number : ℕ) → AreMade old objects → SettingsMade objects new.settings → HasOverlays old new (dropped old.overlays number) → AreMade new objects;
+  given : (old new : BufferValue) (objects : ObjectLists) (number : ℕ) (kind : Kind) (value : Option ℕ) → AreMade old objects → SettingsMade objects new.settings
+      → ((v : ℕ) → value ≡ Some v → IsMade objects kind v) → HasOverlays old new (given old.overlays number kind value) → AreMade new objects;
+  moved : (old new : BufferValue) (objects : ObjectLists) (number from to : ℕ) → AreMade old objects → SettingsMade objects new.settings → HasOverlays old new (moved old.overlays number from to) → AreMade new objects;
+  extended : (s : BufferValue) (old new : ObjectLists) → AreMade s old → Extends old new → AreMade s new;
+}
 
--- edits leave what is seen elsewhere
+-- what is done to overlays leaves what is seen elsewhere
+abbrev pub OverlayLaws : Type 0
+OverlayLaws = record {
+  made : (old new : BufferValue) (objects : ObjectLists) (overlay : Overlay) → overlay.from ≤ overlay.to → HasOverlays old new (old.overlays ++ Some overlay ∷ [])
+      → IsEdited old objects new objects overlay.from (overlay.to - overlay.from) (overlay.to - overlay.from);
+  dropped : (old new : BufferValue) (objects : ObjectLists) (number : ℕ) (overlay : Overlay) → overlay_at old.overlays number ≡ Some overlay → overlay.from ≤ overlay.to
+      → HasOverlays old new (dropped old.overlays number) → IsEdited old objects new objects overlay.from (overlay.to - overlay.from) (overlay.to - overlay.from);
+  given : (old new : BufferValue) (objects : ObjectLists) (number : ℕ) (overlay : Overlay) (kind : Kind) (value : Option ℕ) → overlay_at old.overlays number ≡ Some overlay → overlay.from ≤ overlay.to
+      → HasOverlays old new (given old.overlays number kind value) → IsEdited old objects new objects overlay.from (overlay.to - overlay.from) (overlay.to - overlay.from);
+  moved : (old new : BufferValue) (objects : ObjectLists) (number from to : ℕ) (overlay : Overlay) → overlay_at old.overlays number ≡ Some overlay → overlay.from ≤ overlay.to → from ≤ to
+      → HasOverlays old new (moved old.overlays number from to) → Unchanged old objects new objects (min overlay.from from) (max overlay.to to + 1) (pos 0);
+}
+
+-- so do all edits
 pub record LeaveLaws : Type 0 where
   pub inserted : (old new : BufferValue) (objects : ObjectLists) (place : ℕ) (chars : List ℕ) → IsText old.text → AreOrdered old.overlays → IsAccessible old.text place → IsInsertion old new place chars
       → IsEdited old objects new objects place 0 (length chars)
   pub deleted : (old new : BufferValue) (objects : ObjectLists) (from to : ℕ) → IsText old.text → AreOrdered old.overlays → IsAccessibleRange old.text from to → IsDeletion old new from to
       → IsEdited old objects new objects from (to - from) 0
   pub put : (old new : BufferValue) (objects : ObjectLists) (kind : Kind) (from to : ℕ) (value : Option ℕ) → IsPut old new kind from to value → IsEdited old objects new objects from (to - from) (to - from)
-  pub made : (old new : BufferValue) (objects : ObjectLists) (overlay : Overlay) → overlay.from ≤ overlay.to → HasOverlays old new (old.overlays ++ Some overlay ∷ [])
-      → IsEdited old objects new objects overlay.from (overlay.to - overlay.from) (overlay.to - overlay.from)
-  pub dropped : (old new : BufferValue) (objects : ObjectLists) (number : ℕ) (overlay : Overlay) → overlay_at old.overlays number ≡ Some overlay → overlay.from ≤ overlay.to
-      → HasOverlays old new (dropped old.overlays number) → IsEdited old objects new objects overlay.from (overlay.to - overlay.from) (overlay.to - overlay.from)
-  pub given : (old new : BufferValue) (objects : ObjectLists) (number : ℕ) (overlay : Overlay) (kind : Kind) (value : Option ℕ) → overlay_at old.overlays number ≡ Some overlay → overlay.from ≤ overlay.to
-      → HasOverlays old new (given old.overlays number kind value) → IsEdited old objects new objects overlay.from (overlay.to - overlay.from) (overlay.to - overlay.from)
-  pub moved : (old new : BufferValue) (objects : ObjectLists) (number from to : ℕ) (overlay : Overlay) → overlay_at old.overlays number ≡ Some overlay → overlay.from ≤ overlay.to → from ≤ to
-      → HasOverlays old new (moved old.overlays number from to) → Unchanged old objects new objects (min overlay.from from) (max overlay.to to + 1) (pos 0)
+  pub overlays : OverlayLaws
   pub objects : (s : BufferValue) (old new : ObjectLists) (head tail : ℕ) → Extends old new → AreMade s old → Unchanged s old s new head tail (pos 0)
   pub settings : (old new : BufferValue) (objects : ObjectLists) (head tail : ℕ) → HasOverlays old new old.overlays → Unchanged old objects new objects head tail (pos 0)
 
--- objects stay sound and closed where one more is made, and go on
+-- objects stay sound where one more is made
+abbrev pub SoundLaws : Type 0
+SoundLaws = record {
+  nothing : AreObjects nothing_made;
+  string : (o : ObjectLists) (chars : List ℕ) (runs : List Run) → AreCodes chars → string_fault o chars runs ≡ None → AreObjects o → AreObjects (string_added o chars runs);
+  spec : (o : ObjectLists) (spec : Spec) → IsSmallSpec spec → spec_fault o spec ≡ None → AreObjects o → AreObjects (spec_added o spec);
+  face : (o : ObjectLists) (face : Attributes) → HasColours face → full_fault FACES (length o.faces) ≡ None → AreObjects o → AreObjects (face_added o face);
+  table : (o : ObjectLists) (table : TableValue) → IsTable table → full_fault TABLES (length o.tables) ≡ None → AreObjects o → AreObjects (table_added o table);
+}
+
+-- and closed
+abbrev pub ClosedLaws : Type 0
+ClosedLaws = record {
+  nothing : IsClosed nothing_made;
+  string : (o : ObjectLists) (chars : List ℕ) (runs : List Run) → string_fault o chars runs ≡ None → IsClosed o → IsClosed (string_added o chars runs);
+  spec : (o : ObjectLists) (spec : Spec) → spec_fault o spec ≡ None → IsClosed o → IsClosed (spec_added o spec);
+  face : (o : ObjectLists) (face : Attributes) → IsClosed o → IsClosed (face_added o face);
+  table : (o : ObjectLists) (table : TableValue) → IsClosed o → IsClosed (table_added o table);
+}
+
 pub record ObjectLaws : Type 0 where
-  pub sound_nothing : AreObjects nothing_made
-  pub sound_string : (o : ObjectLists) (chars : List ℕ) (runs : List Run) → AreCodes chars → string_fault o chars runs ≡ None → AreObjects o → AreObjects (string_added o chars runs)
-  pub sound_spec : (o : ObjectLists) (spec : Spec) → IsSmallSpec spec → spec_fault o spec ≡ None → AreObjects o → AreObjects (spec_added o spec)
-  pub sound_face : (o : ObjectLists) (face : Attributes) → HasColours face → full_fault FACES (length o.faces) ≡ None → AreObjects o → AreObjects (face_added o face)
-  pub sound_table : (o : ObjectLists) (table : TableValue) → IsTable table → full_fault TABLES (length o.tables) ≡ None → AreObjects o → AreObjects (table_added o table)
-  pub closed_nothing : IsClosed nothing_made
-  pub closed_string : (o : ObjectLists) (chars : List ℕ) (runs : List Run) → string_fault o chars runs ≡ None → IsClosed o → IsClosed (string_added o chars runs)
-  pub closed_spec : (o : ObjectLists) (spec : Spec) → spec_fault o spec ≡ None → IsClosed o → IsClosed (spec_added o spec)
-  pub closed_face : (o : ObjectLists) (face : Attributes) → IsClosed o → IsClosed (face_added o face)
-  pub closed_table : (o : ObjectLists) (table : TableValue) → IsClosed o → IsClosed (table_added o table)
+  pub sound : SoundLaws
+  pub closed : ClosedLaws
 
 -- more objects were made
 pub record GrowLaws : Type 0 where
@@ -82,10 +103,12 @@ pub record GrowLaws : Type 0 where
   pub table : (o : ObjectLists) (table : TableValue) → Extends o (table_added o table)
 
 -- calls leave valid trees
-pub record TreeLaws : Type 0 where
-  pub opening : (width height : ℕ) → 11 ≤ width → 1 ≤ height → width ≤ FRAME_COLUMNS → height ≤ FRAME_ROWS → tree.IsValid (tree.opening width height)
-  pub split : (c d : tree.Configuration) (window : ℕ) (side : Side) (size : ℕ) → tree.IsValid c → tree.split_tree c window side size ≡ Ok d → tree.IsValid d
-  pub remove : (c d : tree.Configuration) (window : ℕ) → tree.IsValid c → tree.remove_tree c window ≡ Ok d → tree.IsValid d
-  pub resize : (c d : tree.Configuration) (width height : ℕ) → width ≤ FRAME_COLUMNS → height ≤ FRAME_ROWS → tree.IsValid c → tree.resize_tree c width height ≡ Ok d → tree.IsValid d
-  pub mode : (c d : tree.Configuration) (window : ℕ) (shown : Bool) → tree.IsValid c → tree.mode_tree c window shown ≡ Ok d → tree.IsValid d
-  pub margins : (c d : tree.Configuration) (window columns : ℕ) → tree.IsValid c → tree.margins_tree c window columns ≡ Ok d → tree.IsValid d
+abbrev pub TreeLaws : Type 0
+TreeLaws = record {
+  opening : (width height : ℕ) → 11 ≤ width → 1 ≤ height → width ≤ FRAME_COLUMNS → height ≤ FRAME_ROWS → tree.IsValid (tree.opening width height);
+  split : (c d : tree.Configuration) (window : ℕ) (side : Side) (size : ℕ) → tree.IsValid c → tree.split_tree c window side size ≡ Ok d → tree.IsValid d;
+  remove : (c d : tree.Configuration) (window : ℕ) → tree.IsValid c → tree.remove_tree c window ≡ Ok d → tree.IsValid d;
+  resize : (c d : tree.Configuration) (width height : ℕ) → width ≤ FRAME_COLUMNS → height ≤ FRAME_ROWS → tree.IsValid c → tree.resize_tree c width height ≡ Ok d → tree.IsValid d;
+  mode : (c d : tree.Configuration) (window : ℕ) (shown : Bool) → tree.IsValid c → tree.mode_tree c window shown ≡ Ok d → tree.IsValid d;
+  margins : (c d : tree.Configuration) (window columns : ℕ) → tree.IsValid c → tree.margins_tree c window columns ≡ Ok d → tree.IsValid d;
+}

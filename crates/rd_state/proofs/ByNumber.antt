@@ -1,22 +1,22 @@
--- Lists of windows by their numbers.
+-- Lists by numbers: what stands under one, and the windows of a state.
 use Rattle.std.proofs.Common.{◌≡◌, ◌≢◌, ℕ, zero, suc, ◌+◌, ◌<◌, ◌⊎◌, inl, inr, ◌==◌, not, if◌then◌else◌, Option, None, Some, List, [], ◌∷◌, ◌++◌, length, map, set, subst, sym, ap, refl, ◌∙◌, arith}
 use Rattle.std.proofs.lemmas.Bool.{cases_eq, cond-false, cond-true, eq-eqb, ne_eqb, not_from_false, not_from_true}
 use Rattle.std.specs.Prelude.{slice_get, option_map}
 use Rattle.std.specs.List.{remove}
 use Rattle.std.specs.Option.{option_or}
 use Rattle.rd_state.specs.declared.window.WindowState.{WindowState}
-use Rattle.rd_state.specs.Windows.{window_of, place_in, with_window, without_window, AreApart}
+use Rattle.rd_state.specs.Windows.{under, window_of, place_in, with_window, without_window, AreApart}
 
 abbrev pub NumberedWindow : Type 0
 NumberedWindow = ℕ × WindowState
 
 -- ---- the first entry, and the others
 
-pub window-here : (n : ℕ) (e : NumberedWindow) (rest : List NumberedWindow) → e.0 ≡ n → window_of n (e ∷ rest) ≡ Some e.1
-window-here n e rest h = cond-true (e.0 == n) (Some e.1) (window_of n rest) (eq-eqb e.0 n h)
+pub under-here : {X : Type 0} (n : ℕ) (e : ℕ × X) (rest : List (ℕ × X)) → e.0 ≡ n → under n (e ∷ rest) ≡ Some e.1
+under-here n e rest h = cond-true (e.0 == n) (Some e.1) (under n rest) (eq-eqb e.0 n h)
 
-pub window-there : (n : ℕ) (e : NumberedWindow) (rest : List NumberedWindow) → e.0 ≢ n → window_of n (e ∷ rest) ≡ window_of n rest
-window-there n e rest h = cond-false (e.0 == n) (Some e.1) (window_of n rest) (ne_eqb e.0 n h)
+pub under-there : {X : Type 0} (n : ℕ) (e : ℕ × X) (rest : List (ℕ × X)) → e.0 ≢ n → under n (e ∷ rest) ≡ under n rest
+under-there n e rest h = cond-false (e.0 == n) (Some e.1) (under n rest) (ne_eqb e.0 n h)
 
 pub with-here : (n : ℕ) (f : WindowState → WindowState) (e : NumberedWindow) (rest : List NumberedWindow) → e.0 ≡ n → with_window n f (e ∷ rest) ≡ (e.0, f e.1) ∷ rest
 with-here n f e rest h = cond-true (e.0 == n) _ _ (eq-eqb e.0 n h)
@@ -42,9 +42,9 @@ pub get-window : (n : ℕ) (ws : List NumberedWindow) (w : WindowState) → wind
 get-window n [] w h = absurd (cc)
 get-window n (e ∷ rest) w h = elim (cases_eq e.0 n) [
   | inl p ↦
-      let same : e.1 ≡ w = cc (sym (window-here n e rest p) ∙ h) in
+      let same : e.1 ≡ w = cc (sym (under-here n e rest p) ∙ h) in
       (0, λ i. Some (p i, same i))
-  | inr q ↦ let there = get-window n rest w (sym (window-there n e rest q) ∙ h) in (suc there.0, there.1)
+  | inr q ↦ let there = get-window n rest w (sym (under-there n e rest q) ∙ h) in (suc there.0, there.1)
 ]
 
 -- what is found at the place of a number
@@ -57,7 +57,7 @@ pub record IsPlace (n i : ℕ) (ws : List NumberedWindow) (w : WindowState) : Ty
 one-further : (n j : ℕ) (e : NumberedWindow) (rest : List NumberedWindow) (w : WindowState) → e.0 ≢ n → IsPlace n j rest w → IsPlace n (suc j) (e ∷ rest) w
 one-further n j e rest w q p = record {
   at = p.at;
-  window = window-there n e rest q ∙ p.window;
+  window = under-there n e rest q ∙ p.window;
   changed = λ f. ap (λ (xs : List NumberedWindow). e ∷ xs) (p.changed f) ∙ sym (with-there n f e rest q);
   removed = ap (λ (xs : List NumberedWindow). e ∷ xs) p.removed ∙ sym (without-there n e rest q);
 }
@@ -69,7 +69,7 @@ found-by n zero (e ∷ rest) is less = elim (cases_eq e.0 n) [
     e.1,
     record {
       at = λ k. Some (p k, e.1);
-      window = window-here n e rest p;
+      window = under-here n e rest p;
       changed = λ f. ap (λ (m : ℕ). (m, f e.1) ∷ rest) (sym p) ∙ sym (with-here n f e rest p);
       removed = sym (without-here n e rest p);
     },
@@ -90,7 +90,7 @@ pub absent : (n : ℕ) (ws : List NumberedWindow) → length ws ≡ place_in n w
 absent n [] h = refl
 absent n (e ∷ rest) h = elim (cases_eq e.0 n) [
   | inl p ↦ absurd (omega (arith, place-here n e rest p, h))
-  | inr q ↦ window-there n e rest q ∙ absent n rest (omega (arith, place-there n e rest q, h))
+  | inr q ↦ under-there n e rest q ∙ absent n rest (omega (arith, place-there n e rest q, h))
 ]
 
 -- ---- a window that becomes another
@@ -98,10 +98,10 @@ absent n (e ∷ rest) h = elim (cases_eq e.0 n) [
 pub window-same : (n : ℕ) (f : WindowState → WindowState) (ws : List NumberedWindow) → window_of n (with_window n f ws) ≡ option_map f (window_of n ws)
 window-same n f [] = refl
 window-same n f (e ∷ rest) = elim (cases_eq e.0 n) [
-  | inl p ↦ ap (window_of n) (with-here n f e rest p) ∙ (window-here n (e.0, f e.1) rest p ∙ sym (ap (option_map f) (window-here n e rest p)))
+  | inl p ↦ ap (window_of n) (with-here n f e rest p) ∙ (under-here n (e.0, f e.1) rest p ∙ sym (ap (option_map f) (under-here n e rest p)))
   | inr q ↦
       ap (window_of n) (with-there n f e rest q)
-      ∙ (window-there n e (with_window n f rest) q ∙ (window-same n f rest ∙ sym (ap (option_map f) (window-there n e rest q))))
+      ∙ (under-there n e (with_window n f rest) q ∙ (window-same n f rest ∙ sym (ap (option_map f) (under-there n e rest q))))
 ]
 
 pub window-other : (n m : ℕ) (f : WindowState → WindowState) (ws : List NumberedWindow) → m ≢ n → window_of m (with_window n f ws) ≡ window_of m ws
@@ -109,10 +109,10 @@ window-other n m f [] ne = refl
 window-other n m f (e ∷ rest) ne = elim (cases_eq e.0 n) [
   | inl p ↦
       let other : e.0 ≢ m = λ r. ne (sym r ∙ p) in
-      ap (window_of m) (with-here n f e rest p) ∙ (window-there m (e.0, f e.1) rest other ∙ sym (window-there m e rest other))
+      ap (window_of m) (with-here n f e rest p) ∙ (under-there m (e.0, f e.1) rest other ∙ sym (under-there m e rest other))
   | inr q ↦ ap (window_of m) (with-there n f e rest q) ∙ elim (cases_eq e.0 m) [
-    | inl r ↦ window-here m e (with_window n f rest) r ∙ sym (window-here m e rest r)
-    | inr r ↦ window-there m e (with_window n f rest) r ∙ (window-other n m f rest ne ∙ sym (window-there m e rest r))
+    | inl r ↦ under-here m e (with_window n f rest) r ∙ sym (under-here m e rest r)
+    | inr r ↦ under-there m e (with_window n f rest) r ∙ (window-other n m f rest ne ∙ sym (under-there m e rest r))
   ]
 ]
 
@@ -152,16 +152,16 @@ pub window-gone : (n : ℕ) (ws : List NumberedWindow) → AreApart ws → windo
 window-gone n [] h = refl
 window-gone n (e ∷ rest) h = elim (cases_eq e.0 n) [
   | inl p ↦ ap (window_of n) (without-here n e rest p) ∙ (ap (λ (k : ℕ). window_of k rest) (sym p) ∙ h.0)
-  | inr q ↦ ap (window_of n) (without-there n e rest q) ∙ (window-there n e (without_window n rest) q ∙ window-gone n rest h.1)
+  | inr q ↦ ap (window_of n) (without-there n e rest q) ∙ (under-there n e (without_window n rest) q ∙ window-gone n rest h.1)
 ]
 
 pub window-left : (n m : ℕ) (ws : List NumberedWindow) → m ≢ n → window_of m (without_window n ws) ≡ window_of m ws
 window-left n m [] ne = refl
 window-left n m (e ∷ rest) ne = elim (cases_eq e.0 n) [
-  | inl p ↦ ap (window_of m) (without-here n e rest p) ∙ sym (window-there m e rest (λ r. ne (sym r ∙ p)))
+  | inl p ↦ ap (window_of m) (without-here n e rest p) ∙ sym (under-there m e rest (λ r. ne (sym r ∙ p)))
   | inr q ↦ ap (window_of m) (without-there n e rest q) ∙ elim (cases_eq e.0 m) [
-    | inl r ↦ window-here m e (without_window n rest) r ∙ sym (window-here m e rest r)
-    | inr r ↦ window-there m e (without_window n rest) r ∙ (window-left n m rest ne ∙ sym (window-there m e rest r))
+    | inl r ↦ under-here m e (without_window n rest) r ∙ sym (under-here m e rest r)
+    | inr r ↦ under-there m e (without_window n rest) r ∙ (window-left n m rest ne ∙ sym (under-there m e rest r))
   ]
 ]
 
@@ -196,10 +196,10 @@ get-without n (x ∷ rest) (suc k) e h = elim (cases_eq x.0 n) [
 pub window-end : (m : ℕ) (ws : List NumberedWindow) (e : NumberedWindow) → window_of m (ws ++ e ∷ []) ≡ option_or (window_of m ws) (if e.0 == m then Some e.1 else None)
 window-end m [] e = refl
 window-end m (x ∷ rest) e = elim (cases_eq x.0 m) [
-  | inl p ↦ window-here m x (rest ++ e ∷ []) p ∙ sym (ap (λ (o : Option WindowState). option_or o (if e.0 == m then Some e.1 else None)) (window-here m x rest p))
+  | inl p ↦ under-here m x (rest ++ e ∷ []) p ∙ sym (ap (λ (o : Option WindowState). option_or o (if e.0 == m then Some e.1 else None)) (under-here m x rest p))
   | inr q ↦
-      window-there m x (rest ++ e ∷ []) q
-      ∙ (window-end m rest e ∙ sym (ap (λ (o : Option WindowState). option_or o (if e.0 == m then Some e.1 else None)) (window-there m x rest q)))
+      under-there m x (rest ++ e ∷ []) q
+      ∙ (window-end m rest e ∙ sym (ap (λ (o : Option WindowState). option_or o (if e.0 == m then Some e.1 else None)) (under-there m x rest q)))
 ]
 
 pub some-none : {X : Type 0} (x : X) (o : Option X) → o ≡ Some x → o ≡ None → ⊥
@@ -209,8 +209,8 @@ some-none x (Some y) h k = cc
 pub apart-end : (ws : List NumberedWindow) (e : NumberedWindow) → AreApart ws → window_of e.0 ws ≡ None → AreApart (ws ++ e ∷ [])
 apart-end [] e h none = (refl, tt)
 apart-end (x ∷ rest) e h none =
-    let other : x.0 ≢ e.0 = λ p. some-none x.1 (window_of e.0 (x ∷ rest)) (window-here e.0 x rest p) none in
-    let further : window_of e.0 rest ≡ None = sym (window-there e.0 x rest other) ∙ none in
+    let other : x.0 ≢ e.0 = λ p. some-none x.1 (window_of e.0 (x ∷ rest)) (under-here e.0 x rest p) none in
+    let further : window_of e.0 rest ≡ None = sym (under-there e.0 x rest other) ∙ none in
     let past : (if e.0 == x.0 then Some e.1 else None) ≡ None = cond-false (e.0 == x.0) (Some e.1) None (ne_eqb e.0 x.0 (λ p. other (sym p))) in (
       window-end x.0 rest e ∙ (ap (λ (o : Option WindowState). option_or o (if e.0 == x.0 then Some e.1 else None)) h.0 ∙ past),
       apart-end rest e h.1 further,
@@ -227,16 +227,23 @@ get-end (x ∷ xs) y (suc k) b h = elim (get-end xs y k b h) [
 
 -- ---- all windows
 
+-- what stands under each number became something else
+abbrev pub became : {X Y : Type 0} → (ℕ → X → Y) → ℕ × X → ℕ × Y
+became f e = (e.0, f e.0 e.1)
+
+pub under-became : {X Y : Type 0} (f : ℕ → X → Y) (n : ℕ) (es : List (ℕ × X)) → under n (map (became f) es) ≡ option_map (f n) (under n es)
+under-became f n [] = refl
+under-became f n (e ∷ rest) = elim (cases_eq e.0 n) [
+  | inl p ↦ under-here n (became f e) (map (became f) rest) p ∙ (ap (λ k. Some (f k e.1)) p ∙ sym (ap (option_map (f n)) (under-here n e rest p)))
+  | inr q ↦ under-there n (became f e) (map (became f) rest) q ∙ (under-became f n rest ∙ sym (ap (option_map (f n)) (under-there n e rest q)))
+]
+
 -- windows that become others under their numbers
 abbrev pub each_by : (WindowState → WindowState) → NumberedWindow → NumberedWindow
 each_by f e = (e.0, f e.1)
 
 pub window-each : (n : ℕ) (f : WindowState → WindowState) (ws : List NumberedWindow) → window_of n (map (each_by f) ws) ≡ option_map f (window_of n ws)
-window-each n f [] = refl
-window-each n f (e ∷ rest) = elim (cases_eq e.0 n) [
-  | inl p ↦ window-here n (e.0, f e.1) (map (each_by f) rest) p ∙ sym (ap (option_map f) (window-here n e rest p))
-  | inr q ↦ window-there n (e.0, f e.1) (map (each_by f) rest) q ∙ (window-each n f rest ∙ sym (ap (option_map f) (window-there n e rest q)))
-]
+window-each n f ws = under-became (λ k. f) n ws
 
 pub apart-each : (f : WindowState → WindowState) (ws : List NumberedWindow) → AreApart ws → AreApart (map (each_by f) ws)
 apart-each f [] h = tt
@@ -255,8 +262,8 @@ pub window-at : (n : ℕ) (ws : List NumberedWindow) (k : ℕ) (e : NumberedWind
 window-at n [] k e apart h is = absurd (cc)
 window-at n (x ∷ rest) zero e apart h is =
     let same : x ≡ e = cc in
-    window-here n x rest (ap (λ (y : NumberedWindow). y.0) same ∙ is) ∙ ap (λ (y : NumberedWindow). Some y.1) same
+    under-here n x rest (ap (λ (y : NumberedWindow). y.0) same ∙ is) ∙ ap (λ (y : NumberedWindow). Some y.1) same
 window-at n (x ∷ rest) (suc k) e apart h is = elim (cases_eq x.0 n) [
   | inl p ↦ absurd (some-none e.1 (window_of n rest) (window-at n rest k e apart.1 h is) (ap (λ (m : ℕ). window_of m rest) (sym p) ∙ apart.0))
-  | inr q ↦ window-there n x rest q ∙ window-at n rest k e apart.1 h is
+  | inr q ↦ under-there n x rest q ∙ window-at n rest k e apart.1 h is
 ]

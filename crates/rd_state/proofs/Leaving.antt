@@ -90,7 +90,7 @@ stays-made laws o from to priority front rear c d v h =
     let same : new ≡ d = cc (inner.1) in
     let range = is_range_of_all-means c.text from to outer.0 in
     subst (StaysAround o from to c) same (record {
-      seen = laws.made (seen c) (seen new) o overlay range.ordered (overlays-are c (c.overlays ++ Some overlay ∷ []));
+      seen = laws.overlays.made (seen c) (seen new) o overlay range.ordered (overlays-are c (c.overlays ++ Some overlay ∷ []));
       settings = refl;
     })
 
@@ -107,7 +107,7 @@ stays-dropped laws o number c d v h =
       there.0,
       there.1,
       subst (StaysAround o there.0.from there.0.to c) same (record {
-        seen = laws.dropped (seen c) (seen new) o number there.0 there.1 (ordered o c v number there.0 there.1) (overlays-are c (overlays.dropped c.overlays number));
+        seen = laws.overlays.dropped (seen c) (seen new) o number there.0 there.1 (ordered o c v number there.0 there.1) (overlays-are c (overlays.dropped c.overlays number));
         settings = refl;
       }),
     )
@@ -123,7 +123,7 @@ stays-given laws o number kind value c d v h =
       there.0,
       there.1,
       subst (StaysAround o there.0.from there.0.to c) same (record {
-        seen = laws.given (seen c) (seen new) o number there.0 kind value there.1 (ordered o c v number there.0 there.1) (overlays-are c (overlays.given c.overlays number kind value));
+        seen = laws.overlays.given (seen c) (seen new) o number there.0 kind value there.1 (ordered o c v number there.0 there.1) (overlays-are c (overlays.given c.overlays number kind value));
         settings = refl;
       }),
     )
@@ -144,7 +144,7 @@ stays-moved laws o number from to c d v h =
       there.0,
       there.1,
       subst (λ (x : ContentValue). Stays c o x o (min there.0.from from) (max there.0.to to + 1) (pos 0)) same (record {
-        seen = laws.moved (seen c) (seen new) o number from to there.0 there.1 (ordered o c v number there.0 there.1) range.ordered (overlays-are c (overlays.moved c.overlays number from to));
+        seen = laws.overlays.moved (seen c) (seen new) o number from to there.0 there.1 (ordered o c v number there.0 there.1) range.ordered (overlays-are c (overlays.moved c.overlays number from to));
         settings = refl;
       }),
     )

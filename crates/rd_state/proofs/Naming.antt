@@ -34,10 +34,10 @@ use Rattle.rd_state.specs.Valid.{most_buffers, IsContent, IsValid}
 use Rattle.rd_state.specs.Edits.{is_made, is_setting_made, margin_putting, setting_putting, with_setting}
 use Rattle.rd_state.specs.Making.{unless_fault, run_of, spec_of, string_making, spec_making, face_making, table_making}
 use Rattle.rd_state.specs.Steps.{with_objects, making}
-use Rattle.rd_state.proofs.Below.{MadeLaws, ObjectLaws, GrowLaws}
+use Rattle.rd_state.proofs.Below.{MadeLaws, ObjectLaws}
 use Rattle.rd_state.proofs.ByNumber.{some-none}
 use Rattle.rd_state.proofs.Keeping.{buffers-appended, windows-appended}
-use Rattle.rd_state.proofs.Stepping.{Keeps, text-kept}
+use Rattle.rd_state.proofs.Stepping.{Keeps, text-kept, with_parts}
 use Rattle.rd_state.proofs.Tables.{nothing-within}
 use Rattle.rd_state.proofs.Tests.{if-ok, if-not}
 
@@ -137,62 +137,58 @@ content-extended made o p c more v =
     }
 
 -- other objects, that go on from those that there were
-objects-done : (made : MadeLaws) (s t : StateValue) (p : ObjectLists) → IsValid s → AreObjects p → IsClosed p → Extends s.objects p → record s { objects = p } ≡ t → IsValid t
-objects-done made s t p v sound closed more same = subst IsValid same (record {
-  buffers = record {
-    few = v.buffers.few;
-    told = v.buffers.told;
-    names = v.buffers.names;
-    contents = λ k b h. content-extended made s.objects p b.content more (v.buffers.contents k b h);
-  };
-  objects = sound;
-  closed = closed;
-  windows = v.windows;
-  frame = v.frame;
-  margin = v.margin;
-  conservatively = v.conservatively;
-  echo = v.echo;
-})
+objects-done : (made : MadeLaws) (s t : StateValue) (p : ObjectLists) → IsValid s → AreObjects p → IsClosed p → Extends s.objects t.objects → record s { objects = p } ≡ t → IsValid t
+objects-done made s t p v sound closed more same =
+    let extends : Extends s.objects p = subst (λ (x : StateValue). Extends s.objects x.objects) (sym same) more in
+    subst IsValid same (with_parts s s.buffers p s.windows v (record {
+      few = v.buffers.few;
+      told = v.buffers.told;
+      names = v.buffers.names;
+      contents = λ k b h. content-extended made s.objects p b.content extends (v.buffers.contents k b h);
+    }) sound closed v.windows)
 
 pub made-none : (fault : Option ObjectFault) (made p : ObjectLists) → unless_fault fault made ≡ Ok p → (fault ≡ None) × (made ≡ p)
 made-none None made p h = (refl, cc)
 made-none (Some fault) made p h = absurd (cc)
 
 with_objects-valid : (made : MadeLaws) (s t : StateValue) (fault : Option ObjectFault) (added : ObjectLists) (r : Result ObjectLists Refused) → IsValid s → unless_fault fault added ≡ r
-    → (fault ≡ None → AreObjects added) → (fault ≡ None → IsClosed added) → Extends s.objects added → with_objects s r ≡ Ok t → IsValid t
+    → (fault ≡ None → AreObjects added) → (fault ≡ None → IsClosed added) → Extends s.objects t.objects → with_objects s r ≡ Ok t → IsValid t
 with_objects-valid made s t fault added (Err e) v is sound closed more h = absurd (cc)
 with_objects-valid made s t fault added (Ok p) v is sound closed more h =
     let m = made-none fault added p is in
     let same : record s { objects = p } ≡ t = cc (h) in
     objects-done made s t added v (sound m.0) (closed m.0) more (ap (λ (x : ObjectLists). record s { objects = x }) m.1 ∙ same)
 
-pub string-valid : (made : MadeLaws) (laws : ObjectLaws) (grow : GrowLaws) (s t : StateValue) (text : List ℕ) (runs : List OpRun) → IsValid s → AreCodes text
+pub string-valid : (made : MadeLaws) (laws : ObjectLaws) (s t : StateValue) (text : List ℕ) (runs : List OpRun) → IsValid s → AreCodes text → Extends s.objects t.objects
     → with_objects s (string_making s.objects text runs) ≡ Ok t → IsValid t
-string-valid made laws grow s t text runs v codes h =
+string-valid made laws s t text runs v codes more h =
     let rs = map run_of runs in
     with_objects-valid made s t (string_fault s.objects text rs) (string_added s.objects text rs) (string_making s.objects text runs) v refl
-    (λ none. laws.sound_string s.objects text rs codes none v.objects) (λ none. laws.closed_string s.objects text rs none v.closed) (grow.string s.objects text rs) h
+    (λ none. laws.sound.string s.objects text rs codes none v.objects) (λ none. laws.closed.string s.objects text rs none v.closed) more h
 
 small-spec : (spec : OpSpec) → IsSpecInForm spec → IsSmallSpec (spec_of spec)
 small-spec (specs.Text n) form = tt
 small-spec (specs.Width n) form = form
 small-spec (specs.Align n) form = form
 
-pub spec-valid : (made : MadeLaws) (laws : ObjectLaws) (grow : GrowLaws) (s t : StateValue) (spec : OpSpec) → IsValid s → IsSpecInForm spec → with_objects s (spec_making s.objects spec) ≡ Ok t → IsValid t
-spec-valid made laws grow s t spec v form h =
+pub spec-valid : (made : MadeLaws) (laws : ObjectLaws) (s t : StateValue) (spec : OpSpec) → IsValid s → IsSpecInForm spec → Extends s.objects t.objects
+    → with_objects s (spec_making s.objects spec) ≡ Ok t → IsValid t
+spec-valid made laws s t spec v form more h =
     let x = spec_of spec in
     with_objects-valid made s t (spec_fault s.objects x) (spec_added s.objects x) (spec_making s.objects spec) v refl
-    (λ none. laws.sound_spec s.objects x (small-spec spec form) none v.objects) (λ none. laws.closed_spec s.objects x none v.closed) (grow.spec s.objects x) h
+    (λ none. laws.sound.spec s.objects x (small-spec spec form) none v.objects) (λ none. laws.closed.spec s.objects x none v.closed) more h
 
-pub face-valid : (made : MadeLaws) (laws : ObjectLaws) (grow : GrowLaws) (s t : StateValue) (face : Attributes) → IsValid s → HasColours face → with_objects s (face_making s.objects face) ≡ Ok t → IsValid t
-face-valid made laws grow s t face v form h =
+pub face-valid : (made : MadeLaws) (laws : ObjectLaws) (s t : StateValue) (face : Attributes) → IsValid s → HasColours face → Extends s.objects t.objects
+    → with_objects s (face_making s.objects face) ≡ Ok t → IsValid t
+face-valid made laws s t face v form more h =
     with_objects-valid made s t (full_fault FACES (length s.objects.faces)) (face_added s.objects face) (face_making s.objects face) v refl
-    (λ none. laws.sound_face s.objects face form none v.objects) (λ none. laws.closed_face s.objects face v.closed) (grow.face s.objects face) h
+    (λ none. laws.sound.face s.objects face form none v.objects) (λ none. laws.closed.face s.objects face v.closed) more h
 
-pub table-valid : (made : MadeLaws) (laws : ObjectLaws) (grow : GrowLaws) (s t : StateValue) (table : TableValue) → IsValid s → IsTable table → with_objects s (table_making s.objects table) ≡ Ok t → IsValid t
-table-valid made laws grow s t table v form h =
+pub table-valid : (made : MadeLaws) (laws : ObjectLaws) (s t : StateValue) (table : TableValue) → IsValid s → IsTable table → Extends s.objects t.objects
+    → with_objects s (table_making s.objects table) ≡ Ok t → IsValid t
+table-valid made laws s t table v form more h =
     with_objects-valid made s t (full_fault TABLES (length s.objects.tables)) (table_added s.objects table) (table_making s.objects table) v refl
-    (λ none. laws.sound_table s.objects table form none v.objects) (λ none. laws.closed_table s.objects table v.closed) (grow.table s.objects table) h
+    (λ none. laws.sound.table s.objects table form none v.objects) (λ none. laws.closed.table s.objects table v.closed) more h
 
 -- ---- a new buffer
 
@@ -243,13 +239,5 @@ making-valid s t name v form h =
     let free = ltb-false (number_of name s.buffers) (length s.buffers) outer.0 in
     let room = leb-false most_buffers (length s.buffers) inner.0 in
     let same : made ≡ t = cc (inner.1) in
-    subst IsValid same (record {
-      buffers = buffers-appended s.objects s.buffers name v.buffers (new-valid s.objects) form room free;
-      objects = v.objects;
-      closed = v.closed;
-      windows = windows-appended s.buffers name s.tree s.windows s.selected v.windows;
-      frame = v.frame;
-      margin = v.margin;
-      conservatively = v.conservatively;
-      echo = v.echo;
-    })
+    subst IsValid same (with_parts s made.buffers s.objects s.windows v (buffers-appended s.objects s.buffers name v.buffers (new-valid s.objects) form room free)
+    v.objects v.closed (windows-appended s.buffers name s.tree s.windows s.selected v.windows))

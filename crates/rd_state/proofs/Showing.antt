@@ -22,7 +22,7 @@ use Rattle.rd_state.specs.declared.refused.Refused.TheVariants.{NoWindow, NoBuff
 use Rattle.rd_state.specs.declared.window.WindowState.{WindowState}
 use Rattle.rd_state.specs.States.{BufferValue, StateValue, number_of}
 use Rattle.rd_state.specs.Windows.{window_of, with_window, without_window, leaf_at, leaf_of}
-use Rattle.rd_state.specs.Valid.{IsWindow, AreWindows, IsGoodFormat, IsValid}
+use Rattle.rd_state.specs.Valid.{IsWindow, AreWindows, IsFrame, IsGoodFormat, IsValid}
 use Rattle.rd_state.specs.Edits.{is_accessible}
 use Rattle.rd_state.specs.Steps.{with_found, in_window, changing, on_tree, splitting, removing, showing, placing, setting, held, format_fault, unless_bad, mode_lining, margining}
 use Rattle.rd_state.proofs.Below.{TreeLaws}
@@ -78,27 +78,32 @@ resize-means c d width height h =
     let parts = if-ok (nat_le (columns_needed c.windows) width && nat_le (rows_needed c.windows) height) (Ok new) tree_faults.TooSmall d h in
     cc (parts.1)
 
--- ---- states with other windows
+-- ---- states with other windows, and in another frame
 
-pub with_windows : (s : StateValue) (c : Configuration) (ws : List NumberedWindow) (n : ℕ) → IsValid s → AreWindows s.buffers c ws n → c.width ≡ s.tree.width → c.height ≡ s.tree.height
-    → IsValid (record s { tree = c; windows = ws; selected = n })
-with_windows s c ws n v w wide high = record {
+with_frame : (s : StateValue) (c : Configuration) (ws : List NumberedWindow) (n width height : ℕ) → IsValid s → AreWindows s.buffers c ws n → IsFrame c width height
+    → IsValid (record s { tree = c; windows = ws; selected = n; width = width; height = height })
+with_frame s c ws n width height v w frame = record {
   buffers = v.buffers;
   objects = v.objects;
   closed = v.closed;
   windows = w;
-  frame = record {
-    wide = v.frame.wide;
-    narrow = v.frame.narrow;
-    high = v.frame.high;
-    low = v.frame.low;
-    columns = wide ∙ v.frame.columns;
-    rows = ap (λ (x : ℕ). x + 1) high ∙ v.frame.rows;
-  };
+  frame = frame;
   margin = v.margin;
   conservatively = v.conservatively;
   echo = v.echo;
 }
+
+-- the same in the frame that there is
+pub with_windows : (s : StateValue) (c : Configuration) (ws : List NumberedWindow) (n : ℕ) → IsValid s → AreWindows s.buffers c ws n → c.width ≡ s.tree.width → c.height ≡ s.tree.height
+    → IsValid (record s { tree = c; windows = ws; selected = n })
+with_windows s c ws n v w wide high = with_frame s c ws n s.width s.height v w (record {
+  wide = v.frame.wide;
+  narrow = v.frame.narrow;
+  high = v.frame.high;
+  low = v.frame.low;
+  columns = wide ∙ v.frame.columns;
+  rows = ap (λ (x : ℕ). x + 1) high ∙ v.frame.rows;
+})
 
 option-same : {X Y : Type 0} (f g : X → Y) (o : Option X) → ((x : X) → f x ≡ g x) → option_map f o ≡ option_map g o
 option-same f g None h = refl
@@ -419,22 +424,13 @@ resizing-valid laws s t width height v wide narrow high low h =
     let columns : d.0.width ≡ width = sym (ap (λ (x : Configuration). x.width) is) in
     let rows : d.0.height ≡ height - 1 = sym (ap (λ (x : Configuration). x.height) is) in
     let shapes : d.0.windows ≡ resized s.tree.windows (tree.frame width (height - 1)) = sym (ap (λ (x : Configuration). x.windows) is) in
-    subst IsValid d.2 (record {
-      buffers = v.buffers;
-      objects = v.objects;
-      closed = v.closed;
-      windows = record {
-        tree = valid;
-        leaves = λ k. ap (leaf_at k) shapes ∙ (leaf-resized k s.tree.windows (tree.frame width (height - 1)) ∙ v.windows.leaves k);
-        apart = v.windows.apart;
-        each = v.windows.each;
-        selected = v.windows.selected;
-      };
-      frame = record { wide = wide; narrow = narrow; high = high; low = low; columns = columns; rows = omega (arith, rows) };
-      margin = v.margin;
-      conservatively = v.conservatively;
-      echo = v.echo;
-    })
+    subst IsValid d.2 (with_frame s d.0 s.windows s.selected width height v (record {
+      tree = valid;
+      leaves = λ k. ap (leaf_at k) shapes ∙ (leaf-resized k s.tree.windows (tree.frame width (height - 1)) ∙ v.windows.leaves k);
+      apart = v.windows.apart;
+      each = v.windows.each;
+      selected = v.windows.selected;
+    }) (record { wide = wide; narrow = narrow; high = high; low = low; columns = columns; rows = omega (arith, rows) }))
 
 pub selecting-valid : (s t : StateValue) (number : ℕ) → IsValid s → in_window s number (λ w. Ok (record s { selected = number })) ≡ Ok t → IsValid t
 selecting-valid s t number v h =

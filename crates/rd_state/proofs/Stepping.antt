@@ -11,7 +11,7 @@ use Rattle.rd_overlays.specs.declared.overlay.Kind.{Kind}
 use Rattle.rd_overlays.specs.Overlays as overlays
 use Rattle.rd_overlays.specs.Overlays.{overlay_at, new_overlay, after_deletion}
 use Rattle.rd_objects.specs.Things.{ObjectLists}
-use Rattle.rd_objects.specs.Sound.{AreCodes}
+use Rattle.rd_objects.specs.Sound.{AreCodes, AreObjects, IsClosed}
 use Rattle.rd_script.specs.Forms.{is_text_kind, IsRawByte}
 use Rattle.rd_state.specs.declared.moves.Move.{Move}
 use Rattle.rd_state.specs.declared.moves.Move.TheVariants.{Inserted, Deleted, Narrowed}
@@ -63,12 +63,13 @@ moved_back false false low high p from to ht hu a b c d e =
 abbrev pub Keeps : ObjectLists → (ℕ → ℕ) → (ContentValue → Result ContentValue Refused) → Type 0
 Keeps o f edit = (c d : ContentValue) → IsContent o c → edit c ≡ Ok d → IsContent o d × ((p : ℕ) → IsAccessible c.text p → IsAccessible d.text (f p))
 
--- a state with another buffer and other windows
-with_parts : (s : StateValue) (bs : List BufferValue) (ws : List (ℕ × WindowState)) → IsValid s → AreBuffers s.objects bs → AreWindows bs s.tree ws s.selected → IsValid (record s { buffers = bs; windows = ws })
-with_parts s bs ws v a b = record {
+-- a state with other buffers, objects and windows
+pub with_parts : (s : StateValue) (bs : List BufferValue) (objects : ObjectLists) (ws : List (ℕ × WindowState)) → IsValid s → AreBuffers objects bs → AreObjects objects → IsClosed objects
+    → AreWindows bs s.tree ws s.selected → IsValid (record s { buffers = bs; objects = objects; windows = ws })
+with_parts s bs objects ws v a sound closed b = record {
   buffers = a;
-  objects = v.objects;
-  closed = v.closed;
+  objects = sound;
+  closed = closed;
   windows = b;
   frame = v.frame;
   margin = v.margin;
@@ -83,7 +84,7 @@ replaced-done s t i b edit (Ok d) v k at is h =
     let bs = slice_set s.buffers i (holding b d) in
     let same : record s { buffers = bs } ≡ t = cc (h) in
     let kept = k b.content d (v.buffers.contents i b at) is in
-    subst IsValid same (with_parts s bs s.windows v (buffers-replaced s.objects s.buffers i b d v.buffers at kept.0)
+    subst IsValid same (with_parts s bs s.objects s.windows v (buffers-replaced s.objects s.buffers i b d v.buffers at kept.0) v.objects v.closed
     (windows-replaced s.buffers i b d s.tree s.windows s.selected at kept.1 v.windows))
 
 pub moving-done : (s t : StateValue) (i : ℕ) (b : BufferValue) (how : Move) (edit : ContentValue → Result ContentValue Refused) (r : Result ContentValue Refused) → IsValid s
@@ -94,7 +95,7 @@ moving-done s t i b how edit (Ok d) v k at is h =
     let ws = map (moved_in i how) s.windows in
     let same : record s { buffers = bs; windows = ws } ≡ t = cc (h) in
     let kept = k b.content d (v.buffers.contents i b at) is in
-    subst IsValid same (with_parts s bs ws v (buffers-replaced s.objects s.buffers i b d v.buffers at kept.0)
+    subst IsValid same (with_parts s bs s.objects ws v (buffers-replaced s.objects s.buffers i b d v.buffers at kept.0) v.objects v.closed
     (windows-moved s.buffers i b d how s.tree s.windows s.selected at kept.1 v.windows))
 
 replaced-found : (s t : StateValue) (i : ℕ) (o : Option BufferValue) (edit : ContentValue → Result ContentValue Refused) → IsValid s → Keeps s.objects (λ p. p) edit

@@ -6,10 +6,14 @@ use Rattle.rd_tree.specs.Windows.{Windows, Window, Split}
 use Rattle.rd_state.specs.declared.window.WindowState.{WindowState}
 use Rattle.rd_state.specs.States.{BufferValue, ContentValue, StateValue, new_content, opening_window}
 
+-- what stands under a number
+abbrev pub under : {X : Type 0} → ℕ → List (ℕ × X) → Option X
+under number [] = None
+under number (e ∷ rest) = if e.0 == number then Some e.1 else under number rest
+
 -- the window with a number, where it lives
 abbrev pub window_of : ℕ → List (ℕ × WindowState) → Option WindowState
-window_of number [] = None
-window_of number (e ∷ rest) = if e.0 == number then Some e.1 else window_of number rest
+window_of number windows = under number windows
 
 -- the place of the window with a number, and the count of windows where it does not live
 abbrev pub place_in : ℕ → List (ℕ × WindowState) → ℕ

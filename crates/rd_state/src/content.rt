@@ -1,6 +1,6 @@
 //! `Content`, a buffer with the margin strings of its overlays, whose properties and overlays always lie in its text. The edits of its
 //! text and the ops on its overlays are methods of it too, in `buffer.rt` and `overlay.rt`.
-ghost use Rattle.std.specs.Prelude.{◌≡◌, ◌≢◌, IfOk, IsTrue};
+ghost use Rattle.std.specs.Prelude.{◌≡◌, ◌≢◌, ◌<◌, IfOk, IsTrue, OnOk};
 ghost use Rattle.rd_objects.specs.Sound.{AreObjects};
 ghost use Rattle.rd_props.specs.Buffers.{meaning};
 ghost use Rattle.rd_script.specs.Forms.{IsSettingInForm, IsPropertyValue, is_text_kind};
@@ -81,7 +81,8 @@ impl Content {
         requires objects { AreObjects objects.now }
         requires kind { IsTrue (is_text_kind kind) }
         requires form { IsPropertyValue kind value }
-        ensures { Answers result (property_putting objects.now from to kind value self.old) self.old self.new }
+        ensures changes { Answers result (property_putting objects.now from to kind value self.old) self.old self.new }
+        ensures small { OnOk result ((from < 4294967296) × (to < 4294967296)) }
     {
         if !is_accessible_range(&self.state.text, from, to) {
             return Err(Refused::OutOfRange);

@@ -35,7 +35,7 @@ pub fn steps_keep_states()
     edits_keep_what_is_made();
     objects_stay_closed();
     objects_stay_sound();
-    extensions_keep_objects();
+    ops_leave_the_rest();
 }
 
 /// Where a layout settles a window's view and its point at accessible positions, a valid state stays valid. The call does nothing.

@@ -1,5 +1,6 @@
 //! Whether the objects that ops name were made.
-ghost use Rattle.std.specs.Prelude.{◌≡◌, ◌<◌, true, false, Some, IfOk, IfErr, OnOk, OnErr, length};
+ghost use Rattle.std.specs.Prelude.{◌≡◌, ◌<◌, true, false, Some, IfOk, IfErr, OnOk, OnErr, length, min};
+ghost use Rattle.rd_base.specs.declared.limits.TheConstants.{STRINGS};
 ghost use Rattle.rd_objects.specs.Sound.{AreObjects};
 ghost use Rattle.rd_script.specs.Forms.{IsPropertyValue};
 ghost use Rattle.rd_state.specs.declared.refused.Refused.TheVariants.{NoObject};
@@ -41,8 +42,8 @@ fn is_value(objects: &Objects, kind: Kind, number: u64) -> bool
     ensures small { result ≡ true → IsPropertyValue kind (Some number) → number < 4294967296 }
 {
     match kind {
-        Kind::Face => is_made_face(objects, number),
-        Kind::Display => is_made_spec(objects, number),
+        Kind::Face => objects.face(narrow(number)).is_some(),
+        Kind::Display => objects.spec(narrow(number)).is_some(),
         Kind::Invisible => true,
         Kind::LinePrefix => is_made_string(objects, number),
         Kind::WrapPrefix => is_made_string(objects, number),
@@ -87,7 +88,7 @@ pub(crate) fn names_made(objects: &Objects, setting: &Setting) -> bool
     ensures small { result ≡ true → IsFitting setting.now }
 {
     match setting {
-        Setting::Table(Some(number)) => is_made_table(objects, *number),
+        Setting::Table(Some(number)) => objects.table(narrow(*number)).is_some(),
         Setting::LinePrefix(Some(number)) => is_made_string(objects, *number),
         Setting::WrapPrefix(Some(number)) => is_made_string(objects, *number),
         _ => true,
@@ -100,32 +101,12 @@ fn is_made_string(objects: &Objects, number: u64) -> bool
     ensures value { result ≡ is_made (length objects.now.strings) (Some number) }
     ensures small { result ≡ true → number < 4294967296 }
 {
-    number < MOST_NUMBERS && objects.string(number as u32).is_some()
+    objects.string(narrow(number)).is_some()
 }
 
-/// Whether a table was made.
-fn is_made_table(objects: &Objects, number: u64) -> bool
-    requires { AreObjects objects.now }
-    ensures value { result ≡ is_made (length objects.now.tables) (Some number) }
-    ensures small { result ≡ true → number < 4294967296 }
+/// The number of an object in 32 bits. One that is past all objects stays past them.
+pub(crate) fn narrow(number: u64) -> u32
+    ensures { result ≡ min number STRINGS }
 {
-    number < MOST_NUMBERS && objects.table(number as u32).is_some()
-}
-
-/// Whether a face was made.
-fn is_made_face(objects: &Objects, number: u64) -> bool
-    requires { AreObjects objects.now }
-    ensures value { result ≡ is_made (length objects.now.faces) (Some number) }
-    ensures small { result ≡ true → number < 4294967296 }
-{
-    number < MOST_NUMBERS && objects.face(number as u32).is_some()
-}
-
-/// Whether a display spec was made.
-fn is_made_spec(objects: &Objects, number: u64) -> bool
-    requires { AreObjects objects.now }
-    ensures value { result ≡ is_made (length objects.now.specs) (Some number) }
-    ensures small { result ≡ true → number < 4294967296 }
-{
-    number < MOST_NUMBERS && objects.spec(number as u32).is_some()
+    number.min(MOST_NUMBERS) as u32
 }

@@ -8,6 +8,7 @@ ghost use Rattle.rd_objects.specs.Sound.{AreObjects};
 ghost use Rattle.rd_state.specs.Answers.{Answers};
 ghost use Rattle.rd_state.specs.Making.{run_of, string_making, spec_making, face_making, table_making};
 
+use crate::made::narrow;
 use crate::refused::Refused;
 use rd_base::limits::{STRING_CHARACTERS, STRINGS};
 use rd_base::{Ch, Face, ListOf, Memory};
@@ -59,8 +60,8 @@ fn is_run_made(objects: &Objects, run: OpRun) -> bool
     ensures { result ≡ is_made objects.now (run_of run) }
 {
     match run.kind {
-        RunKind::Face => run.value < MOST && objects.face(run.value as u32).is_some(),
-        RunKind::Display => run.value < MOST && objects.spec(run.value as u32).is_some(),
+        RunKind::Face => objects.face(narrow(run.value)).is_some(),
+        RunKind::Display => objects.spec(narrow(run.value)).is_some(),
     }
 }
 

@@ -1,5 +1,5 @@
 //! The ops on the overlays of a buffer, as methods of `Content`, with the refusals of each in order.
-ghost use Rattle.std.specs.Prelude.{◌≡◌, ◌≢◌, ◌+◌, ◌<◌, ◌≤◌, true, None, Some, IfOk, IfErr, IsSome, OnErr, length};
+ghost use Rattle.std.specs.Prelude.{◌≡◌, ◌≢◌, ◌+◌, ◌<◌, ◌≤◌, true, None, Some, IfOk, IfErr, IsSome, OnErr, OnOk, length};
 ghost use Rattle.rd_overlays.specs.Overlays.{overlay_at};
 ghost use Rattle.rd_objects.specs.Sound.{AreObjects};
 ghost use Rattle.rd_script.specs.Forms.{IsPropertyValue};
@@ -28,7 +28,8 @@ impl Content {
         front: bool,
         rear: bool,
     ) -> Result<(), Refused>
-        ensures { Answers result (overlay_making from to priority front rear self.old) self.old self.new }
+        ensures changes { Answers result (overlay_making from to priority front rear self.old) self.old self.new }
+        ensures small { OnOk result ((from < 4294967296) × (to < 4294967296)) }
     {
         if !is_range_of_all(&self.state.text, from, to) {
             return Err(Refused::OutOfRange);
@@ -48,6 +49,7 @@ impl Content {
     ) -> Result<Overlay, Refused>
         ensures changes { Answers result (overlay_moving number from to self.old) self.old self.new }
         ensures before { IfOk result (λ overlay. overlay_at self.old.overlays number ≡ Some overlay) }
+        ensures small { OnOk result ((from < 4294967296) × (to < 4294967296)) }
     {
         let overlay = find_overlay(&self.state.overlays, number)?;
         if !is_range_of_all(&self.state.text, from, to) {

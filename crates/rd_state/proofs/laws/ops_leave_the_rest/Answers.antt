@@ -8,20 +8,12 @@ returns c =
       inserted = c.insertions_leave_the_rest.ensures;
       deleted = c.deletions_leave_the_rest.ensures;
       put = c.puts_leave_the_rest.ensures;
-      made = c.overlays_leave_the_rest.ensures.made;
-      dropped = c.overlays_leave_the_rest.ensures.dropped;
-      given = c.overlays_leave_the_rest.ensures.given;
-      moved = c.overlays_leave_the_rest.ensures.moved;
+      overlays = c.overlays_leave_the_rest.ensures;
       objects = c.new_objects_leave_all.ensures;
       settings = c.settings_leave_all.ensures;
     } in
-    let grow : GrowLaws = record {
-      itself = c.extensions_keep_objects.ensures.itself;
-      string = c.extensions_keep_objects.ensures.string;
-      spec = c.extensions_keep_objects.ensures.spec;
-      face = c.extensions_keep_objects.ensures.face;
-      table = c.extensions_keep_objects.ensures.table;
-    } in
+    let more = c.extensions_keep_objects.ensures in
+    let grow : GrowLaws = record { itself = more.itself; string = more.string; spec = more.spec; face = more.face; table = more.table } in
     record {
       contents = λ s t op k b d v form h hb hd. (outcome laws grow s t op v form h).contents k b d hb hd;
       objects = λ s t op v form h. (outcome laws grow s t op v form h).objects;

@@ -12,8 +12,8 @@ invariant_of-self-2 c =
     putting-within b c.put_values.new.spans c.args.kind c.args.from c.args.to c.in_ok-value.value c.is_accessible_range.ensures.right c.self.invariant c.requires.kind
     (sym c.is_accessible_range.ensures.value ∙ c.if-not-is_accessible_range.false) c.in_ok-put_values.ensures.ok
 
-pub returns : goal.returns
-returns c =
+pub returns-clause-changes : goal.returns-clause-changes
+returns-clause-changes c =
     let b = c.self.inside.state in
     let values = subst (λ (x : Option ℕ). AreAlike (values_of c.put_values.new.spans) (put_on (values_of b.spans) c.args.kind c.args.from c.args.to x))
     c.in_ok-value.ensures.same c.in_ok-put_values.ensures.ok in
