@@ -30,9 +30,8 @@ use Rattle.rd_state.specs.declared.window.WindowState.{WindowState}
 use Rattle.rd_tree.specs.Calls.{Configuration, split_tree, remove_tree, resize_tree, mode_tree, margins_tree}
 use Rattle.rd_tree.specs.declared.fault.TreeFault.{TreeFault}
 use Rattle.rd_layout.specs.Changes.{change_by, if_shown, restyled}
-use Rattle.rd_layout.proofs.ByNumber.{window-became}
 use Rattle.rd_layout.proofs.Standing.{one-of, unless}
-use Rattle.rd_state.proofs.ByNumber.{NumberedWindow, window-here, window-other, window-same, window-there, window-gone, window-left}
+use Rattle.rd_state.proofs.ByNumber.{NumberedWindow, under-became, under-here, under-there, window-other, window-same, window-gone, window-left}
 use Rattle.rd_state.proofs.Options.{one-value, get-set}
 use Rattle.rd_state.proofs.Tests.{if-ok}
 
@@ -158,7 +157,7 @@ moved-by i how number w = if w.buffer == i then moved_window how w else w
 
 windows-moved : (effect : Effect) (ws : List NumberedWindow) (i : ℕ) (how : Move) → Loud effect i → Windows effect ws (map (moved_in i how) ws)
 windows-moved effect ws i how loud number old new h k quiet =
-    let after : option_map (moved-by i how number) (window_of number ws) ≡ Some new = sym (window-became (moved-by i how) number ws) ∙ k in
+    let after : option_map (moved-by i how number) (window_of number ws) ≡ Some new = sym (under-became (moved-by i how) number ws) ∙ k in
     let is : moved-by i how number old ≡ new = cc (sym (ap (option_map (moved-by i how number)) h) ∙ after) in
     elim (cases_eq old.buffer i) [
       | inl p ↦ absurd (loud number old.buffer p quiet)
@@ -177,8 +176,8 @@ windows-typed effect ws i how n f w loud at there number old new h k quiet = eli
 found-front : (n : ℕ) (ws : List NumberedWindow) (e : NumberedWindow) (w : WindowState) → window_of n ws ≡ Some w → window_of n (ws ++ e ∷ []) ≡ Some w
 found-front n [] e w h = absurd (cc)
 found-front n (d ∷ ds) e w h = elim (cases_eq d.0 n) [
-  | inl p ↦ window-here n d (ds ++ e ∷ []) p ∙ (sym (window-here n d ds p) ∙ h)
-  | inr q ↦ window-there n d (ds ++ e ∷ []) q ∙ found-front n ds e w (sym (window-there n d ds q) ∙ h)
+  | inl p ↦ under-here n d (ds ++ e ∷ []) p ∙ (sym (under-here n d ds p) ∙ h)
+  | inr q ↦ under-there n d (ds ++ e ∷ []) q ∙ found-front n ds e w (sym (under-there n d ds q) ∙ h)
 ]
 
 windows-end : (effect : Effect) (ws : List NumberedWindow) (e : NumberedWindow) → Windows effect ws (ws ++ e ∷ [])

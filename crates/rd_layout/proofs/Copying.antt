@@ -1,6 +1,5 @@
 -- How often rows were copied changes no allowance, no op, and nothing that is told.
-use Rattle.std.proofs.Common.{◌≡◌, inl, inr, ℕ, zero, suc, ◌+◌, ◌*◌, ◌&&◌, Bool, true, false, cond, if◌then◌else◌, Option, None, Some, Err, List, [], ◌∷◌, ◌++◌, length, map, sym, ap, refl, ◌∙◌}
-use Rattle.std.proofs.lemmas.Bool.{cases_eq}
+use Rattle.std.proofs.Common.{◌≡◌, ℕ, zero, suc, ◌+◌, ◌*◌, ◌&&◌, Bool, true, false, cond, if◌then◌else◌, Option, None, Some, Err, List, [], ◌∷◌, ◌++◌, length, map, ap, refl, ◌∙◌}
 use Rattle.std.proofs.lemmas.List.{length-map}
 use Rattle.std.specs.List.{flat_map}
 use Rattle.std.specs.Prelude.{option_map, unwrap_or}
@@ -40,7 +39,8 @@ use Rattle.rd_layout.specs.Pointing.{hitting, hitting_by, is_shown}
 use Rattle.rd_layout.specs.Redisplays.{allowance_by, allowances, allowed}
 use Rattle.rd_layout.specs.Sessions.{SessionValue, behind, layout_of, session_step}
 use Rattle.rd_layout.specs.Windows.{place_of, places, wanted_of, window_shape, window_source}
-use Rattle.rd_layout.proofs.Known.{Last, layout-here, layout-there}
+use Rattle.rd_layout.proofs.Known.{Last}
+use Rattle.rd_state.proofs.ByNumber.{under-became}
 
 -- ---- older rows
 
@@ -101,11 +101,7 @@ same-allowance (Some l) m shape w =
     ap (λ (n : ℕ). if rests (Some l) m shape w then 0 else 3 * n) costs
 
 same-layout : (n : ℕ) (ls : List Last) → layout_of n (map (λ (e : Last). (e.0, uncopied e.1)) ls) ≡ option_map uncopied (layout_of n ls)
-same-layout n [] = refl
-same-layout n (e ∷ rest) = elim (cases_eq e.0 n) [
-  | inl p ↦ layout-here n (e.0, uncopied e.1) (map (λ (e : Last). (e.0, uncopied e.1)) rest) p ∙ sym (ap (option_map uncopied) (layout-here n e rest p))
-  | inr q ↦ layout-there n (e.0, uncopied e.1) (map (λ (e : Last). (e.0, uncopied e.1)) rest) q ∙ (same-layout n rest ∙ sym (ap (option_map uncopied) (layout-there n e rest q)))
-]
+same-layout n ls = under-became (λ k. uncopied) n ls
 
 same-by : (files : Data) (s : StateValue) (last : Option Layout) (p : Placed) (o : Option WindowState) → allowance_by files s (option_map uncopied last) p o ≡ allowance_by files s last p o
 same-by files s last p None = refl

@@ -1,6 +1,6 @@
 -- The last layouts of a session's windows stay known behind each op.
-use Rattle.std.proofs.Common.{◌≡◌, ◌≢◌, ◌⊎◌, inl, inr, ℕ, ◌<◌, ◌≤◌, ◌==◌, Bool, true, false, if◌then◌else◌, Option, None, Some, Result, Ok, Err, List, [], ◌∷◌, length, sym, ap, refl, subst, subst₂, ◌∙◌, unwrap_or, arith}
-use Rattle.std.proofs.lemmas.Bool.{cases_eq, cond-false, cond-true, eq-eqb, ne_eqb}
+use Rattle.std.proofs.Common.{◌≡◌, ◌⊎◌, inl, inr, ℕ, ◌<◌, ◌≤◌, ◌==◌, Bool, true, false, if◌then◌else◌, Option, None, Some, Result, Ok, Err, List, length, sym, ap, refl, subst, subst₂, ◌∙◌, unwrap_or, arith}
+use Rattle.std.proofs.lemmas.Bool.{cases_eq, cond-true, eq-eqb}
 use Rattle.std.specs.Prelude.{slice_get, option_map}
 use Rattle.rd_base.proofs.Choices.{map-some}
 use Rattle.std.proofs.lemmas.Result.{IfOk-at_ok}
@@ -26,6 +26,7 @@ use Rattle.rd_state.specs.States.{BufferValue, ContentValue, StateValue, opening
 use Rattle.rd_state.specs.Steps.{in_window, step, with_found}
 use Rattle.rd_state.specs.Valid.{IsValid, IsWindow}
 use Rattle.rd_state.specs.Windows.{content_in, shown_content, window_of}
+use Rattle.rd_state.proofs.ByNumber.{under-became}
 use Rattle.rd_state.specs.declared.effect.Effect.{Effect}
 use Rattle.rd_state.specs.declared.effect.Effect.TheVariants.{Nothing, Edit, Moved, All, Window}
 use Rattle.rd_state.specs.declared.refused.Refused.{Refused}
@@ -37,7 +38,7 @@ use Rattle.rd_visual.specs.Hits.{hit_in}
 use Rattle.rd_term.specs.Pictures.{Picture, IsOfSize}
 use Rattle.rd_ucd.specs.Data.{Data}
 use Rattle.rd_window.specs.declared.layout.Layout.{Layout}
-use Rattle.rd_layout.specs.Changes.{change_by, change_in, later, layouts_after}
+use Rattle.rd_layout.specs.Changes.{change_by, change_in, layouts_after}
 use Rattle.rd_layout.specs.Laws.{ViewLaws}
 use Rattle.rd_layout.specs.Pointing.{hitting_by, is_shown, pointed, stepped_to}
 use Rattle.rd_layout.specs.Sessions.{IsStep, SessionValue, behind, is_frame, layout_of, opened, session_step}
@@ -66,28 +67,13 @@ pub record StepLaws : Type 0 where
 abbrev pub Last : Type 0
 Last = ℕ × Layout
 
-pub layout-here : (n : ℕ) (e : Last) (rest : List Last) → e.0 ≡ n → layout_of n (e ∷ rest) ≡ Some e.1
-layout-here n e rest h = cond-true (e.0 == n) (Some e.1) (layout_of n rest) (eq-eqb e.0 n h)
-
-pub layout-there : (n : ℕ) (e : Last) (rest : List Last) → e.0 ≢ n → layout_of n (e ∷ rest) ≡ layout_of n rest
-layout-there n e rest h = cond-false (e.0 == n) (Some e.1) (layout_of n rest) (ne_eqb e.0 n h)
-
 -- a layout since which so much more changed
 abbrev pub changed : Change → Layout → Layout
 changed c l = record l { change = join l.change c }
 
 layout-later : (effect : Effect) (t : StateValue) (n : ℕ) (ls : List Last)
     → layout_of n (layouts_after effect t ls) ≡ option_map (changed (change_in effect n (window_of n t.windows))) (layout_of n ls)
-layout-later effect t n [] = refl
-layout-later effect t n (e ∷ rest) = elim (cases_eq e.0 n) [
-  | inl p ↦
-      layout-here n (later effect t e) (layouts_after effect t rest) p
-      ∙ (ap (λ k. Some (changed (change_in effect k (window_of k t.windows)) e.1)) p
-      ∙ sym (ap (option_map (changed (change_in effect n (window_of n t.windows)))) (layout-here n e rest p)))
-  | inr q ↦
-      layout-there n (later effect t e) (layouts_after effect t rest) q
-      ∙ (layout-later effect t n rest ∙ sym (ap (option_map (changed (change_in effect n (window_of n t.windows)))) (layout-there n e rest q)))
-]
+layout-later effect t n ls = under-became (λ k. changed (change_in effect k (window_of k t.windows))) n ls
 
 -- ---- one window behind an op
 

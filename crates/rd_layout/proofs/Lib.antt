@@ -1,4 +1,4 @@
-pub mod ByNumber
+mod ByNumber
 mod Calm
 mod Chosen
 mod Copying

@@ -50,8 +50,8 @@ use Rattle.rd_layout.specs.Screens.{laid_out, settled_by, settled_state}
 use Rattle.rd_layout.specs.Sessions.{SessionValue, layout_of}
 use Rattle.rd_layout.specs.Since.{FitsFrame, IsKnown, IsSession}
 use Rattle.rd_layout.specs.Windows.{place_of, places, wanted_of, window_shape, window_source}
-use Rattle.rd_layout.proofs.ByNumber.{window-became}
-use Rattle.rd_layout.proofs.Known.{Last, layout-here, layout-there}
+use Rattle.rd_layout.proofs.Known.{Last}
+use Rattle.rd_state.proofs.ByNumber.{under-became, under-here, under-there}
 use Rattle.rd_layout.proofs.Over.{new-change}
 use Rattle.rd_layout.proofs.Placed.{bands-within, made-number, placed-at}
 use Rattle.rd_layout.proofs.Settling.{is-shape, point-within, shown-is, shown-text, state-stays}
@@ -140,10 +140,10 @@ found-layout v n [] (e ∷ es) l h at = absurd h
 found-layout v n (p ∷ ps) [] l h at = absurd h
 found-layout v n (p ∷ ps) (e ∷ es) l h at = elim (cases_eq e.0 n) [
   | inl q ↦
-      let same : e.1 ≡ l = cc (sym (layout-here n e es q) ∙ at) in
+      let same : e.1 ≡ l = cc (sym (under-here n e es q) ∙ at) in
       (0, p, refl, sym h.0 ∙ q, subst (IsLaidOutBy v.files v.state (layout_of p.number v.layouts) p (window_of p.number v.state.windows)) same h.1)
   | inr q ↦
-      let rest = found-layout v n ps es l h.2 (sym (layout-there n e es q) ∙ at) in
+      let rest = found-layout v n ps es l h.2 (sym (under-there n e es q) ∙ at) in
       (suc rest.0, rest.1, rest.2, rest.3, rest.4)
 ]
 
@@ -188,7 +188,7 @@ module _ (laws : SendLaws) (rows : ℕ) (done : Bool) (stop : Option ℕ) (old n
   now = sent.state
 
   same-windows : (number : ℕ) → window_of number new.state.windows ≡ option_map (λ w. settled_by old.files s w (place_of number s)) (window_of number s.windows)
-  same-windows number = ap (λ (x : StateValue). window_of number x.windows) now ∙ window-became (λ n w. settled_by old.files s w (place_of n s)) number s.windows
+  same-windows number = ap (λ (x : StateValue). window_of number x.windows) now ∙ under-became (λ n w. settled_by old.files s w (place_of n s)) number s.windows
 
   high : 0 < s.height
   high = let least : 2 ≤ s.height = session.state.frame.high in omega arith

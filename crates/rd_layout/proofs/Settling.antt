@@ -23,8 +23,7 @@ use Rattle.rd_ucd.specs.declared.spans.Span.{Span}
 use Rattle.rd_layout.specs.Laws.{ViewLaws}
 use Rattle.rd_layout.specs.Screens.{settled_at, settled_by, settled_state}
 use Rattle.rd_layout.specs.Windows.{place_of, view_in, wanted_of, window_shape, window_source}
-use Rattle.rd_layout.proofs.ByNumber.{window-became}
-use Rattle.rd_state.proofs.ByNumber.{NumberedWindow}
+use Rattle.rd_state.proofs.ByNumber.{NumberedWindow, under-became}
 use Rattle.rd_layout.proofs.Chosen.{chosen-anchor, chosen-point}
 
 -- ---- positions of the blocks are accessible
@@ -138,17 +137,17 @@ module _ (laws : ViewLaws) (files : Data) (s : StateValue) (valid : IsValid s) w
 
   apart-stays : (ws : List NumberedWindow) → AreApart ws → AreApart (map (settled_at files s) ws)
   apart-stays [] h = tt
-  apart-stays (e ∷ rest) h = (window-became settled e.0 rest ∙ none-stays e.0 (window_of e.0 rest) h.0, apart-stays rest h.1)
+  apart-stays (e ∷ rest) h = (under-became settled e.0 rest ∙ none-stays e.0 (window_of e.0 rest) h.0, apart-stays rest h.1)
 
   windows-stay : AreWindows s.buffers s.tree (map (settled_at files s) s.windows) s.selected
   windows-stay = record {
     tree = valid.windows.tree;
-    leaves = λ n. valid.windows.leaves n ∙ sym (ap (option_map leaf_of) (window-became settled n s.windows) ∙ same-leaves n (window_of n s.windows));
+    leaves = λ n. valid.windows.leaves n ∙ sym (ap (option_map leaf_of) (under-became settled n s.windows) ∙ same-leaves n (window_of n s.windows));
     apart = apart-stays s.windows valid.windows.apart;
     each = λ k e at.
         let d = map-some (settled_at files s) (slice_get s.windows k) e (sym (slice_get-map (settled_at files s) s.windows k) ∙ at) in
         subst (λ (x : NumberedWindow). IsWindow s.buffers x.1) d.2 (settled-window d.0.0 d.0.1 (place_of d.0.0 s) refl (valid.windows.each k d.0 d.1));
-    selected = subst IsSome (sym (window-became settled s.selected s.windows)) (is_some-map (settled s.selected) (window_of s.selected s.windows) valid.windows.selected);
+    selected = subst IsSome (sym (under-became settled s.selected s.windows)) (is_some-map (settled s.selected) (window_of s.selected s.windows) valid.windows.selected);
   }
 
   pub state-stays : IsValid (settled_state files s)

@@ -1,11 +1,12 @@
 -- A session, and what an op makes of it.
-use Rattle.std.specs.Prelude.{◌≡◌, ◌≢◌, ℕ, Bool, true, false, ◌==◌, if◌then◌else◌, Option, None, Some, Result, Ok, Err, List, [], ◌∷◌, length, option_map, slice_get}
+use Rattle.std.specs.Prelude.{◌≡◌, ◌≢◌, ℕ, Bool, true, false, if◌then◌else◌, Option, None, Result, Ok, Err, List, [], length, option_map, slice_get}
 use Rattle.rd_ucd.specs.Data.{Data}
 use Rattle.rd_script.specs.declared.op.Op.{Op}
 use Rattle.rd_script.specs.declared.op.Op.TheVariants.{Frame, Go, Hit, Redisplay}
 use Rattle.rd_state.specs.Effects.{effect_of}
 use Rattle.rd_state.specs.States.{BufferValue, StateValue, number_of, opening}
 use Rattle.rd_state.specs.Steps.{step}
+use Rattle.rd_state.specs.Windows.{under}
 use Rattle.rd_state.specs.declared.refused.Refused.{Refused}
 use Rattle.rd_state.specs.declared.refused.Refused.TheVariants.{Memory}
 use Rattle.rd_term.specs.Pictures.{Picture}
@@ -26,8 +27,7 @@ opened files = record { files = files; state = opening; current = None; layouts 
 
 -- the last layout of the window with a number
 abbrev pub layout_of : ℕ → List (ℕ × Layout) → Option Layout
-layout_of number [] = None
-layout_of number (e ∷ rest) = if e.0 == number then Some e.1 else layout_of number rest
+layout_of number layouts = under number layouts
 
 abbrev pub is_frame : Op → Bool
 is_frame (Frame width height) = true

@@ -18,7 +18,8 @@ use Rattle.rd_window.specs.declared.layout.Layout.{Layout}
 use Rattle.rd_layout.specs.Redisplays.{AreLaidOut, IsLaidOutBy, allowance_by, allowances}
 use Rattle.rd_layout.specs.Sessions.{SessionValue, layout_of}
 use Rattle.rd_layout.specs.Windows.{place_of, places, views_at, views_by, wanted_of, window_shape, window_source}
-use Rattle.rd_layout.proofs.Known.{Last, layout-there}
+use Rattle.rd_layout.proofs.Known.{Last}
+use Rattle.rd_state.proofs.ByNumber.{under-there}
 use Rattle.rd_layout.proofs.Placed.{number-of, placed-here, placed-there}
 use Rattle.rd_views.specs.Layings.{AreDesired, AreOnce, IsDesiredAt, IsDesiredBy, layout_in, layout_taken, layouts_taken, no_layout, shown_by, views_taken, window_in}
 use Rattle.rd_views.specs.declared.desired.LaidWindow.{LaidWindow}
@@ -125,7 +126,7 @@ module _ (v : SessionValue) where
       let same = number-by p (window_of p.number v.state.windows) x e own in
       elim (cases_eq p.number n) [
         | inl is ↦ absurd (cc (sym (placed-here n p ps is) ∙ none))
-        | inr other ↦ layout-there n e es (λ q. other (sym same ∙ q)) ∙ left (sym (placed-there n p ps other) ∙ none)
+        | inr other ↦ under-there n e es (λ q. other (sym same ∙ q)) ∙ left (sym (placed-there n p ps other) ∙ none)
       ])
 
   -- the numbers stand once

@@ -7,20 +7,21 @@ use Rattle.std.specs.List.{position, position_or_len}
 use Rattle.rd_base.proofs.Choices.{none-chosen}
 use Rattle.rd_window.specs.declared.layout.Layout.{Layout}
 use Rattle.rd_layout.specs.Sessions.{layout_of}
-use Rattle.rd_layout.proofs.Known.{Last, layout-here, layout-there}
+use Rattle.rd_layout.proofs.Known.{Last}
+use Rattle.rd_state.proofs.ByNumber.{under-here, under-there}
 use Rattle.rd_views.specs.Layings.{nobody}
 
 -- ---- finding
 
 at-place : (n i : ℕ) (es : List Last) → i < length es → (get_or es i nobody).0 ≡ n → ((k : ℕ) → k < i → (get_or es k nobody).0 ≢ n) → layout_of n es ≡ Some (get_or es i nobody).1
 at-place n i [] less here before = absurd (omega (arith, less))
-at-place n zero (e ∷ es) less here before = layout-here n e es here
+at-place n zero (e ∷ es) less here before = under-here n e es here
 at-place n (suc i) (e ∷ es) less here before =
-    layout-there n e es (before 0 (omega arith)) ∙ at-place n i es (omega (arith, less)) here (λ k lower. before (suc k) (omega arith))
+    under-there n e es (before 0 (omega arith)) ∙ at-place n i es (omega (arith, less)) here (λ k lower. before (suc k) (omega arith))
 
 nowhere : (n : ℕ) (es : List Last) → ((k : ℕ) → k < length es → (get_or es k nobody).0 ≢ n) → layout_of n es ≡ None
 nowhere n [] none = refl
-nowhere n (e ∷ es) none = layout-there n e es (none 0 (omega arith)) ∙ nowhere n es (λ k less. none (suc k) (omega arith))
+nowhere n (e ∷ es) none = under-there n e es (none 0 (omega arith)) ∙ nowhere n es (λ k less. none (suc k) (omega arith))
 
 abbrev pub is_of : ℕ → Last → Bool
 is_of n e = e.0 == n
@@ -46,8 +47,8 @@ absent n es at =
 
 pub others-stay : (n m i : ℕ) (es : List Last) (l : Layout) → n ≢ m → i < length es → (get_or es i nobody).0 ≡ m → layout_of n (set es i (m, l)) ≡ layout_of n es
 others-stay n m i [] l other less here = absurd (omega (arith, less))
-others-stay n m zero (e ∷ es) l other less here = layout-there n (m, l) es (λ q. other (sym q)) ∙ sym (layout-there n e es (λ q. other (sym q ∙ here)))
+others-stay n m zero (e ∷ es) l other less here = under-there n (m, l) es (λ q. other (sym q)) ∙ sym (under-there n e es (λ q. other (sym q ∙ here)))
 others-stay n m (suc i) (e ∷ es) l other less here = elim (cases_eq e.0 n) [
-  | inl p ↦ layout-here n e (set es i (m, l)) p ∙ sym (layout-here n e es p)
-  | inr q ↦ layout-there n e (set es i (m, l)) q ∙ (others-stay n m i es l other (omega (arith, less)) here ∙ sym (layout-there n e es q))
+  | inl p ↦ under-here n e (set es i (m, l)) p ∙ sym (under-here n e es p)
+  | inr q ↦ under-there n e (set es i (m, l)) q ∙ (others-stay n m i es l other (omega (arith, less)) here ∙ sym (under-there n e es q))
 ]

@@ -86,6 +86,11 @@ module _ (laws : LookLaws) (v : SessionValue) (session : IsSession v) (n : ℕ) 
   kept-right last shape is =
       subst₂ (λ (k : SourceValues) (l : Option Layout). AreRight k (older_rows l shape) (change_since l) shape) (sym source) (sym is) (laws.kept v n w shape session lives)
 
+  pub stands-unchanged : (s : StateValue) (place : Placed) (last : Option Layout) (x : Wanted) → last ≡ layout_of n v.layouts → x ≡ wanted_of s w place → StandsUnchanged last m x.forced x.anchor
+  stands-unchanged s place last x is wants =
+      subst (λ (y : Wanted). StandsUnchanged last m y.forced y.anchor) (sym wants)
+      (subst₂ (λ (k : SourceValues) (l : Option Layout). StandsUnchanged l k w.forced w.anchor) (sym source) (sym is) (laws.stands v n w session lives))
+
 -- what the layout of a window answers
 abbrev pub Laid : Option Layout → SourceValues → ShapeValues → Wanted → Laying → Type 0
 Laid last m shape wanted laying =

@@ -20,9 +20,8 @@ use Rattle.rd_ucd.specs.Data.{Data}
 use Rattle.rd_layout.specs.Screens.{settled_at, settled_by, settled_state}
 use Rattle.rd_layout.specs.Sessions.{SessionValue, layout_of}
 use Rattle.rd_layout.specs.Windows.{place_of, places, view_in, wanted_of, window_shape, window_source}
-use Rattle.rd_layout.proofs.ByNumber.{window-became}
-use Rattle.rd_state.proofs.ByNumber.{NumberedWindow, window-here, window-other, window-same, window-there}
-use Rattle.rd_layout.proofs.Known.{Last, layout-here, layout-there}
+use Rattle.rd_state.proofs.ByNumber.{NumberedWindow, under-became, under-here, under-there, window-other, window-same}
+use Rattle.rd_layout.proofs.Known.{Last}
 use Rattle.rd_layout.proofs.Placed.{number-of, placed-here, placed-there}
 use Rattle.rd_views.specs.Layings.{AreDesired, AreOnce, CanSettle, IsDesiredBy, all_settled}
 use Rattle.rd_views.specs.declared.desired.LaidWindow.{LaidWindow}
@@ -54,8 +53,8 @@ none-by-numbers n [] (w ∷ ws) same none = absurd (cc)
 none-by-numbers n (u ∷ us) (w ∷ ws) same none =
     let parts = heads same in
     elim (cases_eq u.0 n) [
-      | inl p ↦ absurd (none-some u.1 (sym none ∙ window-here n u us p))
-      | inr q ↦ window-there n w ws (λ r. q (parts.0 ∙ r)) ∙ none-by-numbers n us ws parts.1 (sym (window-there n u us q) ∙ none)
+      | inl p ↦ absurd (none-some u.1 (sym none ∙ under-here n u us p))
+      | inr q ↦ under-there n w ws (λ r. q (parts.0 ∙ r)) ∙ none-by-numbers n us ws parts.1 (sym (under-there n u us q) ∙ none)
     ]
 
 same-windows : (us ws : List NumberedWindow) → map (λ (e : NumberedWindow). e.0) us ≡ map (λ (e : NumberedWindow). e.0) ws → AreApart us → ((n : ℕ) → window_of n us ≡ window_of n ws) → us ≡ ws
@@ -64,11 +63,11 @@ same-windows [] (w ∷ ws) same apart found = absurd (cc)
 same-windows (u ∷ us) [] same apart found = absurd (cc)
 same-windows (u ∷ us) (w ∷ ws) same apart found =
     let parts = heads same in
-    let value = same_Some u.1 w.1 (sym (window-here u.0 u us refl) ∙ (found u.0 ∙ window-here u.0 w ws (sym parts.0))) in
+    let value = same_Some u.1 w.1 (sym (under-here u.0 u us refl) ∙ (found u.0 ∙ under-here u.0 w ws (sym parts.0))) in
     let gone = none-by-numbers u.0 us ws parts.1 apart.0 in
     let rest = same-windows us ws parts.1 apart.1 (λ n. elim (cases_eq u.0 n) [
       | inl p ↦ ap (λ (k : ℕ). window_of k us) (sym p) ∙ (apart.0 ∙ (sym gone ∙ ap (λ (k : ℕ). window_of k ws) p))
-      | inr q ↦ sym (window-there n u us q) ∙ (found n ∙ window-there n w ws (λ r. q (parts.0 ∙ r)))
+      | inr q ↦ sym (under-there n u us q) ∙ (found n ∙ under-there n w ws (λ r. q (parts.0 ∙ r)))
     ]) in
     λ i. (parts.0 i, value i) ∷ rest i
 
@@ -110,8 +109,8 @@ chosen-none : (n : ℕ) (xs : List LaidWindow) (es : List Last) → layout_of n 
 chosen-none n [] es none = refl
 chosen-none n (x ∷ xs) [] none = refl
 chosen-none n (x ∷ xs) (e ∷ es) none = elim (cases_eq e.0 n) [
-  | inl p ↦ absurd (none-some e.1 (sym none ∙ layout-here n e es p))
-  | inr q ↦ chosen-there n x xs e es q ∙ chosen-none n xs es (sym (layout-there n e es q) ∙ none)
+  | inl p ↦ absurd (none-some e.1 (sym none ∙ under-here n e es p))
+  | inr q ↦ chosen-there n x xs e es q ∙ chosen-none n xs es (sym (under-there n e es q) ∙ none)
 ]
 
 found-settled : (n : ℕ) (xs : List LaidWindow) (es : List Last) (ws : List NumberedWindow) → AreOnce es → window_of n (windows_settled xs es ws) ≡ settle_found (chosen_for n xs es) (window_of n ws)
@@ -171,7 +170,7 @@ module _ (v : SessionValue) where
       sym (same-windows (map (settled_at v.files v.state) v.state.windows) (windows_settled xs es v.state.windows)
       (map-numbers f v.state.windows ∙ sym (settled-numbers xs es v.state.windows))
       (apart-stays f v.state.windows apart)
-      (λ n. window-became f n v.state.windows
+      (λ n. under-became f n v.state.windows
       ∙ (sym (both-settle n (place_of n v.state) (chosen_for n xs es) refl (right-chosen n (places v.state) xs es h)) ∙ sym (found-settled n xs es v.state.windows once))))
     where
       apart-stays : (f : ℕ → WindowState → WindowState) (ws : List NumberedWindow) → AreApart ws → AreApart (map (λ (e : NumberedWindow). (e.0, f e.0 e.1)) ws)

@@ -4,7 +4,8 @@ use Rattle.std.proofs.lemmas.Bool.{cases_eq}
 use Rattle.std.proofs.lemmas.List.{drop_more, drop-set-lt, take_more_set}
 use Rattle.std.proofs.lemmas.Option.{none-some}
 use Rattle.rd_layout.specs.Sessions.{layout_of}
-use Rattle.rd_layout.proofs.Known.{Last, layout-here, layout-there}
+use Rattle.rd_layout.proofs.Known.{Last}
+use Rattle.rd_state.proofs.ByNumber.{under-here, under-there}
 use Rattle.rd_views.specs.Layings.{AreOnce, layout_taken, layouts_taken, nobody, taken_at}
 use Rattle.rd_views.specs.declared.desired.LaidWindow.{LaidWindow}
 
@@ -14,10 +15,10 @@ same-taken : (m : ℕ) (lasts others : List Last) (xs : List LaidWindow) (es : L
 same-taken m lasts others [] es same none = refl
 same-taken m lasts others (x ∷ xs) [] same none = refl
 same-taken m lasts others (x ∷ xs) (e ∷ es) same none = elim (cases_eq e.0 m) [
-  | inl p ↦ absurd (none-some e.1 (sym none ∙ layout-here m e es p))
+  | inl p ↦ absurd (none-some e.1 (sym none ∙ under-here m e es p))
   | inr q ↦
       let first : layout_of e.0 others ≡ layout_of e.0 lasts = same e.0 q in
-      let rest = same-taken m lasts others xs es same (sym (layout-there m e es q) ∙ none) in
+      let rest = same-taken m lasts others xs es same (sym (under-there m e es q) ∙ none) in
       λ i. (e.0, layout_taken (first i) x e.1) ∷ rest i
 ]
 

@@ -8,14 +8,6 @@ use Rattle.rd_tree.specs.Calls.{margins_tree, mode_tree, resize_tree, split_tree
 use Rattle.rd_layout.specs.Screens.{laid_out}
 use Rattle.rd_layout.proofs.examples.a_stopped_redisplay_is_made_good.Goals as goal
 
-pub returns-clause-stopped : goal.returns-clause-stopped
+pub returns : goal.returns
 unfolding char_width digits encode_utf8 effect_of step laid_out margins_tree mode_tree resize_tree split_tree
-returns-clause-stopped c = refl
-
-pub returns-clause-rows : goal.returns-clause-rows
-unfolding char_width digits encode_utf8 effect_of step laid_out margins_tree mode_tree resize_tree split_tree
-returns-clause-rows c = refl
-
-pub returns-clause-next : goal.returns-clause-next
-unfolding char_width digits encode_utf8 effect_of step laid_out margins_tree mode_tree resize_tree split_tree
-returns-clause-next c = refl
+returns c = record { stopped = refl; rows = refl; next = refl }

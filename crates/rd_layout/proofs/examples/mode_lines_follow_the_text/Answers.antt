@@ -9,14 +9,6 @@ use Rattle.rd_tree.specs.Calls.{margins_tree, mode_tree, resize_tree, split_tree
 use Rattle.rd_layout.specs.Screens.{laid_out}
 use Rattle.rd_layout.proofs.examples.mode_lines_follow_the_text.Goals as goal
 
-pub returns-clause-text : goal.returns-clause-text
+pub returns : goal.returns
 unfolding char_width chars digits encode_utf8 effect_of step laid_out margins_tree mode_tree resize_tree split_tree
-returns-clause-text c = refl
-
-pub returns-clause-cost : goal.returns-clause-cost
-unfolding char_width chars digits encode_utf8 effect_of step laid_out margins_tree mode_tree resize_tree split_tree
-returns-clause-cost c = refl
-
-pub returns-clause-modes : goal.returns-clause-modes
-unfolding char_width chars digits encode_utf8 effect_of step laid_out margins_tree mode_tree resize_tree split_tree
-returns-clause-modes c = refl
+returns c = record { text = refl; cost = refl; modes = refl }

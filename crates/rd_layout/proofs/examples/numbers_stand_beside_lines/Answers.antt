@@ -8,14 +8,6 @@ use Rattle.rd_tree.specs.Calls.{margins_tree, mode_tree, resize_tree, split_tree
 use Rattle.rd_layout.specs.Screens.{laid_out}
 use Rattle.rd_layout.proofs.examples.numbers_stand_beside_lines.Goals as goal
 
-pub returns-clause-first : goal.returns-clause-first
+pub returns : goal.returns
 unfolding char_width digits encode_utf8 effect_of step laid_out margins_tree mode_tree resize_tree split_tree
-returns-clause-first c = refl
-
-pub returns-clause-second : goal.returns-clause-second
-unfolding char_width digits encode_utf8 effect_of step laid_out margins_tree mode_tree resize_tree split_tree
-returns-clause-second c = refl
-
-pub returns-clause-cost : goal.returns-clause-cost
-unfolding char_width digits encode_utf8 effect_of step laid_out margins_tree mode_tree resize_tree split_tree
-returns-clause-cost c = refl
+returns c = record { first = refl; second = refl; cost = refl }

@@ -8,26 +8,6 @@ use Rattle.rd_tree.specs.Calls.{margins_tree, mode_tree, resize_tree, split_tree
 use Rattle.rd_layout.specs.Screens.{laid_out}
 use Rattle.rd_layout.proofs.examples.point_moves_by_what_is_seen.Goals as goal
 
-pub returns-clause-letter : goal.returns-clause-letter
+pub returns : goal.returns
 unfolding char_width digits encode_utf8 effect_of step laid_out margins_tree mode_tree resize_tree split_tree
-returns-clause-letter c = refl
-
-pub returns-clause-end : goal.returns-clause-end
-unfolding char_width digits encode_utf8 effect_of step laid_out margins_tree mode_tree resize_tree split_tree
-returns-clause-end c = refl
-
-pub returns-clause-right : goal.returns-clause-right
-unfolding char_width digits encode_utf8 effect_of step laid_out margins_tree mode_tree resize_tree split_tree
-returns-clause-right c = refl
-
-pub returns-clause-further : goal.returns-clause-further
-unfolding char_width digits encode_utf8 effect_of step laid_out margins_tree mode_tree resize_tree split_tree
-returns-clause-further c = refl
-
-pub returns-clause-left : goal.returns-clause-left
-unfolding char_width digits encode_utf8 effect_of step laid_out margins_tree mode_tree resize_tree split_tree
-returns-clause-left c = refl
-
-pub returns-clause-none : goal.returns-clause-none
-unfolding char_width digits encode_utf8 effect_of step laid_out margins_tree mode_tree resize_tree split_tree
-returns-clause-none c = refl
+returns c = record { letter = refl; end = refl; right = refl; further = refl; left = refl; none = refl }

@@ -8,14 +8,6 @@ use Rattle.rd_tree.specs.Calls.{margins_tree, mode_tree, resize_tree, split_tree
 use Rattle.rd_layout.specs.Screens.{laid_out}
 use Rattle.rd_layout.proofs.examples.what_is_kept_costs_nothing.Goals as goal
 
-pub returns-clause-first : goal.returns-clause-first
+pub returns : goal.returns
 unfolding char_width digits encode_utf8 effect_of step laid_out margins_tree mode_tree resize_tree split_tree
-returns-clause-first c = refl
-
-pub returns-clause-second : goal.returns-clause-second
-unfolding char_width digits encode_utf8 effect_of step laid_out margins_tree mode_tree resize_tree split_tree
-returns-clause-second c = refl
-
-pub returns-clause-third : goal.returns-clause-third
-unfolding char_width digits encode_utf8 effect_of step laid_out margins_tree mode_tree resize_tree split_tree
-returns-clause-third c = refl
+returns c = record { first = refl; second = refl; third = refl }

@@ -6,7 +6,7 @@ use Rattle.rd_state.specs.Windows.{shown_content, window_of}
 use Rattle.rd_layout.specs.Sessions.{SessionValue, layout_of}
 use Rattle.rd_layout.specs.Windows.{wanted_of, window_shape, window_source}
 use Rattle.rd_views.proofs.Living.{placed-lives}
-use Rattle.rd_views.proofs.Premises.{LookLaws, allowed-steps, anchor-wanted, is-source, kept-right, laid-result, point-wanted, source-is}
+use Rattle.rd_views.proofs.Premises.{LookLaws, allowed-steps, anchor-wanted, is-source, kept-right, laid-result, point-wanted, source-is, stands-unchanged}
 use Rattle.rd_views.proofs.views.Views.lay_out_window.Given as given
 use Rattle.rd_views.proofs.views.Views.lay_out_window.Goals as goal
 use Rattle.rd_views.proofs.views.Views.lay_out_window.Goals.{After-new-source, After-shape_of-shape, After-views_are_known, After-wanted_of-wanted, In-Some}
@@ -59,6 +59,12 @@ lay_out_again-requires-clause-right g c =
     kept-right (laws g at.After-views_are_known) c.args.self.now c.views_are_known.ensures c.args.place.number c.in-Some.window.now (lives g at.In-Some) (source_of c.new-source.result) (source g at.After-new-source)
     (option_map (λ l. l.now) c.layout-last.result) c.shape_of-shape.result c.layout-last.ensures
 
+pub lay_out_again-requires-clause-stands : goal.lay_out_again-requires-clause-stands
+lay_out_again-requires-clause-stands g c =
+    let at = goal.at.lay_out_again-requires-clause-stands g c in
+    stands-unchanged (laws g at.After-views_are_known) c.args.self.now c.views_are_known.ensures c.args.place.number c.in-Some.window.now (lives g at.In-Some) (source_of c.new-source.result) (source g at.After-new-source)
+    c.self.inside.state c.args.place (option_map (λ l. l.now) c.layout-last.result) c.wanted_of-wanted.result c.layout-last.ensures c.wanted_of-wanted.ensures
+
 pub lay_out_again-requires-clause-anchor : goal.lay_out_again-requires-clause-anchor
 lay_out_again-requires-clause-anchor g c =
     let at = goal.at.lay_out_again-requires-clause-anchor g c in
@@ -71,20 +77,17 @@ lay_out_again-requires-clause-point g c =
     point-wanted (laws g at.After-views_are_known) c.args.self.now c.views_are_known.ensures c.args.place.number c.in-Some.window.now (lives g at.In-Some) (source_of c.new-source.result) (source g at.After-new-source)
     c.self.inside.state c.args.place c.wanted_of-wanted.result c.wanted_of-wanted.ensures
 
-pub returns-clause-laid : goal.returns-clause-laid
-returns-clause-laid g c =
-    let at = goal.at.returns-clause-laid g c in
+pub returns : goal.returns
+returns g c =
+    let at = goal.at.returns g c in
     let v = c.args.self.now in
     let n = c.args.place.number in
-    laid-result v.files v.state c.args.place c.in-Some.window.now (layout_of n v.layouts) (option_map (λ l. l.now) c.layout-last.result) (source_of c.new-source.result) c.shape_of-shape.result
-    c.wanted_of-wanted.result (window_of n v.state.windows) c.lay_out_again.result c.layout-last.ensures (source g at.After-new-source) (shape g at.After-shape_of-shape) (wanted g at.After-wanted_of-wanted)
-    (lives g at.In-Some) c.lay_out_again.ensures.chosen c.lay_out_again.ensures.layout c.lay_out_again.ensures.anew
-
-pub returns-clause-steps : goal.returns-clause-steps
-returns-clause-steps g c =
-    let at = goal.at.returns-clause-steps g c in
-    let v = c.args.self.now in
-    let n = c.args.place.number in
-    allowed-steps v.files v.state c.args.place c.in-Some.window.now (layout_of n v.layouts) (option_map (λ l. l.now) c.layout-last.result) (source_of c.new-source.result) c.shape_of-shape.result
-    c.wanted_of-wanted.result (window_of n v.state.windows) c.args.steps.now c.lay_out_again.new.steps c.layout-last.ensures (source g at.After-new-source) (shape g at.After-shape_of-shape)
-    (wanted g at.After-wanted_of-wanted) (lives g at.In-Some) c.lay_out_again.ensures.steps
+    let last = option_map (λ l. l.now) c.layout-last.result in
+    record {
+      laid = laid-result v.files v.state c.args.place c.in-Some.window.now (layout_of n v.layouts) last (source_of c.new-source.result) c.shape_of-shape.result c.wanted_of-wanted.result
+          (window_of n v.state.windows) c.lay_out_again.result c.layout-last.ensures (source g at.After-new-source) (shape g at.After-shape_of-shape) (wanted g at.After-wanted_of-wanted)
+          (lives g at.In-Some) c.lay_out_again.ensures.chosen c.lay_out_again.ensures.layout c.lay_out_again.ensures.anew;
+      steps = allowed-steps v.files v.state c.args.place c.in-Some.window.now (layout_of n v.layouts) last (source_of c.new-source.result) c.shape_of-shape.result c.wanted_of-wanted.result
+          (window_of n v.state.windows) c.args.steps.now c.lay_out_again.new.steps c.layout-last.ensures (source g at.After-new-source) (shape g at.After-shape_of-shape)
+          (wanted g at.After-wanted_of-wanted) (lives g at.In-Some) c.lay_out_again.ensures.steps;
+    }
