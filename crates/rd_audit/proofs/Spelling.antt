@@ -10,13 +10,12 @@ use Rattle.std.proofs.Math.Seq.{set-append_seam, get_or-drop}
 use Rattle.std.proofs.lemmas.List.{replicate-append-replicate, take-append-drop, length-replicate}
 use Rattle.unicode_width.specs.Width.{char_width}
 use Rattle.rd_base.specs.Cells.{single, with_mark}
-use Rattle.rd_base.specs.Chars.{is_scalar, encoded}
+use Rattle.rd_base.specs.Chars.{is_scalar, encoded, columns_of}
 use Rattle.rd_base.specs.Faces.{plain}
 use Rattle.rd_base.specs.Glyphs.{IsMeasured, IsGood, IsRowAfter, glyph_bytes}
 use Rattle.rd_base.specs.declared.cell.Glyph.{Glyph}
 use Rattle.rd_base.specs.declared.cell.Cell.{Cell}
 use Rattle.rd_base.specs.declared.cell.Cell.TheVariants.{Blank, First, Rest}
-use Rattle.rd_term.specs.Characters.{columns_of}
 use Rattle.rd_term.proofs.Measured.{space-columns, base-columns, mark-columns}
 use Rattle.rd_dump.specs.Dumps.{cells_text}
 use Rattle.rd_audit.specs.Runs.{with_face}

@@ -1,12 +1,12 @@
 -- The cells of a text.
 use Rattle.std.specs.Prelude.{ℕ, zero, suc, List, [], ◌∷◌, ◌++◌, Option, None, Some, option_map, option_and_then, if◌then◌else◌}
 use Rattle.std.specs.Str.{chars, is_utf8}
+use Rattle.rd_base.specs.Chars.{columns_of}
 use Rattle.rd_base.specs.Cells.{single, joined_glyph}
 use Rattle.rd_base.specs.Faces.{plain}
 use Rattle.rd_base.specs.Glyphs.{glyph_cells}
 use Rattle.rd_base.specs.declared.cell.Glyph.{Glyph}
 use Rattle.rd_base.specs.declared.cell.Cell.{Cell}
-use Rattle.rd_term.specs.Characters.{columns_of}
 
 -- the plain cells of a glyph, if there is one
 abbrev pub cells_of : Option Glyph → List Cell

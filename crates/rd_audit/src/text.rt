@@ -1,8 +1,8 @@
 //! The cells of a text.
 ghost use Rattle.std.specs.Prelude.{◌≡◌, ◌++◌, [], IfOk, OnOk, None, option_map};
 ghost use Rattle.std.specs.Str.{chars};
+ghost use Rattle.rd_base.specs.Chars.{columns_of};
 ghost use Rattle.rd_base.specs.Cells.{joined_glyph};
-ghost use Rattle.rd_term.specs.Characters.{columns_of};
 ghost use Rattle.rd_audit.specs.Texts.{cells_of, taken, cells_from, text_cells};
 
 use rd_base::{Cell, Face, Glyph, ListOf, Memory};

@@ -1,6 +1,7 @@
 -- The codes of characters: scalar values of Unicode, and raw bytes behind them.
-use Rattle.std.specs.Prelude.{ℕ, Bool, nat_lt, nat_le, ◌&&◌, ◌||◌, if◌then◌else◌, List, []}
+use Rattle.std.specs.Prelude.{ℕ, Bool, false, nat_lt, nat_le, ◌&&◌, ◌||◌, if◌then◌else◌, List, [], Option, None}
 use Rattle.std.specs.Char.{encode_utf8}
+use Rattle.unicode_width.specs.Width.{char_width}
 
 -- a scalar value: a code point below 110000 (hexadecimal) that is no surrogate
 abbrev pub is_scalar : ℕ → Bool
@@ -16,3 +17,7 @@ is_code n = is_scalar n || is_raw n
 -- a scalar value in UTF-8, and nothing for any other code
 abbrev pub encoded : ℕ → List ℕ
 encoded code = if is_scalar code then encode_utf8 code else []
+
+-- the columns of a scalar value in a terminal, by Unicode's widths with ambiguous characters narrow; None for a control
+abbrev pub columns_of : ℕ → Option ℕ
+columns_of code = if is_scalar code then char_width false code else None

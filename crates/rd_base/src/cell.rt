@@ -2,7 +2,7 @@
 ghost use Rattle.std.specs.Prelude.{◌≡◌, ◌<◌};
 ghost use Rattle.rd_base.specs.Glyphs.{is_space};
 ghost use Rattle.rd_base.specs.Equals.{same_glyph, same_cell};
-ghost use Rattle.rd_base.specs.Cells.{single, bit_of, face_number, packed, glyph_number, words_of, AreOnlyOf};
+ghost use Rattle.rd_base.specs.Cells.{single, joined_glyph, bit_of, face_number, packed, glyph_number, words_of, AreOnlyOf};
 
 use crate::face::Face;
 
@@ -33,6 +33,19 @@ impl Glyph {
         ensures { result ≡ is_space self.now }
     {
         self.base == 32 && self.count == 0
+    }
+
+    /// The same with one more mark, and None exactly where it has six.
+    pub fn joined(&self, mark: u32) -> Option<Glyph>
+        ensures { result ≡ joined_glyph self.now mark }
+    {
+        if self.count >= 6 {
+            return None;
+        }
+        let mut more = *self;
+        more.marks[more.count as usize] = mark;
+        more.count += 1;
+        Some(more)
     }
 
     /// Whether both have the same characters and columns.

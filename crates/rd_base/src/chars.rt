@@ -1,8 +1,13 @@
 //! Characters of a text: Unicode scalar values and raw bytes.
-ghost use Rattle.std.specs.Prelude.{◌≡◌, ◌+◌, ◌<◌, IfSome, ◌↔◌, IsNone, IsTrue};
-ghost use Rattle.rd_base.specs.Chars.{is_code};
+ghost use Rattle.std.specs.Prelude.{◌≡◌, ◌+◌, ◌<◌, ◌≤◌, IfOk, IfSome, ◌↔◌, IsNone, IsTrue};
+ghost use Rattle.std.specs.Str.{chars};
+ghost use Rattle.rd_base.specs.Chars.{is_code, columns_of};
 
+use crate::list::ListOf;
+use crate::memory::Memory;
+use std::alloc::Global;
 use std::marker::Model;
+use unicode_width::UnicodeWidthChar;
 
 /// A Unicode scalar value or a raw byte of 128 to 255. Contracts see it as its code.
 #[derive(Clone, Copy, Debug, PartialEq, Eq, Hash)]
@@ -61,5 +66,31 @@ impl Ch {
         ensures right { IsTrue (is_code self) }
     {
         self.code
+    }
+}
+
+/// The characters of a text. Its one error is want of memory.
+pub fn characters(alloc: Global, text: &str) -> Result<ListOf<Ch>, Memory>
+    ensures { IfOk result (λ list. list ≡ chars text.now) }
+{
+    let mut list = ListOf::with_room(alloc, text.len())?;
+    for c in text.chars() {
+        list.push(Ch::scalar(c))?;
+    }
+    Ok(list)
+}
+
+/// The columns of a scalar value in a terminal, by Unicode's widths with ambiguous characters narrow. None exactly for a control
+/// character, and for a number that is no scalar value. It costs a look into the tables of widths.
+pub fn columns_of(code: u32) -> Option<u8>
+    ensures value { result ≡ columns_of code }
+    ensures bound { IfSome result (λ columns. columns ≤ 3) }
+{
+    match char::from_u32(code) {
+        Some(c) => match c.width() {
+            Some(columns) => Some(columns as u8),
+            None => None,
+        },
+        None => None,
     }
 }

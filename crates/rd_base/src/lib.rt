@@ -4,6 +4,7 @@
 #![tactic(auto)]
 
 mod cell;
+mod cells;
 mod chars;
 mod class;
 mod element;
@@ -17,7 +18,8 @@ mod settings;
 mod steps;
 
 pub use cell::{Cell, Glyph};
-pub use chars::Ch;
+pub use cells::push_glyph;
+pub use chars::{Ch, characters, columns_of};
 pub use class::Class;
 pub use element::{Element, Elements, Extent, Look, Origin};
 pub use face::Face;

@@ -3,10 +3,10 @@ use Rattle.std.proofs.Common.{◌≡◌, ℕ, ◌+◌, ◌*◌, ◌/◌, ◌%◌
 use Rattle.std.specs.Char.{encode_utf8}
 use Rattle.std.proofs.lemmas.Bool.{cases_lt, cases_eq, le-ltb, ne_eqb}
 use Rattle.std.proofs.lemmas.Bool.Decides.{nat_tests}
-use Rattle.rd_base.specs.Chars.{is_scalar}
+use Rattle.rd_base.specs.Chars.{is_scalar, columns_of}
 use Rattle.rd_base.specs.Faces.{Attributes}
 use Rattle.rd_base.specs.declared.cell.Cell.{Cell}
-use Rattle.rd_term.specs.Characters.{CharacterRead, begun, with_bits, continued, columns_of, read}
+use Rattle.rd_term.specs.Characters.{CharacterRead, begun, with_bits, continued, read}
 use Rattle.rd_term.specs.Terminals.{Tty, feed_byte, feed_bytes, show}
 use Rattle.rd_term.specs.declared.reading.Reading.{Reading}
 use Rattle.rd_term.specs.declared.reading.Reading.TheVariants.{Between, Character}

@@ -5,11 +5,10 @@ use Rattle.std.specs.Char.{encode_utf8}
 use Rattle.std.proofs.lemmas.Bool.{cases_eq}
 use Rattle.std.proofs.lemmas.Bool.Decides.{nat_tests}
 use Rattle.unicode_width.specs.Width.{char_width}
-use Rattle.rd_base.specs.Chars.{is_scalar}
+use Rattle.rd_base.specs.Chars.{is_scalar, columns_of}
 use Rattle.rd_base.specs.Faces.{Attributes}
 use Rattle.rd_base.specs.Glyphs.{IsMeasured}
 use Rattle.rd_base.specs.declared.cell.Glyph.{Glyph}
-use Rattle.rd_term.specs.Characters.{columns_of}
 use Rattle.rd_term.specs.Terminals.{feed_bytes, show}
 use Rattle.rd_term.proofs.Encoded.{Rows, standing, encoded_fed}
 

@@ -1,8 +1,6 @@
--- Characters in UTF-8, byte by byte (the Unicode Standard, table 3-7), and their columns.
-use Rattle.std.specs.Prelude.{ℕ, ◌+◌, ◌-◌, ◌*◌, ◌%◌, ◌<◌, ◌≤◌, ◌==◌, false, if◌then◌else◌, Option, None, Some}
+-- Characters in UTF-8, byte by byte (the Unicode Standard, table 3-7).
+use Rattle.std.specs.Prelude.{ℕ, ◌+◌, ◌-◌, ◌*◌, ◌%◌, ◌<◌, ◌≤◌, ◌==◌, if◌then◌else◌, Option, None, Some}
 use Rattle.std.specs.Int.{is_in_range}
-use Rattle.unicode_width.specs.Width.{char_width}
-use Rattle.rd_base.specs.Chars.{is_scalar}
 
 -- the bits so far, how many bytes are still due, and the least and the greatest that the next of them may be
 pub record CharacterRead : Type 0 where
@@ -40,7 +38,3 @@ pub record HasBits (c : CharacterRead) : Type 0 where
   pub two : 2 ≤ c.due → c.bits < 512
   pub three : 3 ≤ c.due → c.bits < 8
   pub most : c.due ≤ 3
-
--- the columns of a scalar value in a terminal, by Unicode's widths with ambiguous characters narrow; None for a control
-abbrev pub columns_of : ℕ → Option ℕ
-columns_of code = if is_scalar code then char_width false code else None

@@ -1,5 +1,6 @@
 -- The terminal: a function from what it is and the bytes that it reads to what it then is.
 use Rattle.std.specs.Prelude.{◌≡◌, ℕ, zero, suc, ◌+◌, ◌-◌, ◌<◌, ◌≤◌, ◌==◌, nat_lt, nat_le, min, Bool, true, false, if◌then◌else◌, ◌&&◌, ◌||◌, not, List, [], ◌∷◌, length, replicate, map, Option, None, Some, IfSome, slice_set, slice_index_or}
+use Rattle.rd_base.specs.Chars.{columns_of}
 use Rattle.rd_base.specs.declared.limits.TheConstants.{FRAME_COLUMNS, FRAME_ROWS}
 use Rattle.rd_base.specs.Cells.{single, with_mark, row_at}
 use Rattle.rd_base.specs.Faces.{Attributes}
@@ -7,7 +8,6 @@ use Rattle.rd_base.specs.Glyphs.{glyph_cells}
 use Rattle.rd_base.specs.declared.cell.Glyph.{Glyph}
 use Rattle.rd_base.specs.declared.cell.Cell.{Cell}
 use Rattle.rd_base.specs.declared.cell.Cell.TheVariants.{Blank, First, Rest}
-use Rattle.rd_term.specs.Characters.{columns_of}
 use Rattle.rd_term.specs.Overwriting.{overwritten}
 use Rattle.rd_term.specs.Pens.{are_renditions, pen_by}
 use Rattle.rd_term.specs.Pictures.{Picture, blank, with_cell, width_of, IsGrid}

@@ -1,9 +1,8 @@
-//! Characters in UTF-8, byte by byte, and their columns.
-ghost use Rattle.std.specs.Prelude.{◌≡◌, ◌≤◌, ◌<◌, ◌&&◌, nat_le, IfSome};
-ghost use Rattle.rd_term.specs.Characters.{begun, with_bits, continued, columns_of, HasBits};
+//! Characters in UTF-8, byte by byte.
+ghost use Rattle.std.specs.Prelude.{◌≡◌, ◌<◌, ◌&&◌, nat_le};
+ghost use Rattle.rd_term.specs.Characters.{begun, with_bits, continued, HasBits};
 
 use std::marker::Model;
-use unicode_width::UnicodeWidthChar;
 
 /// The first bytes of a character of two to four: the bits that they gave, how many bytes are due, and between which bounds the
 /// next of them lies.
@@ -81,20 +80,5 @@ impl Begun {
             low: 128,
             high: 191,
         }
-    }
-}
-
-/// The columns of a scalar value in a terminal, by Unicode's widths with ambiguous characters narrow. None exactly for a control
-/// character, and for a number that is no scalar value.
-pub(crate) fn columns_of(code: u32) -> Option<u8>
-    ensures value { result ≡ columns_of code }
-    ensures bound { IfSome result (λ columns. columns ≤ 3) }
-{
-    match char::from_u32(code) {
-        Some(c) => match c.width() {
-            Some(columns) => Some(columns as u8),
-            None => None,
-        },
-        None => None,
     }
 }

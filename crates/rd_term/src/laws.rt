@@ -1,7 +1,6 @@
 //! Laws of terminals. The calls do nothing.
 ghost use Rattle.std.specs.Prelude.{◌≡◌, ℕ, List, ◌++◌, true, false, ◌==◌, encode_utf8};
-ghost use Rattle.rd_base.specs.Chars.{is_scalar};
-ghost use Rattle.rd_term.specs.Characters.{columns_of};
+ghost use Rattle.rd_base.specs.Chars.{is_scalar, columns_of};
 ghost use Rattle.rd_term.specs.Terminals.{Tty, feed_bytes, show};
 ghost use Rattle.rd_term.specs.declared.reading.Reading.TheVariants.{Between};
 

@@ -1,14 +1,13 @@
 //! What a terminal does by a character.
 ghost use Rattle.std.specs.Prelude.{◌≡◌, ◌+◌, ◌<◌, ◌≤◌, nat_le, length, slice_index_or};
+ghost use Rattle.rd_base.specs.Chars.{columns_of};
 ghost use Rattle.rd_base.specs.Cells.{single, row_at};
-ghost use Rattle.rd_term.specs.Characters.{columns_of};
 ghost use Rattle.rd_term.specs.Pictures.{width_of};
 ghost use Rattle.rd_term.specs.Terminals.{put, put_at, join_mark, join_mark_into, marked, joined_cell, show};
 
-use crate::character::columns_of;
 use crate::overwriting::put_character;
 use crate::terminal::Terminal;
-use rd_base::{Cell, Face, Glyph};
+use rd_base::{Cell, Face, Glyph, columns_of};
 
 impl Terminal {
     /// Shows a character, by its columns.

@@ -7,13 +7,12 @@ use Rattle.std.proofs.lemmas.Bool.Decides.{nat_tests}
 use Rattle.std.proofs.lemmas.List.{get_or_at, set_at, take_at, drop_at, drop-drop, drop-append-le, length-append, length-replicate, length-take-le, length-drop, take_more, drop_more, take-append-drop}
 use Rattle.rd_base.specs.Cells.{single}
 use Rattle.rd_base.proofs.Equals.{glyphs-same}
-use Rattle.rd_base.specs.Chars.{is_scalar, encoded}
+use Rattle.rd_base.specs.Chars.{is_scalar, encoded, columns_of}
 use Rattle.rd_base.specs.Faces.{Attributes}
 use Rattle.rd_base.specs.Glyphs.{is_space, blanks, glyph_bytes, glyph_cells, IsMeasured, IsGood}
 use Rattle.rd_base.specs.declared.cell.Glyph.{Glyph}
 use Rattle.rd_base.specs.declared.cell.Cell.{Cell}
 use Rattle.rd_base.specs.declared.cell.Cell.TheVariants.{Blank, First, Rest}
-use Rattle.rd_term.specs.Characters.{columns_of}
 use Rattle.rd_term.specs.Overwriting.{first_column, later_columns, overwritten}
 use Rattle.rd_term.specs.Terminals.{Tty, feed_bytes, show, put, join_mark, join_mark_into, marked}
 use Rattle.rd_term.proofs.Cutting.{Row, front as front_of, behind, overwritten-is, later-within, length-glyph, map-replicate}
