@@ -6,7 +6,7 @@ ghost use Rattle.rd_dump.specs.Dumps.{token_text, tokens_text};
 ghost use Rattle.rd_dump.specs.Prints.{Prints, PrintsItems};
 
 use itoa::Buffer;
-use rd_io::{Failed, Sink, write_whole};
+use rd_io::{Failed, Sink, write_character, write_whole};
 
 /// A token of a line: a text, or a number in decimal.
 #[derive(Clone, Copy)]
@@ -51,10 +51,7 @@ fn print_token<K: Sink>(sink: &mut K, token: &Token) -> Result<(), Failed>
 pub fn print_character<K: Sink>(sink: &mut K, code: &u32) -> Result<(), Failed>
     ensures { Prints (K.written sink.old) (K.written sink.new) (K.faults sink.old) (K.faults sink.new) (encoded code.now) result }
 {
-    match char::from_u32(*code) {
-        Some(c) => print_bytes(sink, c.encode_utf8(&mut [0; 4]).as_bytes()),
-        None => Ok(()),
-    }
+    write_character(sink, *code)
 }
 
 /// Writes bytes.

@@ -24,4 +24,4 @@ pub use memory_files::MemFiles;
 pub use memory_sink::MemSink;
 pub use memory_source::MemSource;
 pub use piece::Piece;
-pub use traits::{Failed, Files, Sink, Source, write_whole};
+pub use traits::{Failed, Files, Sink, Source, write_character, write_whole};

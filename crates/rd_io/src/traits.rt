@@ -1,7 +1,8 @@
-//! What a source, files and a sink are, and the writing of whole pieces.
+//! What a source, files and a sink are, and the writing of whole pieces and of characters.
 ghost use Rattle.std.specs.Prelude.{◌≡◌, ◌≤◌, ◌<◌, IfOk, OnErr, length};
 ghost use Rattle.std.specs.Io.{ReadsAtMost, WritesAtMost};
 ghost use Rattle.std.specs.Io.KnownBytes.{ReadConsumes, WriteAppends};
+ghost use Rattle.rd_base.specs.Chars.{encoded};
 ghost use Rattle.rd_io.specs.Devices.{Rose, Fetches, Writes};
 
 use thiserror::Error;
@@ -91,4 +92,16 @@ pub fn write_whole<K: Sink>(sink: &mut K, bytes: &[u8]) -> Result<(), Failed>
         rest = rest.split_at(n).1;
     }
     Ok(())
+}
+
+/// Writes a scalar value's code in UTF-8, and nothing for a number that is none.
+pub fn write_character<K: Sink>(sink: &mut K, code: u32) -> Result<(), Failed>
+    ensures bytes { Writes (K.written sink.old) (K.written sink.new) (encoded code) result }
+    ensures never_falls { K.faults sink.old ≤ K.faults sink.new }
+    ensures failed { OnErr result (Rose (K.faults sink.old) (K.faults sink.new)) }
+{
+    match char::from_u32(code) {
+        Some(c) => write_whole(sink, c.encode_utf8(&mut [0; 4]).as_bytes()),
+        None => Ok(()),
+    }
 }

@@ -5,7 +5,7 @@ ghost use Rattle.rd_io.specs.Devices.{Rose, Writes};
 ghost use Rattle.rd_run.specs.Reports.{bytes_of};
 
 use rd_base::Ch;
-use rd_io::{Failed, Sink, write_whole};
+use rd_io::{Failed, Sink, write_character, write_whole};
 
 /// Writes pieces, one behind the other.
 pub fn put<K: Sink>(sink: &mut K, pieces: &[&[u8]]) -> Result<(), Failed>
@@ -37,11 +37,5 @@ fn put_character<K: Sink>(sink: &mut K, ch: Ch) -> Result<(), Failed>
     ensures never_falls { K.faults sink.old ≤ K.faults sink.new }
     ensures failed { OnErr result (Rose (K.faults sink.old) (K.faults sink.new)) }
 {
-    match char::from_u32(ch.code()) {
-        Some(c) => {
-            let mut buffer = [0u8; 4];
-            write_whole(sink, c.encode_utf8(&mut buffer).as_bytes())
-        }
-        None => Ok(()),
-    }
+    write_character(sink, ch.code())
 }
