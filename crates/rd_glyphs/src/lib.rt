@@ -20,5 +20,5 @@ pub use laws::{
 };
 pub use looks::on_blank;
 pub use mark_role::{MarkRole, joined_glyph};
-pub use parts::{Parts, expand};
+pub use parts::{Parts, element_of, expand, of_glyphs};
 pub use plain::plain_line;

@@ -1,10 +1,9 @@
 //! The elements of a character.
-ghost use Rattle.std.specs.Prelude.{◌≡◌, ◌≤◌, ◌∷◌, [], map, length, All, None, IsTrue, IsOk, IfOk};
-ghost use Rattle.rd_base.specs.declared.limits.TheConstants.{ENTRY_GLYPHS, TAB_COLUMNS};
+ghost use Rattle.std.specs.Prelude.{◌≡◌, ◌≤◌, map, length, All, None, IsOk, IfOk};
+ghost use Rattle.rd_base.specs.declared.limits.TheConstants.{ENTRY_GLYPHS};
 ghost use Rattle.rd_base.specs.Elements.{AreSound};
-ghost use Rattle.rd_base.specs.Glyphs.{IsMeasuredLook, AreMeasured};
-ghost use Rattle.rd_objects.specs.Tables.{is_glyph_text};
-ghost use Rattle.rd_glyphs.specs.Characters.{element_of, glyph_elements, tab_of, entry_of, elements_of, TakesColumns, IsShort, IsShortElement};
+ghost use Rattle.rd_base.specs.Glyphs.{AreMeasured};
+ghost use Rattle.rd_glyphs.specs.Characters.{element_of, glyph_elements, tab_of, entry_of, elements_of, IsShort};
 
 use crate::looks::{Looks, look_columns, looks_of};
 use crate::shown::{Shown, mirrored, shown_as};
@@ -40,11 +39,8 @@ impl<'a> Model for Parts<'a> {
 }
 
 impl<'a> Parts<'a> {
-    ghost use Rattle.std.specs.Prelude.{◌≡◌, ◌<◌, ◌≤◌, length, All, MatchOption, IfSome, IsTrue, None, Some};
-    ghost use Rattle.rd_base.specs.Chars.{is_code};
-    ghost use Rattle.rd_base.specs.Glyphs.{IsMeasured, IsMeasuredLook};
-    ghost use Rattle.rd_glyphs.specs.Characters.{AreSoundParts, entry_of, slot_or, own_shown, own_looks, TakesColumns, ShowsColumns};
-    ghost use Rattle.rd_objects.specs.Tables.{is_glyph_text};
+    ghost use Rattle.std.specs.Prelude.{◌≡◌, ◌≤◌, length, All, MatchOption, None, Some};
+    ghost use Rattle.rd_glyphs.specs.Characters.{AreSoundParts, entry_of, slot_or, own_shown, own_looks};
 
     /// The table holds glyph characters, and a tab has 1 to 32 columns. The call does nothing.
     pub fn parts_are_sound(&self)
@@ -59,8 +55,7 @@ impl<'a> Parts<'a> {
 
     /// What the table puts for a code, and None where it puts nothing.
     pub(crate) fn entry(&self, code: u32) -> Option<&[Glyph]>
-        ensures value { MatchOption result (entry_of self.now.table code ≡ None) (λ text. entry_of self.now.table code ≡ Some text.now) }
-        ensures text { IfSome result (λ text. IsTrue (is_glyph_text text.now)) }
+        ensures { MatchOption result (entry_of self.now.table code ≡ None) (λ text. entry_of self.now.table code ≡ Some text.now) }
     {
         match self.table {
             Some(table) => table.entry(code),
@@ -68,11 +63,10 @@ impl<'a> Parts<'a> {
         }
     }
 
-    /// The glyph of a slot, and where the table has none this one of one column.
-    fn slot(&self, slot: Slot, default: u32) -> Glyph
+    /// The glyph of a slot, and where the table has none this character of one column.
+    pub fn slot(&self, slot: Slot, default: u32) -> Glyph
         ensures value { result ≡ slot_or slot self.now.table default }
         ensures columns { result.width ≡ 1 }
-        ensures measured { 32 ≤ default → default < 127 → IsMeasured result }
     {
         match self.table {
             Some(table) => match table.slot(slot) {
@@ -85,9 +79,7 @@ impl<'a> Parts<'a> {
 
     /// How a character is shown that no table shows and that is no tab.
     pub(crate) fn shown(&self, ch: Ch, odd: bool) -> Shown
-        ensures value { result ≡ own_shown self.now ch odd }
-        ensures columns { ShowsColumns result }
-        ensures code { IsTrue (is_code ch) }
+        ensures { result ≡ own_shown self.now ch odd }
     {
         let class = self.classes.class(ch);
         let settings = self.settings;
@@ -98,8 +90,6 @@ impl<'a> Parts<'a> {
     /// The looks of a character that no table shows and that is no tab.
     fn own_looks(&self, ch: Ch, odd: bool) -> Looks
         ensures value { result ≡ own_looks self.now ch odd }
-        ensures columns { All TakesColumns result }
-        ensures measured { All IsMeasuredLook result }
         ensures count { length result ≤ 4 }
     {
         looks_of(
@@ -135,19 +125,35 @@ pub fn expand(
     ensures few { entry_of parts.now.table ch ≡ None → IfOk result (λ elements. length elements.items ≤ 4) }
     ensures inline { entry_of parts.now.table ch ≡ None → IsOk result }
 {
+    parts.parts_are_sound();
+    listed(alloc, parts, ch, odd, face, origin)
+}
+
+/// The list of the elements of a character.
+fn listed(
+    alloc: Global,
+    parts: &Parts,
+    ch: Ch,
+    odd: bool,
+    face: Face,
+    origin: Origin,
+) -> Result<SmallVec<Element, 4>, Memory>
+    ensures value { IfOk result (λ elements. elements.items ≡ elements_of parts.now ch odd face origin) }
+    ensures few { entry_of parts.now.table ch ≡ None → IfOk result (λ elements. length elements.items ≤ 4) }
+    ensures inline { entry_of parts.now.table ch ≡ None → IsOk result }
+{
+    if let Some(element) = parts.only_element(ch, odd, face, origin) {
+        return Ok(SmallVec::from_slice(alloc, &[element])?);
+    }
     if let Some(text) = parts.entry(ch.code()) {
         return of_glyphs(alloc, text, face, origin);
-    }
-    if ch.code() == 9 {
-        let settings = parts.settings;
-        return of_tab(alloc, settings.tab_width, face, origin);
     }
     let looks = parts.own_looks(ch, odd);
     of_looks(alloc, looks.as_slice(), face, origin)
 }
 
 /// The element of a look.
-pub(crate) fn element_of(look: Look, face: Face, origin: Origin) -> Element
+pub fn element_of(look: Look, face: Face, origin: Origin) -> Element
     ensures { result ≡ element_of face origin look }
 {
     Element {
@@ -170,35 +176,14 @@ pub(crate) fn tab_element(stop: u8, face: Face, origin: Origin) -> Element
     }
 }
 
-/// The one element of a tab.
-fn of_tab(
-    alloc: Global,
-    stop: u8,
-    face: Face,
-    origin: Origin,
-) -> Result<SmallVec<Element, 4>, Memory>
-    requires { (1 ≤ stop) × (stop ≤ TAB_COLUMNS) }
-    ensures value { IfOk result (λ elements. elements.items ≡ tab_of stop face origin ∷ []) }
-    ensures shape { IfOk result (λ elements. All IsShortElement elements.items) }
-    ensures measured { IfOk result (λ elements. AreMeasured elements.items) }
-    ensures inline { IsOk result }
-{
-    let tab = tab_element(stop, face, origin);
-    Ok(SmallVec::from_slice(alloc, &[tab])?)
-}
-
-/// The elements of a table's glyphs.
-fn of_glyphs(
+/// The elements of glyphs, as an entry of a table and an ellipsis have them.
+pub fn of_glyphs(
     alloc: Global,
     text: &[Glyph],
     face: Face,
     origin: Origin,
 ) -> Result<SmallVec<Element, 4>, Memory>
-    requires { IsTrue (is_glyph_text text.now) }
-    ensures value { IfOk result (λ elements. elements.items ≡ glyph_elements face origin text.now) }
-    ensures shape { IfOk result (λ elements. All IsShortElement elements.items) }
-    ensures measured { IfOk result (λ elements. AreMeasured elements.items) }
-    ensures count { IfOk result (λ elements. length elements.items ≤ ENTRY_GLYPHS) }
+    ensures { IfOk result (λ elements. elements.items ≡ glyph_elements face origin text.now) }
 {
     let mut elements = SmallVec::new(alloc);
     for glyph in text {
@@ -214,12 +199,8 @@ fn of_looks(
     face: Face,
     origin: Origin,
 ) -> Result<SmallVec<Element, 4>, Memory>
-    requires columns { All TakesColumns looks.now }
-    requires measured { All IsMeasuredLook looks.now }
-    requires count { length looks.now ≤ 4 }
+    requires { length looks.now ≤ 4 }
     ensures value { IfOk result (λ elements. elements.items ≡ map (element_of face origin) looks.now) }
-    ensures shape { IfOk result (λ elements. All IsShortElement elements.items) }
-    ensures measured { IfOk result (λ elements. AreMeasured elements.items) }
     ensures inline { IsOk result }
 {
     let mut elements = SmallVec::new(alloc);

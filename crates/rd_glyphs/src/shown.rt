@@ -90,8 +90,7 @@ pub fn shown_as(ctl_arrow: bool, class: Class, code: u32) -> Shown
 
 /// A character that is shown itself has its mirror at an odd level, where one of the same width is listed.
 pub fn mirrored(mirrors: &Mirrors, odd: bool, shown: Shown) -> Shown
-    ensures value { result ≡ mirrored mirrors.now odd shown }
-    ensures columns { ShowsColumns shown → ShowsColumns result }
+    ensures { result ≡ mirrored mirrors.now odd shown }
 {
     match shown {
         Shown::Itself(code, width) => Shown::Itself(

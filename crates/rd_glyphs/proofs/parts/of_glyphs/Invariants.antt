@@ -1,9 +1,7 @@
 use Rattle.std.proofs.Common.{◌≡◌, ◌++◌, drop}
-use Rattle.rd_base.specs.Glyphs.{AreMeasured}
 use Rattle.rd_glyphs.specs.Characters.{glyph_elements}
 use Rattle.rd_glyphs.proofs.parts.of_glyphs.Given as goal
 
 abbrev pub invariant-loop-glyph : goal.invariant-loop-glyph
 invariant-loop-glyph l =
-    (l.elements.items ++ glyph_elements l.face l.origin (drop l.glyph-index l.text) ≡ glyph_elements l.face l.origin l.text)
-    × AreMeasured l.elements.items
+    l.elements.items ++ glyph_elements l.face l.origin (drop l.glyph-index l.text) ≡ glyph_elements l.face l.origin l.text
