@@ -72,11 +72,15 @@ module _ (t : TextValue) (right : IsText t) where
       let e = suffix_stops_at (λ c. not (p c)) xs (omega arith) in
       ap p (sym (between_at t.begin pos k (omega arith) (omega arith) (omega arith))) ∙ ap (λ (n : ℕ). p (get_or xs n 0)) (sym place) ∙ not-false _ e
 
-  pub prev_bound : (pos : ℕ) → t.begin ≤ pos → pos ≤ t.end → (t.begin ≤ prev_newline t pos) × (prev_newline t pos ≤ pos)
-  prev_bound pos low high =
+  bound : (p : ℕ → Bool) (pos : ℕ) → t.begin ≤ pos → pos ≤ t.end
+      → (t.begin ≤ pos - suffix_len (λ c. not (p c)) (between t t.begin pos)) × (pos - suffix_len (λ c. not (p c)) (between t t.begin pos) ≤ pos)
+  bound p pos low high =
       let size = between_size t.begin pos (omega arith) low high in
-      let bound = suffix_len-le-length (λ c. not (is_newline c)) (between t t.begin pos) in
+      let most = suffix_len-le-length (λ c. not (p c)) (between t t.begin pos) in
       (omega arith, omega arith)
+
+  pub prev_bound : (pos : ℕ) → t.begin ≤ pos → pos ≤ t.end → (t.begin ≤ prev_newline t pos) × (prev_newline t pos ≤ pos)
+  prev_bound = bound is_newline
 
   -- none stands behind the last one before a position
   pub prev_after : (pos k : ℕ) → t.begin ≤ pos → pos ≤ t.end → prev_newline t pos ≤ k → k < pos → is_newline (get_or t.text (k - 1) 0) ≡ false
@@ -95,10 +99,7 @@ module _ (t : TextValue) (right : IsText t) where
   ink_at = last_at is_ink
 
   pub prev_ink_bound : (pos : ℕ) → t.begin ≤ pos → pos ≤ t.end → (t.begin ≤ prev_ink t pos) × (prev_ink t pos ≤ pos)
-  prev_ink_bound pos low high =
-      let size = between_size t.begin pos (omega arith) low high in
-      let bound = suffix_len-le-length (λ c. not (is_ink c)) (between t t.begin pos) in
-      (omega arith, omega arith)
+  prev_ink_bound = bound is_ink
 
   -- a range of blanks alone, and one with another character
   pub all_blank : (from to : ℕ) → t.begin ≤ from → from ≤ to → to ≤ t.end → ((k : ℕ) → from ≤ k → k < to → is_blank (get_or t.text (k - 1) 0) ≡ true) → is_separator (between t from to) ≡ true
