@@ -1,29 +1,30 @@
 -- Two lists in one order, with the same elements, are equal.
 use Rattle.std.proofs.Common.{◌≡◌, ℕ, suc, ◌+◌, Bool, true, false, not, ◌&&◌, if◌then◌else◌, List, [], ◌∷◌, length, slice_index_or, drop, refl, sym, ap, ◌∙◌, arith, true≢false, subst}
 use Rattle.std.specs.Prelude.{⊤}
-use Rattle.std.specs.List.{filter}
+use Rattle.std.specs.List.{AllByRecursion, filter}
 use Rattle.std.specs.List.Sorted.{ties, IsSortedBy}
 use Rattle.std.specs.Cmp.{IsStrictWeakOrder}
 use Rattle.std.proofs.lemmas.Bool.{and_from, not_from_false}
 
+-- each element stands so to all behind it
+abbrev Pairwise : {X : Type 0} → (X → X → Type 0) → List X → Type 0
+Pairwise R [] = ⊤
+Pairwise R (x ∷ xs) = AllByRecursion (R x) xs × Pairwise R xs
+
 module _ {X : Type 0} (lt : X → X → Bool) (o : IsStrictWeakOrder lt) where
   -- x comes before each element
   abbrev pub AllAfter : X → List X → Type 0
-  AllAfter x [] = ⊤
-  AllAfter x (y ∷ ys) = (lt x y ≡ true) × AllAfter x ys
+  AllAfter x = AllByRecursion (λ y. lt x y ≡ true)
 
   abbrev pub Rises : List X → Type 0
-  Rises [] = ⊤
-  Rises (x ∷ xs) = AllAfter x xs × Rises xs
+  Rises = Pairwise (λ x y. lt x y ≡ true)
 
   -- no element comes before x
   abbrev pub NoneBefore : X → List X → Type 0
-  NoneBefore x [] = ⊤
-  NoneBefore x (y ∷ ys) = (lt y x ≡ false) × NoneBefore x ys
+  NoneBefore x = AllByRecursion (λ y. lt y x ≡ false)
 
   abbrev pub NeverFalls : List X → Type 0
-  NeverFalls [] = ⊤
-  NeverFalls (x ∷ xs) = NoneBefore x xs × NeverFalls xs
+  NeverFalls = Pairwise (λ x y. lt y x ≡ false)
 
   before-all : (x : X) (ys : List X) → AllAfter x ys → NoneBefore x ys
   before-all x [] a = tt
