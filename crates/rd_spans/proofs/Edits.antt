@@ -1,12 +1,12 @@
 -- The edits at the gap.
-use Rattle.std.proofs.Common.{◌≡◌, ℕ, ◌+◌, ◌-◌, ◌<◌, ◌≤◌, min, true, false, List, [], ◌++◌, length, length-append, append-nil, replicate, take, Option, None, Some, inl, inr, refl, sym, ap, ◌∙◌, arith}
+use Rattle.std.proofs.Common.{◌≡◌, ℕ, ◌+◌, ◌-◌, ◌<◌, ◌≤◌, true, false, List, [], ◌++◌, length, length-append, append-nil, replicate, Option, None, Some, inl, inr, refl, sym, ap, ◌∙◌, arith}
 use Rattle.std.specs.Prelude.{nat_lt, nat_le, ◌==◌}
 use Rattle.std.proofs.lemmas.Bool.Decides.{nat_tests}
 use Rattle.std.proofs.lemmas.Bool.{cases_lt}
 use Rattle.std.proofs.lemmas.List.{length-replicate, get_or_append_left, get_or-append_right, get_or-replicate, get_or_past, get_or-take, nil_from_length}
 use Rattle.rd_spans.specs.declared.run.ValueRun.{ValueRun}
 use Rattle.rd_spans.specs.Values.{value_at, put_at, opened_at, closed_at, CanMove, IsTrimmed}
-use Rattle.rd_spans.specs.Sides.{values_of, Rises, size_of, top, meet, needs, values_of_both, GapMoved}
+use Rattle.rd_spans.specs.Sides.{values_of, Rises, size_of, top, meet, needs, values_of_both, AtGap, IsCut}
 use Rattle.rd_spans.proofs.Sides.{size-values, few-runs, values_of_both-front, values_of_both-back, values_of_both-past, length-values_of_both, one-at-most}
 
 -- where a position stands to an edit
@@ -38,21 +38,7 @@ close-low values from to p l = let t : nat_lt p from ≡ true = grind (arith, na
 close-high : (values : List (Option ℕ)) (from to p : ℕ) → from ≤ p → closed_at values from to p ≡ value_at values (p + (to - from))
 close-high values from to p l = let t : nat_lt p from ≡ false = grind (arith, nat_tests) in rw t refl
 
--- both sides, where the gap is at a position or at the end
-pub record AtGap (a b : List ValueRun) (pos : ℕ) : Type 0 where
-  pub a_rises : Rises 0 a
-  pub b_rises : Rises 0 b
-  pub gap : size_of a ≡ min pos (size_of a + size_of b)
-
-pub at-gap : (front back a b : List ValueRun) (pos : ℕ) → GapMoved front back a b pos → AtGap a b pos
-at-gap front back a b pos m = record { a_rises = m.front_rises; b_rises = m.back_rises; gap = omega (arith, m.gap, m.size) }
-
--- the back where positions at the gap were taken away
-pub record IsCut (b c : List ValueRun) (n : ℕ) : Type 0 where
-  pub rises : Rises 0 c
-  pub values : values_of c ≡ take (size_of b - n) (values_of b)
-  pub size : size_of c ≡ size_of b - n
-
+-- what positions that were taken away leave
 cut-value : (b c : List ValueRun) (n i : ℕ) → IsCut b c n → i < size_of c → value_at (values_of c) i ≡ value_at (values_of b) i
 cut-value b c n i k l = ap (λ (vs : List (Option ℕ)). value_at vs i) k.values ∙ get_or-take (size_of b - n) (values_of b) i None (omega (arith, k.size))
 
@@ -93,8 +79,8 @@ pub put-filled : (a b c d : List ValueRun) (from to : ℕ) (value : Option ℕ) 
     → values_of c ≡ (values_of a ++ replicate (from - size_of a) None) ++ replicate (to - from) value → IsCut b d (to - from)
     → (p : ℕ) → value_at (values_of_both c d) p ≡ put_at (values_of_both a b) from to value p
 put-filled a b c d from to value g some h long e k p =
-    let ha = g.a_rises in
-    let hb = g.b_rises in
+    let ha = g.front_rises in
+    let hb = g.back_rises in
     let hd = k.rises in
     let low : size_of a ≤ from = omega (arith, g.gap) in
     elim (cases_lt p from) [
@@ -121,8 +107,8 @@ put-filled a b c d from to value g some h long e k p =
 
 pub put-nothing : (a b d : List ValueRun) (from to : ℕ) → AtGap a b from → from < to → IsCut b d (to - from) → size_of d ≡ 0 → (p : ℕ) → value_at (values_of a) p ≡ put_at (values_of_both a b) from to None p
 put-nothing a b d from to g some k none p =
-    let ha = g.a_rises in
-    let hb = g.b_rises in
+    let ha = g.front_rises in
+    let hb = g.back_rises in
     let long : length (values_of a) ≡ size_of a = size-values a ha in
     elim (cases_lt p (size_of a)) [
       | inl l ↦ sym (values_of_both-front a b p ha l) ∙ sym (put-low (values_of_both a b) from to None p (omega (arith, g.gap)))
@@ -140,8 +126,8 @@ put-nothing a b d from to g some k none p =
 -- positions are taken away
 pub close-values : (a b d : List ValueRun) (from to : ℕ) → AtGap a b from → from ≤ to → IsCut b d (to - from) → (p : ℕ) → value_at (values_of_both a d) p ≡ closed_at (values_of_both a b) from to p
 close-values a b d from to g some k p =
-    let ha = g.a_rises in
-    let hb = g.b_rises in
+    let ha = g.front_rises in
+    let hb = g.back_rises in
     let hd = k.rises in
     elim (cases_lt p from) [
       | inl l ↦
@@ -163,8 +149,8 @@ close-values a b d from to g some k p =
 -- positions are opened
 pub open-values : (a b c : List ValueRun) (pos n : ℕ) → AtGap a b pos → 0 < size_of b → Rises 0 c → size_of c ≡ size_of a + n → values_of c ≡ values_of a ++ replicate n None → (p : ℕ) → value_at (values_of_both c b) p ≡ opened_at (values_of_both a b) pos n p
 open-values a b c pos n g some h long e p =
-    let ha = g.a_rises in
-    let hb = g.b_rises in
+    let ha = g.front_rises in
+    let hb = g.back_rises in
     let size : length (values_of a) ≡ size_of a = size-values a ha in
     let at : size_of a ≡ pos = omega (arith, g.gap) in
     elim (cases_lt p pos) [
@@ -190,8 +176,8 @@ open-values a b c pos n g some h long e p =
 
 pub open-nothing : (a b : List ValueRun) (pos n : ℕ) → AtGap a b pos → size_of b ≡ 0 → (p : ℕ) → value_at (values_of_both a b) p ≡ opened_at (values_of_both a b) pos n p
 open-nothing a b pos n g none p =
-    let ha = g.a_rises in
-    let hb = g.b_rises in
+    let ha = g.front_rises in
+    let hb = g.back_rises in
     elim (cases_lt p pos) [
       | inl l ↦ sym (open-low (values_of_both a b) pos n p l)
       | inr l ↦
@@ -218,9 +204,9 @@ trimmed-by xs ys p q t e same none = t q e (sym same ∙ none)
 pub put-trimmed : (a b c d : List ValueRun) (from to : ℕ) (value : Option ℕ) → AtGap a b from → from < to → Rises 0 c → size_of c ≡ to → IsCut b d (to - from)
     → ((p : ℕ) → value_at (values_of_both c d) p ≡ put_at (values_of_both a b) from to value p) → (size_of d ≡ 0 → value ≡ None → ⊥) → IsTrimmed (values_of_both a b) → IsTrimmed (values_of_both c d)
 put-trimmed a b c d from to value g some h size k values not t p last none =
-    let hb = g.b_rises in
+    let hb = g.back_rises in
     let long : length (values_of_both c d) ≡ size_of c + size_of d = length-values_of_both c d h k.rises in
-    let was : length (values_of_both a b) ≡ size_of a + size_of b = length-values_of_both a b g.a_rises hb in
+    let was : length (values_of_both a b) ≡ size_of a + size_of b = length-values_of_both a b g.front_rises hb in
     elim (cases_lt 0 (size_of d)) [
       | inl more ↦
           trimmed-by (values_of_both c d) (values_of_both a b) p p t (omega (arith, g.gap, k.size))
@@ -231,15 +217,15 @@ put-trimmed a b c d from to value g some h size k values not t p last none =
 pub close-trimmed : (a b d : List ValueRun) (from to : ℕ) → AtGap a b from → from ≤ to → IsCut b d (to - from) → 0 < size_of d
     → ((p : ℕ) → value_at (values_of_both a d) p ≡ closed_at (values_of_both a b) from to p) → IsTrimmed (values_of_both a b) → IsTrimmed (values_of_both a d)
 close-trimmed a b d from to g some k more values t p last none =
-    let long : length (values_of_both a d) ≡ size_of a + size_of d = length-values_of_both a d g.a_rises k.rises in
-    let was : length (values_of_both a b) ≡ size_of a + size_of b = length-values_of_both a b g.a_rises g.b_rises in
+    let long : length (values_of_both a d) ≡ size_of a + size_of d = length-values_of_both a d g.front_rises k.rises in
+    let was : length (values_of_both a b) ≡ size_of a + size_of b = length-values_of_both a b g.front_rises g.back_rises in
     trimmed-by (values_of_both a d) (values_of_both a b) p (p + (to - from)) t (omega (arith, g.gap, k.size)) (values p ∙ close-high (values_of_both a b) from to p (omega (arith, g.gap, k.size))) none
 
 pub open-trimmed : (a b c : List ValueRun) (pos n : ℕ) → AtGap a b pos → 0 < size_of b → Rises 0 c → size_of c ≡ size_of a + n
     → ((p : ℕ) → value_at (values_of_both c b) p ≡ opened_at (values_of_both a b) pos n p) → IsTrimmed (values_of_both a b) → IsTrimmed (values_of_both c b)
 open-trimmed a b c pos n g more h size values t p last none =
-    let long : length (values_of_both c b) ≡ size_of c + size_of b = length-values_of_both c b h g.b_rises in
-    let was : length (values_of_both a b) ≡ size_of a + size_of b = length-values_of_both a b g.a_rises g.b_rises in
+    let long : length (values_of_both c b) ≡ size_of c + size_of b = length-values_of_both c b h g.back_rises in
+    let was : length (values_of_both a b) ≡ size_of a + size_of b = length-values_of_both a b g.front_rises g.back_rises in
     trimmed-by (values_of_both c b) (values_of_both a b) p (p - n) t (omega (arith, g.gap)) (values p ∙ open-high (values_of_both a b) pos n p (omega (arith, g.gap))) none
 
 -- the last position has a value, which can move on

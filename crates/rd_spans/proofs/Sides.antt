@@ -109,15 +109,12 @@ rises-ends k (r ∷ rs) (suc i) zero d h p q = absurd (omega arith)
 rises-ends k (r ∷ rs) (suc i) (suc j) d h p q = let rest = rises-ends r.end rs i j d h.1 (omega arith) (omega arith) in (omega (arith, rest.0, h.0), rest.1)
 
 -- the first run that ends behind a place gives its value
-pub found-run : (es : List ValueRun) (i p : ℕ) (r : ValueRun) → ((k : ℕ) (d : ValueRun) → k < i → (slice_index_or es k d).end ≤ p) → p < r.end → i < length es → slice_index_or es i r ≡ r → value_in es p ≡ r.value
-found-run [] i p r below high h e = absurd (omega arith)
-found-run (q ∷ es) zero p r below high h e = let s : q ≡ r = e in rw (s, lt-ltb p r.end high) refl
-found-run (q ∷ es) (suc i) p r below high h e =
-    rw (le-ltb p q.end (below 0 q (omega arith))) (found-run es i p r (λ k d l. below (suc k) d (omega arith)) high (omega arith) e)
-
-pub found-none : (es : List ValueRun) (p : ℕ) → ((k : ℕ) (d : ValueRun) → k < length es → (slice_index_or es k d).end ≤ p) → value_in es p ≡ None
-found-none [] p below = refl
-found-none (q ∷ es) p below = rw (le-ltb p q.end (below 0 q (omega arith))) (found-none es p (λ k d l. below (suc k) d (omega arith)))
+found-run : (es : List ValueRun) (i p : ℕ) (d : ValueRun) → ((k : ℕ) (d : ValueRun) → k < i → (slice_index_or es k d).end ≤ p) → p < (slice_index_or es i d).end → i < length es
+    → value_in es p ≡ (slice_index_or es i d).value
+found-run [] i p d below high h = absurd (omega arith)
+found-run (q ∷ es) zero p d below high h = rw (lt-ltb p q.end high) refl
+found-run (q ∷ es) (suc i) p d below high h =
+    rw (le-ltb p q.end (below 0 q (omega arith))) (found-run es i p d (λ k d l. below (suc k) d (omega arith)) high (omega arith))
 
 -- a run's end, and the end of the one before it
 pub end-at : (k : ℕ) (es : List ValueRun) (i : ℕ) (d : ValueRun) → Rises k es → i < length es → (slice_index_or es i d).end ≤ reach k es
@@ -146,18 +143,11 @@ reach-before k [] (suc i) p low below = low
 reach-before k (r ∷ rs) (suc i) p low below = reach-before r.end rs i p (below 0 r (omega arith)) (λ j c q. below (suc j) c (omega arith))
 
 -- each place of a run has its value
-pub same-run : (es : List ValueRun) (i p q : ℕ) (d : ValueRun) → Rises 0 es → i < length es → size_of (take i es) ≤ p → p < (slice_index_or es i d).end → size_of (take i es) ≤ q → q < (slice_index_or es i d).end → value_at (values_of es) p ≡ value_at (values_of es) q
-same-run es i p q d h l a b c e =
-    let r = slice_index_or es i d in
+pub run-value : (es : List ValueRun) (i p : ℕ) (d : ValueRun) → Rises 0 es → i < length es → size_of (take i es) ≤ p → p < (slice_index_or es i d).end
+    → value_at (values_of es) p ≡ (slice_index_or es i d).value
+run-value es i p d h l low high =
     let before = (end-before 0 es i d h l).1 in
-    let here : slice_index_or es i r ≡ r = default-same es i r d l in
-    value-of-place es p h
-    ∙ (found-run es i p r (λ k x m. omega (arith, before k x m)) b l here
-    ∙ (sym (found-run es i q r (λ k x m. omega (arith, before k x m)) e l here) ∙ sym (value-of-place es q h))) where
-      default-same : (es : List ValueRun) (i : ℕ) (r d : ValueRun) → i < length es → slice_index_or es i r ≡ slice_index_or es i d
-      default-same [] i r d l = absurd (omega arith)
-      default-same (x ∷ es) zero r d l = refl
-      default-same (x ∷ es) (suc i) r d l = default-same es i r d (omega arith)
+    value-of-place es p h ∙ found-run es i p d (λ k x m. omega (arith, before k x m)) high l
 
 -- a run is opened at its end, or a new one begins
 pub has-top : (rs : List ValueRun) (r : ValueRun) (value : Option ℕ) → has_value (top (rs ++ r ∷ [])) value ≡ same_value r.value value
@@ -188,16 +178,6 @@ found-within es i p below within =
       | inl less ↦ less
       | inr more ↦ absurd (omega (arith, size-below 0 es p (λ j d l. omega (arith, below j d (omega arith))) (omega arith)))
     ]
-
-pub found-some : (es : List ValueRun) (i p : ℕ) (r : ValueRun) → Rises 0 es → ((k : ℕ) (d : ValueRun) → k < i → (slice_index_or es k d).end < p + 1) → ((k : ℕ) (d : ValueRun) → i ≤ k → k < length es → p + 1 ≤ (slice_index_or es k d).end)
-    → i < length es → r ≡ slice_index_or es i r → r.value ≡ value_at (values_of es) p
-found-some es i p r h below behind l e =
-    let reaches : p + 1 ≤ (slice_index_or es i r).end = behind i r (omega arith) l in
-    let high : p < r.end = rw e (omega arith) in
-    sym (value-of-place es p h ∙ found-run es i p r (λ k d q. omega (arith, below k d q)) high l (sym e))
-
-pub found-past : (es : List ValueRun) (i p : ℕ) → Rises 0 es → ((k : ℕ) (d : ValueRun) → k < i → (slice_index_or es k d).end < p + 1) → length es ≤ i → None ≡ value_at (values_of es) p
-found-past es i p h below past = sym (value-of-place es p h ∙ found-none es p (λ k d q. omega (arith, below k d (omega arith))))
 
 pub size-last : (rs : List ValueRun) (r : ValueRun) → Some r ≡ slice_get rs (length rs - 1) → r.end ≡ size_of rs
 size-last rs r e = sym (size-top rs r (sym (last-top rs) ∙ sym e) 0)
@@ -408,4 +388,4 @@ some-value (Some v) h e = cc
 
 -- the gap is where it was to be
 pub gap-moved : (front back a b : List ValueRun) (pos : ℕ) → AreMoved front back a b → size_of a + size_of b ≡ size_of front + size_of back → size_of a ≡ min pos (size_of front + size_of back) → GapMoved front back a b pos
-gap-moved front back a b pos m size gap = record { same = m.same; front_rises = m.from_rises; back_rises = m.to_rises; needs = m.needs; size = size; gap = gap }
+gap-moved front back a b pos m size gap = record { same = m.same; at = record { front_rises = m.from_rises; back_rises = m.to_rises; gap = omega (arith, gap, size) }; needs = m.needs; size = size }

@@ -1,6 +1,6 @@
 -- How the values are kept: runs on both sides of a gap. Each run reaches from the end of the one before it to its own. The runs behind the
 -- gap count from the last position with a value backwards.
-use Rattle.std.specs.Prelude.{◌≡◌, ℕ, ◌+◌, ◌-◌, ◌<◌, ◌≤◌, nat_lt, nat_eq, Bool, true, false, if◌then◌else◌, List, [], ◌∷◌, ◌++◌, length, min, replicate, reverse, Option, None, Some}
+use Rattle.std.specs.Prelude.{◌≡◌, ℕ, ◌+◌, ◌-◌, ◌<◌, ◌≤◌, nat_lt, nat_eq, Bool, true, false, if◌then◌else◌, List, [], ◌∷◌, ◌++◌, length, min, replicate, reverse, take, Option, None, Some}
 use Rattle.rd_spans.specs.declared.run.ValueRun.{ValueRun}
 use Rattle.rd_spans.specs.Values.{IsTrimmed}
 
@@ -66,14 +66,24 @@ pub record AreMoved (from to from_new to_new : List ValueRun) : Type 0 where
   pub to_rises : Rises 0 to_new
   pub needs : needs from_new to_new ≤ needs from to
 
+-- both sides, where the gap is at a position or at the end
+pub record AtGap (front back : List ValueRun) (pos : ℕ) : Type 0 where
+  pub front_rises : Rises 0 front
+  pub back_rises : Rises 0 back
+  pub gap : size_of front ≡ min pos (size_of front + size_of back)
+
 -- the gap moved to a position, or to the end where that comes before
 pub record GapMoved (front back front_new back_new : List ValueRun) (pos : ℕ) : Type 0 where
   pub same : values_of_both front_new back_new ≡ values_of_both front back
-  pub front_rises : Rises 0 front_new
-  pub back_rises : Rises 0 back_new
+  pub at : AtGap front_new back_new pos
   pub needs : needs front_new back_new ≤ needs front back
   pub size : size_of front_new + size_of back_new ≡ size_of front + size_of back
-  pub gap : size_of front_new ≡ min pos (size_of front + size_of back)
+
+-- the runs of a side whose last places were taken away
+pub record IsCut (runs new : List ValueRun) (n : ℕ) : Type 0 where
+  pub rises : Rises 0 new
+  pub values : values_of new ≡ take (size_of runs - n) (values_of runs)
+  pub size : size_of new ≡ size_of runs - n
 
 -- the runs of both sides, over no more places than there are positions
 pub record AreRuns (front back : List ValueRun) : Type 0 where

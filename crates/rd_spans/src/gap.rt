@@ -4,35 +4,19 @@ ghost use Rattle.std.specs.Vec.{vec_capacity};
 ghost use Rattle.rd_spans.specs.Values.{value_at, put_at, opened_at, closed_at, CanMove, IsNextChange, IsFirstAlike};
 ghost use Rattle.rd_spans.specs.Sides.{values_of, Rises, size_of, needs, values_of_both, GapMoved, AreRuns, AreSides};
 
-use crate::run::ValueRun;
+use crate::run::{Stretch, ValueRun};
 use crate::side;
 use rd_base::Memory;
 
-/// The value of a position.
-pub(crate) fn value_of(front: &[ValueRun], back: &[ValueRun], pos: u64) -> Option<u32>
+/// The run around a position, or the positions behind the last run, none of which has a value.
+pub(crate) fn run_around(front: &[ValueRun], back: &[ValueRun], pos: u64) -> Stretch
     requires runs { AreRuns front.now back.now }
     requires bound { pos < 4294967296 }
-    ensures { result ≡ value_at (values_of_both front.now back.now) pos }
-{
-    let gap = side::size(front);
-    if pos < gap {
-        return side::value_in(front, pos);
-    }
-    let end = gap + side::size(back);
-    if pos < end {
-        return side::value_in(back, end - 1 - pos);
-    }
-    None
-}
-
-/// The positions around one that no value differs from its own: the first, and one past the last.
-pub(crate) fn same_around(front: &[ValueRun], back: &[ValueRun], pos: u64) -> (u64, u64)
-    requires runs { AreRuns front.now back.now }
-    requires bound { pos < 4294967296 }
-    ensures first { result.0 ≤ pos }
-    ensures later { pos < result.1 }
-    ensures few { result.1 ≤ 4294967296 }
-    ensures same { (p : ℕ) → result.0 ≤ p → p < result.1 → value_at (values_of_both front.now back.now) p ≡ value_at (values_of_both front.now back.now) pos }
+    ensures first { result.from ≤ pos }
+    ensures later { pos < result.to }
+    ensures few { result.to ≤ 4294967296 }
+    ensures value { result.value ≡ value_at (values_of_both front.now back.now) pos }
+    ensures same { (p : ℕ) → result.from ≤ p → p < result.to → value_at (values_of_both front.now back.now) p ≡ result.value }
 {
     let gap = side::size(front);
     if pos < gap {
@@ -40,10 +24,18 @@ pub(crate) fn same_around(front: &[ValueRun], back: &[ValueRun], pos: u64) -> (u
     }
     let end = gap + side::size(back);
     if pos < end {
-        let (first, last) = side::run_at(back, end - 1 - pos);
-        return (end - last, end - first);
+        let run = side::run_at(back, end - 1 - pos);
+        return Stretch {
+            from: end - run.to,
+            to: end - run.from,
+            value: run.value,
+        };
     }
-    (end, side::LIMIT)
+    Stretch {
+        from: end,
+        to: side::LIMIT,
+        value: None,
+    }
 }
 
 /// The first position behind one whose value differs from that of the one.
@@ -52,13 +44,14 @@ pub(crate) fn next_other(front: &[ValueRun], back: &[ValueRun], pos: u64) -> Opt
     requires bound { pos < 4294967296 }
     ensures { IsNextChange (values_of_both front.now back.now) pos result }
 {
-    let value = value_of(front, back, pos);
-    let mut next = same_around(front, back, pos).1;
+    let here = run_around(front, back, pos);
+    let mut next = here.to;
     while next < side::LIMIT {
-        if !side::same_value(value_of(front, back, next), value) {
+        let behind = run_around(front, back, next);
+        if !side::same_value(behind.value, here.value) {
             return Some(next as u32);
         }
-        next = same_around(front, back, next).1;
+        next = behind.to;
     }
     None
 }
@@ -69,13 +62,14 @@ pub(crate) fn first_alike(front: &[ValueRun], back: &[ValueRun], pos: u64) -> u3
     requires bound { pos < 4294967296 }
     ensures { IsFirstAlike (values_of_both front.now back.now) pos result }
 {
-    let value = value_of(front, back, pos);
-    let mut from = same_around(front, back, pos).0;
+    let here = run_around(front, back, pos);
+    let mut from = here.from;
     while 0 < from {
-        if !side::same_value(value_of(front, back, from - 1), value) {
+        let before = run_around(front, back, from - 1);
+        if !side::same_value(before.value, here.value) {
             return from as u32;
         }
-        from = same_around(front, back, from - 1).0;
+        from = before.from;
     }
     0
 }

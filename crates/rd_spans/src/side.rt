@@ -3,9 +3,9 @@ ghost use Rattle.std.specs.Prelude.{◌≡◌, ℕ, ◌+◌, ◌-◌, ◌<◌, �
 ghost use Rattle.std.specs.Vec.{vec_capacity};
 ghost use Rattle.rd_spans.specs.declared.run.ValueRun.{ValueRun};
 ghost use Rattle.rd_spans.specs.Values.{value_at, IsTrimmed};
-ghost use Rattle.rd_spans.specs.Sides.{values_of, Rises, size_of, top, same_value, has_value, needs, AreMoved, AreRuns};
+ghost use Rattle.rd_spans.specs.Sides.{values_of, Rises, size_of, top, same_value, has_value, needs, AreMoved, AreRuns, IsCut};
 
-use crate::run::ValueRun;
+use crate::run::{Stretch, ValueRun};
 
 /// One past the greatest place.
 pub(crate) const LIMIT: u64 = 4_294_967_296;
@@ -40,30 +40,23 @@ fn first_reaching(runs: &[ValueRun], end: u64) -> usize
     runs.partition_point(|run| run.end < end)
 }
 
-/// The value of a place, by a binary search.
-pub(crate) fn value_in(runs: &[ValueRun], place: u64) -> Option<u32>
-    requires order { Rises 0 runs.now }
-    requires bound { place < LIMIT }
-    ensures { result ≡ value_at (values_of runs.now) place }
-{
-    let i = first_reaching(runs, place + 1);
-    match runs.get(i) {
-        Some(run) => run.value,
-        None => None,
-    }
-}
-
-/// The run that holds a place: the first of its places, and one past the last.
-pub(crate) fn run_at(runs: &[ValueRun], place: u64) -> (u64, u64)
+/// The run that holds a place, by a binary search.
+pub(crate) fn run_at(runs: &[ValueRun], place: u64) -> Stretch
     requires order { Rises 0 runs.now }
     requires bound { place < LIMIT }
     requires within { place < size_of runs.now }
-    ensures first { result.0 ≤ place }
-    ensures last { (place < result.1) × (result.1 ≤ size_of runs.now) }
-    ensures same { (p : ℕ) → result.0 ≤ p → p < result.1 → value_at (values_of runs.now) p ≡ value_at (values_of runs.now) place }
+    ensures first { result.from ≤ place }
+    ensures last { (place < result.to) × (result.to ≤ size_of runs.now) }
+    ensures value { result.value ≡ value_at (values_of runs.now) place }
+    ensures same { (p : ℕ) → result.from ≤ p → p < result.to → value_at (values_of runs.now) p ≡ result.value }
 {
     let i = first_reaching(runs, place + 1);
-    (end_before(runs, i), runs[i].end)
+    let run = runs[i];
+    Stretch {
+        from: end_before(runs, i),
+        to: run.end,
+        value: run.value,
+    }
 }
 
 /// Where the run in front of a run ends.
@@ -183,9 +176,7 @@ pub(crate) fn cut(runs: &mut Vec<ValueRun>, n: u64)
     requires order { Rises 0 runs.old.items }
     requires few { size_of runs.old.items ≤ 4294967296 }
     requires room { length runs.old.items ≤ vec_capacity runs.old }
-    ensures values { values_of runs.new.items ≡ take (size_of runs.old.items - n) (values_of runs.old.items) }
-    ensures order { Rises 0 runs.new.items }
-    ensures size { size_of runs.new.items ≡ size_of runs.old.items - n }
+    ensures cut { IsCut runs.old.items runs.new.items n }
     ensures lighter { (other : List ValueRun) → needs other runs.new.items ≤ needs other runs.old.items }
     ensures room { vec_capacity runs.new ≡ vec_capacity runs.old }
     ensures count { length runs.new.items ≤ length runs.old.items }

@@ -64,7 +64,7 @@ impl Spans {
     pub fn at(&self, pos: Pos) -> Option<u32>
         ensures { result ≡ value_at self.now pos }
     {
-        gap::value_of(self.front.as_slice(), self.back.as_slice(), pos as u64)
+        gap::run_around(self.front.as_slice(), self.back.as_slice(), pos as u64).value
     }
 
     /// The least later position whose value differs from that of `pos`, and None where there is none. Costs a binary search for each

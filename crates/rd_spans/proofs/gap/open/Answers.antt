@@ -2,26 +2,25 @@ use Rattle.std.proofs.Common.{None, List, ℕ, Option, arith, ap, subst, sym, �
 use Rattle.rd_spans.specs.Values.{opened_at, CanMove, IsTrimmed}
 use Rattle.rd_spans.specs.Sides.{top, has_value}
 use Rattle.rd_spans.proofs.Sides.{one-at-most}
-use Rattle.rd_spans.proofs.Edits.{at-gap, not-empty, is-empty, size-none, open-values, open-nothing, open-trimmed, open-few, needs-most, needs-least}
+use Rattle.rd_spans.proofs.Edits.{not-empty, is-empty, size-none, open-values, open-nothing, open-trimmed, open-few, needs-most, needs-least}
 use Rattle.rd_spans.proofs.gap.open.Goals as goal
 
 pub push-requires-clause-bound : goal.push-requires-clause-bound
 push-requires-clause-bound c =
     let m = c.move_to.ensures.moved in
     let b = c.move_to.new.back in
-    let more = not-empty b.items b.len m.back_rises b.ok.0 (sym c.is_empty.ensures ∙ c.if-not-is_empty.true) in
+    let more = not-empty b.items b.len m.at.back_rises b.ok.0 (sym c.is_empty.ensures ∙ c.if-not-is_empty.true) in
     let t = subst IsTrimmed (sym m.same) c.requires.sides.trimmed in
     let can = subst (λ (xs : List (Option ℕ)). CanMove xs c.args.n) (sym m.same) c.requires.bound in
-    omega (arith, open-few c.move_to.new.front.items b.items c.args.n m.front_rises m.back_rises more t can)
+    omega (arith, open-few c.move_to.new.front.items b.items c.args.n m.at.front_rises m.at.back_rises more t can)
 
 pub returns-then-not-is_empty-clause-values : goal.returns-then-not-is_empty-clause-values
 returns-then-not-is_empty-clause-values c =
     let m = c.move_to.ensures.moved in
     let b = c.move_to.new.back in
-    let g = at-gap c.args.front.now.items c.args.back.now.items c.move_to.new.front.items b.items c.args.pos m in
-    let more = not-empty b.items b.len m.back_rises b.ok.0 (sym c.is_empty.ensures ∙ c.if-not-is_empty.true) in
+    let more = not-empty b.items b.len m.at.back_rises b.ok.0 (sym c.is_empty.ensures ∙ c.if-not-is_empty.true) in
     λ p.
-    open-values c.move_to.new.front.items b.items c.push.new.runs.items c.args.pos c.args.n g more c.push.ensures.order c.push.ensures.size c.push.ensures.values p
+    open-values c.move_to.new.front.items b.items c.push.new.runs.items c.args.pos c.args.n m.at more c.push.ensures.order c.push.ensures.size c.push.ensures.values p
     ∙ ap (λ (xs : List (Option ℕ)). opened_at xs c.args.pos c.args.n p) m.same
 
 pub returns-then-not-is_empty-clause-sides : goal.returns-then-not-is_empty-clause-sides
@@ -30,18 +29,17 @@ returns-then-not-is_empty-clause-sides c =
     let a = c.move_to.new.front in
     let b = c.move_to.new.back in
     let new = c.push.new.runs in
-    let g = at-gap c.args.front.now.items c.args.back.now.items a.items b.items c.args.pos m in
-    let more = not-empty b.items b.len m.back_rises b.ok.0 (sym c.is_empty.ensures ∙ c.if-not-is_empty.true) in
+    let more = not-empty b.items b.len m.at.back_rises b.ok.0 (sym c.is_empty.ensures ∙ c.if-not-is_empty.true) in
     let t = subst IsTrimmed (sym m.same) c.requires.sides.trimmed in
     let can = subst (λ (xs : List (Option ℕ)). CanMove xs c.args.n) (sym m.same) c.requires.bound in
-    let values = open-values a.items b.items new.items c.args.pos c.args.n g more c.push.ensures.order c.push.ensures.size c.push.ensures.values in
+    let values = open-values a.items b.items new.items c.args.pos c.args.n m.at more c.push.ensures.order c.push.ensures.size c.push.ensures.values in
     let most = needs-most c.args.front.now.items c.args.back.now.items in
     let least = needs-least a.items b.items in
     let now = needs-most new.items b.items in
     let one = one-at-most (has_value (top a.items) None) in
     record {
-      runs = record { front_rises = c.push.ensures.order; back_rises = m.back_rises; few = omega (arith, open-few a.items b.items c.args.n m.front_rises m.back_rises more t can, c.push.ensures.size) };
-      trimmed = open-trimmed a.items b.items new.items c.args.pos c.args.n g more c.push.ensures.order c.push.ensures.size values t;
+      runs = record { front_rises = c.push.ensures.order; back_rises = m.at.back_rises; few = omega (arith, open-few a.items b.items c.args.n m.at.front_rises m.at.back_rises more t can, c.push.ensures.size) };
+      trimmed = open-trimmed a.items b.items new.items c.args.pos c.args.n m.at more c.push.ensures.order c.push.ensures.size values t;
       front_holds = omega (arith, now, one, c.push.ensures.count, least, m.needs, most, c.push.ensures.room, c.move_to.ensures.front_room, c.requires.front_more);
       back_holds = omega (arith, now, one, c.push.ensures.count, least, m.needs, most, c.move_to.ensures.back_room, c.requires.back_more);
     }
@@ -50,7 +48,6 @@ pub returns-else-not-is_empty-clause-values : goal.returns-else-not-is_empty-cla
 returns-else-not-is_empty-clause-values c =
     let m = c.move_to.ensures.moved in
     let b = c.move_to.new.back in
-    let g = at-gap c.args.front.now.items c.args.back.now.items c.move_to.new.front.items b.items c.args.pos m in
-    let none = size-none b.items m.back_rises (is-empty b.items b.len b.ok.0 (sym c.is_empty.ensures ∙ c.if-not-is_empty.false)) in
+    let none = size-none b.items m.at.back_rises (is-empty b.items b.len b.ok.0 (sym c.is_empty.ensures ∙ c.if-not-is_empty.false)) in
     λ p.
-    open-nothing c.move_to.new.front.items b.items c.args.pos c.args.n g none p ∙ ap (λ (xs : List (Option ℕ)). opened_at xs c.args.pos c.args.n p) m.same
+    open-nothing c.move_to.new.front.items b.items c.args.pos c.args.n m.at none p ∙ ap (λ (xs : List (Option ℕ)). opened_at xs c.args.pos c.args.n p) m.same
