@@ -1,9 +1,11 @@
 -- What one more character makes of the pieces of a format.
-use Rattle.std.proofs.Common.{◌≡◌, ◌+◌, ◌++◌, ℕ, List, [], ◌∷◌, Option, None, Some, Result, Ok, Err, option_to_list, refl, sym, ap, ◌∙◌}
+use Rattle.std.proofs.Common.{◌≡◌, ◌+◌, ◌++◌, ℕ, List, [], ◌∷◌, Option, None, Some, Result, Ok, Err, option_to_list, IsErrAnd, refl, sym, ap, ◌∙◌, subst}
 use Rattle.std.proofs.lemmas.List.{append_assoc, append-nil}
+use Rattle.rd_modeline.specs.declared.fault.FormatFault.{FormatFault}
+use Rattle.rd_modeline.specs.declared.fault.FormatFault.TheVariants.{BadFormat, Memory}
 use Rattle.rd_modeline.specs.declared.piece.Piece.{Piece}
 use Rattle.rd_modeline.specs.declared.reading.Begun.{Begun}
-use Rattle.rd_modeline.specs.Formats.{before, behind_all, fault_in, pieces_from, start_of, ReadsOn}
+use Rattle.rd_modeline.specs.Formats.{before, behind_all, fault_in, pieces_from, Checks, ReadsOn}
 
 fault-before : (p : Piece) (r : Result (List Piece) ℕ) → fault_in (before p r) ≡ fault_in r
 fault-before p (Ok ps) = refl
@@ -15,20 +17,36 @@ all-before ps p (Err place) = refl
 
 -- a step changes no fault
 pub step-fault : (b after : Begun) (piece : Option Piece) (place c : ℕ) (cs : List ℕ) →
-    ReadsOn (Some (after, piece)) b place c → fault_in (pieces_from b place (c ∷ cs)) ≡ fault_in (pieces_from after (place + 1) cs)
+    ReadsOn (Ok (after, piece)) b place c → fault_in (pieces_from b place (c ∷ cs)) ≡ fault_in (pieces_from after (place + 1) cs)
 step-fault b after None place c cs reads = ap fault_in (reads cs)
 step-fault b after (Some p) place c cs reads = ap fault_in (reads cs) ∙ fault-before p (pieces_from after (place + 1) cs)
 
 -- a step adds its piece
 pub step-pieces : (b after : Begun) (piece : Option Piece) (place c : ℕ) (cs : List ℕ) (ps : List Piece) →
-    ReadsOn (Some (after, piece)) b place c →
+    ReadsOn (Ok (after, piece)) b place c →
     behind_all ps (pieces_from b place (c ∷ cs)) ≡ behind_all (ps ++ option_to_list piece) (pieces_from after (place + 1) cs)
 step-pieces b after None place c cs ps reads = ap (behind_all ps) (reads cs) ∙ ap (λ qs. behind_all qs (pieces_from after (place + 1) cs)) (sym (append-nil ps))
 step-pieces b after (Some p) place c cs ps reads = ap (behind_all ps) (reads cs) ∙ all-before ps p (pieces_from after (place + 1) cs)
 
 -- where a code is bad, its percent sign is the fault
-pub step-bad : (b : Begun) (place c : ℕ) (cs : List ℕ) → ReadsOn None b place c → fault_in (pieces_from b place (c ∷ cs)) ≡ Some (start_of b)
-step-bad b place c cs reads = ap fault_in (reads cs)
+pub step-bad : (fault : FormatFault) (b : Begun) (place c : ℕ) (cs : List ℕ) (whole : Result (List Piece) ℕ) →
+    ReadsOn (Err fault) b place c → fault_in (pieces_from b place (c ∷ cs)) ≡ fault_in whole → Checks {A = Unit {0}} (Err fault) whole
+step-bad (BadFormat start) b place c cs whole reads same = sym same ∙ ap fault_in (reads cs)
+step-bad Memory b place c cs whole reads same = tt
+
+-- pieces of the same fault are checked alike
+pub same-checks : {A : Type 0} (result : Result A FormatFault) (rest whole : Result (List Piece) ℕ) →
+    Checks result rest → fault_in rest ≡ fault_in whole → Checks result whole
+same-checks (Ok a) rest whole checks same = sym same ∙ checks
+same-checks (Err (BadFormat place)) rest whole checks same = sym same ∙ checks
+same-checks (Err Memory) rest whole checks same = tt
+
+-- a fault that is handed on says the same
+pub handed-on : {A : Type 0} (result : Result A FormatFault) (fault : FormatFault) (whole : Result (List Piece) ℕ) →
+    IsErrAnd result (λ f. f ≡ fault) → Checks {A = Unit {0}} (Err fault) whole → Checks result whole
+handed-on (Ok a) fault whole is checks = absurd is
+handed-on (Err (BadFormat place)) fault whole is checks = subst (λ f. Checks {A = Unit {0}} (Err f) whole) (sym is) checks
+handed-on (Err Memory) fault whole is checks = tt
 
 -- what was read before is no fault
 pub fault-all : (ps : List Piece) (r : Result (List Piece) ℕ) → fault_in (behind_all ps r) ≡ fault_in r

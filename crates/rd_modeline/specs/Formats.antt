@@ -1,6 +1,8 @@
 -- The grammar of a format: characters that stand for themselves, and codes that begin with a percent sign.
 use Rattle.std.specs.Prelude.{ℕ, ◌+◌, ◌-◌, ◌*◌, ◌==◌, ◌&&◌, ◌≤◌, ◌≡◌, nat_lt, if◌then◌else◌, List, [], ◌∷◌, ◌++◌, Option, None, Some, Result, Ok, Err}
 use Rattle.std.specs.Char.{is_ascii_digit}
+use Rattle.rd_modeline.specs.declared.fault.FormatFault.{FormatFault}
+use Rattle.rd_modeline.specs.declared.fault.FormatFault.TheVariants.{BadFormat, Memory}
 use Rattle.rd_modeline.specs.declared.piece.Field.{Field}
 use Rattle.rd_modeline.specs.declared.piece.Field.TheVariants.{Name, Line, Place, ReadOnly, Modified, Narrowing}
 use Rattle.rd_modeline.specs.declared.piece.Piece.{Piece}
@@ -67,6 +69,12 @@ abbrev pub fault_in : Result (List Piece) ℕ → Option ℕ
 fault_in (Ok ps) = None
 fault_in (Err place) = Some place
 
+-- a format is good, or this is the place of its first bad code
+abbrev pub Checks : {A : Type 0} → Result A FormatFault → Result (List Piece) ℕ → Type 0
+Checks (Ok _) pieces = fault_in pieces ≡ None
+Checks (Err (BadFormat place)) pieces = fault_in pieces ≡ Some place
+Checks (Err Memory) pieces = Unit {0}
+
 -- a number of so many digits, at most three
 pub record HasDigits (digits width : ℕ) : Type 0 where
   pub none : digits ≡ 0 → width ≡ 0
@@ -80,13 +88,9 @@ abbrev pub IsBegun : Begun → Type 0
 IsBegun Text = Unit {0}
 IsBegun (Percent start digits width) = HasDigits digits width
 
--- the place of the percent sign that was read last
-abbrev pub start_of : Begun → ℕ
-start_of Text = 0
-start_of (Percent start digits width) = start
-
 -- what the next character makes of the rest, where it leaves this begun and ends a piece or none, and where it is bad
-abbrev pub ReadsOn : Option (Begun × Option Piece) → Begun → ℕ → ℕ → Type 0
-ReadsOn None b place c = (cs : List ℕ) → pieces_from b place (c ∷ cs) ≡ Err (start_of b)
-ReadsOn (Some (after, None)) b place c = (cs : List ℕ) → pieces_from b place (c ∷ cs) ≡ pieces_from after (place + 1) cs
-ReadsOn (Some (after, Some p)) b place c = (cs : List ℕ) → pieces_from b place (c ∷ cs) ≡ before p (pieces_from after (place + 1) cs)
+abbrev pub ReadsOn : Result (Begun × Option Piece) FormatFault → Begun → ℕ → ℕ → Type 0
+ReadsOn (Err (BadFormat start)) b place c = (cs : List ℕ) → pieces_from b place (c ∷ cs) ≡ Err start
+ReadsOn (Err Memory) b place c = Unit {0}
+ReadsOn (Ok (after, None)) b place c = (cs : List ℕ) → pieces_from b place (c ∷ cs) ≡ pieces_from after (place + 1) cs
+ReadsOn (Ok (after, Some p)) b place c = (cs : List ℕ) → pieces_from b place (c ∷ cs) ≡ before p (pieces_from after (place + 1) cs)

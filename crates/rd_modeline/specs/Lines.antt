@@ -1,5 +1,5 @@
 -- A mode line: the values and the other characters put together as one text, which is one plain line.
-use Rattle.std.specs.Prelude.{ℕ, ◌-◌, List, [], ◌∷◌, ◌++◌, replicate, true, ◌≡◌, None, Some, Result, Ok, Err}
+use Rattle.std.specs.Prelude.{ℕ, ◌-◌, List, [], ◌∷◌, ◌++◌, replicate, true}
 use Rattle.rd_base.specs.Faces.{Attributes, plain}
 use Rattle.rd_base.specs.declared.cell.Cell.{Cell}
 use Rattle.rd_ucd.specs.declared.spans.Span.{Span}
@@ -8,10 +8,7 @@ use Rattle.rd_modeline.specs.declared.piece.Field.{Field}
 use Rattle.rd_modeline.specs.declared.piece.Field.TheVariants.{Line}
 use Rattle.rd_modeline.specs.declared.piece.Piece.{Piece}
 use Rattle.rd_modeline.specs.declared.piece.Piece.TheVariants.{Literal, Value, Dashes}
-use Rattle.rd_modeline.specs.declared.fault.FormatFault.{FormatFault}
-use Rattle.rd_modeline.specs.declared.fault.FormatFault.TheVariants.{BadFormat, Memory}
 use Rattle.rd_modeline.specs.Values.{FactValues, value_text}
-use Rattle.rd_modeline.specs.Formats.{fault_in}
 
 -- the face of a mode line
 abbrev pub inverse : Attributes
@@ -36,9 +33,3 @@ line_text classes f columns (Dashes ∷ ps) = replicate columns 45
 -- the cells of a mode line
 abbrev pub line_cells : List Span → FactValues → ℕ → List Piece → List Cell
 line_cells classes f columns ps = plain_cells classes inverse columns (line_text classes f columns ps)
-
--- a format is good, or this is the place of its first bad code
-abbrev pub Checks : {A : Type 0} → Result A FormatFault → Result (List Piece) ℕ → Type 0
-Checks (Ok _) pieces = fault_in pieces ≡ None
-Checks (Err (BadFormat place)) pieces = fault_in pieces ≡ Some place
-Checks (Err Memory) pieces = Unit {0}

@@ -3,9 +3,9 @@ ghost use Rattle.std.specs.Prelude.{◌≡◌, ◌+◌, ◌++◌, IfOk, OnOk, Ok
 ghost use Rattle.rd_modeline.specs.declared.piece.Field.TheVariants.{ReadOnly, Modified, Narrowing};
 ghost use Rattle.rd_modeline.specs.declared.piece.Piece.{Piece};
 ghost use Rattle.rd_base.specs.Glyphs.{IsRowAfter};
-ghost use Rattle.rd_modeline.specs.Formats.{pieces_of};
+ghost use Rattle.rd_modeline.specs.Formats.{pieces_of, Checks};
 ghost use Rattle.rd_modeline.specs.Values.{share, place_text, value_text};
-ghost use Rattle.rd_modeline.specs.Lines.{filled, value_in, line_text, line_cells, Checks};
+ghost use Rattle.rd_modeline.specs.Lines.{filled, value_in, line_text, line_cells};
 
 use crate::facts::Facts;
 use crate::fault::FormatFault;

@@ -1,9 +1,8 @@
 //! Reading a format, character by character.
-ghost use Rattle.std.specs.Prelude.{◌≡◌, ◌≢◌, ◌+◌, IfErr, IfOk, IfSome, Ok, Some, ◌++◌, ℕ, OnOk, option_to_list};
+ghost use Rattle.std.specs.Prelude.{◌≡◌, ◌≢◌, ◌+◌, IfErr, IfOk, Ok, [], ◌++◌, ℕ, OnOk, option_to_list};
 ghost use Rattle.rd_modeline.specs.declared.fault.FormatFault.TheVariants as fault;
-ghost use Rattle.rd_modeline.specs.Formats.{pieces_of, start_of, IsBegun, ReadsOn};
+ghost use Rattle.rd_modeline.specs.Formats.{pieces_from, pieces_of, Checks, IsBegun, ReadsOn};
 ghost use Rattle.rd_modeline.specs.declared.reading.Begun.TheVariants.{Text, Percent};
-ghost use Rattle.rd_modeline.specs.Lines.{Checks};
 
 use crate::fault::FormatFault;
 use crate::piece::{Piece, piece_of};
@@ -28,15 +27,10 @@ pub fn check(text: &[Ch]) -> Result<(), FormatFault>
 {
     let mut begun = Begun::Text;
     for (place, ch) in text.iter().enumerate() {
-        match read_on(begun, place as u64, *ch) {
-            Some((after, _piece)) => begun = after,
-            None => return Err(FormatFault::BadFormat(start_of(begun))),
-        }
+        let (after, _piece) = read_on(begun, place as u64, *ch)?;
+        begun = after;
     }
-    match begun {
-        Begun::Text => Ok(()),
-        Begun::Percent(start, _digits, _width) => Err(FormatFault::BadFormat(start)),
-    }
+    ended(begun)
 }
 
 /// The pieces of a format.
@@ -47,18 +41,12 @@ pub(crate) fn read(alloc: Global, text: &[Ch]) -> Result<ListOf<Piece>, FormatFa
     let mut pieces = ListOf::new(alloc);
     let mut begun = Begun::Text;
     for (place, ch) in text.iter().enumerate() {
-        match read_on(begun, place as u64, *ch) {
-            Some((after, piece)) => {
-                push_piece(&mut pieces, piece)?;
-                begun = after;
-            }
-            None => return Err(FormatFault::BadFormat(start_of(begun))),
-        }
+        let (after, piece) = read_on(begun, place as u64, *ch)?;
+        push_piece(&mut pieces, piece)?;
+        begun = after;
     }
-    match begun {
-        Begun::Text => Ok(pieces),
-        Begun::Percent(start, _digits, _width) => Err(FormatFault::BadFormat(start)),
-    }
+    ended(begun)?;
+    Ok(pieces)
 }
 
 /// Adds a piece, where there is one.
@@ -71,31 +59,34 @@ fn push_piece(pieces: &mut ListOf<Piece>, piece: Option<Piece>) -> Result<(), Me
     }
 }
 
-/// The place of the percent sign that was read last.
-fn start_of(begun: Begun) -> u64
-    ensures { result ≡ start_of begun }
+/// Whether a format can end here: behind a percent sign a code is wanting.
+fn ended(begun: Begun) -> Result<(), FormatFault>
+    ensures checks { (place : ℕ) → Checks result (pieces_from begun place []) }
+    ensures named { IfErr result (λ f. f ≢ fault.Memory) }
+    ensures ends { IfOk result (λ _. begun ≡ Text) }
 {
     match begun {
-        Begun::Text => 0,
-        Begun::Percent(start, _digits, _width) => start,
+        Begun::Text => Ok(()),
+        Begun::Percent(start, _digits, _width) => Err(FormatFault::BadFormat(start)),
     }
 }
 
-/// What is begun behind a character, and the piece that it ends. None where no code is spelled so.
-fn read_on(begun: Begun, place: u64, ch: Ch) -> Option<(Begun, Option<Piece>)>
+/// What is begun behind a character, and the piece that it ends. The fault is the place of a percent sign where no code is spelled so.
+fn read_on(begun: Begun, place: u64, ch: Ch) -> Result<(Begun, Option<Piece>), FormatFault>
     requires { IsBegun begun }
     ensures reads { ReadsOn result begun place ch }
-    ensures begun { IfSome result (λ r. IsBegun r.0) }
+    ensures named { IfErr result (λ f. f ≢ fault.Memory) }
+    ensures begun { IfOk result (λ r. IsBegun r.0) }
 {
     match begun {
-        Begun::Text => Some(text_read(place, ch)),
+        Begun::Text => Ok(text_read(place, ch)),
         Begun::Percent(start, digits, width) => code_read(start, digits, width, ch),
     }
 }
 
 /// The same where no code is begun.
 fn text_read(place: u64, ch: Ch) -> (Begun, Option<Piece>)
-    ensures reads { ReadsOn (Some result) Text place ch }
+    ensures reads { ReadsOn (Ok result) Text place ch }
     ensures begun { IsBegun result.0 }
 {
     if ch.code() == 37 {
@@ -105,16 +96,24 @@ fn text_read(place: u64, ch: Ch) -> (Begun, Option<Piece>)
 }
 
 /// The same behind a percent sign.
-fn code_read(start: u64, digits: u8, width: u32, ch: Ch) -> Option<(Begun, Option<Piece>)>
+fn code_read(
+    start: u64,
+    digits: u8,
+    width: u32,
+    ch: Ch,
+) -> Result<(Begun, Option<Piece>), FormatFault>
     requires { IsBegun (Percent start digits width) }
     ensures reads { (place : ℕ) → ReadsOn result (Percent start digits width) place ch }
-    ensures begun { IfSome result (λ r. IsBegun r.0) }
+    ensures named { IfErr result (λ f. f ≢ fault.Memory) }
+    ensures begun { IfOk result (λ r. IsBegun r.0) }
 {
     let code = ch.code();
     if 48 <= code && code <= 57 && digits < 3 {
         let longer = Begun::Percent(start, digits + 1, 10 * width + (code - 48));
-        return Some((longer, None));
+        return Ok((longer, None));
     }
-    let piece = piece_of(digits, width, ch)?;
-    Some((Begun::Text, Some(piece)))
+    match piece_of(digits, width, ch) {
+        Some(piece) => Ok((Begun::Text, Some(piece))),
+        None => Err(FormatFault::BadFormat(start)),
+    }
 }
