@@ -5,6 +5,7 @@ ghost use Rattle.rd_resolve.specs.Neutral.{is_neutral, n1_side, n1_following, n1
 ghost use Rattle.rd_resolve.specs.Places.{types_at, levels_at, put_at};
 ghost use Rattle.rd_resolve.specs.Walks.{SideIs};
 
+use crate::turn::turn_at;
 use rd_base::{Class, Line, Seq};
 
 /// What N1 knows at a character: the direction before it, and, within a run of neutrals, the one behind the run.
@@ -31,12 +32,10 @@ pub fn neutral(line: &mut Line, seq: &Seq)
         run: None,
     };
     for k in 0..seq.indexes.len() {
-        let i = seq.indexes.at(k) as usize;
-        let class = line.types.at(i);
-        let level = line.levels.at(i);
-        let (_, rest) = seq.indexes.as_slice().split_at(k + 1);
-        let given = sides.step(seq.eos, class, level, line.types.as_slice(), rest);
-        line.set_type(i, given);
+        let turn = turn_at(line, seq, k);
+        let index = turn.index;
+        let given = sides.step(seq.eos, turn.class, turn.level, turn.types, turn.rest);
+        line.set_type(index, given);
     }
 }
 
