@@ -1,4 +1,4 @@
-use Rattle.std.proofs.Common.{◌≡◌, ◌+◌, ◌∷◌, length, drop, ap, ap₂, sym, subst, ◌∙◌, arith}
+use Rattle.std.proofs.Common.{◌≡◌, ◌+◌, ◌∷◌, drop, ap, ap₂, sym, subst, ◌∙◌}
 use Rattle.rd_resolve.specs.Neutral.{n1, n2}
 use Rattle.rd_resolve.specs.Places.{types_at, levels_at}
 use Rattle.rd_resolve.specs.Walks.{SideIs}
