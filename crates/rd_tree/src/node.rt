@@ -270,58 +270,45 @@ impl Node {
         }
     }
 
-    /// Gives way to one of its parts, which takes the whole rectangle.
-    fn give_way(&mut self, rest: Node, rect: Rect)
+    /// Gives way to one of its parts, which takes the whole rectangle, and answers the first window of that part.
+    fn give_way(&mut self, rest: Node, rect: Rect) -> u32
         requires fills { FirstPartsFit (shape rest) × NeedsMet (shape rest) rect }
         requires inside { InFrame rect }
-        ensures { shape self.new ≡ resized (shape rest) rect }
+        ensures shape { shape self.new ≡ resized (shape rest) rect }
+        ensures heir { result ≡ first_leaf (shape rest) }
     {
+        let heir = rest.first_leaf();
         *self = rest;
         self.resize(rect);
+        heir
     }
 
-    /// Takes the window with a number away. Its sibling takes the rectangle of both. Nothing changes where the window is alone.
-    pub(crate) fn remove(&mut self, window: u32, rect: Rect)
+    /// Takes the window with a number away. Its sibling, which shares a split rectangle with it, takes the rectangle of both. Answers the
+    /// first window of the sibling. Nothing changes where the window is alone.
+    pub(crate) fn remove(&mut self, window: u32, rect: Rect) -> u32
         requires room { HasRoom (shape self.old) rect }
         requires inside { InFrame rect }
-        ensures { shape self.new ≡ removed window (shape self.old) rect }
-    {
-        if let Node::Split {
-            side,
-            size,
-            first,
-            second,
-        } = self
-        {
-            if first.is_leaf_of(window) {
-                let rest = second.take();
-                self.give_way(rest, rect);
-            } else if second.is_leaf_of(window) {
-                let rest = first.take();
-                self.give_way(rest, rect);
-            } else if first.holds(window) {
-                first.remove(window, rect.first_part(*side, *size));
-            } else {
-                second.remove(window, rect.second_part(*side, *size));
-            }
-        }
-    }
-
-    /// The first window of what shares a split rectangle with the window with a number.
-    pub(crate) fn heir(&self, window: u32) -> u32
-        ensures { result ≡ first_leaf (sibling window (shape self.now)) }
+        ensures shape { shape self.new ≡ removed window (shape self.old) rect }
+        ensures heir { result ≡ first_leaf (sibling window (shape self.old)) }
     {
         match self {
             Node::Leaf(leaf) => leaf.number,
-            Node::Split { first, second, .. } => {
+            Node::Split {
+                side,
+                size,
+                first,
+                second,
+            } => {
                 if first.is_leaf_of(window) {
-                    second.first_leaf()
+                    let rest = second.take();
+                    self.give_way(rest, rect)
                 } else if second.is_leaf_of(window) {
-                    first.first_leaf()
+                    let rest = first.take();
+                    self.give_way(rest, rect)
                 } else if first.holds(window) {
-                    first.heir(window)
+                    first.remove(window, rect.first_part(*side, *size))
                 } else {
-                    second.heir(window)
+                    second.remove(window, rect.second_part(*side, *size))
                 }
             }
         }

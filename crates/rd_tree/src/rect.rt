@@ -1,5 +1,6 @@
 //! A window's place on the frame.
 ghost use Rattle.std.specs.Prelude.{◌≡◌, ◌≤◌};
+ghost use Rattle.rd_tree.specs.Calls.{frame};
 ghost use Rattle.rd_tree.specs.Windows.{first_part, second_part, along, InFrame};
 
 use crate::side::Side;
@@ -14,6 +15,18 @@ pub struct Rect {
 }
 
 impl Rect {
+    /// A whole frame of so many columns and rows.
+    pub(crate) fn whole(width: u32, height: u32) -> Rect
+        ensures { result ≡ frame width height }
+    {
+        Rect {
+            x: 0,
+            y: 0,
+            width,
+            height,
+        }
+    }
+
     /// Its first `size` columns or rows, where it is split.
     pub(crate) fn first_part(self, side: Side, size: u32) -> Rect
         ensures { result ≡ first_part side size self }

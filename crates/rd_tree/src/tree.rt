@@ -98,10 +98,8 @@ impl Tree {
         if self.root.is_single() {
             return Err(TreeFault::LastWindow);
         }
-        let heir = self.root.heir(window);
         let rect = self.frame();
-        self.root.remove(window, rect);
-        Ok(heir)
+        Ok(self.root.remove(window, rect))
     }
 
     /// Lets the windows fill another rectangle. Where a rectangle was split, the second part gets what is behind the first part's old size,
@@ -119,12 +117,7 @@ impl Tree {
         }
         self.width = width;
         self.height = height;
-        self.root.resize(Rect {
-            x: 0,
-            y: 0,
-            width,
-            height,
-        });
+        self.root.resize(Rect::whole(width, height));
         Ok(())
     }
 
@@ -205,11 +198,6 @@ impl Tree {
     fn frame(&self) -> Rect
         ensures { result ≡ frame_of self.now }
     {
-        Rect {
-            x: 0,
-            y: 0,
-            width: self.width,
-            height: self.height,
-        }
+        Rect::whole(self.width, self.height)
     }
 }

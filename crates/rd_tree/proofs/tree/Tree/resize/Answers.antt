@@ -21,5 +21,5 @@ resize-requires-clause-parts c = room_first_parts (shape c.self.inside.root) (fr
 
 pub invariant_of-self : goal.invariant_of-self
 invariant_of-self c =
-    rw c.resize.ensures
+    rw (c.resize.ensures, c.whole.ensures)
     (resize_valid (configuration_of c.self.inside) c.args.width c.args.height c.self.invariant c.requires.narrow c.requires.low (omega (arith, c.columns.ensures), omega (arith, c.rows.ensures)))
