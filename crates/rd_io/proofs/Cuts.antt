@@ -56,8 +56,11 @@ lines-rest [] p = refl
 lines-rest (b ∷ []) p = rw (ne_eqb b 10 p.0) refl
 lines-rest (b ∷ c ∷ cs) p = rw (ne_eqb b 10 p.0, lines-rest (c ∷ cs) p.1) refl
 
-pub lines-text_of_lines : (lines : List (List ℕ)) (rest : List ℕ) → AllByRecursion IsUnbroken lines → IsUnbroken rest → lines_of (text_of_lines lines ++ rest) ≡ lines ++ last_of rest
-lines-text_of_lines [] rest p q = lines-rest rest q
-lines-text_of_lines (line ∷ lines) rest p q =
+pub lines-behind : (lines : List (List ℕ)) (rest : List ℕ) → AllByRecursion IsUnbroken lines → lines_of (text_of_lines lines ++ rest) ≡ lines ++ lines_of rest
+lines-behind [] rest p = refl
+lines-behind (line ∷ lines) rest p =
     let regrouped : text_of_lines (line ∷ lines) ++ rest ≡ line ++ 10 ∷ (text_of_lines lines ++ rest) = simp append_assoc in
-    ap lines_of regrouped ∙ lines-whole line (text_of_lines lines ++ rest) p.0 ∙ ap (λ ls. line ∷ ls) (lines-text_of_lines lines rest p.1 q)
+    ap lines_of regrouped ∙ lines-whole line (text_of_lines lines ++ rest) p.0 ∙ ap (λ ls. line ∷ ls) (lines-behind lines rest p.1)
+
+pub lines-text_of_lines : (lines : List (List ℕ)) (rest : List ℕ) → AllByRecursion IsUnbroken lines → IsUnbroken rest → lines_of (text_of_lines lines ++ rest) ≡ lines ++ last_of rest
+lines-text_of_lines lines rest p q = lines-behind lines rest p ∙ ap (λ ls. lines ++ ls) (lines-rest rest q)
