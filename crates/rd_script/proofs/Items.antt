@@ -43,25 +43,27 @@ counted : (vs : List Value) → items_count (items_view vs) ≡ length vs
 counted [] = refl
 counted (v ∷ vs) = ap suc (counted vs)
 
-kept : {T : Type 0} (test : T → Bool) (x : T) (b : Bool) → test x ≡ b → kept_if test x ≡ (if b then Some x else None)
-kept test x b e = ap (λ t. if t then Some x else None) e
-
 pub list-none : {T : Type 0} (most : ℕ) (kind : Data → Option T) (d : Data) → None ≡ as_array d → None ≡ list_of most kind d
 list-none most kind d e = ap (λ o. option_and_then (each_item kind) (option_and_then (kept_if (λ ds. nat_le (items_count ds) most)) o)) e
 
-pub list-long : {T : Type 0} (most : ℕ) (kind : Data → Option T) (d : Data) (vs : List Value) → Some (items_view vs) ≡ as_array d → most < length vs → None ≡ list_of most kind d
-list-long most kind d vs e h =
-    let test = nat_le (items_count (items_view vs)) most in
-    let no : test ≡ false = lt-leb (items_count (items_view vs)) most (omega (arith, counted vs)) in
-    sym (ap (λ o. option_and_then (each_item kind) o) (kept (λ ds. nat_le (items_count ds) most) (items_view vs) false no))
+kept-then : {A B : Type 0} (f : A → Option B) (x : A) (b : Bool) → (if b then f x else None) ≡ option_and_then f (if b then Some x else None)
+kept-then f x true = refl
+kept-then f x false = refl
+
+-- whether there are at most so many decides
+list-by : {T : Type 0} (most : ℕ) (kind : Data → Option T) (d : Data) (vs : List Value) (few : Bool) → Some (items_view vs) ≡ as_array d → nat_le (length vs) most ≡ few
+    → (if few then each_item kind (items_view vs) else None) ≡ list_of most kind d
+list-by most kind d vs few e is =
+    let items = items_view vs in
+    let same : nat_le (items_count items) most ≡ few = ap (λ n. nat_le n most) (counted vs) ∙ is in
+    kept-then (each_item kind) items few ∙ ap (λ b. option_and_then (each_item kind) (if b then Some items else None)) (sym same)
     ∙ ap (λ o. option_and_then (each_item kind) (option_and_then (kept_if (λ ds. nat_le (items_count ds) most)) o)) e
 
+pub list-long : {T : Type 0} (most : ℕ) (kind : Data → Option T) (d : Data) (vs : List Value) → Some (items_view vs) ≡ as_array d → most < length vs → None ≡ list_of most kind d
+list-long most kind d vs e h = list-by most kind d vs false e (lt-leb (length vs) most h)
+
 pub list-all : {T : Type 0} (most : ℕ) (kind : Data → Option T) (d : Data) (vs : List Value) → Some (items_view vs) ≡ as_array d → length vs ≤ most → each_item kind (items_view vs) ≡ list_of most kind d
-list-all most kind d vs e h =
-    let test = nat_le (items_count (items_view vs)) most in
-    let yes : test ≡ true = le-leb (items_count (items_view vs)) most (omega (arith, counted vs)) in
-    sym (ap (λ o. option_and_then (each_item kind) o) (kept (λ ds. nat_le (items_count ds) most) (items_view vs) true yes))
-    ∙ ap (λ o. option_and_then (each_item kind) (option_and_then (kept_if (λ ds. nat_le (items_count ds) most)) o)) e
+list-all most kind d vs e h = list-by most kind d vs true e (le-leb (length vs) most h)
 
 -- ---- arrays of another length
 

@@ -5,8 +5,7 @@ ghost use Rattle.serde_json.specs.View.{view, members_view};
 ghost use Rattle.rd_script.specs.Reading.{is_among};
 
 use crate::fault::OpFault;
-use crate::text_form::characters;
-use rd_base::{ListOf, Memory};
+use rd_base::{ListOf, Memory, characters};
 use serde_json::{Map, Value};
 use std::alloc::Global;
 use std::marker::Model;

@@ -9,9 +9,8 @@ ghost use Rattle.rd_script.specs.Fields.{whole, word, present, required, require
 use crate::asked::Asked;
 use crate::fault::OpFault;
 use crate::form::{Form, Whole};
-use crate::text_form::characters;
 use crate::word::Named;
-use rd_base::Memory;
+use rd_base::{Memory, characters};
 use serde_json::Value;
 use std::alloc::Global;
 

@@ -9,7 +9,7 @@ ghost use Rattle.rd_script.specs.Objects.{only};
 use crate::buffer_name::BufferName;
 use crate::form::Form;
 use rd_base::limits::{ENTRY_GLYPHS, NAME_CHARACTERS, PLAIN_CHARACTERS};
-use rd_base::{Ch, ListOf, Memory};
+use rd_base::{Ch, ListOf, Memory, characters};
 use rd_objects::{columns, glyph_character};
 use serde_json::Value;
 use std::alloc::Global;
@@ -27,7 +27,7 @@ impl Form for Text {
 
     fn read(&self, alloc: Global, value: &Value) -> Result<Option<ListOf<Ch>>, Memory> {
         match value.as_str() {
-            Some(text) => Ok(Some(characters(alloc, text)?)),
+            Some(text) => Ok(Some(scalars(alloc, text)?)),
             None => Ok(None),
         }
     }
@@ -46,7 +46,7 @@ impl Form for PlainText {
 
     fn read(&self, alloc: Global, value: &Value) -> Result<Option<ListOf<Ch>>, Memory> {
         match value.as_str() {
-            Some(text) => Ok(plain(characters(alloc, text)?)),
+            Some(text) => Ok(plain(scalars(alloc, text)?)),
             None => Ok(None),
         }
     }
@@ -65,7 +65,7 @@ impl Form for GlyphText {
 
     fn read(&self, alloc: Global, value: &Value) -> Result<Option<ListOf<Ch>>, Memory> {
         match value.as_str() {
-            Some(text) => Ok(glyphs(characters(alloc, text)?)),
+            Some(text) => Ok(glyphs(scalars(alloc, text)?)),
             None => Ok(None),
         }
     }
@@ -84,7 +84,7 @@ impl Form for Slot {
 
     fn read(&self, alloc: Global, value: &Value) -> Result<Option<Ch>, Memory> {
         match value.as_str() {
-            Some(text) => Ok(only_slot(characters(alloc, text)?.as_slice())),
+            Some(text) => Ok(only_slot(scalars(alloc, text)?.as_slice())),
             None => Ok(None),
         }
     }
@@ -109,16 +109,12 @@ impl Form for NameOfBuffer {
     }
 }
 
-/// The characters of a text.
-pub fn characters(alloc: Global, text: &str) -> Result<ListOf<Ch>, Memory>
+/// The characters of a text, which are scalar values.
+fn scalars(alloc: Global, text: &str) -> Result<ListOf<Ch>, Memory>
     ensures value { IfOk result (λ list. list ≡ chars text.now) }
     ensures scalars { IfOk result (λ list. is_text list ≡ true) }
 {
-    let mut list = ListOf::with_room(alloc, text.len())?;
-    for c in text.chars() {
-        list.push(Ch::scalar(c))?;
-    }
-    Ok(list)
+    characters(alloc, text)
 }
 
 /// A text of scalar values, where a plain line can show it.
