@@ -1,5 +1,5 @@
 -- The links from an index on, against the isolating run sequences of the items there (BD13, X10).
-use Rattle.std.proofs.Common.{◌≡◌, ℕ, zero, suc, ◌+◌, ◌-◌, ◌<◌, ◌≤◌, ◌==◌, nat_lt, max, Bool, true, false, ◌&&◌, if◌then◌else◌, List, [], ◌∷◌, length, map, drop, set, get_or, Option, None, Some, All, is_none, refl, ap, ap₂, sym, ◌∙◌, inl, inr, arith}
+use Rattle.std.proofs.Common.{◌≡◌, ℕ, zero, suc, ◌+◌, ◌-◌, ◌<◌, ◌≤◌, ◌==◌, nat_lt, max, Bool, true, false, ◌&&◌, if◌then◌else◌, List, [], ◌∷◌, length, map, drop, set, get_or, Option, None, Some, All, is_none, refl, ap, ap₂, subst, sym, ◌∙◌, inl, inr, arith}
 use Rattle.std.proofs.lemmas.List.{get_or-drop, drop-set-add, set-get_or, drop-drop, length-drop}
 use Rattle.std.proofs.lemmas.Bool.{cases_Bool, eq-eqb, ne_eqb, ltb-true}
 use Rattle.rd_base.specs.Classes.{direction_of, is_initiator, is_removed}
@@ -247,41 +247,31 @@ gathered-step base before i c cs l ls k ks all f same_ls same_ks ih stays follow
     ap (map sequence) (bd13_joined_runs-step x xs) ∙ ap (λ q. map sequence ((x ∷ continued q G) ∷ others q G)) (sym follows) ∙ ap₂ ◌∷◌ head tail in
     rw stays (sym whole)
 
--- links are followed past what lies between
-pub chain-jump : (d : ℕ) (ks : List Link) (i w : ℕ) → w ≡ i + d → d < length ks → chain i (Some w) ks ≡ w ∷ chain (w + 1) (link_at ks d).next (drop (suc d) ks)
-chain-jump zero [] i w at h = absurd (omega arith)
-chain-jump (suc d) [] i w at h = absurd (omega arith)
-chain-jump zero (k ∷ ks) i w at h =
-    let same : w ≡ i = omega arith in
-    rw (same, eq-eqb i i refl) refl
-chain-jump (suc d) (k ∷ ks) i w at h = rw (ne_eqb w i (λ e. omega arith)) (chain-jump d ks (i + 1) w (omega arith) (omega arith))
+-- links are followed from an index on past what lies between, to the one at w and what is behind it
+pub record Jumps (from behind : List Link) (i w : ℕ) (k : Link) : Type 0 where
+  pub indexes : chain i (Some w) from ≡ w ∷ chain (w + 1) k.next behind
+  pub ends : (e : Class) → chain_end e i (Some w) from ≡ chain_end k.eos (w + 1) k.next behind
 
-pub end-jump : (d : ℕ) (ks : List Link) (e : Class) (i w : ℕ) → w ≡ i + d → d < length ks
-    → chain_end e i (Some w) ks ≡ chain_end (link_at ks d).eos (w + 1) (link_at ks d).next (drop (suc d) ks)
-end-jump zero [] e i w at h = absurd (omega arith)
-end-jump (suc d) [] e i w at h = absurd (omega arith)
-end-jump zero (k ∷ ks) e i w at h =
+jumps : (d : ℕ) (ks : List Link) (i w : ℕ) → w ≡ i + d → d < length ks → Jumps ks (drop (suc d) ks) i w (link_at ks d)
+jumps zero [] i w at h = absurd (omega arith)
+jumps (suc d) [] i w at h = absurd (omega arith)
+jumps zero (k ∷ ks) i w at h =
     let same : w ≡ i = omega arith in
-    rw (same, eq-eqb i i refl) refl
-end-jump (suc d) (k ∷ ks) e i w at h = rw (ne_eqb w i (λ q. omega arith)) (end-jump d ks e (i + 1) w (omega arith) (omega arith))
+    record { indexes = rw (same, eq-eqb i i refl) refl; ends = λ e. rw (same, eq-eqb i i refl) refl }
+jumps (suc d) (k ∷ ks) i w at h =
+    let further = jumps d ks (i + 1) w (omega arith) (omega arith) in
+    let other = ne_eqb w i (λ e. omega arith) in
+    record { indexes = rw other further.indexes; ends = λ e. rw other (further.ends e) }
 
 -- the same from an index of the whole list on
-module _ (ks : List Link) (i w : ℕ) (behind : i < w) (within : w < length ks) where
-  pub chain-on : chain (i + 1) (Some w) (drop (i + 1) ks) ≡ w ∷ chain (w + 1) (link_at ks w).next (drop (w + 1) ks)
-  chain-on =
-      let d = w - (i + 1) in
-      let read : link_at (drop (i + 1) ks) d ≡ link_at ks w = get_or-drop (i + 1) ks d _ ∙ ap (link_at ks) (omega arith) in
-      let left : drop (suc d) (drop (i + 1) ks) ≡ drop (w + 1) ks = drop-drop (suc d) (i + 1) ks ∙ ap (λ n. drop n ks) (omega arith) in
-      chain-jump d (drop (i + 1) ks) (i + 1) w (omega arith) (omega (arith, length-drop (i + 1) ks))
-      ∙ ap₂ (λ k rest. w ∷ chain (w + 1) k.next rest) read left
-
-  pub end-on : (e : Class) → chain_end e (i + 1) (Some w) (drop (i + 1) ks) ≡ chain_end (link_at ks w).eos (w + 1) (link_at ks w).next (drop (w + 1) ks)
-  end-on e =
-      let d = w - (i + 1) in
-      let read : link_at (drop (i + 1) ks) d ≡ link_at ks w = get_or-drop (i + 1) ks d _ ∙ ap (link_at ks) (omega arith) in
-      let left : drop (suc d) (drop (i + 1) ks) ≡ drop (w + 1) ks = drop-drop (suc d) (i + 1) ks ∙ ap (λ n. drop n ks) (omega arith) in
-      end-jump d (drop (i + 1) ks) e (i + 1) w (omega arith) (omega (arith, length-drop (i + 1) ks))
-      ∙ ap₂ (λ k rest. chain_end k.eos (w + 1) k.next rest) read left
+pub jumps-on : (ks : List Link) (i w : ℕ) → i < w → w < length ks → Jumps (drop (i + 1) ks) (drop (w + 1) ks) (i + 1) w (link_at ks w)
+jumps-on ks i w behind within =
+    let d = w - (i + 1) in
+    let read : link_at (drop (i + 1) ks) d ≡ link_at ks w = get_or-drop (i + 1) ks d _ ∙ ap (link_at ks) (omega arith) in
+    let left : drop (suc d) (drop (i + 1) ks) ≡ drop (w + 1) ks = drop-drop (suc d) (i + 1) ks ∙ ap (λ n. drop n ks) (omega arith) in
+    subst (λ k. Jumps (drop (i + 1) ks) (drop (w + 1) ks) (i + 1) w k) read
+    (subst (λ rest. Jumps (drop (i + 1) ks) rest (i + 1) w (link_at (drop (i + 1) ks) d)) left
+    (jumps d (drop (i + 1) ks) (i + 1) w (omega arith) (omega (arith, length-drop (i + 1) ks))))
 
 -- indexes that ascend from one on, below an end
 abbrev pub Ascends : ℕ → ℕ → List ℕ → Type 0

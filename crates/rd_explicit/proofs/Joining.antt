@@ -12,7 +12,7 @@ use Rattle.rd_explicit.specs.declared.links.Links.{Links}
 use Rattle.rd_explicit.specs.Follow.{bd13_follower, x10_level_behind}
 use Rattle.rd_explicit.specs.Links.{link_at, chain, chain_end, gathered, seq_at, IsLinkedFrom, LeadsOn, unmatched, first_of, beginning, without_beginning}
 use Rattle.rd_explicit.specs.Sequences.{partner_of, x9_items}
-use Rattle.rd_explicit.proofs.Chains.{gathered-step, bd13_follower-within, Within, chain-on, end-on}
+use Rattle.rd_explicit.proofs.Chains.{gathered-step, bd13_follower-within, Within, jumps-on}
 use Rattle.rd_base.proofs.Lists.{drop-at}
 
 length-without : (f : Option ℕ) (bs : List Bool) → length (without_beginning f bs) ≡ length bs
@@ -118,7 +118,7 @@ module _ (ks : List Link) (at : ℕ) (k : Link) (read : slice_get ks at ≡ Some
   chain-step next is all e before =
       let l = link-leads next e in
       let n : (link_at ks at).next ≡ Some next = ap (λ (q : Link). q.next) read-is ∙ e in
-      append_assoc is (next ∷ []) _ ∙ ap (λ rest. is ++ rest) (sym (ap (λ o. chain (at + 1) o (drop (at + 1) ks)) n ∙ chain-on ks at next l.0 l.1)) ∙ before
+      append_assoc is (next ∷ []) _ ∙ ap (λ rest. is ++ rest) (sym (ap (λ o. chain (at + 1) o (drop (at + 1) ks)) n ∙ (jumps-on ks at next l.0 l.1).indexes)) ∙ before
 
   pub end-step : (next : ℕ) (eos : Class) → k.next ≡ Some next
       → chain_end (link_at ks at).eos (at + 1) (link_at ks at).next (drop (at + 1) ks) ≡ eos
@@ -126,7 +126,7 @@ module _ (ks : List Link) (at : ℕ) (k : Link) (read : slice_get ks at ≡ Some
   end-step next eos e before =
       let l = link-leads next e in
       let n : (link_at ks at).next ≡ Some next = ap (λ (q : Link). q.next) read-is ∙ e in
-      sym (ap (λ o. chain_end (link_at ks at).eos (at + 1) o (drop (at + 1) ks)) n ∙ end-on ks at next l.0 l.1 (link_at ks at).eos) ∙ before
+      sym (ap (λ o. chain_end (link_at ks at).eos (at + 1) o (drop (at + 1) ks)) n ∙ (jumps-on ks at next l.0 l.1).ends (link_at ks at).eos) ∙ before
 
   pub chain-stop : (is all : List ℕ) → k.next ≡ None → is ++ chain (at + 1) (link_at ks at).next (drop (at + 1) ks) ≡ all → is ≡ all
   chain-stop is all e before =
