@@ -46,36 +46,33 @@ placed-weighed w r (x ∷ rs) = by-order (placed-weighed w r rs) (precedes x r) 
   by-order rest true = omega (arith, rest)
   by-order rest false = refl
 
--- what the overlays weigh that have an edge at a position
-abbrev slot_at : (Overlay → ℕ) → (ℕ → ℕ) → ℕ → ℕ → Option Overlay → ℕ
-slot_at edge w p n None = 0
-slot_at edge w p n (Some o) = if edge o == p then w n else 0
+-- what the overlays weigh that pass a test
+abbrev slot_weighs : (Overlay → Bool) → (ℕ → ℕ) → ℕ → Option Overlay → ℕ
+slot_weighs test w n None = 0
+slot_weighs test w n (Some o) = if test o then w n else 0
 
-abbrev all_at : (Overlay → ℕ) → (ℕ → ℕ) → ℕ → ℕ → List (Option Overlay) → ℕ
-all_at edge w p n [] = 0
-all_at edge w p n (slot ∷ slots) = slot_at edge w p n slot + all_at edge w p (suc n) slots
+abbrev all_weigh : (Overlay → Bool) → (ℕ → ℕ) → ℕ → List (Option Overlay) → ℕ
+all_weigh test w n [] = 0
+all_weigh test w n (slot ∷ slots) = slot_weighs test w n slot + all_weigh test w (suc n) slots
 
-listing-weighed : (edge : Overlay → ℕ) (w : ℕ → ℕ) (p n : ℕ) (slots : List (Option Overlay)) → weighed w (map number_of_rank (ranked_from (λ o. edge o == p) n slots)) ≡ all_at edge w p n slots
-listing-weighed edge w p n [] = refl
-listing-weighed edge w p n (None ∷ slots) = omega (arith, listing-weighed edge w p (suc n) slots)
-listing-weighed edge w p n (Some o ∷ slots) = by-test (listing-weighed edge w p (suc n) slots) (edge o == p) where
-  by-test : weighed w (map number_of_rank (ranked_from (λ o. edge o == p) (suc n) slots)) ≡ all_at edge w p (suc n) slots → (b : Bool)
-      → weighed w (map number_of_rank
-      (if b then placed (record { priority = o.priority; number = n }) (ranked_from (λ o. edge o == p) (suc n) slots) else ranked_from (λ o. edge o == p) (suc n) slots))
-      ≡ (if b then w n else 0) + all_at edge w p (suc n) slots
+listing-weighed : (test : Overlay → Bool) (w : ℕ → ℕ) (n : ℕ) (slots : List (Option Overlay)) → weighed w (map number_of_rank (ranked_from test n slots)) ≡ all_weigh test w n slots
+listing-weighed test w n [] = refl
+listing-weighed test w n (None ∷ slots) = omega (arith, listing-weighed test w (suc n) slots)
+listing-weighed test w n (Some o ∷ slots) = by-test (listing-weighed test w (suc n) slots) (test o) where
+  by-test : weighed w (map number_of_rank (ranked_from test (suc n) slots)) ≡ all_weigh test w (suc n) slots → (b : Bool)
+      → weighed w (map number_of_rank (if b then placed (record { priority = o.priority; number = n }) (ranked_from test (suc n) slots) else ranked_from test (suc n) slots))
+      ≡ (if b then w n else 0) + all_weigh test w (suc n) slots
   by-test rest true =
-      let more = placed-weighed w (record { priority = o.priority; number = n }) (ranked_from (λ o. edge o == p) (suc n) slots) in
+      let more = placed-weighed w (record { priority = o.priority; number = n }) (ranked_from test (suc n) slots) in
       omega (arith, more, rest)
   by-test rest false = omega (arith, rest)
 
--- what the overlays weigh that have an edge at a position or behind it
-abbrev slot_from : (Overlay → ℕ) → (ℕ → ℕ) → ℕ → ℕ → Option Overlay → ℕ
-slot_from edge w p n None = 0
-slot_from edge w p n (Some o) = if nat_le p (edge o) then w n else 0
+-- the overlays with an edge at a position, and at it or behind it
+abbrev all_at : (Overlay → ℕ) → (ℕ → ℕ) → ℕ → ℕ → List (Option Overlay) → ℕ
+all_at edge w p = all_weigh (λ o. edge o == p) w
 
 abbrev all_from : (Overlay → ℕ) → (ℕ → ℕ) → ℕ → ℕ → List (Option Overlay) → ℕ
-all_from edge w p n [] = 0
-all_from edge w p n (slot ∷ slots) = slot_from edge w p n slot + all_from edge w p (suc n) slots
+all_from edge w p = all_weigh (λ o. nat_le p (edge o)) w
 
 edge-step : (e p x : ℕ) → (if e == p then x else 0) + (if nat_le (suc p) e then x else 0) ≡ (if nat_le p e then x else 0)
 edge-step e p x = by-tests (e == p) (nat_le (suc p) e) (nat_le p e) refl refl refl where
@@ -88,7 +85,8 @@ edge-step e p x = by-tests (e == p) (nat_le (suc p) e) (nat_le p e) refl refl re
   by-tests false false true a b c = absurd (grind (arith, nat_tests))
   by-tests false false false a b c = omega arith
 
-slot-step : (edge : Overlay → ℕ) (w : ℕ → ℕ) (p n : ℕ) (slot : Option Overlay) → slot_at edge w p n slot + slot_from edge w (suc p) n slot ≡ slot_from edge w p n slot
+slot-step : (edge : Overlay → ℕ) (w : ℕ → ℕ) (p n : ℕ) (slot : Option Overlay)
+    → slot_weighs (λ o. edge o == p) w n slot + slot_weighs (λ o. nat_le (suc p) (edge o)) w n slot ≡ slot_weighs (λ o. nat_le p (edge o)) w n slot
 slot-step edge w p n None = refl
 slot-step edge w p n (Some o) = edge-step (edge o) p (w n)
 
@@ -97,9 +95,9 @@ all-step edge w p n [] = refl
 all-step edge w p n (slot ∷ slots) = omega (arith, slot-step edge w p n slot, all-step edge w p (suc n) slots)
 
 -- an overlay has two strings at most
-slot-least : (edge : Overlay → ℕ) (w : ℕ → ℕ) (p n : ℕ) (slot : Option Overlay) → slot_from edge w p n slot ≤ w n
-slot-least edge w p n None = omega arith
-slot-least edge w p n (Some o) = by-test (nat_le p (edge o)) where
+slot-least : (test : Overlay → Bool) (w : ℕ → ℕ) (n : ℕ) (slot : Option Overlay) → slot_weighs test w n slot ≤ w n
+slot-least test w n None = omega arith
+slot-least test w n (Some o) = by-test (test o) where
   by-test : (b : Bool) → (if b then w n else 0) ≤ w n
   by-test true = omega arith
   by-test false = omega arith
@@ -108,7 +106,7 @@ from-few : (to from : Overlay → ℕ) (a b c : ℕ → ℕ) → ((n : ℕ) → 
     → all_from to a p n slots + all_from from b p n slots + all_from from c p n slots ≤ 2 * length slots
 from-few to from a b c two p n [] = omega arith
 from-few to from a b c two p n (slot ∷ slots) =
-    omega (arith, slot-least to a p n slot, slot-least from b p n slot, slot-least from c p n slot, two n, from-few to from a b c two p (suc n) slots)
+    omega (arith, slot-least (λ o. nat_le p (to o)) a n slot, slot-least (λ o. nat_le p (from o)) b n slot, slot-least (λ o. nat_le p (from o)) c n slot, two n, from-few to from a b c two p (suc n) slots)
 
 one : (o : Option ℕ) → length (option_to_list o) ≤ 1
 one None = omega arith
@@ -147,9 +145,9 @@ strings-left s pos =
     let all : length (strings_at s pos) ≡ length closing + length between + length opening
     = length-append (closing ++ between) opening ∙ ap (λ n. n + length opening) (length-append closing between) in
     let a : length closing ≡ all_at to (weight Closing slots) pos 0 slots
-    = strings-weighed Closing slots (reverse (ending pos slots)) ∙ weighed-reverse (weight Closing slots) (ending pos slots) ∙ listing-weighed to (weight Closing slots) pos 0 slots in
-    let b : length between ≡ all_at from (weight Between slots) pos 0 slots = strings-weighed Between slots (starting pos slots) ∙ listing-weighed from (weight Between slots) pos 0 slots in
-    let c : length opening ≡ all_at from (weight Opening slots) pos 0 slots = strings-weighed Opening slots (starting pos slots) ∙ listing-weighed from (weight Opening slots) pos 0 slots in
+    = strings-weighed Closing slots (reverse (ending pos slots)) ∙ weighed-reverse (weight Closing slots) (ending pos slots) ∙ listing-weighed (λ o. o.to == pos) (weight Closing slots) 0 slots in
+    let b : length between ≡ all_at from (weight Between slots) pos 0 slots = strings-weighed Between slots (starting pos slots) ∙ listing-weighed (λ o. o.from == pos) (weight Between slots) 0 slots in
+    let c : length opening ≡ all_at from (weight Opening slots) pos 0 slots = strings-weighed Opening slots (starting pos slots) ∙ listing-weighed (λ o. o.from == pos) (weight Opening slots) 0 slots in
     let here : left s pos ≡ all_from to (weight Closing slots) pos 0 slots + all_from from (weight Between slots) pos 0 slots + all_from from (weight Opening slots) pos 0 slots = refl in
     let behind : left s (suc pos) ≡ all_from to (weight Closing slots) (suc pos) 0 slots + all_from from (weight Between slots) (suc pos) 0 slots + all_from from (weight Opening slots) (suc pos) 0 slots = refl in
     let d = all-step to (weight Closing slots) pos 0 slots in

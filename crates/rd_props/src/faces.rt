@@ -5,6 +5,7 @@ ghost use Rattle.rd_overlays.specs.declared.overlay.Kind.TheVariants as kind;
 ghost use Rattle.rd_props.specs.Buffers.{meaning, property};
 ghost use Rattle.rd_props.specs.Faces.{face_of, laid_over, face_at};
 
+use crate::appearance::appearance_at;
 use crate::state::View;
 use crate::values::{property, value_of};
 use rd_base::{Face, Memory, Pos};
@@ -44,16 +45,10 @@ pub(crate) fn face_under(view: &View, covering: &[u32], pos: Pos) -> Face
 }
 
 /// The face of an accessible position, or of the end of the accessible text, which is plain: the face of the text property with
-/// the faces of the covering overlays laid over it in increasing order of priority and number. It costs the listing of the
-/// overlays that cover the position, and one look-up of the property.
+/// the faces of the covering overlays laid over it in increasing order of priority and number. It costs what `appearance_at` does.
 pub fn face_at(alloc: Global, view: &View, pos: Pos) -> Result<Face, Memory>
     requires { IsAccessible view.now.state.now.text pos }
     ensures { IfOk result (λ face. face ≡ face_at (meaning view.now.state.now) view.now.objects.now pos) }
 {
-    let state = view.state;
-    if state.text.end() <= pos {
-        return Ok(Face::PLAIN);
-    }
-    let covering = state.overlays.covering(pos)?;
-    Ok(face_under(view, covering.as_slice(), pos))
+    Ok(appearance_at(alloc, view, pos)?.face)
 }

@@ -4,26 +4,22 @@ ghost use Rattle.rd_text.specs.Texts.{IsAccessible};
 ghost use Rattle.rd_props.specs.Buffers.{meaning};
 ghost use Rattle.rd_props.specs.Shown.{hidden};
 
-use crate::hiding::{Hidden, hiding_of_value};
+use crate::appearance::appearance_at;
+use crate::hiding::Hidden;
 use crate::state::View;
-use crate::values::effective;
 use rd_base::{Memory, Pos};
-use rd_overlays::Kind;
 use std::alloc::Global;
 
 /// Whether an accessible position, or the end of the accessible text, is hidden, and how. A position with an effective display
 /// spec is replaced and never hidden, nor is one without an effective atom. Else its atom hides by the buffer's setting: every
 /// atom without an ellipsis, or an atom that is listed, with an ellipsis where the flag of the first pair with it is true. It
-/// costs two look-ups of effective values, and a pass over the pairs up to the first with the atom.
+/// costs what `appearance_at` does, and a pass over the pairs up to the first with the atom.
 pub fn hidden(alloc: Global, view: &View, pos: Pos) -> Result<Hidden, Memory>
     requires { IsAccessible view.now.state.now.text pos }
     ensures { IfOk result (λ answer. answer ≡ hidden (meaning view.now.state.now) pos) }
 {
-    if effective(alloc, view, pos, Kind::Display)?.is_some() {
-        return Ok(Hidden::No);
-    }
-    let atom = effective(alloc, view, pos, Kind::Invisible)?;
+    let appearance = appearance_at(alloc, view, pos)?;
     let state = view.state;
     let settings = &state.settings;
-    Ok(hiding_of_value(&settings.invisible, atom))
+    Ok(appearance.hidden(&settings.invisible))
 }
