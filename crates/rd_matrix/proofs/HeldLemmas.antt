@@ -37,22 +37,24 @@ later-start from (suc k) (a ∷ bs) b h i =
     let some = h.1 in
     (omega (arith, low, start, some), rest.1)
 
-pub same-place : (from k j : ℕ) (bs : List Block) (a b : Block) → StandFrom from bs → slice_get bs k ≡ Some a → slice_get bs j ≡ Some b → a.start ≡ b.start → k ≡ j
-same-place from k j [] a b h i g s = absurd cc
-same-place from zero zero (c ∷ bs) a b h i g s = refl
-same-place from zero (suc j) (c ∷ bs) a b h i g s =
+same-holder : (from k j : ℕ) (bs : List Block) (a b : Block) → StandFrom from bs → slice_get bs k ≡ Some a → slice_get bs j ≡ Some b → a.start ≤ b.start → b.start < a.end → k ≡ j
+same-holder from k j [] a b h i g low high = absurd cc
+same-holder from zero zero (c ∷ bs) a b h i g low high = refl
+same-holder from zero (suc j) (c ∷ bs) a b h i g low high =
     let same : c ≡ a = cc in
-    let start = ap (λ (x : Block). x.start) same in
-    let some = h.1 in
+    let end = ap (λ (x : Block). x.end) same in
     let later = (later-start c.end j bs b h.2 g).0 in
-    absurd (omega (arith, start, some, later, s))
-same-place from (suc k) zero (c ∷ bs) a b h i g s =
+    absurd (omega (arith, end, later, high))
+same-holder from (suc k) zero (c ∷ bs) a b h i g low high =
     let same : c ≡ b = cc in
     let start = ap (λ (x : Block). x.start) same in
     let some = h.1 in
     let later = (later-start c.end k bs a h.2 i).0 in
-    absurd (omega (arith, start, some, later, s))
-same-place from (suc k) (suc j) (c ∷ bs) a b h i g s = ap suc (same-place c.end k j bs a b h.2 i g s)
+    absurd (omega (arith, start, some, later, low))
+same-holder from (suc k) (suc j) (c ∷ bs) a b h i g low high = ap suc (same-holder c.end k j bs a b h.2 i g low high)
+
+pub same-place : (from k j : ℕ) (bs : List Block) (a b : Block) → StandFrom from bs → slice_get bs k ≡ Some a → slice_get bs j ≡ Some b → a.start ≡ b.start → k ≡ j
+same-place from k j bs a b h i g s = let some = (later-start from k bs a h i).1 in same-holder from k j bs a b h i g (omega (arith, s)) (omega (arith, s, some))
 
 -- where some end, from wherever they are followed
 pub end-any : (x y : ℕ) (bs : List Block) → 0 < length bs → end_from x bs ≡ end_from y bs
@@ -198,37 +200,6 @@ pub before-is : (bs : List Block) (k : ℕ) → 0 < k → block_before bs k ≡ 
 before-is bs zero h = absurd (omega arith)
 before-is bs (suc k) h = let e : suc k - 1 ≡ k = omega arith in rw e refl
 
--- the search for a block by its start
-
-abbrev pub NoneBefore : List HeldBlock → ℕ → ℕ → Type 0
-NoneBefore hs start n = (k : ℕ) (h : HeldBlock) → k < n → slice_get hs k ≡ Some h → h.block.start ≡ start → ⊥
-
-pub none-first : (hs : List HeldBlock) (start : ℕ) → NoneBefore hs start 0
-none-first hs start k h below there same = absurd (omega (arith, below))
-
-pub none-more : (hs : List HeldBlock) (start n : ℕ) (g : HeldBlock) → NoneBefore hs start n → slice_get hs n ≡ Some g → (g.block.start ≡ start → ⊥) → NoneBefore hs start (n + 1)
-none-more hs start n g none at differs k h below there same =
-    elim (cases_lt k n) as (λ _. ⊥) [
-      | inl less ↦ none k h less there same
-      | inr last ↦
-          let e : k ≡ n = omega (arith, last, below) in
-          let both : Some g ≡ Some h = sym at ∙ (ap (slice_get hs) (sym e) ∙ there) in
-          let here : g ≡ h = cc in
-          differs (ap (λ (x : HeldBlock). x.block.start) here ∙ same)
-    ]
-
-pub none-left : (hs : List HeldBlock) (n : ℕ) (b : Block) → NoneBefore hs b.start n → length hs ≤ n → IsAmong (blocks_held hs) b → ⊥
-none-left hs n b none all among =
-    let found = held-at hs among.0 b among.1 in
-    let below = slice_get_within hs among.0 found.held found.there in
-    none among.0 found.held (omega (arith, below, all)) found.there (ap (λ (x : Block). x.start) found.block)
-
-pub place-found : (hs : List HeldBlock) (n : ℕ) (g : HeldBlock) (b : Block) → AreHeld hs → IsAmong (blocks_held hs) b → slice_get hs n ≡ Some g → g.block.start ≡ b.start → slice_get (blocks_held hs) n ≡ Some b
-place-found hs n g b held among there same =
-    let at : slice_get (blocks_held hs) n ≡ Some g.block = slice_get-map (λ (x : HeldBlock). x.block) hs n ∙ ap (option_map (λ (x : HeldBlock). x.block)) there in
-    let e = same-place (first_start (blocks_held hs)) n among.0 (blocks_held hs) g.block b held.stand at among.1 same in
-    ap (slice_get (blocks_held hs)) e ∙ among.1
-
 -- the search for a position
 
 abbrev pub Passed : List HeldBlock → ℕ → ℕ → Type 0
@@ -252,9 +223,12 @@ start-before from pos zero (g ∷ hs) h stand low passed there = let same : g �
 start-before from pos (suc k) (g ∷ hs) h stand low passed there =
     start-before g.block.end pos k hs h stand.2 (passed zero g (omega arith) refl) (λ j x below at. passed (suc j) x (omega (arith, below)) at) there
 
+pub block-there : (hs : List HeldBlock) (n : ℕ) (h : HeldBlock) → slice_get hs n ≡ Some h → slice_get (blocks_held hs) n ≡ Some h.block
+block-there hs n h there = slice_get-map (λ (x : HeldBlock). x.block) hs n ∙ ap (option_map (λ (x : HeldBlock). x.block)) there
+
 pub holds-found : (hs : List HeldBlock) (pos n : ℕ) (h : HeldBlock) → AreHeld hs → IsWithin pos (blocks_held hs) → Passed hs pos n → slice_get hs n ≡ Some h → pos < h.block.end → HoldsPosition pos (blocks_held hs) h.block
 holds-found hs pos n h held within passed there below = record {
-  among = (n, slice_get-map (λ (x : HeldBlock). x.block) hs n ∙ ap (option_map (λ (x : HeldBlock). x.block)) there);
+  among = (n, block-there hs n h there);
   from = start-before (first_start (blocks_held hs)) pos n hs h held.stand within.0 passed there;
   below = below;
 }
@@ -269,6 +243,31 @@ passed-all hs pos n passed all within =
     let high = within.1 in
     absurd (omega (arith, end, high))
 
+-- a block is found by its start
+
+end-least : (from : ℕ) (bs : List Block) → StandFrom from bs → from ≤ end_from from bs
+end-least from [] h = omega arith
+end-least from (b ∷ bs) h = let start = h.0 in let some = h.1 in let rest = end-least b.end bs h.2 in omega (arith, start, some, rest)
+
+end-behind : (from k : ℕ) (bs : List Block) (b : Block) → StandFrom from bs → slice_get bs k ≡ Some b → b.end ≤ end_from from bs
+end-behind from k [] b h i = absurd cc
+end-behind from zero (a ∷ bs) b h i = let same : a ≡ b = cc in subst (λ (x : Block). x.end ≤ end_from a.end bs) same (end-least a.end bs h.2)
+end-behind from (suc k) (a ∷ bs) b h i = end-behind a.end k bs b h.2 i
+
+pub start-within : (hs : List HeldBlock) (b : Block) → AreHeld hs → IsAmong (blocks_held hs) b → IsWithin b.start (blocks_held hs)
+start-within [] b held among = absurd cc
+start-within (h ∷ hs) b held among =
+    let bs = blocks_held (h ∷ hs) in
+    let stands = later-start (first_start bs) among.0 bs b held.stand among.1 in
+    let low = stands.0 in
+    let some = stands.1 in
+    let end = end-behind (first_start bs) among.0 bs b held.stand among.1 in
+    (low, omega (arith, some, end))
+
+pub place-found : (hs : List HeldBlock) (n : ℕ) (g b : Block) → AreHeld hs → IsAmong (blocks_held hs) b → slice_get (blocks_held hs) n ≡ Some g → HoldsPosition b.start (blocks_held hs) g → slice_get (blocks_held hs) n ≡ Some b
+place-found hs n g b held among there holds =
+    ap (slice_get (blocks_held hs)) (same-holder (first_start (blocks_held hs)) n among.0 (blocks_held hs) g b held.stand there among.1 holds.from holds.below) ∙ among.1
+
 -- where there is a block
 
 pub among-some : (hs : List HeldBlock) (b : Block) → IsAmong (blocks_held hs) b → 0 < length hs
@@ -280,8 +279,7 @@ within-some (h ∷ hs) pos within = omega arith
 
 pub rows-at : (b : Block) (shape : ShapeValues) (hs : List HeldBlock) (n : ℕ) (h : HeldBlock) → AreHeld hs → slice_get (blocks_held hs) n ≡ Some b → slice_get hs n ≡ Some h → laid_from shape b.start hs ≡ laid_at shape h
 rows-at b shape hs n h held block there =
-    let at : slice_get (blocks_held hs) n ≡ Some h.block = slice_get-map (λ (x : HeldBlock). x.block) hs n ∙ ap (option_map (λ (x : HeldBlock). x.block)) there in
-    let both : Some b ≡ Some h.block = sym block ∙ at in
+    let both : Some b ≡ Some h.block = sym block ∙ block-there hs n h there in
     let same : b ≡ h.block = cc in
     ap (λ (x : Block). laid_from shape x.start hs) same ∙ laid-there (first_start (blocks_held hs)) n hs h shape held.stand there
 

@@ -77,6 +77,24 @@ impl MemBlocks {
         let _held = self.held.len();
     }
 
+    /// The block that holds a position, and its place.
+    fn find(&self, pos: Pos) -> (usize, Block)
+        requires { IsWithin pos (blocks_held self.now) }
+        ensures there { slice_get (blocks_held self.now) result.0 ≡ Some result.1 }
+        ensures holds { HoldsPosition pos (blocks_held self.now) result.1 }
+        ensures within { result.0 < length self.now }
+        ensures small { result.0 + 1 < 2 ^ 64 }
+        ensures held { AreHeld self.now }
+    {
+        for place in 0..self.held.len() {
+            let block = self.held[place].block;
+            if pos < block.end {
+                return (place, block);
+            }
+        }
+        unreachable!()
+    }
+
     /// The place of one of its blocks.
     fn place_of(&self, block: &Block) -> usize
         requires { IsAmong (blocks_held self.now) block.now }
@@ -85,12 +103,8 @@ impl MemBlocks {
         ensures small { result + 1 < 2 ^ 64 }
         ensures held { AreHeld self.now }
     {
-        for place in 0..self.held.len() {
-            if self.held[place].block.start == block.start {
-                return place;
-            }
-        }
-        unreachable!()
+        let _held = &self.held;
+        self.find(block.start).0
     }
 
     /// The block behind one of its blocks.
@@ -112,20 +126,6 @@ impl MemBlocks {
             return None;
         }
         self.block_at(place - 1)
-    }
-
-    /// The block that holds a position.
-    fn holding(&self, pos: Pos) -> Block
-        requires { IsWithin pos (blocks_held self.now) }
-        ensures { HoldsPosition pos (blocks_held self.now) result }
-    {
-        for place in 0..self.held.len() {
-            let block = self.held[place].block;
-            if pos < block.end {
-                return block;
-            }
-        }
-        unreachable!()
     }
 
     /// The block at a place, and None exactly behind the last.
@@ -181,7 +181,7 @@ impl BlockSource for MemBlocks {
 
     fn block_of(&mut self, _alloc: Global, pos: Pos) -> Result<Block, Memory> {
         self.rules();
-        Ok(self.holding(pos))
+        Ok(self.find(pos).1)
     }
 
     fn next(&mut self, _alloc: Global, block: &Block) -> Result<Option<Block>, Memory> {

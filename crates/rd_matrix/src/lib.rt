@@ -14,5 +14,5 @@ mod source;
 
 pub use block::Block;
 pub use held::{HeldBlock, MemBlocks};
-pub use matrix::{Entry, Matrix, shown_column};
+pub use matrix::{Entry, Matrix, covers, shown_column};
 pub use source::BlockSource;

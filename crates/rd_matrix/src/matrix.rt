@@ -128,8 +128,8 @@ fn column_in(begins: &[Begin], start: Pos, point: Pos) -> Option<u32>
         .map(|begin| begin.column)
 }
 
-/// Whether an item of a block covers a position.
-fn covers(begin: &Begin, start: Pos, point: Pos) -> bool
+/// Whether an item of a block that starts at `start` covers a position.
+pub fn covers(begin: &Begin, start: Pos, point: Pos) -> bool
     ensures { result ≡ covers start point begin.now }
 {
     let place = point as u64;
