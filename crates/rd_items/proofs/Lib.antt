@@ -1,5 +1,6 @@
 mod Alike
 mod Chains
+pub mod EachItem
 pub mod Ended
 mod Growing
 mod Listing

@@ -1,13 +1,12 @@
 -- The list of the blocks of a text.
 use Rattle.std.proofs.Common.{◌≡◌, ◌⊎◌, inl, inr, ℕ, ◌+◌, ◌-◌, ◌<◌, ◌≤◌, Bool, true, false, List, [], ◌∷◌, Some, None, refl, sym, ap, subst, ◌∙◌, arith}
-use Rattle.std.specs.Prelude.{zero, suc, nat_lt, slice_get, if◌then◌else◌}
+use Rattle.std.specs.Prelude.{zero, suc, slice_get, if◌then◌else◌}
 use Rattle.std.proofs.lemmas.Bool.{both_ways}
-use Rattle.std.proofs.lemmas.Bool.Decides.{nat_tests}
 use Rattle.std.proofs.lemmas.Option.{same_Some}
 use Rattle.rd_props.specs.Buffers.{BufferValue}
 use Rattle.rd_items.specs.Readings.{ends_block}
 use Rattle.rd_items.specs.Blocks.{blocks_from, blocks_of, Adjoin, is_shown_newline, StartsBlock, EndsBlock, IsBlock}
-use Rattle.rd_items.proofs.Newlines.{AreInside, both-inside, one-inside}
+use Rattle.rd_items.proofs.Newlines.{newline-ends, AreInside, both-inside, one-inside}
 
 -- ---- lists of blocks that adjoin
 
@@ -98,15 +97,10 @@ record IsOpen (s : BufferValue) (start p n : ℕ) : Type 0 where
   begins : StartsBlock s start
   inside : AreInside s start p
 
-shown-here : (s : BufferValue) (p : ℕ) → p < s.text.end → is_shown_newline s p ≡ ends_block s p
-shown-here s p less =
-    let inside : nat_lt p s.text.end ≡ true = grind (arith, nat_tests) in
-    rw inside
-
 shown-behind : (s : BufferValue) (p : ℕ) → p < s.text.end → ends_block s p ≡ true → is_shown_newline s (suc p - 1) ≡ true
 shown-behind s p less ends =
     let place : suc p - 1 ≡ p = omega arith in
-    ap (is_shown_newline s) place ∙ shown-here s p less ∙ ends
+    ap (is_shown_newline s) place ∙ newline-ends s p less ∙ ends
 
 block-here : (s : BufferValue) (start p n : ℕ) → IsOpen s start p n → EndsBlock s (suc p) → IsBlock s start (suc p)
 block-here s start p n is ends = record {
@@ -139,7 +133,7 @@ open-more s start p n is none = record {
   order = omega (arith, is.order);
   far = omega (arith, is.far);
   begins = is.begins;
-  inside = both-inside s start p (suc p) is.inside (one-inside s p (shown-here s p (omega (arith, is.far)) ∙ none));
+  inside = both-inside s start p (suc p) is.inside (one-inside s p (newline-ends s p (omega (arith, is.far)) ∙ none));
 }
 
 -- what holds of each block of a list

@@ -1,7 +1,8 @@
 -- The glyphs of items have the columns that Unicode gives them.
-use Rattle.std.proofs.Common.{◌≡◌, ℕ, ◌+◌, Bool, true, false, List, [], ◌∷◌, ◌++◌, Option, Some, None, All, IfSome, IsTrue, refl, subst}
-use Rattle.std.specs.Prelude.{zero, suc, if◌then◌else◌}
-use Rattle.std.proofs.lemmas.List.Elements.{All-cons, All-nil, All-head, All-tail, All-append}
+use Rattle.std.proofs.Common.{ℕ, Bool, true, false, List, [], ◌∷◌, Option, Some, None, IfSome, IsTrue, subst}
+use Rattle.std.specs.Prelude.{if◌then◌else◌}
+use Rattle.std.specs.List.{AllByRecursion}
+use Rattle.std.proofs.lemmas.List.Elements.{All-from_recursion, recursion_from_All}
 use Rattle.rd_base.specs.Chars.{is_code}
 use Rattle.rd_base.specs.Faces.{Attributes}
 use Rattle.rd_base.specs.Glyphs.{IsMeasured}
@@ -10,18 +11,17 @@ use Rattle.rd_text.specs.Texts.{is_newline}
 use Rattle.rd_objects.specs.declared.run.Spec.{Spec}
 use Rattle.rd_objects.specs.declared.run.Spec.TheVariants.{Text, Width, Align}
 use Rattle.rd_glyphs.specs.MarkRoles.{mark_role_of, IsMark}
-use Rattle.rd_glyphs.specs.Marks.{marks_joined}
-use Rattle.rd_glyphs.proofs.Joined.{Grows, marks_joined-each}
+use Rattle.rd_glyphs.proofs.Joined.{Grows}
 use Rattle.rd_glyphs.proofs.Measures.{MarkLaws}
 use Rattle.rd_props.specs.Seen.{Seen}
 use Rattle.rd_props.specs.declared.hiding.Hidden.{Hidden}
 use Rattle.rd_props.specs.declared.hiding.Hidden.TheVariants.{No, Plain, Ellipsis}
 use Rattle.rd_items.specs.declared.piece.Piece.{Piece}
 use Rattle.rd_items.specs.declared.item.Item.{Item}
-use Rattle.rd_items.specs.declared.item.ItemKind.{ItemKind}
 use Rattle.rd_items.specs.Readings.{showing_of, HaveCodes}
-use Rattle.rd_items.specs.Pieces.{Scene, string_pieces, string_piece, spec_in, spec_piece, open_piece, char_piece, ender_piece, piece_by, piece_at, run_in, pieces_from, IsMeasuredKind}
-use Rattle.rd_items.specs.Items.{piece_joins, items_by, item_of, covered_to, covering, items_of, AreMeasuredItems}
+use Rattle.rd_items.specs.Pieces.{Scene, string_pieces, string_piece, spec_in, spec_piece, open_piece, char_piece, ender_piece, piece_by, IsMeasuredKind}
+use Rattle.rd_items.specs.Items.{piece_joins, items_of, AreMeasuredItems}
+use Rattle.rd_items.proofs.EachItem.{items-each}
 
 -- the glyphs of a piece are measured, and its mark is one
 record IsMeasuredPiece (x : Piece) : Type 0 where
@@ -29,17 +29,17 @@ record IsMeasuredPiece (x : Piece) : Type 0 where
   base : IfSome x.base (λ g. IsMeasured g)
   mark : IfSome x.mark (λ code. IsMark code)
 
-abbrev AreMeasuredPieces : List Piece → Type 0
-AreMeasuredPieces xs = All IsMeasuredPiece xs
+abbrev HasCode : Seen → Type 0
+HasCode e = IfSome e.character (λ c. IsTrue (is_code c))
 
 -- ---- the pieces of what is read
 
 of-string : (p : ℕ) (face : Attributes) (n : ℕ) → IsMeasuredPiece (string_piece p face n)
 of-string p face n = record { kind = tt; base = tt; mark = tt }
 
-of-strings : (p : ℕ) (face : Attributes) (numbers : List ℕ) → AreMeasuredPieces (string_pieces p face numbers)
-of-strings p face [] = All-nil IsMeasuredPiece
-of-strings p face (n ∷ ns) = All-cons IsMeasuredPiece (string_piece p face n) (string_pieces p face ns) (of-string p face n) (of-strings p face ns)
+of-strings : (p : ℕ) (face : Attributes) (numbers : List ℕ) → AllByRecursion IsMeasuredPiece (string_pieces p face numbers)
+of-strings p face [] = tt
+of-strings p face (n ∷ ns) = (of-string p face n, of-strings p face ns)
 
 of-spec : (s : Scene) (spec : Spec) (face : Attributes) (p to : ℕ) → IsMeasuredPiece (spec_piece s spec face p to)
 of-spec s (Text n) face p to = record { kind = tt; base = tt; mark = tt }
@@ -67,17 +67,6 @@ of-position laws s None No face ch p to code = of-open laws s face ch p code
 of-position laws s None Plain face ch p to code = record { kind = tt; base = tt; mark = tt }
 of-position laws s None Ellipsis face ch p to code = record { kind = tt; base = tt; mark = tt }
 
-of-reading : (laws : MarkLaws) → (s : Scene) (due p : ℕ) (es : List Seen) → HaveCodes es → AreMeasuredPieces (pieces_from s due p es)
-of-reading laws s due p [] codes = All-nil IsMeasuredPiece
-of-reading laws s (suc due) p (e ∷ es) codes = of-reading laws s due (suc p) es (All-tail (λ (f : Seen). IfSome f.character (λ c. IsTrue (is_code c))) e es codes)
-of-reading laws s zero p (e ∷ es) codes =
-    let showing = showing_of s.parts.settings.invisible e in
-    let x = piece_at s showing e.character p (suc p + run_in s e es) in
-    let rest = of-reading laws s (run_in s e es) (suc p) es (All-tail (λ (f : Seen). IfSome f.character (λ c. IsTrue (is_code c))) e es codes) in
-    let own = of-position laws s showing.display showing.hidden e.face e.character p (suc p + run_in s e es) (All-head (λ (f : Seen). IfSome f.character (λ c. IsTrue (is_code c))) e es codes) in
-    All-append IsMeasuredPiece (string_pieces p e.face e.strings) (x ∷ pieces_from s (run_in s e es) (suc p) es) (of-strings p e.face e.strings)
-    (All-cons IsMeasuredPiece x (pieces_from s (run_in s e es) (suc p) es) own rest)
-
 -- ---- marks that join
 
 grows : MarkLaws → Grows piece_joins IsMeasuredPiece
@@ -87,17 +76,10 @@ grows laws held next glyph h n e =
 
 -- ---- the items
 
-item-by : (since : ℕ) (x : Piece) (items : List Item) → IsMeasuredPiece x → AreMeasuredItems items → (kind : Option ItemKind) → x.kind ≡ kind → AreMeasuredItems (items_by x.kind since x ++ items)
-item-by since x items measured rest None e = rw e rest
-item-by since x items measured rest (Some k) e =
-    let own : IsMeasuredKind k = subst (λ (m : Option ItemKind). IfSome m IsMeasuredKind) e measured.kind in
-    rw e (All-cons (λ (i : Item). IsMeasuredKind i.kind) (item_of since x k) items own rest)
-
-items : (since : ℕ) (xs : List Piece) → AreMeasuredPieces xs → AreMeasuredItems (covering since xs)
-items since [] all = All-nil (λ (i : Item). IsMeasuredKind i.kind)
-items since (x ∷ xs) all =
-    item-by since x (covering (covered_to since x) xs) (All-head IsMeasuredPiece x xs all) (items (covered_to since x) xs (All-tail IsMeasuredPiece x xs all)) x.kind refl
-
 -- of what has codes
 pub reading-measured : (laws : MarkLaws) → (s : Scene) (es : List Seen) → HaveCodes es → AreMeasuredItems (items_of s es)
-reading-measured laws s es codes = items 0 (marks_joined piece_joins (pieces_from s 0 0 es)) (marks_joined-each piece_joins IsMeasuredPiece (grows laws) (pieces_from s 0 0 es) (of-reading laws s 0 0 es codes))
+reading-measured laws s es codes =
+    All-from_recursion (λ (i : Item). IsMeasuredKind i.kind) (items_of s es)
+    (items-each s IsMeasuredPiece (λ (i : Item). IsMeasuredKind i.kind) HasCode (λ k e code. of-strings k e.face e.strings)
+    (λ k to e code. let showing = showing_of s.parts.settings.invisible e in of-position laws s showing.display showing.hidden showing.face e.character k to code)
+    (grows laws) (λ since x measured. measured.kind) es (recursion_from_All HasCode es codes))

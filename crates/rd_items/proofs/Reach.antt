@@ -1,6 +1,6 @@
 -- How far the reading of a block goes.
 use Rattle.std.proofs.Common.{◌≡◌, ◌⊎◌, inl, inr, ℕ, ◌+◌, ◌-◌, ◌<◌, ◌≤◌, Bool, true, false, List, [], ◌∷◌, length, None, refl, sym, ap, ◌∙◌, arith}
-use Rattle.std.specs.Prelude.{zero, suc, nat_lt}
+use Rattle.std.specs.Prelude.{zero, suc}
 use Rattle.std.proofs.lemmas.Bool.{and_from, cond-true, cond-false}
 use Rattle.std.proofs.lemmas.Bool.Decides.{nat_tests}
 use Rattle.rd_props.specs.Buffers.{BufferValue}
@@ -9,13 +9,8 @@ use Rattle.rd_objects.specs.Things.{ObjectLists}
 use Rattle.rd_props.specs.Seen.{Seen, seen_at, accessible_char}
 use Rattle.rd_items.specs.Readings.{showing_at, is_open, ends_line, is_ender, ends_block, reading_from, reading, IsReading}
 use Rattle.rd_items.specs.Blocks.{is_shown_newline, IsBlock}
+use Rattle.rd_items.proofs.Newlines.{newline-ends}
 use Rattle.rd_items.proofs.Runs.{end-open}
-
--- before the end a shown newline is an ender
-newline-ends : (s : BufferValue) (p : ℕ) → p < s.text.end → is_shown_newline s p ≡ ends_block s p
-newline-ends s p before =
-    let inside : nat_lt p s.text.end ≡ true = grind (arith, nat_tests) in
-    rw inside
 
 read-one : (s : BufferValue) (o : ObjectLists) (n p : ℕ) → ends_block s p ≡ true → length (reading_from s o (suc n) p) ≡ 1
 read-one s o n p ender = ap (λ (es : List Seen). suc (length es)) (cond-true (ends_block s p) [] (reading_from s o n (suc p)) ender)

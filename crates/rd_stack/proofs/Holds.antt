@@ -23,7 +23,7 @@ use Rattle.rd_items.specs.declared.item.ItemKind.{ItemKind}
 use Rattle.rd_items.specs.declared.item.ItemKind.TheVariants as kind
 use Rattle.rd_items.specs.declared.piece.Piece.{Piece}
 use Rattle.rd_stack.specs.Limits.{strings_in}
-use Rattle.rd_stack.proofs.EachItem.{items-each}
+use Rattle.rd_items.proofs.EachItem.{items-each}
 use Rattle.rd_stack.proofs.Joined.{marks_joined-few}
 
 -- what holds of whatever a position can give, where its character is one of these
@@ -66,14 +66,10 @@ module _ (R : Class → ItemKind → Type 0) (C : ℕ → Type 0) (s : Scene) (g
   grows : Grows piece_joins Holds
   grows held next glyph these those e = gives.marked held.class glyph
 
-  by-holds : (since : ℕ) (x : Piece) (k : Option ItemKind) → IfSome k (R x.class) → AllByRecursion (λ (i : Item). R i.class i.kind) (items_by k since x)
-  by-holds since x None holds = tt
-  by-holds since x (Some k) holds = (holds, tt)
-
   pub items-hold : (es : List Seen) → AllByRecursion (λ (e : Seen). IfSome e.character C) es → AllByRecursion (λ (i : Item). R i.class i.kind) (items_of s es)
   items-hold = items-each s Holds (λ (i : Item). R i.class i.kind) (λ (e : Seen). IfSome e.character C) (λ k e code. strings-hold k e.face e.strings)
       (λ k to e code. let showing = showing_of s.parts.settings.invisible e in piece-holds showing.display showing.hidden showing.face e.character k to code)
-      grows (λ since x holds. by-holds since x x.kind holds)
+      grows (λ since x holds. holds)
 
 -- whatever is read
 pub all-read : (es : List Seen) → AllByRecursion (λ (e : Seen). IfSome e.character (λ c. Unit {0})) es

@@ -4,7 +4,7 @@ use Rattle.std.specs.Prelude.{not, ◌&&◌, map, slice_get, Some}
 use Rattle.std.specs.List.{flat_map, AllByRecursion}
 use Rattle.std.proofs.lemmas.Grind.{flat_map-append}
 use Rattle.std.proofs.lemmas.List.{map-append, length-map}
-use Rattle.std.proofs.lemmas.List.Elements.{All-nil, All-append}
+use Rattle.std.proofs.lemmas.List.Elements.{recursion_from_All}
 use Rattle.rd_base.specs.Faces.{Attributes}
 use Rattle.rd_base.specs.Elements.{is_line_end, ends_once}
 use Rattle.rd_base.specs.declared.class.Class.{Class}
@@ -22,26 +22,17 @@ use Rattle.rd_items.proofs.Ended.{ended}
 use Rattle.rd_items.specs.declared.item.Item.{Item}
 use Rattle.rd_items.specs.declared.item.ItemKind.{ItemKind}
 use Rattle.rd_items.specs.declared.item.ItemKind.TheVariants as item
-use Rattle.rd_stack.specs.Shown.{AreOpen}
-use Rattle.rd_stack.specs.Lines.{ellipsis_glyphs, item_elements_by, turn_elements, origin_of, item_elements, item_class, item_code, item_turns, line_of_items}
-use Rattle.rd_stack.proofs.Ends.{open-one, glyphs-open, character-open, space-open, text-open}
+use Rattle.rd_stack.specs.Lines.{item_elements_by, turn_elements, origin_of, item_elements, item_class, item_code, item_turns, line_of_items}
+use Rattle.rd_stack.proofs.Ends.{IsOpen, item-open}
+use Rattle.rd_stack.proofs.Lists.{each-flat}
 
 -- elements of which none ends the line, and one that does
-ends-append : (es : List Element) (e : Element) → AreOpen es → is_line_end e.look ≡ true → ends_once (es ++ e ∷ []) ≡ true
+ends-append : (es : List Element) (e : Element) → AllByRecursion IsOpen es → is_line_end e.look ≡ true → ends_once (es ++ e ∷ []) ≡ true
 ends-append [] e each is = is
-ends-append (x ∷ []) e each is = ap₂ (λ a b. not a && b) (each 0 x (omega arith)) is
-ends-append (x ∷ y ∷ ys) e each is =
-    ap₂ (λ a b. not a && b) (each 0 x (omega arith)) (ends-append (y ∷ ys) e (λ k d inside. each (suc k) d (omega arith)) is)
+ends-append (x ∷ []) e each is = ap₂ (λ a b. not a && b) each.0 is
+ends-append (x ∷ y ∷ ys) e each is = ap₂ (λ a b. not a && b) each.0 (ends-append (y ∷ ys) e each.1 is)
 
 module _ (s : Scene) (base : ℕ) where
-  kind-open : (k : ItemKind) (overlay odd : Bool) (face : Attributes) (origin : Origin) → is_ender_kind k ≡ false → AreOpen (item_elements_by s base k overlay odd face origin)
-  kind-open (item.Char c) overlay odd face origin other = character-open s.parts c odd face origin
-  kind-open (item.Marked g) overlay odd face origin other = open-one (element_of face origin (look.Glyph g)) refl
-  kind-open (item.Text n) overlay odd face origin other = text-open s base overlay origin face (slice_get s.objects.strings n)
-  kind-open (item.Space spec) overlay odd face origin other = space-open spec face origin
-  kind-open item.Ellipsis overlay odd face origin other = glyphs-open face origin (ellipsis_glyphs s.parts.table)
-  kind-open item.Ender overlay odd face origin other = absurd (let q : true ≡ false = other in cc)
-
   kind-ends : (k : ItemKind) (overlay odd : Bool) (face : Attributes) (origin : Origin) → is_ender_kind k ≡ true → item_elements_by s base k overlay odd face origin ≡ element_of face origin look.LineEnd ∷ []
   kind-ends item.Ender overlay odd face origin is = refl
   kind-ends (item.Char c) overlay odd face origin is = absurd (let q : false ≡ true = is in cc)
@@ -50,9 +41,9 @@ module _ (s : Scene) (base : ℕ) where
   kind-ends (item.Space spec) overlay odd face origin is = absurd (let q : false ≡ true = is in cc)
   kind-ends item.Ellipsis overlay odd face origin is = absurd (let q : false ≡ true = is in cc)
 
-  open-at : (front : List Item) (last : Item) (turn : Turn) → AllByRecursion (λ (x : Item). is_ender_kind x.kind ≡ false) front → (i : ℕ) → i < length front → AreOpen (turn_elements s base turn (slice_get (front ++ last ∷ []) i))
+  open-at : (front : List Item) (last : Item) (turn : Turn) → AllByRecursion (λ (x : Item). is_ender_kind x.kind ≡ false) front → (i : ℕ) → i < length front → AllByRecursion IsOpen (turn_elements s base turn (slice_get (front ++ last ∷ []) i))
   open-at [] last turn each i inside = absurd (omega arith)
-  open-at (x ∷ xs) last turn each zero inside = kind-open x.kind x.overlay turn.odd x.face (origin_of turn.index x) each.0
+  open-at (x ∷ xs) last turn each zero inside = item-open s base x.kind x.overlay turn.odd x.face (origin_of turn.index x) each.0
   open-at (x ∷ xs) last turn each (suc i) inside = open-at xs last turn each.1 i (omega arith)
 
   end-at : (front : List Item) (last : Item) (turn : Turn) → turn_elements s base turn (slice_get (front ++ last ∷ []) (length front)) ≡ turn_elements s base turn (Some last)
@@ -60,13 +51,10 @@ module _ (s : Scene) (base : ℕ) where
   end-at (x ∷ xs) last turn = end-at xs last turn
 
   front-open : (front : List Item) (last : Item) (turns : List Turn) (n : ℕ) → n ≡ length front → AllByRecursion (λ (x : Item). is_ender_kind x.kind ≡ false) front → All (λ (t : Turn). t.index < n) turns
-      → AreOpen (flat_map (item_elements s base (front ++ last ∷ [])) turns)
-  front-open front last [] n size each low = All-nil (λ (e : Element). is_line_end e.look ≡ false)
-  front-open front last (t ∷ ts) n size each low =
-      let here : t.index < n = low 0 t (omega arith) in
-      All-append (λ (e : Element). is_line_end e.look ≡ false) (item_elements s base (front ++ last ∷ []) t) (flat_map (item_elements s base (front ++ last ∷ [])) ts)
-      (open-at front last t each t.index (omega arith))
-      (front-open front last ts n size each (λ k d inside. low (suc k) d (omega arith)))
+      → AllByRecursion IsOpen (flat_map (item_elements s base (front ++ last ∷ [])) turns)
+  front-open front last turns n size each low =
+      each-flat (item_elements s base (front ++ last ∷ [])) (λ (t : Turn). t.index < n) IsOpen
+      (λ t below. open-at front last t each t.index (omega (arith, size, below))) turns (recursion_from_All (λ (t : Turn). t.index < n) turns low)
 
   turned-ends : (front : List Item) (last : Item) (turns : List Turn) (n : ℕ) → n ≡ length front → is_ender_kind last.kind ≡ true → AllByRecursion (λ (x : Item). is_ender_kind x.kind ≡ false) front → ComesLast turns n
       → ends_once (flat_map (item_elements s base (front ++ last ∷ [])) turns) ≡ true

@@ -6,7 +6,6 @@ use Rattle.std.proofs.lemmas.List.{length-map}
 use Rattle.std.proofs.lemmas.List.FromFn.{length-range_with_len}
 use Rattle.std.proofs.lemmas.List.Elements.{recursion_from_All}
 use Rattle.std.proofs.lemmas.Bool.{cond_both}
-use Rattle.rd_base.proofs.Lists.{each-append}
 use Rattle.rd_base.specs.Chars.{is_code}
 use Rattle.rd_base.specs.Faces.{Attributes}
 use Rattle.rd_base.specs.Glyphs.{IsMeasured}
@@ -19,18 +18,19 @@ use Rattle.rd_objects.specs.declared.run.Spec.{Spec}
 use Rattle.rd_objects.specs.declared.run.Spec.TheVariants.{Width}
 use Rattle.rd_glyphs.specs.MarkRoles.{base_of, mark_of, IsMeasuredRole}
 use Rattle.rd_glyphs.specs.Marks.{marks_joined}
-use Rattle.rd_glyphs.proofs.Joined.{Grows, marks_joined-all}
+use Rattle.rd_glyphs.proofs.Joined.{Grows}
 use Rattle.rd_glyphs.proofs.Measures.{MarkLaws}
 use Rattle.rd_items.specs.Pieces.{Scene, spec_in, same_spec}
 use Rattle.rd_levels.specs.Turns.{turns_of}
 use Rattle.rd_levels.specs.declared.turn.Turn.{Turn}
-use Rattle.rd_stack.specs.Strings.{place_of, places_from, run_heads, ends_row, part_by, part_of, part_joins, shown_by, shown_at, part_class, part_code, in_order, row, row_end, rows_from, string_parts}
+use Rattle.rd_stack.specs.Strings.{place_of, places_from, run_heads, ends_row, part_by, part_of, part_joins, shown_by, shown_at, part_class, part_code, row, row_end, rows_from, string_parts}
 use Rattle.rd_stack.specs.declared.part.Place.{Place}
 use Rattle.rd_stack.specs.declared.part.Part.{Part}
 use Rattle.rd_stack.specs.declared.part.Shown.{Shown}
 use Rattle.rd_stack.specs.declared.part.PartKind.{PartKind}
 use Rattle.rd_stack.specs.declared.part.PartKind.TheVariants as kind
-use Rattle.rd_stack.proofs.Good.{found-by, found}
+use Rattle.rd_stack.proofs.EachPart.{string-each}
+use Rattle.rd_stack.proofs.Good.{found}
 use Rattle.rd_stack.proofs.Joined.{marks_joined-few}
 use Rattle.rd_stack.proofs.TurnCounts.{LevelsLaw, turns-count}
 
@@ -50,22 +50,7 @@ IsFitPart x = IsFitKind x.kind × IsMeasuredRole x.role
 abbrev IsFitPlace : Place → Type 0
 IsFitPlace p = IsTrue (is_code p.ch)
 
--- so many parts at most, each of which is fit
-pub record AreFit (most : ℕ) (xs : List Shown) : Type 0 where
-  pub each : AllByRecursion IsFitShown xs
-  pub few : length xs ≤ most
-
-fit-more : (few most : ℕ) (xs : List Shown) → few ≤ most → AreFit few xs → AreFit most xs
-fit-more few most xs less fit = let own = fit.few in record { each = fit.each; few = omega (arith, less, own) }
-
-fit-append : (m n : ℕ) (xs ys : List Shown) → AreFit m xs → AreFit n ys → AreFit (m + n) (xs ++ ys)
-fit-append m n xs ys these those =
-    let sum = length-append xs ys in
-    let first = these.few in
-    let second = those.few in
-    record { each = each-append IsFitShown xs ys these.each those.each; few = omega (arith, sum, first, second) }
-
--- ---- specs
+-- ---- what is found of sound objects
 
 small-or : (spec : Option Spec) → IfSome spec IsSmallSpec → IsSmallSpec (unwrap_or spec (Width 0))
 small-or None small = omega arith
@@ -74,7 +59,12 @@ small-or (Some spec) small = small
 pub spec-small : (o : ObjectLists) → AreObjects o → (number : ℕ) → IsSmallSpec (spec_in o number)
 spec-small o sound number = small-or (slice_get o.specs number) (found IsSmallSpec o.specs number sound.specs)
 
-module _ (laws : MarkLaws) (levels : LevelsLaw) (s : Scene) (base : ℕ) (sound : AreObjects s.objects) where
+pub string-at : (o : ObjectLists) → AreObjects o → (number : ℕ) → IfSome (slice_get o.strings number) (λ t. IsString t)
+string-at o sound number = found (λ (t : TextValue). IsString t) o.strings number sound.strings
+
+-- ---- what the parts are
+
+module _ (laws : MarkLaws) (s : Scene) (base : ℕ) (sound : AreObjects s.objects) where
   part-by-fit : (spec : Option Spec) (p : Place) → IfSome spec IsSmallSpec → IsFitPlace p → IsFitPart (part_by s spec p)
   part-by-fit (Some spec) p small code = (small, tt)
   part-by-fit None p small code = (code, laws.role s.parts p.ch code)
@@ -83,89 +73,74 @@ module _ (laws : MarkLaws) (levels : LevelsLaw) (s : Scene) (base : ℕ) (sound 
   named-small None = tt
   named-small (Some n) = spec-small s.objects sound n
 
-  part-fit : (p : Place) → IsFitPlace p → IsFitPart (part_of s p)
-  part-fit p code = part-by-fit (option_map (spec_in s.objects) p.spec) p (named-small p.spec) code
-
-  -- ---- a row
-
   grows : Grows part_joins IsFitPart
   grows held next glyph these those e =
       let joins = laws.joined (base_of held.role) (mark_of next.role) (laws.base held.role these.1) (laws.mark next.role those.1) in
       let measured : IsMeasured glyph = subst (λ (m : Option Glyph). IfSome m (λ (g : Glyph). IsMeasured g)) e joins in
       (measured, measured)
 
-  shown-fit : (odd : Bool) (x : Option Part) → IfSome x IsFitPart → AreFit 1 (shown_by odd x)
-  shown-fit odd None fit = record { each = tt; few = omega arith }
-  shown-fit odd (Some x) fit = record { each = (fit.0, tt); few = omega arith }
-
-  turned-fit : (xs : List Part) (turns : List Turn) → AllByRecursion IsFitPart xs → AreFit (length turns) (flat_map (shown_at xs) turns)
-  turned-fit xs [] all = record { each = tt; few = omega arith }
-  turned-fit xs (t ∷ ts) all =
-      let sum : 1 + length ts ≤ suc (length ts) = omega arith in
-      fit-more (1 + length ts) (suc (length ts)) (shown_at xs t ++ flat_map (shown_at xs) ts) sum
-      (fit-append 1 (length ts) (shown_at xs t) (flat_map (shown_at xs) ts) (shown-fit t.odd (slice_get xs t.index) (found-by IsFitPart xs t.index all)) (turned-fit xs ts all))
-
-  row-fit : (xs : List Part) → AllByRecursion IsFitPart xs → AreFit (length xs) (row s base xs)
-  row-fit xs all =
-      let ys = marks_joined part_joins xs in
-      let turns = turns_of s.brackets s.parts.settings.reorder base (map part_class ys) (map part_code ys) in
-      let count : length turns ≡ length ys = turns-count levels s.brackets s.parts.settings.reorder base (map part_class ys) (map part_code ys) ∙ length-map ys part_class in
-      let less = marks_joined-few part_joins xs in
-      fit-more (length turns) (length xs) (in_order s base ys) (omega (arith, count, less))
-      (turned-fit ys turns (marks_joined-all part_joins IsFitPart grows xs all))
-
-  -- ---- rows
-
-  rows-fit : (xs : List Part) (ps : List Place) → AllByRecursion IsFitPart xs → AllByRecursion IsFitPlace ps → AreFit (length xs + length ps) (rows_from s base xs ps)
-  rows-fit xs [] all codes = fit-more (length xs) (length xs + 0) (row s base xs) (omega arith) (row-fit xs all)
-  rows-fit xs (p ∷ ps) all codes =
-      let most = length xs + suc (length ps) in
-      let rest = rows-fit [] ps tt codes.1 in
-      let left = rest.few in
-      let next : List Shown = row_end p.face ∷ rows_from s base [] ps in
-      let end : AreFit (suc (length ps)) next = record { each = (tt, rest.each); few = omega (arith, left) } in
-      let longer = xs ++ part_of s p ∷ [] in
-      let size = length-append xs (part_of s p ∷ []) in
-      cond_both (ends_row p) (row s base xs ++ next) (rows_from s base longer ps) (AreFit most)
-      (λ ends. fit-append (length xs) (suc (length ps)) (row s base xs) next (row-fit xs all) end)
-      (λ goes. fit-more (length longer + length ps) most (rows_from s base longer ps) (omega (arith, size))
-      (rows-fit longer ps (each-append IsFitPart xs (part_of s p ∷ []) all (part-fit p codes.0, tt)) codes.1))
-
-  -- ---- places
-
   code-at : (chars : List ℕ) (i : ℕ) → AllByRecursion (λ c. IsTrue (is_code c)) chars → IsTrue (is_code (get_or chars i 0))
   code-at [] i all = refl
   code-at (c ∷ cs) zero all = all.0
   code-at (c ∷ cs) (suc i) all = code-at cs i all.1
 
-  places-fit : (replaced : Bool) (text : TextValue) (under : Attributes) (is : List ℕ) → AllByRecursion (λ c. IsTrue (is_code c)) text.chars → AllByRecursion IsFitPlace (map (place_of replaced text under) is)
-  places-fit replaced text under [] all = tt
-  places-fit replaced text under (i ∷ is) all = (code-at text.chars i all, places-fit replaced text under is all)
-
-  heads-each : (b : Bool) (p : Place) (ps : List Place) → IsFitPlace p → AllByRecursion IsFitPlace ps → AllByRecursion IsFitPlace ((if b then [] else p ∷ []) ++ ps)
-  heads-each true p ps code all = all
-  heads-each false p ps code all = (code, all)
-
-  heads-less : (b : Bool) (p : Place) (ps : List Place) (n : ℕ) → length ps ≤ n → length ((if b then [] else p ∷ []) ++ ps) ≤ suc n
-  heads-less true p ps n less = omega (arith, less)
-  heads-less false p ps n less = omega (arith, less)
-
-  heads-fit : (before : Option ℕ) (ps : List Place) → AllByRecursion IsFitPlace ps → AllByRecursion IsFitPlace (run_heads before ps)
-  heads-fit before [] all = tt
-  heads-fit before (p ∷ ps) all = heads-each (same_spec before p.spec) p (run_heads p.spec ps) all.0 (heads-fit p.spec ps all.1)
-
-  heads-few : (before : Option ℕ) (ps : List Place) → length (run_heads before ps) ≤ length ps
-  heads-few before [] = omega arith
-  heads-few before (p ∷ ps) = heads-less (same_spec before p.spec) p (run_heads p.spec ps) (length ps) (heads-few p.spec ps)
-
-  -- the parts of a sound string are fit, and no more than its characters
-  pub string-fit : (replaced : Bool) (text : TextValue) (under : Attributes) → IsString text → AreFit STRING_CHARACTERS (string_parts s base replaced text under)
+  -- the parts of a sound string are fit
+  pub string-fit : (replaced : Bool) (text : TextValue) (under : Attributes) → IsString text → AllByRecursion IsFitShown (string_parts s base replaced text under)
   string-fit replaced text under is =
+      string-each s base IsFitPlace IsFitPart IsFitShown (λ p code. part-by-fit (option_map (spec_in s.objects) p.spec) p (named-small p.spec) code) grows (λ odd x fit. fit.0) (λ p code. tt)
+      replaced text under (λ i. code-at text.chars i (recursion_from_All (λ c. IsTrue (is_code c)) text.chars is.chars))
+
+-- ---- how many there are
+
+heads-few : (before : Option ℕ) (ps : List Place) → length (run_heads before ps) ≤ length ps
+heads-few before [] = omega arith
+heads-few before (p ∷ ps) = by-spec (same_spec before p.spec) (heads-few p.spec ps) where
+  by-spec : (same : Bool) → length (run_heads p.spec ps) ≤ length ps → length ((if same then [] else p ∷ []) ++ run_heads p.spec ps) ≤ suc (length ps)
+  by-spec true less = omega (arith, less)
+  by-spec false less = omega (arith, less)
+
+shown-few : (odd : Bool) (x : Option Part) → length (shown_by odd x) ≤ 1
+shown-few odd None = omega arith
+shown-few odd (Some x) = omega arith
+
+turned-few : (xs : List Part) (turns : List Turn) → length (flat_map (shown_at xs) turns) ≤ length turns
+turned-few xs [] = omega arith
+turned-few xs (t ∷ ts) =
+    let sum = length-append (shown_at xs t) (flat_map (shown_at xs) ts) in
+    let one = shown-few t.odd (slice_get xs t.index) in
+    let rest = turned-few xs ts in
+    omega (arith, sum, one, rest)
+
+module _ (levels : LevelsLaw) (s : Scene) (base : ℕ) where
+  row-few : (xs : List Part) → length (row s base xs) ≤ length xs
+  row-few xs =
+      let ys = marks_joined part_joins xs in
+      let turns = turns_of s.brackets s.parts.settings.reorder base (map part_class ys) (map part_code ys) in
+      let count : length turns ≡ length ys = turns-count levels s.brackets s.parts.settings.reorder base (map part_class ys) (map part_code ys) ∙ length-map ys part_class in
+      let less = marks_joined-few part_joins xs in
+      let shown = turned-few ys turns in
+      omega (arith, count, less, shown)
+
+  rows-few : (xs : List Part) (ps : List Place) → length (rows_from s base xs ps) ≤ length xs + length ps
+  rows-few xs [] = let own = row-few xs in omega (arith, own)
+  rows-few xs (p ∷ ps) =
+      let next : List Shown = row_end p.face ∷ rows_from s base [] ps in
+      let longer = xs ++ part_of s p ∷ [] in
+      let sum = length-append (row s base xs) next in
+      let size = length-append xs (part_of s p ∷ []) in
+      let own = row-few xs in
+      let behind = rows-few [] ps in
+      let rest = rows-few longer ps in
+      cond_both (ends_row p) (row s base xs ++ next) (rows_from s base longer ps) (λ ys. length ys ≤ length xs + suc (length ps))
+      (λ ends. omega (arith, sum, own, behind)) (λ goes. omega (arith, size, rest))
+
+  -- the parts of a sound string are no more than its characters
+  pub string-few : (replaced : Bool) (text : TextValue) (under : Attributes) → IsString text → length (string_parts s base replaced text under) ≤ STRING_CHARACTERS
+  string-few replaced text under is =
       let size = length text.chars - 0 in
       let ps = places_from replaced text under 0 in
-      let codes = recursion_from_All (λ c. IsTrue (is_code c)) text.chars is.chars in
       let count : length ps ≡ size = length-map (range_with_len 0 size) (place_of replaced text under) ∙ length-range_with_len 0 size in
-      let less = heads-few None ps in
+      let heads = heads-few None ps in
+      let parts = rows-few [] (run_heads None ps) in
       let few = is.few in
-      fit-more (0 + length (run_heads None ps)) STRING_CHARACTERS (string_parts s base replaced text under) (omega (arith, count, less, few))
-      (rows-fit [] (run_heads None ps) tt (heads-fit None ps (places-fit replaced text under (range_with_len 0 size) codes)))
+      omega (arith, count, heads, parts, few)

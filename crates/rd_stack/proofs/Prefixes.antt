@@ -1,6 +1,7 @@
 -- The elements of a prefix.
-use Rattle.std.proofs.Common.{◌≡◌, ℕ, Bool, true, false, List, [], ◌∷◌, ◌++◌, Option, None, Some, arith, refl, sym, subst, ap, ◌∙◌, append_assoc, append-nil}
-use Rattle.std.proofs.lemmas.List.Elements.{All-cons}
+use Rattle.std.proofs.Common.{◌≡◌, ℕ, suc, Bool, true, false, List, [], ◌∷◌, ◌++◌, Option, None, Some, All, arith, refl, sym, subst, ap, ◌∙◌, append_assoc, append-nil}
+use Rattle.std.proofs.lemmas.Bool.{cond_both}
+use Rattle.std.proofs.lemmas.List.Elements.{All-nil, All-cons}
 use Rattle.std.specs.Prelude.{if◌then◌else◌, slice_get, unwrap_or, Ok}
 use Rattle.rd_base.specs.Elements.{Takes}
 use Rattle.rd_base.specs.declared.element.Element.{Element}
@@ -18,6 +19,13 @@ one-first e es false here rest = All-cons (λ (x : Element). is_row_end x.look �
 pub of-one-row : (es : List Element) → AreOfOneRow (before_row_end es)
 of-one-row [] = λ k d inside. absurd (omega arith)
 of-one-row (e ∷ es) = one-first e (before_row_end es) (is_row_end e.look) refl (of-one-row es)
+
+-- what holds of each element holds of each before the first end of a row
+pub before-each : (P : Element → Type 0) (es : List Element) → All P es → All P (before_row_end es)
+before-each P [] each = each
+before-each P (e ∷ es) each =
+    cond_both (is_row_end e.look) [] (e ∷ before_row_end es) (All P) (λ ends. All-nil P)
+    (λ goes. All-cons P e (before_row_end es) (each 0 e (omega arith)) (before-each P es (λ k d inside. each (suc k) d (omega arith))))
 
 -- ---- the row that is taken element by element
 

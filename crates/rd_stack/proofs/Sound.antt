@@ -1,7 +1,7 @@
 -- The elements of strings and of items of sound objects are sound and measured, and take few columns.
 use Rattle.std.proofs.Common.{◌≡◌, ℕ, ◌*◌, ◌≤◌, ◌^◌, ◌<◌, Bool, true, false, IsTrue, List, [], ◌∷◌, length, map, Option, None, Some, All, IfSome, refl, subst, ◌∙◌, arith}
 use Rattle.std.specs.Prelude.{slice_get, slice_index_or, replicate, if◌then◌else◌, unwrap_or}
-use Rattle.std.specs.List.{flat_map, AllByRecursion}
+use Rattle.std.specs.List.{flat_map}
 use Rattle.std.proofs.Math.Nat.{mul-le-mul_right}
 use Rattle.std.proofs.lemmas.List.{length-map}
 use Rattle.std.proofs.lemmas.List.Elements.{All-from_recursion, recursion_from_All}
@@ -40,10 +40,12 @@ use Rattle.rd_stack.specs.Limits.{AreFew, AreRightWithin, most_display_columns, 
 use Rattle.rd_stack.specs.declared.part.PartKind.{PartKind}
 use Rattle.rd_stack.specs.declared.part.PartKind.TheVariants as kind
 use Rattle.rd_stack.specs.declared.part.Shown.{Shown}
-use Rattle.rd_stack.proofs.Ends.{before-each}
+use Rattle.rd_stack.proofs.EachElement.{overlay-part}
 use Rattle.rd_stack.proofs.Good.{both-right, good-nil, good-one, good-more, good-each, found}
 use Rattle.rd_stack.proofs.Holds.{Gives, items-hold, all-read, items-few}
-use Rattle.rd_stack.proofs.Parts.{IsFitKind, IsFitShown, spec-small, string-fit}
+use Rattle.rd_stack.proofs.Parts.{IsFitKind, IsFitShown, spec-small, string-at, string-fit, string-few}
+use Rattle.rd_stack.proofs.Lists.{each-any}
+use Rattle.rd_stack.proofs.Prefixes.{before-each}
 use Rattle.rd_stack.proofs.TurnCounts.{LevelsLaw, turns-count}
 
 -- what is known of the elements of characters and of glyph characters
@@ -177,32 +179,24 @@ module _ (laws : GlyphLaws) (marks : MarkLaws) (levels : LevelsLaw) (s : Scene) 
       → AreRightWithin (STRING_CHARACTERS * most) (flat_map f (string_parts s base replaced text under))
   parts-good replaced f most each under text is =
       let xs = string_parts s base replaced text under in
-      let fit = string-fit marks levels s base sound replaced text under is in
-      good-more (length xs * most) (STRING_CHARACTERS * most) (flat_map f xs) (mul-le-mul_right most fit.few) (good-each f IsFitShown most each xs fit.each)
+      let fit = string-fit marks s base sound replaced text under is in
+      let few = string-few levels s base replaced text under is in
+      good-more (length xs * most) (STRING_CHARACTERS * most) (flat_map f xs) (mul-le-mul_right most few) (good-each f IsFitShown most each xs fit)
 
   display-good : (origin : Origin) (under : Attributes) (text : Option TextValue) → IfSome text (λ t. IsString t) → AreRightWithin most_display_columns (display_elements s base origin under text)
   display-good origin under None is = good-nil most_display_columns
   display-good origin under (Some text) is =
       parts-good false (display_part_elements s origin) SPACE_COLUMNS (λ x own. part-good x.kind x.face x.odd origin own) under text is
 
-  string-at : (n : ℕ) → IfSome (slice_get s.objects.strings n) (λ t. IsString t)
-  string-at n = found (λ (t : TextValue). IsString t) s.objects.strings n sound.strings
-
-  display-part : (k : PartKind) (face : Attributes) (odd : Bool) (origin : Origin) → IsFitKind k → AreRightWithin most_display_columns (kind_elements s k face odd origin)
-  display-part k face odd origin fit = good-more SPACE_COLUMNS most_display_columns (kind_elements s k face odd origin) (omega arith) (part-good k face odd origin fit)
-
-  overlay-part : (origin : Origin) (k : PartKind) (face : Attributes) (odd : Bool) → IsFitKind k → AreRightWithin most_display_columns (overlay_part_by s base origin k face odd)
-  overlay-part origin (kind.Replaced (Text n)) face odd fit = display-good origin face (slice_get s.objects.strings n) (string-at n)
-  overlay-part origin (kind.Replaced (Width n)) face odd fit = display-part (kind.Replaced (Width n)) face odd origin fit
-  overlay-part origin (kind.Replaced (Align n)) face odd fit = display-part (kind.Replaced (Align n)) face odd origin fit
-  overlay-part origin (kind.Char c) face odd fit = display-part (kind.Char c) face odd origin fit
-  overlay-part origin (kind.Marked g) face odd fit = display-part (kind.Marked g) face odd origin fit
-  overlay-part origin kind.RowEnd face odd fit = display-part kind.RowEnd face odd origin fit
+  overlay-part-good : (origin : Origin) (k : PartKind) (face : Attributes) (odd : Bool) → IsFitKind k → AreRightWithin most_display_columns (overlay_part_by s base origin k face odd)
+  overlay-part-good origin k face odd fit =
+      overlay-part (AreRightWithin most_display_columns) s base origin k face odd (λ n. display-good origin face (slice_get s.objects.strings n) (string-at s.objects sound n))
+      (good-more SPACE_COLUMNS most_display_columns (kind_elements s k face odd origin) (omega arith) (part-good k face odd origin fit))
 
   overlay-good : (origin : Origin) (under : Attributes) (text : Option TextValue) → IfSome text (λ t. IsString t) → AreRightWithin most_overlay_columns (overlay_elements s base origin under text)
   overlay-good origin under None is = good-nil most_overlay_columns
   overlay-good origin under (Some text) is =
-      parts-good true (overlay_part_elements s base origin) most_display_columns (λ x own. overlay-part origin x.kind x.face x.odd own) under text is
+      parts-good true (overlay_part_elements s base origin) most_display_columns (λ x own. overlay-part-good origin x.kind x.face x.odd own) under text is
 
   -- ---- items
 
@@ -210,10 +204,10 @@ module _ (laws : GlyphLaws) (marks : MarkLaws) (levels : LevelsLaw) (s : Scene) 
   in-line few es room good = good-more few most_overlay_columns es room good
 
   string-good : (overlay : Bool) (origin : Origin) (face : Attributes) (n : ℕ) → AreRightWithin most_overlay_columns (text_elements s base overlay origin face (slice_get s.objects.strings n))
-  string-good true origin face n = overlay-good origin face (slice_get s.objects.strings n) (string-at n)
+  string-good true origin face n = overlay-good origin face (slice_get s.objects.strings n) (string-at s.objects sound n)
   string-good false origin face n =
       let text = slice_get s.objects.strings n in
-      in-line most_display_columns (display_elements s base origin face text) (omega arith) (display-good origin face text (string-at n))
+      in-line most_display_columns (display_elements s base origin face text) (omega arith) (display-good origin face text (string-at s.objects sound n))
 
   kind-good : (k : ItemKind) (overlay odd : Bool) (face : Attributes) (origin : Origin) → IsFitItem k → AreRightWithin most_overlay_columns (item_elements_by s base k overlay odd face origin)
   kind-good (item.Char c) overlay odd face origin fit = in-line 48 (elements_of s.parts c odd face origin) (omega arith) (char-good laws s.parts parts c odd face origin fit)
@@ -235,13 +229,9 @@ module _ (laws : GlyphLaws) (marks : MarkLaws) (levels : LevelsLaw) (s : Scene) 
       let turns = item_turns s base items in
       let reorder = s.parts.settings.reorder in
       let count : length turns ≡ length items = turns-count levels s.brackets reorder base (map item_class items) (map item_code items) ∙ length-map items item_class in
-      let each : AllByRecursion (λ (t : Turn). Unit {0}) turns = any turns in
       good-more (length turns * most_overlay_columns) (length items * most_overlay_columns) (line_of_items s base items) (omega (arith, count))
       (good-each (item_elements s base items) (λ (t : Turn). Unit {0}) most_overlay_columns
-      (λ t own. turn-good t (slice_get items t.index) (found (λ (i : Item). IsFitItem i.kind) items t.index fit)) turns each) where
-        any : (ts : List Turn) → AllByRecursion (λ (t : Turn). Unit {0}) ts
-        any [] = tt
-        any (t ∷ ts) = (tt, any ts)
+      (λ t own. turn-good t (slice_get items t.index) (found (λ (i : Item). IsFitItem i.kind) items t.index fit)) turns (each-any turns))
 
   -- the line of what is read, where its items are measured and coded
   pub read-good : (es : List Seen) → AreMeasuredItems (items_of s es) → AreCodedItems (items_of s es) → AreRightWithin (length (items_of s es) * most_overlay_columns) (line_elements s base es)
@@ -260,4 +250,4 @@ module _ (laws : GlyphLaws) (marks : MarkLaws) (levels : LevelsLaw) (s : Scene) 
   pub prefix-good : (number : ℕ) → AreRightWithin most_display_columns (prefix s base number)
   prefix-good number =
       let text = slice_get s.objects.strings number in
-      before-good most_display_columns (display_elements s base outside plain text) (display-good outside plain text (string-at number))
+      before-good most_display_columns (display_elements s base outside plain text) (display-good outside plain text (string-at s.objects sound number))

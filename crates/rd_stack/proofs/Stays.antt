@@ -1,12 +1,9 @@
 -- Objects that are made later change no element of a line that names none of them.
-use Rattle.std.proofs.Common.{◌≡◌, ℕ, ◌-◌, ◌<◌, Bool, true, false, if◌then◌else◌, List, [], ◌∷◌, ◌++◌, length, Option, None, Some, All, IfSome, refl, ap, ◌∙◌}
-use Rattle.std.specs.Prelude.{map, slice_get, option_map, unwrap_or}
-use Rattle.std.specs.List.{flat_map, range_with_len}
-use Rattle.std.proofs.lemmas.Bool.{cond_both}
-use Rattle.std.proofs.lemmas.List.Elements.{All-nil, All-cons, All-append, All-head, All-tail}
+use Rattle.std.proofs.Common.{◌≡◌, ℕ, ◌<◌, Bool, true, false, if◌then◌else◌, List, [], ◌∷◌, ◌++◌, length, Option, None, Some, IfSome, refl, ap, ◌∙◌}
+use Rattle.std.specs.Prelude.{slice_get, option_map, unwrap_or}
+use Rattle.std.specs.List.{flat_map, AllByRecursion}
 use Rattle.rd_base.proofs.Choices.{if-value}
 use Rattle.rd_base.specs.Faces.{Attributes, plain}
-use Rattle.rd_base.proofs.Lists.{all-at, all-one}
 use Rattle.rd_base.specs.Settings.{SettingValues}
 use Rattle.rd_base.specs.declared.cell.Glyph.{Glyph}
 use Rattle.rd_base.specs.declared.element.Element.{Element}
@@ -19,41 +16,37 @@ use Rattle.rd_objects.specs.Texts.{TextValue, spec_of}
 use Rattle.rd_objects.specs.Things.{ObjectLists}
 use Rattle.rd_objects.proofs.Soundness.{same_strings, same_specs, named_specs, named_strings}
 use Rattle.rd_glyphs.specs.Characters.{entry_of, elements_by, elements_of}
-use Rattle.rd_glyphs.proofs.Joined.{Grows, marks_joined-each}
-use Rattle.rd_glyphs.specs.Marks.{marks_joined}
+use Rattle.rd_glyphs.proofs.Joined.{Grows}
 use Rattle.rd_props.specs.Seen.{Seen}
 use Rattle.rd_items.specs.Growing.{ShowsMade, ShowMade, GoesOnFrom}
 use Rattle.rd_items.specs.Items.{items_of}
-use Rattle.rd_items.specs.Pieces.{Scene, spec_in, same_spec}
+use Rattle.rd_items.specs.Pieces.{Scene, spec_in}
 use Rattle.rd_items.specs.declared.item.Item.{Item}
 use Rattle.rd_items.specs.declared.item.ItemKind.{ItemKind}
 use Rattle.rd_items.specs.declared.item.ItemKind.TheVariants as item
 use Rattle.rd_levels.specs.declared.turn.Turn.{Turn}
 use Rattle.rd_stack.specs.Lines.{text_elements, item_elements_by, turn_elements, item_elements, item_turns, line_of_items, line_elements, origin_of}
 use Rattle.rd_stack.specs.Shown.{kind_elements, display_part_elements, display_elements, overlay_part_by, overlay_part_elements, overlay_elements, before_row_end, outside, prefix}
-use Rattle.rd_stack.specs.Strings.{place_of, places_from, run_heads, ends_row, part_by, part_of, part_joins, shown_by, shown_at, row, row_end, rows_from, string_parts}
+use Rattle.rd_stack.specs.Strings.{places_from, run_heads, ends_row, part_by, part_of, part_joins, row, row_end, rows_from, string_parts}
 use Rattle.rd_stack.specs.declared.part.Part.{Part}
 use Rattle.rd_stack.specs.declared.part.PartKind.{PartKind}
 use Rattle.rd_stack.specs.declared.part.PartKind.TheVariants as kind
 use Rattle.rd_stack.specs.declared.part.Place.{Place}
 use Rattle.rd_stack.specs.declared.part.Shown.{Shown}
+use Rattle.rd_stack.proofs.EachPart.{places-each, string-each}
+use Rattle.rd_stack.proofs.Good.{found}
+use Rattle.rd_stack.proofs.Lists.{each-any}
 
--- ---- lists and options
-
-found-by : {X : Type 0} (P : X → Type 0) (xs : List X) (i : ℕ) (found : Option X) → All P xs → slice_get xs i ≡ found → IfSome found P
-found-by P xs i None all e = tt
-found-by P xs i (Some x) all e = all-at P xs i x all e
+-- ---- lists
 
 -- two functions that give the same of each element of which something holds
-flat-same : {X A : Type 0} (P : X → Type 0) (f g : X → List A) (xs : List X) → ((x : X) → P x → f x ≡ g x) → All P xs → flat_map f xs ≡ flat_map g xs
+flat-same : {X A : Type 0} (P : X → Type 0) (f g : X → List A) (xs : List X) → ((x : X) → P x → f x ≡ g x) → AllByRecursion P xs → flat_map f xs ≡ flat_map g xs
 flat-same P f g [] same all = refl
 flat-same {X} {A} P f g (x ∷ xs) same all =
-    ap (λ (ys : List A). ys ++ flat_map f xs) (same x (All-head P x xs all)) ∙ ap (λ (ys : List A). g x ++ ys) (flat-same P f g xs same (All-tail P x xs all))
+    ap (λ (ys : List A). ys ++ flat_map f xs) (same x all.0) ∙ ap (λ (ys : List A). g x ++ ys) (flat-same P f g xs same all.1)
 
 flat-each : {X A : Type 0} (f g : X → List A) (xs : List X) → ((x : X) → f x ≡ g x) → flat_map f xs ≡ flat_map g xs
-flat-each f g [] same = refl
-flat-each {X} {A} f g (x ∷ xs) same =
-    ap (λ (ys : List A). ys ++ flat_map f xs) (same x) ∙ ap (λ (ys : List A). g x ++ ys) (flat-each f g xs same)
+flat-each {X} f g xs same = flat-same (λ (x : X). Unit {0}) f g xs (λ x any. same x) (each-any xs)
 
 -- ---- what the parts of strings name
 
@@ -82,26 +75,9 @@ module _ (s : Scene) (closed : IsClosed s.objects) where
   grows : Grows part_joins IsFine
   grows held next glyph these those e = tt
 
-  shown-fine : (odd : Bool) (found : Option Part) → IfSome found IsFine → All IsFineShown (shown_by odd found)
-  shown-fine odd None fine = All-nil IsFineShown
-  shown-fine odd (Some x) fine = all-one IsFineShown (record { kind = x.kind; face = x.face; odd = odd }) fine
-
-  turns-fine : (xs : List Part) (turns : List Turn) → All IsFine xs → All IsFineShown (flat_map (shown_at xs) turns)
-  turns-fine xs [] all = All-nil IsFineShown
-  turns-fine xs (turn ∷ turns) all =
-      All-append IsFineShown (shown_at xs turn) (flat_map (shown_at xs) turns)
-      (shown-fine turn.odd (slice_get xs turn.index) (found-by IsFine xs turn.index (slice_get xs turn.index) all refl)) (turns-fine xs turns all)
-
-  row-fine : (base : ℕ) (xs : List Part) → All IsFine xs → All IsFineShown (row s base xs)
-  row-fine base xs all = turns-fine (marks_joined part_joins xs) _ (marks_joined-each part_joins IsFine grows xs all)
-
-  rows-fine : (base : ℕ) (xs : List Part) (ps : List Place) → All IsFine xs → All IsFineShown (rows_from s base xs ps)
-  rows-fine base xs [] all = row-fine base xs all
-  rows-fine base xs (p ∷ ps) all =
-      cond_both (ends_row p) (row s base xs ++ row_end p.face ∷ rows_from s base [] ps) (rows_from s base (xs ++ part_of s p ∷ []) ps) (All IsFineShown)
-      (λ ends. All-append IsFineShown (row s base xs) (row_end p.face ∷ rows_from s base [] ps) (row-fine base xs all)
-      (All-cons IsFineShown (row_end p.face) (rows_from s base [] ps) tt (rows-fine base [] ps (All-nil IsFine))))
-      (λ goes. rows-fine base (xs ++ part_of s p ∷ []) ps (All-append IsFine xs (part_of s p ∷ []) all (all-one IsFine (part_of s p) (by-fine p.spec p))))
+  string-fine : (base : ℕ) (replaced : Bool) (text : TextValue) (under : Attributes) → AllByRecursion IsFineShown (string_parts s base replaced text under)
+  string-fine base replaced text under =
+      string-each s base (λ (p : Place). Unit {0}) IsFine IsFineShown (λ p any. by-fine p.spec p) grows (λ odd x fine. fine) (λ p any. tt) replaced text under (λ i. tt)
 
 -- ---- what stays
 
@@ -158,16 +134,9 @@ module _ (old new : Scene) (goes : GoesOnFrom old new) (closed : IsClosed old.ob
   rows-by false base xs p ps made rest =
       ap (λ (x : Part). rows_from new base (xs ++ x ∷ []) ps) (same-part p made) ∙ rest (xs ++ part_of old p ∷ [])
 
-  same-rows : (base : ℕ) (xs : List Part) (ps : List Place) → All IsMade ps → rows_from new base xs ps ≡ rows_from old base xs ps
+  same-rows : (base : ℕ) (xs : List Part) (ps : List Place) → AllByRecursion IsMade ps → rows_from new base xs ps ≡ rows_from old base xs ps
   same-rows base xs [] made = same-row base xs
-  same-rows base xs (p ∷ ps) made = rows-by (ends_row p) base xs p ps (All-head IsMade p ps made) (λ ys. same-rows base ys ps (All-tail IsMade p ps made))
-
-  heads-made : (before : Option ℕ) (ps : List Place) → All IsMade ps → All IsMade (run_heads before ps)
-  heads-made before [] made = made
-  heads-made before (p ∷ ps) made =
-      All-append IsMade (if same_spec before p.spec then [] else p ∷ []) (run_heads p.spec ps)
-      (cond_both (same_spec before p.spec) [] (p ∷ []) (All IsMade) (λ goes. All-nil IsMade) (λ heads. all-one IsMade p (All-head IsMade p ps made)))
-      (heads-made p.spec ps (All-tail IsMade p ps made))
+  same-rows base xs (p ∷ ps) made = rows-by (ends_row p) base xs p ps made.0 (λ ys. same-rows base ys ps made.1)
 
   -- a string that was made
   module _ (number : ℕ) (text : TextValue) (found : slice_get old.objects.strings number ≡ Some text) where
@@ -175,14 +144,8 @@ module _ (old new : Scene) (goes : GoesOnFrom old new) (closed : IsClosed old.ob
     spec-made true i = if-value (λ n. n < length old.objects.specs) (spec_of text i) (λ v h. named_specs old.objects number i v text closed found h)
     spec-made false i = tt
 
-    places-made : (replaced : Bool) (under : Attributes) (ns : List ℕ) → All IsMade (map (place_of replaced text under) ns)
-    places-made replaced under [] = All-nil IsMade
-    places-made replaced under (n ∷ ns) = All-cons IsMade (place_of replaced text under n) (map (place_of replaced text under) ns) (spec-made replaced n) (places-made replaced under ns)
-
     same-string : (base : ℕ) (replaced : Bool) (under : Attributes) → string_parts new base replaced text under ≡ string_parts old base replaced text under
-    same-string base replaced under =
-        same-rows base [] (run_heads None (places_from replaced text under 0))
-        (heads-made None (places_from replaced text under 0) (places-made replaced under (range_with_len 0 (length text.chars - 0))))
+    same-string base replaced under = same-rows base [] (run_heads None (places_from replaced text under 0)) (places-each IsMade replaced text under (spec-made replaced))
 
     text-display : (base : ℕ) (origin : Origin) (under : Attributes) → display_elements new base origin under (Some text) ≡ display_elements old base origin under (Some text)
     text-display base origin under =
@@ -215,7 +178,7 @@ module _ (old new : Scene) (goes : GoesOnFrom old new) (closed : IsClosed old.ob
       ap (λ (xs : List Shown). flat_map (overlay_part_elements new base origin) xs) (same-string number text e base true under)
       ∙ flat-same (IsFineShown old closed) (overlay_part_elements new base origin) (overlay_part_elements old base origin) (string_parts old base true text under)
       (λ x made. same-overlay-part base origin x.kind x.face x.odd made)
-      (rows-fine old closed base [] (run_heads None (places_from true text under 0)) (All-nil (IsFine old closed)))
+      (string-fine old closed base true text under)
 
   same-overlay : (number base : ℕ) (origin : Origin) (under : Attributes) → number < length old.objects.strings
       → overlay_elements new base origin under (slice_get new.objects.strings number) ≡ overlay_elements old base origin under (slice_get old.objects.strings number)
@@ -249,7 +212,7 @@ module _ (old new : Scene) (goes : GoesOnFrom old new) (closed : IsClosed old.ob
   same-line base items made =
       ap (λ (turns : List Turn). flat_map (item_elements new base items) turns) (same-turns base items)
       ∙ flat-each (item_elements new base items) (item_elements old base items) (item_turns old base items)
-      (λ turn. same-item base turn (slice_get items turn.index) (found-by (λ (i : Item). ShowsMade old.objects i.kind) items turn.index (slice_get items turn.index) made refl))
+      (λ turn. same-item base turn (slice_get items turn.index) (found (λ (i : Item). ShowsMade old.objects i.kind) items turn.index made))
 
   -- the line of what names made objects alone
   pub line-stays : (base : ℕ) (es : List Seen) → items_of new es ≡ items_of old es → ShowMade old.objects (items_of old es) → line_elements new base es ≡ line_elements old base es

@@ -7,4 +7,4 @@ pub returns-clause-reading : goal.returns-clause-reading
 returns-clause-reading c = λ s objects p made. reading-each (SeesMade objects) s objects (λ q. c.made_objects_alone_are_seen.ensures s objects q made) p
 
 pub returns-clause-items : goal.returns-clause-items
-returns-clause-items c = items-made
+returns-clause-items c = λ s es closed. items-made s closed es

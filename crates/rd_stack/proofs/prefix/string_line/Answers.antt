@@ -4,7 +4,7 @@ use Rattle.rd_base.specs.Faces.{plain}
 use Rattle.rd_items.specs.Pieces.{scene_of}
 use Rattle.rd_stack.specs.Shown.{display_elements, outside, prefix, before_row_end, AreInside, AreOfOneRow}
 use Rattle.rd_stack.proofs.Prefixes.{of-one-row, prefix-none, prefix-some, are-inside}
-use Rattle.rd_stack.proofs.Ends.{display-open, before-open}
+use Rattle.rd_stack.proofs.Ends.{prefix-open}
 use Rattle.rd_stack.proofs.Good.{both-right}
 use Rattle.rd_stack.proofs.prefix.string_line.Goals as goal
 
@@ -27,7 +27,7 @@ returns-clause-inside c =
     subst AreInside (sym (returns-clause-value c))
     (are-inside whole
     (both-right whole (c.prefixes_are_sound.ensures.sound s c.args.base c.args.string objects parts) (c.prefixes_are_sound.ensures.measured s c.args.base c.args.string objects parts))
-    (before-open (display_elements s c.args.base outside plain (slice_get s.objects.strings c.args.string)) (display-open s c.args.base outside plain (slice_get s.objects.strings c.args.string))))
+    (prefix-open s c.args.base c.args.string))
 
 pub returns-clause-row : goal.returns-clause-row
 returns-clause-row c =

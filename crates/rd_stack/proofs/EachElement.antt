@@ -1,0 +1,135 @@
+-- What holds of each element of strings and of items, by what holds of their faces.
+use Rattle.std.proofs.Common.{◌≡◌, ℕ, Bool, true, false, List, [], ◌∷◌, map, Option, None, Some, refl}
+use Rattle.std.specs.Prelude.{◌==◌, slice_get}
+use Rattle.std.specs.List.{AllByRecursion}
+use Rattle.std.proofs.lemmas.Bool.{cond_both}
+use Rattle.rd_base.specs.Elements.{is_line_end}
+use Rattle.rd_base.specs.Faces.{Attributes, over}
+use Rattle.rd_base.specs.declared.cell.Glyph.{Glyph}
+use Rattle.rd_base.specs.declared.element.Element.{Element}
+use Rattle.rd_base.specs.declared.element.Extent.{Extent}
+use Rattle.rd_base.specs.declared.element.Extent.TheVariants.{Fixed, Tab, Column}
+use Rattle.rd_base.specs.declared.element.Look.{Look}
+use Rattle.rd_base.specs.declared.element.Look.TheVariants as look
+use Rattle.rd_base.specs.declared.element.Origin.{Origin}
+use Rattle.rd_objects.specs.Texts.{TextValue, face_of}
+use Rattle.rd_objects.specs.declared.run.Slot.TheVariants.{Escape, Control}
+use Rattle.rd_objects.specs.declared.run.Spec.{Spec}
+use Rattle.rd_objects.specs.declared.run.Spec.TheVariants.{Text, Width, Align}
+use Rattle.rd_glyphs.specs.declared.shown.Shown.{Shown}
+use Rattle.rd_glyphs.specs.declared.shown.Shown.TheVariants as glyphs
+use Rattle.rd_glyphs.specs.Characters.{element_of, look_columns, glyph_elements, tab_of, looks_of, own_shown, own_looks, slot_or, entry_of, elements_by, elements_of}
+use Rattle.rd_items.specs.Covers.{is_ender_kind}
+use Rattle.rd_items.specs.Pieces.{Scene}
+use Rattle.rd_items.specs.declared.item.ItemKind.{ItemKind}
+use Rattle.rd_items.specs.declared.item.ItemKind.TheVariants as item
+use Rattle.rd_stack.specs.Strings.{part_by, string_parts}
+use Rattle.rd_stack.specs.Shown.{space_elements, kind_elements, display_part_elements, display_elements, overlay_part_by, overlay_part_elements, overlay_elements}
+use Rattle.rd_stack.specs.Lines.{ellipsis_glyphs, text_elements, item_elements_by}
+use Rattle.rd_stack.specs.declared.part.Place.{Place}
+use Rattle.rd_stack.specs.declared.part.Part.{Part}
+use Rattle.rd_stack.specs.declared.part.Shown.{Shown as ShownPart}
+use Rattle.rd_stack.specs.declared.part.PartKind.{PartKind}
+use Rattle.rd_stack.specs.declared.part.PartKind.TheVariants as kind
+use Rattle.rd_stack.proofs.EachPart.{string-each}
+use Rattle.rd_stack.proofs.Lists.{each-flat}
+
+-- no look of a character ends the line
+abbrev IsOpenLook : Look → Type 0
+IsOpenLook l = is_line_end l ≡ false
+
+looks-open : (escape control : Glyph) (shown : Shown) → AllByRecursion IsOpenLook (looks_of escape control shown)
+looks-open escape control (glyphs.Caret letter) = (refl, (refl, tt))
+looks-open escape control (glyphs.Octal byte) = (refl, (refl, (refl, (refl, tt))))
+looks-open escape control glyphs.Space = (refl, tt)
+looks-open escape control (glyphs.Mark code) = (refl, tt)
+looks-open escape control (glyphs.Itself code width) = (refl, tt)
+
+-- what holds of the elements of a display string, and of those of a part that shows none, holds of a part of an overlay's string
+pub overlay-part : (P : List Element → Type 0) (s : Scene) (base : ℕ) (origin : Origin) (k : PartKind) (face : Attributes) (odd : Bool)
+    → ((n : ℕ) → P (display_elements s base origin face (slice_get s.objects.strings n))) → P (kind_elements s k face odd origin) → P (overlay_part_by s base origin k face odd)
+overlay-part P s base origin (kind.Replaced (Text n)) face odd string own = string n
+overlay-part P s base origin (kind.Replaced (Width n)) face odd string own = own
+overlay-part P s base origin (kind.Replaced (Align n)) face odd string own = own
+overlay-part P s base origin (kind.Char c) face odd string own = own
+overlay-part P s base origin (kind.Marked g) face odd string own = own
+overlay-part P s base origin kind.RowEnd face odd string own = own
+
+-- P holds of each element of this origin that ends no line and has a face of which F holds; the faces of strings keep F
+module _ (s : Scene) (base : ℕ) (origin : Origin) (F : Attributes → Type 0) (P : Element → Type 0)
+    (faces : (n : ℕ) (text : TextValue) → slice_get s.objects.strings n ≡ Some text → (i : ℕ) (under : Attributes) → F under → F (over (face_of text i) under))
+    (element : (extent : Extent) (l : Look) (face : Attributes) → IsOpenLook l → F face → P (record { extent = extent; look = l; face = face; origin = origin })) where
+  abbrev Each : List Element → Type 0
+  Each es = AllByRecursion P es
+
+  looks-each : (face : Attributes) (looks : List Look) → F face → AllByRecursion IsOpenLook looks → Each (map (element_of face origin) looks)
+  looks-each face [] h inner = tt
+  looks-each face (l ∷ ls) h inner = (element (Fixed (look_columns l)) l face inner.0 h, looks-each face ls h inner.1)
+
+  glyphs-each : (face : Attributes) (text : List Glyph) → F face → Each (glyph_elements face origin text)
+  glyphs-each face [] h = tt
+  glyphs-each face (g ∷ gs) h = (element (Fixed g.width) (look.Glyph g) face refl h, glyphs-each face gs h)
+
+  by-entry : (entry : Option (List Glyph)) (ch : ℕ) (odd : Bool) (face : Attributes) → F face → Each (elements_by entry s.parts ch odd face origin)
+  by-entry (Some text) ch odd face h = glyphs-each face text h
+  by-entry None ch odd face h =
+      let looks = own_looks s.parts ch odd in
+      let stop = s.parts.settings.tab_width in
+      cond_both (ch == 9) (tab_of stop face origin ∷ []) (map (element_of face origin) looks) Each (λ tab. (element (Tab stop) look.Blank face refl h, tt))
+      (λ none. looks-each face looks h (looks-open (slot_or Escape s.parts.table 92) (slot_or Control s.parts.table 94) (own_shown s.parts ch odd)))
+
+  character-each : (ch : ℕ) (odd : Bool) (face : Attributes) → F face → Each (elements_of s.parts ch odd face origin)
+  character-each ch odd face h = by-entry (entry_of s.parts.table ch) ch odd face h
+
+  space-each : (spec : Spec) (face : Attributes) → F face → Each (space_elements spec face origin)
+  space-each (Width n) face h = (element (Fixed n) look.Blank face refl h, tt)
+  space-each (Align n) face h = (element (Column n) look.Blank face refl h, tt)
+  space-each (Text n) face h = tt
+
+  part-each : (k : PartKind) (face : Attributes) (odd : Bool) → F face → Each (kind_elements s k face odd origin)
+  part-each (kind.Char c) face odd h = character-each c odd face h
+  part-each (kind.Marked g) face odd h = (element (Fixed g.width) (look.Glyph g) face refl h, tt)
+  part-each (kind.Replaced spec) face odd h = space-each spec face h
+  part-each kind.RowEnd face odd h = (element (Fixed 0) look.RowEnd face refl h, tt)
+
+  -- ---- strings
+
+  part-face : (spec : Option Spec) (p : Place) → F p.face → F (part_by s spec p).face
+  part-face None p h = h
+  part-face (Some spec) p h = h
+
+  -- the parts of a string that was made
+  shown-faces : (replaced : Bool) (n : ℕ) (text : TextValue) → slice_get s.objects.strings n ≡ Some text → (under : Attributes) → F under
+      → AllByRecursion (λ (x : ShownPart). F x.face) (string_parts s base replaced text under)
+  shown-faces replaced n text found under h =
+      string-each s base (λ (p : Place). F p.face) (λ (x : Part). F x.face) (λ (x : ShownPart). F x.face) (λ p own. part-face _ p own) (λ held next glyph these those e. these)
+      (λ odd x own. own) (λ p own. own) replaced text under (λ i. faces n text found i under h)
+
+  display-by : (n : ℕ) (text : Option TextValue) → slice_get s.objects.strings n ≡ text → (under : Attributes) → F under → Each (display_elements s base origin under text)
+  display-by n None found under h = tt
+  display-by n (Some text) found under h =
+      each-flat (display_part_elements s origin) (λ (x : ShownPart). F x.face) P (λ x own. part-each x.kind x.face x.odd own) (string_parts s base false text under) (shown-faces false n text found under h)
+
+  pub display-each : (n : ℕ) (under : Attributes) → F under → Each (display_elements s base origin under (slice_get s.objects.strings n))
+  display-each n under h = display-by n (slice_get s.objects.strings n) refl under h
+
+  overlay-by : (n : ℕ) (text : Option TextValue) → slice_get s.objects.strings n ≡ text → (under : Attributes) → F under → Each (overlay_elements s base origin under text)
+  overlay-by n None found under h = tt
+  overlay-by n (Some text) found under h =
+      each-flat (overlay_part_elements s base origin) (λ (x : ShownPart). F x.face) P
+      (λ x own. overlay-part Each s base origin x.kind x.face x.odd (λ m. display-each m x.face own) (part-each x.kind x.face x.odd own))
+      (string_parts s base true text under) (shown-faces true n text found under h)
+
+  text-each : (overlay : Bool) (n : ℕ) (face : Attributes) → F face → Each (text_elements s base overlay origin face (slice_get s.objects.strings n))
+  text-each true n face h = overlay-by n (slice_get s.objects.strings n) refl face h
+  text-each false n face h = display-each n face h
+
+  -- ---- items
+
+  pub item-each : (k : ItemKind) (overlay odd : Bool) (face : Attributes) → (is_ender_kind k ≡ true → P (element_of face origin look.LineEnd)) → F face → Each (item_elements_by s base k overlay odd face origin)
+  item-each (item.Char c) overlay odd face end h = character-each c odd face h
+  item-each (item.Marked g) overlay odd face end h = (element (Fixed g.width) (look.Glyph g) face refl h, tt)
+  item-each (item.Text n) overlay odd face end h = text-each overlay n face h
+  item-each (item.Space spec) overlay odd face end h = space-each spec face h
+  item-each item.Ellipsis overlay odd face end h = glyphs-each face (ellipsis_glyphs s.parts.table) h
+  item-each item.Ender overlay odd face end h = (end refl, tt)
