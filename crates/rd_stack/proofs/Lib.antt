@@ -11,7 +11,7 @@ mod TurnCounts
 mod Good
 mod Parts
 mod EachPart
-mod EachElement
+pub mod EachElement
 mod Holds
 mod Sound
 mod Codes
