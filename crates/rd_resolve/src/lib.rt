@@ -8,7 +8,7 @@
 mod neutral_walk;
 mod raise;
 mod reset;
-mod turn;
+mod walked;
 mod weak_walk;
 
 pub use neutral_walk::neutral;

@@ -5,7 +5,7 @@ ghost use Rattle.rd_resolve.specs.Neutral.{is_neutral, n1_side, n1_following, n1
 ghost use Rattle.rd_resolve.specs.Places.{types_at, levels_at, put_at};
 ghost use Rattle.rd_resolve.specs.Walks.{SideIs};
 
-use crate::turn::turn_at;
+use crate::walked::walked_character;
 use rd_base::{Class, Line, Seq};
 
 /// What N1 knows at a character: the direction before it, and, within a run of neutrals, the one behind the run.
@@ -32,9 +32,15 @@ pub fn neutral(line: &mut Line, seq: &Seq)
         run: None,
     };
     for k in 0..seq.indexes.len() {
-        let turn = turn_at(line, seq, k);
-        let index = turn.index;
-        let given = sides.step(seq.eos, turn.class, turn.level, turn.types, turn.rest);
+        let walked = walked_character(line, seq, k);
+        let index = walked.index;
+        let given = sides.step(
+            seq.eos,
+            walked.class,
+            walked.level,
+            walked.types,
+            walked.rest,
+        );
         line.set_type(index, given);
     }
 }

@@ -6,7 +6,7 @@ ghost use Rattle.rd_resolve.specs.Places.{types_at, put_at};
 ghost use Rattle.rd_resolve.specs.Weak.{w1_nonspacing_marks, strong_after, w2_european_numbers_after_arabic, w3_arabic_letters, w4_separators, first_type, is_en, w5_terminators, w6_remaining_separators, w7_latin_numbers, weak_types, w1, w2, w3};
 ghost use Rattle.rd_resolve.specs.Walks.{weak_left, w5_run_ends, w5_run_of, RunIs};
 
-use crate::turn::turn_at;
+use crate::walked::walked_character;
 use rd_base::{Class, Line, Seq};
 
 /// What the rules know of the characters before one. Each field begins with the first rule that reads it.
@@ -46,9 +46,9 @@ pub fn weak(line: &mut Line, seq: &Seq)
         w7_strong: seq.sos,
     };
     for k in 0..seq.indexes.len() {
-        let turn = turn_at(line, seq, k);
-        let index = turn.index;
-        let given = before.step(turn.class, turn.types, turn.rest);
+        let walked = walked_character(line, seq, k);
+        let index = walked.index;
+        let given = before.step(walked.class, walked.types, walked.rest);
         line.set_type(index, given);
     }
 }

@@ -4,12 +4,12 @@ ghost use Rattle.std.specs.Vec.{vec_capacity};
 ghost use Rattle.rd_spans.specs.Values.{value_at, put_at, opened_at, closed_at, CanMove, IsNextChange, IsFirstAlike};
 ghost use Rattle.rd_spans.specs.Sides.{values_of, Rises, size_of, needs, values_of_both, GapMoved, AreRuns, AreSides};
 
-use crate::run::{Stretch, ValueRun};
+use crate::run::{ValueRange, ValueRun};
 use crate::side;
 use rd_base::Memory;
 
 /// The run around a position, or the positions behind the last run, none of which has a value.
-pub(crate) fn run_around(front: &[ValueRun], back: &[ValueRun], pos: u64) -> Stretch
+pub(crate) fn run_around(front: &[ValueRun], back: &[ValueRun], pos: u64) -> ValueRange
     requires runs { AreRuns front.now back.now }
     requires bound { pos < 4294967296 }
     ensures first { result.from ≤ pos }
@@ -25,13 +25,13 @@ pub(crate) fn run_around(front: &[ValueRun], back: &[ValueRun], pos: u64) -> Str
     let end = gap + side::size(back);
     if pos < end {
         let run = side::run_at(back, end - 1 - pos);
-        return Stretch {
+        return ValueRange {
             from: end - run.to,
             to: end - run.from,
             value: run.value,
         };
     }
-    Stretch {
+    ValueRange {
         from: end,
         to: side::LIMIT,
         value: None,

@@ -9,7 +9,7 @@ pub struct ValueRun {
 
 /// The places from `from` up to `to`, which is not one of them, and the value that they all have.
 #[derive(Clone, Copy, Debug, PartialEq, Eq)]
-pub(crate) struct Stretch {
+pub(crate) struct ValueRange {
     pub from: u64,
     pub to: u64,
     pub value: Option<u32>,

@@ -5,7 +5,7 @@ ghost use Rattle.rd_spans.specs.declared.run.ValueRun.{ValueRun};
 ghost use Rattle.rd_spans.specs.Values.{value_at, IsTrimmed};
 ghost use Rattle.rd_spans.specs.Sides.{values_of, Rises, size_of, top, same_value, has_value, needs, AreMoved, AreRuns, IsCut};
 
-use crate::run::{Stretch, ValueRun};
+use crate::run::{ValueRange, ValueRun};
 
 /// One past the greatest place.
 pub(crate) const LIMIT: u64 = 4_294_967_296;
@@ -41,7 +41,7 @@ fn first_reaching(runs: &[ValueRun], end: u64) -> usize
 }
 
 /// The run that holds a place, by a binary search.
-pub(crate) fn run_at(runs: &[ValueRun], place: u64) -> Stretch
+pub(crate) fn run_at(runs: &[ValueRun], place: u64) -> ValueRange
     requires order { Rises 0 runs.now }
     requires bound { place < LIMIT }
     requires within { place < size_of runs.now }
@@ -52,7 +52,7 @@ pub(crate) fn run_at(runs: &[ValueRun], place: u64) -> Stretch
 {
     let i = first_reaching(runs, place + 1);
     let run = runs[i];
-    Stretch {
+    ValueRange {
         from: end_before(runs, i),
         to: run.end,
         value: run.value,

@@ -1,4 +1,4 @@
-//! A character of an isolating run sequence in its turn.
+//! A character of an isolating run sequence, as the walks come to it.
 ghost use Rattle.std.specs.Prelude.{◌≡◌, ◌+◌, ◌<◌, ◌∷◌, Some, length, All, drop, slice_get};
 ghost use Rattle.rd_resolve.specs.Places.{types_at};
 
@@ -7,7 +7,7 @@ use rd_base::{Class, Line, Seq};
 /// What the walks read of a character: its index in the line, its type and level, and the types of the line with the indexes of those
 /// behind it in its sequence.
 #[derive(Clone, Copy)]
-pub(crate) struct Turn<'a> {
+pub(crate) struct WalkedCharacter<'a> {
     pub(crate) index: usize,
     pub(crate) class: Class,
     pub(crate) level: u8,
@@ -16,7 +16,7 @@ pub(crate) struct Turn<'a> {
 }
 
 /// The character at a place of a sequence, counted from 0.
-pub(crate) fn turn_at<'a>(line: &'a Line, seq: &'a Seq, k: usize) -> Turn<'a>
+pub(crate) fn walked_character<'a>(line: &'a Line, seq: &'a Seq, k: usize) -> WalkedCharacter<'a>
     requires within { All (λ i. i < length line.now.classes) seq.now.indexes }
     requires place { k < length seq.now.indexes }
     ensures index { slice_get seq.now.indexes k ≡ Some result.index }
@@ -27,7 +27,7 @@ pub(crate) fn turn_at<'a>(line: &'a Line, seq: &'a Seq, k: usize) -> Turn<'a>
 {
     let index = seq.indexes.at(k) as usize;
     let (_, rest) = seq.indexes.as_slice().split_at(k + 1);
-    Turn {
+    WalkedCharacter {
         index,
         class: line.types.at(index),
         level: line.levels.at(index),
