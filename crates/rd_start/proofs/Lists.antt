@@ -1,10 +1,10 @@
 -- Places in joined lists, and searches there.
-use Rattle.std.proofs.Common.{◌≡◌, ℕ, zero, suc, ◌+◌, ◌-◌, ◌<◌, ◌≤◌, inl, inr, Bool, true, false, cond, ◌||◌, not, leb, List, [], ◌∷◌, ◌++◌, length, map, take, drop, get_or, Option, None, Some, refl, sym, ap, ◌∙◌, arith, zero-add}
+use Rattle.std.proofs.Common.{◌≡◌, ℕ, zero, suc, ◌+◌, ◌-◌, ◌<◌, ◌≤◌, inl, inr, Bool, true, false, cond, ◌||◌, not, leb, ltb, List, [], ◌∷◌, ◌++◌, length, map, take, drop, get_or, Option, None, Some, refl, sym, ap, ap₂, ◌∙◌, arith, zero-add}
 use Rattle.std.proofs.Math.Nat.{add-suc, add-zero}
 use Rattle.std.proofs.Math.Numerals.{add-one}
 use Rattle.std.proofs.lemmas.Bool.{cases_Bool, le-ltb, leb-true, lt-ltb, or_parts}
 use Rattle.std.specs.List.{find, list_any, position, position_or_len, slice_get, count_by}
-use Rattle.std.proofs.lemmas.List.{length-take-le, take-append-drop, take_all}
+use Rattle.std.proofs.lemmas.List.{length-map, length-take-le, take-append-drop, take_all}
 use Rattle.std.proofs.lemmas.List.Folds.{find-append}
 use Rattle.std.specs.Option.{option_or}
 use Rattle.rd_base.proofs.Lists.{drop-read}
@@ -68,7 +68,7 @@ first-inside p (x ∷ xs) some =
           rw here (omega arith)
     ]
 
-pub first-none : {X : Type 0} (p : X → Bool) (xs : List X) → list_any p xs ≡ false → position_or_len p xs ≡ length xs
+first-none : {X : Type 0} (p : X → Bool) (xs : List X) → list_any p xs ≡ false → position_or_len p xs ≡ length xs
 first-none p [] none = refl
 first-none p (x ∷ xs) none =
     let both = or_parts (p x) (list_any p xs) none in
@@ -76,7 +76,7 @@ first-none p (x ∷ xs) none =
     let rest = first-none p xs both.1 in
     rw here (omega arith)
 
-pub first-mapped : {X Y : Type 0} (p : Y → Bool) (f : X → Y) (xs : List X) → position_or_len p (map f xs) ≡ position_or_len (λ x. p (f x)) xs
+first-mapped : {X Y : Type 0} (p : Y → Bool) (f : X → Y) (xs : List X) → position_or_len p (map f xs) ≡ position_or_len (λ x. p (f x)) xs
 first-mapped p f [] = refl
 first-mapped p f (x ∷ xs) = ap (λ n. cond (not (p (f x))) (1 + n) 0) (first-mapped p f xs)
 
@@ -128,7 +128,19 @@ find-none p row (suc far) none =
     ∙ (ap (λ o. option_or o (find p (both_at row (suc far)))) (find-none p row far (λ k low high. none k (omega arith) (omega arith)))
     ∙ find-neither p row (suc far) (λ low. none (row - suc far) (omega arith) (omega arith)) (none (row + suc far) (omega arith) (omega arith)))
 
--- the place of the first element that passes, where those before it don't
+-- the place of the first element that passes
+pub position-mapped : {X Y : Type 0} (p : Y → Bool) (f : X → Y) (xs : List X) → position p (map f xs) ≡ position (λ x. p (f x)) xs
+position-mapped p f xs = ap₂ (λ n size. cond (ltb n size) (Some n) None) (first-mapped p f xs) (length-map xs f)
+
+pub position-some : {X : Type 0} (p : X → Bool) (xs : List X) → list_any p xs ≡ true → position p xs ≡ Some (position_or_len p xs)
+position-some p xs some = ap (λ b. cond b (Some (position_or_len p xs)) None) (lt-ltb (position_or_len p xs) (length xs) (first-inside p xs some))
+
+pub position-none : {X : Type 0} (p : X → Bool) (xs : List X) → list_any p xs ≡ false → position p xs ≡ None
+position-none p xs none =
+    let place = first-none p xs none in
+    ap (λ b. cond b (Some (position_or_len p xs)) None) (le-ltb (position_or_len p xs) (length xs) (omega (arith, place)))
+
+-- the same where those before it don't
 pub position-here : {X : Type 0} (p : X → Bool) (xs : List X) (k : ℕ) (x : X) → list_any p (take k xs) ≡ false → k < length xs → x ≡ get_or xs k x → p x ≡ true → position p xs ≡ Some k
 position-here p xs k x none inside at here =
     let more = drop-read xs k x inside at in
@@ -139,8 +151,5 @@ position-here p xs k x none inside at here =
     let t = lt-ltb (position_or_len p xs) (length xs) (omega (arith, place, inside)) in
     ap (λ b. cond b (Some (position_or_len p xs)) None) t ∙ ap Some place
 
-pub position-none : {X : Type 0} (p : X → Bool) (xs : List X) (k : ℕ) → list_any p (take k xs) ≡ false → length xs ≤ k → position p xs ≡ None
-position-none p xs k none all =
-    let place = first-none p xs (ap (list_any p) (sym (take_all k xs all)) ∙ none) in
-    let t = le-ltb (position_or_len p xs) (length xs) (omega (arith, place)) in
-    ap (λ b. cond b (Some (position_or_len p xs)) None) t
+pub position-past : {X : Type 0} (p : X → Bool) (xs : List X) (k : ℕ) → list_any p (take k xs) ≡ false → length xs ≤ k → position p xs ≡ None
+position-past p xs k none all = position-none p xs (ap (list_any p) (sym (take_all k xs all)) ∙ none)

@@ -121,29 +121,25 @@ value-free m sweep s w place chosen e free follows is =
     is ∙ (ap (λ (ys : List EntryMeaning). record { anchor = anchor_at ys (first_row m s + place); point = w.point }) rows
     ∙ chosen-free m sweep.shape w (first_row m s + place) free follows)
 
-pub follows-home : (m : SourceValues) (sweep : Sweep) (s : Strip) (w : Wanted) → IsStrip m s → s.sweep ≡ sweep → IsFor w sweep
-    → suits w (places_of m sweep.shape w) (first_row m s + s.home) ≡ true → following w (places_of m sweep.shape w) ≡ first_row m s + s.home
-follows-home m sweep s w h e of here =
-    let at = places_of m sweep.shape w in
-    let same : at.old ≡ first_row m s + s.home = old-is m w sweep of ∙ (sym (ap (home_row m) e) ∙ sym (home-is m s h)) in
-    follows-old w at (ap (suits w at) same ∙ here) ∙ same
+-- the old row is the strip's home, so what is found from there is found from the old row
+module _ (m : SourceValues) (sweep : Sweep) (s : Strip) (w : Wanted) (h : IsStrip m s) (e : s.sweep ≡ sweep) (of : IsFor w sweep) where
+  old-home : (places_of m sweep.shape w).old ≡ first_row m s + s.home
+  old-home = old-is m w sweep of ∙ (sym (ap (home_row m) e) ∙ sym (home-is m s h))
 
-pub follows-near : (m : SourceValues) (sweep : Sweep) (s : Strip) (w : Wanted) (o : Option ℕ) (place : ℕ) → IsStrip m s → s.sweep ≡ sweep → IsFor w sweep
-    → o ≡ Some place → option_map (λ n. first_row m s + n) o ≡ find (suits w (places_of m sweep.shape w)) (around (first_row m s + s.home) w.conservatively)
-    → following w (places_of m sweep.shape w) ≡ first_row m s + place
-follows-near m sweep s w o place h e of is found =
-    let at = places_of m sweep.shape w in
-    let same : at.old ≡ first_row m s + s.home = old-is m w sweep of ∙ (sym (ap (home_row m) e) ∙ sym (home-is m s h)) in
-    follows-found w at (first_row m s + place)
-    (ap (λ n. find (suits w at) (around n w.conservatively)) same ∙ (sym found ∙ ap (option_map (λ n. first_row m s + n)) is))
+  pub follows-home : suits w (places_of m sweep.shape w) (first_row m s + s.home) ≡ true → following w (places_of m sweep.shape w) ≡ first_row m s + s.home
+  follows-home here = follows-old w (places_of m sweep.shape w) (ap (suits w (places_of m sweep.shape w)) old-home ∙ here) ∙ old-home
 
-pub follows-centre : (m : SourceValues) (sweep : Sweep) (s : Strip) (w : Wanted) (o : Option ℕ) → IsStrip m s → s.sweep ≡ sweep → IsFor w sweep
-    → o ≡ None → option_map (λ n. first_row m s + n) o ≡ find (suits w (places_of m sweep.shape w)) (around (first_row m s + s.home) w.conservatively)
-    → following w (places_of m sweep.shape w) ≡ centred w (places_of m sweep.shape w)
-follows-centre m sweep s w o h e of is found =
-    let at = places_of m sweep.shape w in
-    let same : at.old ≡ first_row m s + s.home = old-is m w sweep of ∙ (sym (ap (home_row m) e) ∙ sym (home-is m s h)) in
-    follows-none w at (ap (λ n. find (suits w at) (around n w.conservatively)) same ∙ (sym found ∙ ap (option_map (λ n. first_row m s + n)) is))
+  abbrev pub IsNear : Option ℕ → Type 0
+  IsNear o = option_map (λ n. first_row m s + n) o ≡ find (suits w (places_of m sweep.shape w)) (around (first_row m s + s.home) w.conservatively)
+
+  found-near : (o found : Option ℕ) → o ≡ found → IsNear o → find (suits w (places_of m sweep.shape w)) (around (places_of m sweep.shape w).old w.conservatively) ≡ option_map (λ n. first_row m s + n) found
+  found-near o found is near = ap (λ n. find (suits w (places_of m sweep.shape w)) (around n w.conservatively)) old-home ∙ (sym near ∙ ap (option_map (λ n. first_row m s + n)) is)
+
+  pub follows-near : (o : Option ℕ) (place : ℕ) → o ≡ Some place → IsNear o → following w (places_of m sweep.shape w) ≡ first_row m s + place
+  follows-near o place is near = follows-found w (places_of m sweep.shape w) (first_row m s + place) (found-near o (Some place) is near)
+
+  pub follows-centre : (o : Option ℕ) → o ≡ None → IsNear o → following w (places_of m sweep.shape w) ≡ centred w (places_of m sweep.shape w)
+  follows-centre o is near = follows-none w (places_of m sweep.shape w) (found-near o None is near)
 
 value-centred : (m : SourceValues) (sweep : Sweep) (s : Strip) (w : Wanted) (chosen : Chosen) → s.sweep ≡ sweep → w.forced ≡ false
     → following w (places_of m sweep.shape w) ≡ centred w (places_of m sweep.shape w) → chosen ≡ centred_chosen m s.sweep.shape w → chosen ≡ chosen_of m sweep.shape w

@@ -1,6 +1,6 @@
 -- A strip's rows among all rows, and where point's row is.
-use Rattle.std.proofs.Common.{◌≡◌, ℕ, ◌+◌, ◌<◌, ◌≤◌, ◌⊎◌, inl, inr, true, false, cond, leb, ltb, List, [], ◌∷◌, ◌++◌, length, map, Option, None, Some, refl, ap, subst, ◌∙◌, arith}
-use Rattle.std.proofs.lemmas.Bool.{cases_Bool, le-ltb, leb-false, leb-true, lt-ltb, ltb-false, ltb-true}
+use Rattle.std.proofs.Common.{◌≡◌, ℕ, ◌+◌, ◌<◌, ◌≤◌, ◌⊎◌, inl, inr, true, false, leb, ltb, List, [], ◌∷◌, ◌++◌, length, map, Option, None, Some, refl, ap, subst, ◌∙◌, arith}
+use Rattle.std.proofs.lemmas.Bool.{cases_Bool, leb-false, leb-true, ltb-false, ltb-true}
 use Rattle.std.proofs.lemmas.List.{length-append, length-map}
 use Rattle.std.specs.List.{list_any, position, position_or_len, slice_get}
 use Rattle.rd_matrix.proofs.Counting.{all-append}
@@ -18,7 +18,7 @@ use Rattle.rd_start.specs.declared.strip.Strip.{Strip}
 use Rattle.rd_start.specs.declared.strip.Sweep.{Sweep}
 use Rattle.rd_start.proofs.Blocks.{Fit, any-fit, end-append, fit, fit-back, fit-front}
 use Rattle.rd_start.proofs.Tests.{above-range, below-range, in-range}
-use Rattle.rd_start.proofs.Lists.{first-among, first-behind, first-inside, first-mapped, first-none}
+use Rattle.rd_start.proofs.Lists.{first-among, first-behind, first-inside, position-mapped, position-none, position-some}
 
 pub whole-rows : (m : SourceValues) (sweep : Sweep) (bs before after : List Block) → m.blocks ≡ before ++ (bs ++ after)
     → all_rows (rows_in m sweep) m.blocks ≡ all_rows (rows_in m sweep) before ++ (all_rows (rows_in m sweep) bs ++ all_rows (rows_in m sweep) after)
@@ -77,20 +77,10 @@ abbrev pub find_point : List StripRow → Option ℕ
 find_point ls = position (λ (r : StripRow). r.has_point) ls
 
 found : (point : ℕ) (es : List EntryMeaning) → list_any (begins_item point) es ≡ true → find_point (map (strip_row_of point) es) ≡ Some (position_or_len (begins_item point) es)
-found point es some =
-    let inside = first-inside (begins_item point) es some in
-    let same = first-mapped (λ (r : StripRow). r.has_point) (strip_row_of point) es in
-    let size = length-map es (strip_row_of point) in
-    let t = lt-ltb (position_or_len (λ (r : StripRow). r.has_point) (map (strip_row_of point) es)) (length (map (strip_row_of point) es)) (omega (arith, inside, same, size)) in
-    ap (λ b. cond b (Some (position_or_len (λ (r : StripRow). r.has_point) (map (strip_row_of point) es))) None) t ∙ ap Some same
+found point es some = position-mapped (λ (r : StripRow). r.has_point) (strip_row_of point) es ∙ position-some (begins_item point) es some
 
 not-found : (point : ℕ) (es : List EntryMeaning) → list_any (begins_item point) es ≡ false → find_point (map (strip_row_of point) es) ≡ None
-not-found point es none =
-    let outside = first-none (begins_item point) es none in
-    let same = first-mapped (λ (r : StripRow). r.has_point) (strip_row_of point) es in
-    let size = length-map es (strip_row_of point) in
-    let t = le-ltb (position_or_len (λ (r : StripRow). r.has_point) (map (strip_row_of point) es)) (length (map (strip_row_of point) es)) (omega (arith, outside, same, size)) in
-    ap (λ b. cond b (Some (position_or_len (λ (r : StripRow). r.has_point) (map (strip_row_of point) es))) None) t
+not-found point es none = position-mapped (λ (r : StripRow). r.has_point) (strip_row_of point) es ∙ position-none (begins_item point) es none
 
 -- point's row is above a strip's rows, among them or below them
 pub record PointAbove (m : SourceValues) (sweep : Sweep) (bs : List Block) (ls : List StripRow) (at : ℕ) : Type 0 where

@@ -7,7 +7,7 @@ ghost use Rattle.rd_start.specs.Strips.{strip_row_of};
 use crate::span::{Span, joined_spans, span_of};
 use crate::wanted::Wanted;
 use rd_base::{Anchor, Memory, Pos, Steps};
-use rd_matrix::{Block, BlockSource};
+use rd_matrix::{Block, BlockSource, covers};
 use rd_rows::{Begin, Row, Shape};
 use std::alloc::Global;
 use std::collections::VecDeque;
@@ -72,17 +72,7 @@ fn strip_row_of(point: Pos, start: Pos, number: u32, row: &Row) -> StripRow
 fn has_point(point: Pos, start: Pos, begins: &[Begin]) -> bool
     ensures { result ≡ list_any (covers start point) begins.now }
 {
-    begins.iter().any(|begin| covers(start, point, begin))
-}
-
-/// Whether an item of a block covers a position.
-fn covers(start: Pos, point: Pos, begin: &Begin) -> bool
-    ensures { result ≡ covers start point begin.now }
-{
-    let place = u64::from(point);
-    let first = u64::from(start) + u64::from(begin.from);
-    let end = u64::from(start) + u64::from(begin.to);
-    first <= place && place < end
+    begins.iter().any(|begin| covers(begin, start, point))
 }
 
 impl Strip {

@@ -94,7 +94,7 @@ returns-in-Some-clause-value g c =
     let win = c.args.window in
     let down = c.reach-2.new.self in
     let at = goal.at.returns-in-Some-clause-value g c in
-    let follows = follows-near m win.strip.sweep down win.wanted c.in_ok-start.field-0 c.in-Some.start (strip g at.In_ok-reach-2) (same g at.In_ok-reach-2) c.requires.laid.of c.in-Some.is (found g at.In_ok-start) in
+    let follows = follows-near m win.strip.sweep down win.wanted (strip g at.In_ok-reach-2) (same g at.In_ok-reach-2) c.requires.laid.of c.in_ok-start.field-0 c.in-Some.start c.in-Some.is (found g at.In_ok-start) in
     value-free m win.strip.sweep down win.wanted c.in-Some.start c.starting_at.result (same g at.In_ok-reach-2) c.requires.laid.kind follows (c.starting_at.ensures m (strip g at.In_ok-reach-2))
 
 pub returns-in-Some-clause-steps : goal.returns-in-Some-clause-steps
@@ -106,7 +106,7 @@ returns-in-None-clause-value g c =
     let win = c.args.window in
     let down = c.reach-2.new.self in
     let at = goal.at.returns-in-None-clause-value g c in
-    let follows = follows-centre m win.strip.sweep down win.wanted c.in_ok-start.field-0 (strip g at.In_ok-reach-2) (same g at.In_ok-reach-2) c.requires.laid.of c.in-None.is (found g at.In_ok-start) in
+    let follows = follows-centre m win.strip.sweep down win.wanted (strip g at.In_ok-reach-2) (same g at.In_ok-reach-2) c.requires.laid.of c.in_ok-start.field-0 c.in-None.is (found g at.In_ok-start) in
     let centre = at-source (λ (x : SourceValues). IfOk c.centred.result (λ (chosen : Chosen). chosen ≡ centred_chosen x down.sweep.shape win.wanted)) m (g.B.BlockSource.meaning c.nearest.new.source)
     (c.nearest.ensures.stays ∙ (c.reach-2.ensures.stays ∙ c.reach.ensures.stays)) c.centred.ensures.value in
     result-centred c.centred.result m win.strip.sweep down win.wanted (same g at.In_ok-reach-2) c.requires.laid.kind follows centre

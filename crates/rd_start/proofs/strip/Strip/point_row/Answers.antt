@@ -1,5 +1,5 @@
 use Rattle.std.proofs.Common.{arith, sym}
-use Rattle.rd_start.proofs.Lists.{position-here, position-none}
+use Rattle.rd_start.proofs.Lists.{position-here, position-past}
 use Rattle.rd_start.specs.declared.strip.StripRow.{StripRow}
 use Rattle.rd_start.proofs.strip.Strip.point_row.Goals as goal
 
@@ -9,4 +9,4 @@ returns-then-index c =
 
 pub returns : goal.returns
 returns c =
-    sym (position-none (λ (r : StripRow). r.has_point) c.args.self.now.strip_rows.items c.loop-row.row c.loop-row.invariant (omega arith))
+    sym (position-past (λ (r : StripRow). r.has_point) c.args.self.now.strip_rows.items c.loop-row.row c.loop-row.invariant (omega arith))
