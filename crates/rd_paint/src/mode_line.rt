@@ -5,7 +5,7 @@ ghost use Rattle.rd_layout.specs.Panes.{facts_of, is_whole, mode_line};
 ghost use Rattle.rd_paint.specs.Shown.{IsViewOf, of_classes};
 
 use crate::content::Content;
-use rd_base::{Cell, Ch, ListOf, Memory};
+use rd_base::{Cell, Ch, ListOf, Memory, characters};
 use rd_layout::ShownWindow;
 use rd_modeline::{Facts, format};
 use rd_text::Buffer;
@@ -76,15 +76,4 @@ fn is_whole(text: &Buffer) -> bool
     ensures { result ≡ is_whole text.now }
 {
     text.begin() == 1 && text.end() == text.length() + 1
-}
-
-/// The characters of a name.
-fn characters(alloc: Global, name: &str) -> Result<ListOf<Ch>, Memory>
-    ensures { IfOk result (λ list. list ≡ chars name.now) }
-{
-    let mut list = ListOf::with_room(alloc, name.len())?;
-    for c in name.chars() {
-        list.push(Ch::scalar(c))?;
-    }
-    Ok(list)
 }
