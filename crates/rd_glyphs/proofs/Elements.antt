@@ -7,8 +7,7 @@ use Rattle.std.proofs.lemmas.Bool.Decides.{nat_tests}
 use Rattle.std.proofs.lemmas.List.{length-map}
 use Rattle.std.proofs.lemmas.List.Sums.{AllPass-from_list_all}
 use Rattle.std.proofs.lemmas.List.Elements.{All-map, All-from_recursion, recursion_from_All}
-use Rattle.unicode_width.proofs.Rules.{width_or_zero, width_or_zero-le}
-use Rattle.rd_base.specs.Chars.{is_scalar, is_code}
+use Rattle.rd_base.specs.Chars.{is_code}
 use Rattle.rd_base.specs.Cells.{single}
 use Rattle.rd_base.specs.Elements.{width_at_most, columns_at_most}
 use Rattle.rd_base.specs.Faces.{Attributes}
@@ -24,6 +23,7 @@ use Rattle.rd_ucd.specs.Lookup.{class_of}
 use Rattle.rd_ucd.specs.declared.spans.Pair.{Pair}
 use Rattle.rd_objects.specs.Tables.{TableValue, IsTable, HoldsGlyph, entry_in, is_glyph_character, is_glyph_text, is_slot_glyph}
 use Rattle.rd_objects.specs.Widths.{columns}
+use Rattle.rd_objects.proofs.Widths.{few-columns}
 use Rattle.rd_objects.specs.declared.run.Slot.TheVariants.{Escape, Control}
 use Rattle.rd_objects.specs.declared.table.TableEntry.{TableEntry}
 use Rattle.rd_glyphs.specs.declared.shown.Shown.{Shown}
@@ -44,10 +44,7 @@ pub record AreOfCharacter (face : Attributes) (origin : Origin) (es : List Eleme
 -- ---- how a character is shown
 
 itself-columns : (code : ℕ) → columns code ≢ 0 → ShowsColumns (Itself code (columns code))
-itself-columns code some = by-scalar (is_scalar code) (width_or_zero false code) some (width_or_zero-le false code) where
-  by-scalar : (scalar : Bool) (n : ℕ) → (if scalar then n else 0) ≢ 0 → n ≤ 3 → (1 ≤ (if scalar then n else 0)) × ((if scalar then n else 0) ≤ 3)
-  by-scalar true n some few = (omega arith, few)
-  by-scalar false n some few = absurd (some refl)
+itself-columns code some = (omega arith, few-columns code)
 
 columns-by : (control arrow raw high formatting none : Bool) (code letter byte : ℕ) → (none ≡ false → ShowsColumns (Itself code (columns code))) →
     ShowsColumns (if control then (if arrow then Caret letter else Octal code) else if raw then Octal byte else if high then Octal code else if formatting then Space else if none then Mark code else Itself code (columns code))

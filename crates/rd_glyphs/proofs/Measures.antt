@@ -7,10 +7,8 @@ use Rattle.std.proofs.lemmas.Bool.Decides.{nat_tests}
 use Rattle.std.proofs.lemmas.List.{get_or-replicate}
 use Rattle.std.proofs.lemmas.List.Sums.{AllPass-from_list_all}
 use Rattle.std.proofs.lemmas.List.Elements.{All-map, All-cons}
-use Rattle.rd_base.proofs.Choices.{either}
 use Rattle.rd_base.proofs.Lists.{all-one}
 use Rattle.unicode_width.specs.Width.{char_width, alone}
-use Rattle.unicode_width.proofs.Rules.{width_or_zero, width_or_zero-le}
 use Rattle.rd_ucd.specs.declared.spans.Pair.{Pair}
 use Rattle.rd_ucd.specs.Lookup.{mirror_in}
 use Rattle.rd_base.specs.Chars.{is_scalar, is_code}
@@ -20,6 +18,7 @@ use Rattle.rd_base.proofs.Rows.{single-measured, printable-measured}
 use Rattle.rd_base.specs.declared.cell.Glyph.{Glyph}
 use Rattle.rd_base.specs.declared.class.Class.{Class}
 use Rattle.rd_objects.specs.Widths.{columns}
+use Rattle.rd_objects.proofs.Widths.{few-columns}
 use Rattle.rd_objects.specs.Tables.{is_glyph_character, is_slot_glyph}
 use Rattle.rd_base.specs.Faces.{Attributes}
 use Rattle.rd_base.specs.declared.element.Element.{Element}
@@ -45,7 +44,7 @@ ShowsMeasured s = Unit {0}
 -- the columns of a number that has some are those of a scalar value
 pub own-columns : (code width : ℕ) → columns code ≡ width → 1 ≤ width → char_width false code ≡ Some width
 own-columns code width own some = by-cases (is_scalar code) (char_width false code) width own some where
-  by-cases : (scalar : Bool) (found : Option ℕ) (width : ℕ) → (if scalar then unwrap_or found 0 else 0) ≡ width → 1 ≤ width → found ≡ Some width
+  by-cases : (scalar : Bool) (found : Option ℕ) (width : ℕ) → unwrap_or (if scalar then found else None) 0 ≡ width → 1 ≤ width → found ≡ Some width
   by-cases true (Some n) width own some = ap Some own
   by-cases true None width own some = absurd (omega arith)
   by-cases false found width own some = absurd (omega arith)
@@ -123,10 +122,10 @@ caret-printable : (code : ℕ) → is_control code ≡ true → (32 ≤ caret co
 caret-printable code control = (grind (arith, nat_tests), grind (arith, nat_tests))
 
 itself-measured : (code : ℕ) → columns code ≢ 0 → ShowsMeasured (Itself code (columns code))
-itself-measured code some = (own (is_scalar code) (width_or_zero false code) some, own-columns code (columns code) refl (omega arith), omega arith, either (λ (k : ℕ). k ≤ 3) (is_scalar code) (width_or_zero false code) 0 (width_or_zero-le false code) (omega arith)) where
-  own : (scalar : Bool) (n : ℕ) → (if scalar then n else 0) ≢ 0 → scalar ≡ true
-  own true n some = refl
-  own false n some = absurd (some refl)
+itself-measured code some = (own (is_scalar code) some, own-columns code (columns code) refl (omega arith), omega arith, few-columns code) where
+  own : (scalar : Bool) → unwrap_or (if scalar then char_width false code else None) 0 ≢ 0 → scalar ≡ true
+  own true some = refl
+  own false some = absurd (some refl)
 
 mirror-measured : (code width : ℕ) (other : Option ℕ) → ShowsMeasured (Itself code width) → ShowsMeasured (Itself (turned code width other) width)
 mirror-measured code width None s = s

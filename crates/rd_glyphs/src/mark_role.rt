@@ -1,8 +1,6 @@
 //! How characters stand towards marks.
-ghost use Rattle.std.specs.Prelude.{◌≡◌, None, IfSome};
-ghost use Rattle.rd_base.specs.Cells.{joined_glyph};
-ghost use Rattle.rd_base.specs.Glyphs.{IsMeasured};
-ghost use Rattle.rd_glyphs.specs.MarkRoles.{mark_role_by, IsMark};
+ghost use Rattle.std.specs.Prelude.{◌≡◌, None};
+ghost use Rattle.rd_glyphs.specs.MarkRoles.{mark_role_by};
 
 use crate::parts::Parts;
 use crate::shown::{Shown, shown_as};
@@ -63,21 +61,4 @@ fn mark_role_of_shown(shown: Shown) -> MarkRole
         Shown::Mark(code) => MarkRole::Mark(code),
         _ => MarkRole::Alone,
     }
-}
-
-/// A glyph with one more mark, and None exactly where it has six.
-pub fn joined_glyph(glyph: Glyph, code: u32) -> Option<Glyph>
-    ensures value { result ≡ joined_glyph glyph code }
-    ensures measured { IsMeasured glyph → IsMark code → IfSome result (λ g. IsMeasured g) }
-{
-    if glyph.count >= 6 {
-        return None;
-    }
-    let mut marks = glyph.marks;
-    marks[glyph.count as usize] = code;
-    Some(Glyph {
-        marks,
-        count: glyph.count + 1,
-        ..glyph
-    })
 }

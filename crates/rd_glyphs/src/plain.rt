@@ -2,15 +2,14 @@
 ghost use Rattle.std.specs.Prelude.{◌≡◌, ◌≤◌, ◌+◌, ◌++◌, length, All, IfOk, OnOk, IsTrue};
 ghost use Rattle.rd_base.specs.Chars.{is_code};
 ghost use Rattle.rd_base.specs.Cells.{single};
-ghost use Rattle.rd_base.specs.Glyphs.{glyph_cells, IsRowAfter};
+ghost use Rattle.rd_base.specs.Glyphs.{IsRowAfter};
 ghost use Rattle.rd_glyphs.specs.Characters.{looks_of, look_columns, TakesColumns, ShowsColumns};
 ghost use Rattle.rd_glyphs.specs.Held.{HoldsColumns, has_room, joined_held, joined_to, held_looks, given, held_after};
 ghost use Rattle.rd_glyphs.specs.Lines.{plain_looks, cells_of, fitted, plain_cells};
 
 use crate::looks::{look_columns, looks_of, on_blank};
-use crate::mark_role::joined_glyph;
 use crate::shown::{Shown, shown_as};
-use rd_base::{Cell, Ch, Face, Glyph, ListOf, Look, Memory};
+use rd_base::{Cell, Ch, Face, Glyph, ListOf, Look, Memory, push_glyph};
 use rd_ucd::Classes;
 use std::alloc::Global;
 
@@ -138,7 +137,7 @@ fn with_mark(glyph: Glyph, code: u32) -> Glyph
     ensures value { result ≡ joined_to glyph code }
     ensures columns { 1 ≤ glyph.width → glyph.width ≤ 3 → (1 ≤ result.width) × (result.width ≤ 3) }
 {
-    match joined_glyph(glyph, code) {
+    match glyph.joined(code) {
         Some(marked) => marked,
         None => on_blank(code),
     }
@@ -173,18 +172,7 @@ fn put_cells(cells: &mut ListOf<Cell>, look: Look, face: Face) -> Result<(), Mem
     ensures count { OnOk result (length cells.new ≡ length cells.old + look_columns look) }
 {
     match look {
-        Look::Glyph(glyph) => put_glyph(cells, glyph, face),
+        Look::Glyph(glyph) => push_glyph(cells, glyph.width as u64, glyph, face),
         _ => cells.push_copies(look_columns(look) as u64, Cell::Blank(face)),
     }
-}
-
-/// Adds the cells of a glyph.
-fn put_glyph(cells: &mut ListOf<Cell>, glyph: Glyph, face: Face) -> Result<(), Memory>
-    ensures { OnOk result (cells.new ≡ cells.old ++ glyph_cells glyph.width glyph face) }
-{
-    if glyph.is_space() {
-        return cells.push_copies(glyph.width as u64, Cell::Blank(face));
-    }
-    cells.push(Cell::First(glyph, face))?;
-    cells.push_copies((glyph.width as u64).saturating_sub(1), Cell::Rest)
 }

@@ -9,7 +9,6 @@ use crate::item::{Item, ItemKind};
 use crate::piece::{Piece, piece_at};
 use crate::showing::{Showing, char_at};
 use rd_base::{Face, Glyph, ListOf, Memory, Pos};
-use rd_glyphs::joined_glyph;
 use rd_props::{View, strings_at};
 use std::alloc::Global;
 
@@ -26,7 +25,7 @@ fn marked_glyph(base: &Option<Glyph>, mark: Option<u32>) -> Option<Glyph>
     ensures { result ≡ marked_glyph base.now mark }
 {
     match (base, mark) {
-        (Some(glyph), Some(code)) => joined_glyph(*glyph, code),
+        (Some(glyph), Some(code)) => glyph.joined(code),
         _ => None,
     }
 }

@@ -1,2 +1,3 @@
 mod Entries
 pub mod Soundness
+pub mod Widths

@@ -4,8 +4,7 @@ ghost use Rattle.rd_base.specs.Cells.{single};
 ghost use Rattle.rd_objects.specs.Widths.{columns};
 ghost use Rattle.rd_objects.specs.Tables.{is_control, is_glyph_character, has_no_glyph};
 
-use rd_base::Glyph;
-use unicode_width::UnicodeWidthChar;
+use rd_base::{Glyph, columns_of};
 
 /// The columns of a scalar value in a terminal, by Unicode's widths with ambiguous characters narrow; 0 for a mark, and for a
 /// number that is no scalar value. It costs a look into the tables of widths.
@@ -13,13 +12,7 @@ pub fn columns(code: u32) -> u8
     ensures value { result ≡ columns code }
     ensures bound { result ≤ 3 }
 {
-    match char::from_u32(code) {
-        Some(c) => match c.width() {
-            Some(width) => width as u8,
-            None => 0,
-        },
-        None => 0,
-    }
+    columns_of(code).unwrap_or(0)
 }
 
 /// The glyph character of a scalar value: in its own columns and without marks. None exactly where the code is below 32 or from

@@ -7,7 +7,7 @@ ghost use Rattle.rd_stack.specs.declared.part.Part.{Part};
 
 use crate::part::{Part, PartKind};
 use rd_base::{Glyph, ListOf, Memory};
-use rd_glyphs::{MarkRole, joined_glyph, on_blank};
+use rd_glyphs::{MarkRole, on_blank};
 use std::alloc::Global;
 
 /// Parts in which each mark has joined the part directly before it, where it may.
@@ -43,8 +43,8 @@ fn glyph_with(held: MarkRole, next: MarkRole) -> Option<Glyph>
     ensures { result ≡ marked_glyph (base_of held) (mark_of next) }
 {
     match (held, next) {
-        (MarkRole::Base(glyph), MarkRole::Mark(code)) => joined_glyph(glyph, code),
-        (MarkRole::Mark(first), MarkRole::Mark(code)) => joined_glyph(on_blank(first), code),
+        (MarkRole::Base(glyph), MarkRole::Mark(code)) => glyph.joined(code),
+        (MarkRole::Mark(first), MarkRole::Mark(code)) => on_blank(first).joined(code),
         _ => None,
     }
 }

@@ -1,26 +1,22 @@
 -- A display table of an op in form keeps what tables keep.
-use Rattle.std.proofs.Common.{◌≡◌, ℕ, ◌≤◌, ◌&&◌, ◌||◌, ◌==◌, not, Bool, true, false, nat_le, List, [], ◌∷◌, length, map, Option, None, Some, subst, ap, refl, ◌∙◌, arith, IsTrue}
+use Rattle.std.proofs.Common.{◌≡◌, ℕ, ◌&&◌, ◌||◌, ◌==◌, not, Bool, true, false, nat_le, List, [], ◌∷◌, length, map, Option, None, Some, subst, ap, refl, ◌∙◌, arith, IsTrue}
 use Rattle.std.proofs.lemmas.Bool.{and_parts, and_from}
 use Rattle.std.proofs.lemmas.Bool.Decides.{nat_tests}
 use Rattle.std.proofs.lemmas.List.{length-map}
 use Rattle.std.proofs.lemmas.List.Elements.{All-map, All-weaker}
-use Rattle.rd_base.proofs.Choices.{either}
 use Rattle.std.specs.List.{list_all}
 use Rattle.std.specs.Prelude.{All, option_map}
-use Rattle.unicode_width.proofs.Rules.{width_or_zero-le}
 use Rattle.rd_base.specs.Chars.{is_scalar}
 use Rattle.rd_base.specs.declared.cell.Glyph.{Glyph}
 use Rattle.rd_base.specs.declared.limits.TheConstants.{ENTRY_GLYPHS}
 use Rattle.rd_objects.specs.Tables as tables
 use Rattle.rd_objects.specs.Tables.{is_control, has_no_glyph, is_glyph_character, is_slot_glyph, HoldsGlyph, IsTable}
 use Rattle.rd_objects.specs.Widths.{columns}
+use Rattle.rd_objects.proofs.Widths.{few-columns}
 use Rattle.rd_objects.specs.declared.table.TableEntry.{TableEntry}
 use Rattle.rd_script.specs.Forms.{is_glyph, is_glyph_text, is_slot, IsSlot, IsEllipsis, IsEntryInForm}
 use Rattle.rd_script.specs.declared.object.OpEntry.{OpEntry}
 use Rattle.rd_state.specs.Making.{glyph_of, entry_of, table_of}
-
-few-columns : (c : ℕ) → columns c ≤ 3
-few-columns c = either (λ (k : ℕ). k ≤ 3) (is_scalar c) _ 0 (width_or_zero-le false c) (omega arith)
 
 neither : (a b : Bool) → not (a || b) ≡ true → (not a ≡ true) × (b ≡ false)
 neither true b h = absurd (cc)
