@@ -1,11 +1,11 @@
 //! What a window shows, and the sizes of its text.
 ghost use Rattle.std.specs.Prelude.{◌≡◌, ◌+◌, ◌≤◌};
-ghost use Rattle.rd_rows.specs.Rows.{mark};
 ghost use Rattle.rd_tree.specs.Windows.{columns_for, rows_for};
 ghost use Rattle.rd_frame.specs.Panes.{border_cell, has_border, body_width, body_height};
 
-use rd_base::{Cell, Face, Glyph, ListOf};
+use rd_base::{Cell, Glyph, ListOf};
 use rd_matrix::Matrix;
+use rd_rows::mark_cell;
 use rd_tree::Placed;
 use std::marker::Model;
 
@@ -39,19 +39,9 @@ pub fn border_cell(slot: Option<Glyph>) -> Cell
     ensures { result ≡ border_cell slot }
 {
     match slot {
-        Some(glyph) => mark(glyph),
-        None => mark(Glyph::single('|' as u32, 1)),
+        Some(glyph) => mark_cell(&glyph),
+        None => mark_cell(&Glyph::single('|' as u32, 1)),
     }
-}
-
-/// The cell of a glyph of one column.
-fn mark(glyph: Glyph) -> Cell
-    ensures { result ≡ mark glyph }
-{
-    if glyph.is_space() {
-        return Cell::Blank(Face::PLAIN);
-    }
-    Cell::First(glyph, Face::PLAIN)
 }
 
 /// Whether a window has a border, on a frame of so many columns: it has one where its rectangle does not reach the right edge.

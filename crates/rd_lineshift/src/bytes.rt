@@ -1,14 +1,12 @@
 //! The bytes of shifts.
-ghost use Rattle.std.specs.Prelude.{◌≡◌, ◌+◌, ◌≤◌, ◌++◌, OnOk, IfOk, unsigned_abs};
-ghost use Rattle.std.specs.List.{flat_map};
-ghost use Rattle.rd_update.specs.Updates.{parameter, sequence};
+ghost use Rattle.std.specs.Prelude.{◌≡◌, ◌≤◌, ◌++◌, OnOk, IfOk, unsigned_abs};
 ghost use Rattle.rd_lineshift.specs.Laws.{IsShift, is_up as is_move_up};
 ghost use Rattle.rd_lineshift.specs.Shifts.{moving, shift_bytes as bytes_of};
 
 use crate::band::Shift;
-use itoa::Buffer;
 use rd_base::limits::FRAME_ROWS;
 use rd_base::{ListOf, Memory};
+use rd_update::push_sequence;
 use std::alloc::Global;
 
 /// Whether a shift moves rows up.
@@ -39,27 +37,4 @@ fn push_moving(bytes: &mut ListOf<u8>, by: i64) -> Result<(), Memory>
 {
     let last = if is_up(by) { b'M' } else { b'L' };
     push_sequence(bytes, by.unsigned_abs() as u32, &[], last)
-}
-
-/// Adds a control sequence: its first number, the others, and its last byte.
-fn push_sequence(bytes: &mut ListOf<u8>, first: u32, others: &[u32], last: u8) -> Result<(), Memory>
-    ensures { OnOk result (bytes.new ≡ bytes.old ++ sequence first others.now last) }
-{
-    let mut buffer = Buffer::new();
-    bytes.extend_from_slice(b"\x1b[")?;
-    bytes.extend_from_slice(buffer.format(first).as_bytes())?;
-    push_parameters(bytes, others)?;
-    bytes.push(last)
-}
-
-/// Adds numbers, each behind a semicolon.
-fn push_parameters(bytes: &mut ListOf<u8>, numbers: &[u32]) -> Result<(), Memory>
-    ensures { OnOk result (bytes.new ≡ bytes.old ++ flat_map parameter numbers.now) }
-{
-    for number in numbers {
-        let mut buffer = Buffer::new();
-        bytes.push(b';')?;
-        bytes.extend_from_slice(buffer.format(*number).as_bytes())?;
-    }
-    Ok(())
 }

@@ -1,7 +1,6 @@
 //! A row that is being made.
 ghost use Rattle.std.specs.Prelude.{◌≡◌, ◌+◌, ◌-◌, ◌^◌, ◌<◌, ◌≤◌, ◌++◌, [], List, length, OnOk, IfOk};
 ghost use Rattle.rd_base.specs.Elements.{width_at_most};
-ghost use Rattle.rd_base.specs.Glyphs.{glyph_cells};
 ghost use Rattle.rd_base.specs.declared.element.Element.{Element};
 ghost use Rattle.rd_rows.specs.declared.spot.Placed.{Placed};
 ghost use Rattle.rd_rows.specs.declared.spot.Spot.{Spot};
@@ -18,7 +17,7 @@ use crate::row::Row;
 use crate::shape::Shape;
 use crate::spot::{Placed, Spot};
 use rd_base::limits::PREFIX_COLUMNS;
-use rd_base::{Cell, Element, Face, Glyph, ListOf, Look, Memory};
+use rd_base::{Cell, Element, Face, Glyph, ListOf, Look, Memory, push_glyph};
 use std::alloc::Global;
 
 /// The cells and the items of the elements that were placed in a row so far, where the next element comes, and how many elements
@@ -41,8 +40,8 @@ pub struct Break {
     pub placed: u64,
 }
 
-/// The cell of a mark.
-fn mark(glyph: &Glyph) -> Cell
+/// The cell of a glyph of one column in the plain face, as a mark and a border have it. A space gives a blank.
+pub fn mark_cell(glyph: &Glyph) -> Cell
     ensures { result ≡ mark glyph.now }
 {
     if glyph.is_space() {
@@ -51,23 +50,12 @@ fn mark(glyph: &Glyph) -> Cell
     Cell::First(*glyph, Face::PLAIN)
 }
 
-/// Adds the cells of a glyph.
-fn add_glyph(cells: &mut ListOf<Cell>, columns: u64, glyph: Glyph, face: Face) -> Result<(), Memory>
-    ensures { OnOk result (cells.new ≡ cells.old ++ glyph_cells columns glyph face) }
-{
-    if glyph.is_space() {
-        return cells.push_copies(columns, Cell::Blank(face));
-    }
-    cells.push(Cell::First(glyph, face))?;
-    cells.push_copies(columns.saturating_sub(1), Cell::Rest)
-}
-
 /// Adds the cells of an element that is seen whole.
 fn add_whole(cells: &mut ListOf<Cell>, placed: &Placed) -> Result<(), Memory>
     ensures { OnOk result (cells.new ≡ cells.old ++ whole_cells placed.now.columns (glyph_in placed.now.element.look) placed.now.element.face) }
 {
     match placed.element.look {
-        Look::Glyph(glyph) => add_glyph(cells, placed.columns, glyph, placed.element.face),
+        Look::Glyph(glyph) => push_glyph(cells, placed.columns, glyph, placed.element.face),
         _ => cells.push_copies(placed.columns, Cell::Blank(placed.element.face)),
     }
 }
@@ -211,7 +199,7 @@ fn behind_mark(
         return Ok(cells);
     }
     let mut marked = ListOf::new(alloc);
-    marked.push(mark(&cutting.truncation))?;
+    marked.push(mark_cell(&cutting.truncation))?;
     marked.extend_from_slice(cells.as_slice())?;
     Ok(marked)
 }
@@ -232,12 +220,12 @@ fn last_cell(cutting: &Cutting, used: u64, continued: bool) -> Cell
 {
     if cutting.shape.truncates() {
         if used > cutting.shape.hscroll as u64 + cutting.shape.room() {
-            return mark(&cutting.truncation);
+            return mark_cell(&cutting.truncation);
         }
         return Cell::Blank(Face::PLAIN);
     }
     if continued {
-        return mark(&cutting.continuation);
+        return mark_cell(&cutting.continuation);
     }
     Cell::Blank(Face::PLAIN)
 }

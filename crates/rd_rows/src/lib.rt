@@ -44,6 +44,7 @@ mod shape;
 mod spot;
 
 pub use begin::Begin;
+pub use draft::mark_cell;
 pub use laws::{
     prefixes_stand_before_lines, rows_are_coloured, rows_are_whole, rows_behind_quiet_prefixes,
     rows_of_every_line,

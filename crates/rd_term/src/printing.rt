@@ -104,11 +104,6 @@ fn marked(cell: &Option<Cell>, code: u32) -> Option<Cell>
 fn joined_cell(glyph: &Glyph, code: u32, face: Face) -> Option<Cell>
     ensures { result ≡ joined_cell code glyph.now face }
 {
-    if glyph.count >= 6 {
-        return None;
-    }
-    let mut more = *glyph;
-    more.marks[more.count as usize] = code;
-    more.count += 1;
+    let more = glyph.joined(code)?;
     Some(Cell::First(more, face))
 }

@@ -1,23 +1,23 @@
--- What the numbers, moves and clears of an update do to a terminal that is not confused and stands between two sequences.
-use Rattle.std.proofs.Common.{◌≡◌, ℕ, suc, ◌+◌, ◌-◌, ◌/◌, ◌%◌, ◌^◌, ◌<◌, ◌≤◌, Bool, true, false, nat_lt, List, [], ◌∷◌, ◌++◌, length, get_or, map, Option, None, Some, refl, ap, ◌∙◌, arith}
+-- What the numbers and clears of an update do to a terminal that is not confused and stands between two sequences.
+use Rattle.std.proofs.Common.{◌≡◌, ℕ, suc, ◌+◌, ◌-◌, ◌/◌, ◌%◌, ◌^◌, ◌<◌, ◌≤◌, Bool, true, false, nat_lt, List, [], ◌∷◌, ◌++◌, length, map, Option, None, Some, refl, ap, ◌∙◌, arith}
 use Rattle.std.specs.Fmt.{decimal}
 use Rattle.std.proofs.lemmas.Bool.Decides.{nat_tests}
 use Rattle.std.proofs.lemmas.Fmt.{decimal_by_steps}
 use Rattle.std.specs.Char.{is_ascii_digit}
 use Rattle.rd_base.specs.Faces.{Attributes, plain}
 use Rattle.rd_term.specs.Parameters.{longer}
-use Rattle.rd_term.specs.Terminals.{Tty, feed_byte, feed_bytes, on_screen}
+use Rattle.rd_term.specs.Terminals.{Tty, feed_byte, feed_bytes}
 use Rattle.rd_term.specs.Shifts.{cleared}
 use Rattle.rd_term.specs.declared.reading.Reading.TheVariants.{Sequence}
 use Rattle.rd_term.proofs.Encoded.{Rows, reading_at, standing}
 use Rattle.rd_term.proofs.Feeding.{feed_bytes-append}
-use Rattle.rd_update.specs.Updates.{move, repaint}
+use Rattle.rd_update.specs.Updates.{repaint}
 
 -- a terminal within a sequence
 abbrev pub amid : (region : Option (ℕ × ℕ)) → Rows → Option (ℕ × ℕ) → Bool → Option Attributes → List ℕ → Option ℕ → Tty
 amid region rows cursor wait pen ended last = reading_at region rows cursor wait pen None (Sequence (record { ended = ended; last = last; gap = false }))
 
--- ---- numbers and moves
+-- ---- numbers
 
 first_digit : (region : Option (ℕ × ℕ)) → (rows : Rows) (cursor : Option (ℕ × ℕ)) (wait : Bool) (pen : Option Attributes) (ended : List ℕ) (byte : ℕ)
     → is_ascii_digit byte ≡ true → nat_lt (length ended) 16 ≡ true
@@ -52,29 +52,6 @@ decimal_fed region rows cursor wait pen ended n room small =
     ∙ ap (λ j. amid region rows cursor wait pen ended (Some j)) value in
     let fits : n < 2 ^ 64 = omega arith in
     decimal_by_steps P one more n fits small
-
-on_screen-here : (rows : Rows) (row column : ℕ) → row < length rows → column < length (get_or rows row []) → on_screen rows (row + 1) (column + 1) ≡ true
-on_screen-here rows row column r c =
-    let e : row + 1 - 1 ≡ row = omega arith in
-    rw e (grind (arith, nat_tests))
-
-pub move_fed : (region : Option (ℕ × ℕ)) → (rows : Rows) (cursor : Option (ℕ × ℕ)) (wait : Bool) (pen : Option Attributes) (latest : Option (ℕ × ℕ)) (row column : ℕ)
-    → row < length rows → column < length (get_or rows row []) → row < 65535 → column < 65535
-    → feed_bytes (standing region rows cursor wait pen latest) (move row column) ≡ standing region rows (Some (row, column)) false pen None
-move_fed region rows cursor wait pen latest row column r c row_small column_small =
-    let before : row + 1 ≤ 65535 = omega arith in
-    let behind : column + 1 ≤ 65535 = omega arith in
-    let none : length {A = ℕ} [] < 16 = omega arith in
-    let one : length ((row + 1) ∷ []) < 16 = omega arith in
-    let here = on_screen-here rows row column r c in
-    let e : row + 1 - 1 ≡ row = omega arith in
-    let f : column + 1 - 1 ≡ column = omega arith in
-    let last : feed_byte (amid region rows cursor wait pen ((row + 1) ∷ []) (Some (column + 1))) 72 ≡ standing region rows (Some (row, column)) false pen None = rw (here, e, f) in
-    feed_bytes-append (amid region rows cursor wait pen [] None) (decimal (row + 1)) (59 ∷ (decimal (column + 1) ++ 72 ∷ []))
-    ∙ ap (λ t. feed_bytes t (59 ∷ (decimal (column + 1) ++ 72 ∷ []))) (decimal_fed region rows cursor wait pen [] (row + 1) none before)
-    ∙ feed_bytes-append (amid region rows cursor wait pen ((row + 1) ∷ []) None) (decimal (column + 1)) (72 ∷ [])
-    ∙ ap (λ t. feed_bytes t (72 ∷ [])) (decimal_fed region rows cursor wait pen ((row + 1) ∷ []) (column + 1) one behind)
-    ∙ last
 
 -- ---- clears
 

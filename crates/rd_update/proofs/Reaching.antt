@@ -17,7 +17,8 @@ use Rattle.rd_update.specs.Laws.{IsReady, IsUpdated}
 use Rattle.rd_term.proofs.Cutting.{map-replicate}
 use Rattle.rd_term.proofs.Encoded.{Rows, standing}
 use Rattle.rd_term.proofs.Feeding.{feed_bytes-append}
-use Rattle.rd_update.proofs.Feeding.{move_fed, repaint_fed}
+use Rattle.rd_update.proofs.Feeding.{repaint_fed}
+use Rattle.rd_update.proofs.Sequences.{move_fed}
 use Rattle.rd_update.proofs.Rows.{rows_fed}
 use Rattle.rd_update.proofs.Sequences.{tty-same}
 use Rattle.rd_update.proofs.Soundness.{after-all, length-after}

@@ -19,7 +19,7 @@ use Rattle.rd_term.proofs.Encoded.{Rows, standing}
 use Rattle.rd_term.proofs.Feeding.{feed_bytes-append}
 use Rattle.rd_update.specs.Updates.{move, erase_to_end, text_by, pen_behind, dress, first_difference, end_of_differences, going_on, goes_on, begin_of, end_of, used, differs, row_bytes, rows_bytes, rows_after, allows, less_one}
 use Rattle.rd_update.proofs.Dressing.{dress_fed}
-use Rattle.rd_update.proofs.Feeding.{move_fed}
+use Rattle.rd_update.proofs.Sequences.{move_fed}
 use Rattle.rd_update.proofs.Spans.{front-same, back-same, no-difference, first_before, end_within, blank-from, three-parts, begin-le, begin-is, begin-first, going-le, going-stops, going-whole, at-whole}
 use Rattle.rd_update.proofs.Texts.{TextFed, text_fed}
 
@@ -48,25 +48,21 @@ none-due (suc due) (Blank f ∷ cells) h e = absurd h
 none-due (suc due) (First g f ∷ cells) h e = absurd h
 none-due (suc due) (Rest ∷ cells) h e = absurd (cc)
 
-whole-drop : (n due : ℕ) (cells : List Cell) → IsRowAfter due cells → later_columns (map Some (drop n cells)) ≡ 0 → n ≤ length cells → IsRowAfter 0 (drop n cells)
-whole-drop zero due cells h e le = subst (λ d. IsRowAfter d cells) (none-due due cells h e) h
-whole-drop (suc n) due [] h e le = absurd (omega arith)
-whole-drop (suc n) zero (Blank f ∷ cells) h e le = whole-drop n 0 cells h e (omega arith)
-whole-drop (suc n) zero (First g f ∷ cells) h e le = whole-drop n (g.width - 1) cells h.1 e (omega arith)
-whole-drop (suc n) zero (Rest ∷ cells) h e le = absurd h
-whole-drop (suc n) (suc due) (Rest ∷ cells) h e le = whole-drop n due cells h e (omega arith)
-whole-drop (suc n) (suc due) (Blank f ∷ cells) h e le = absurd h
-whole-drop (suc n) (suc due) (First g f ∷ cells) h e le = absurd h
-
-whole-take : (n due : ℕ) (cells : List Cell) → IsRowAfter due cells → later_columns (map Some (drop n cells)) ≡ 0 → n ≤ length cells → IsRowAfter due (take n cells)
-whole-take zero due cells h e le = subst (λ d. IsRowAfter d []) (sym (none-due due cells h e)) tt
-whole-take (suc n) due [] h e le = absurd (omega arith)
-whole-take (suc n) zero (Blank f ∷ cells) h e le = whole-take n 0 cells h e (omega arith)
-whole-take (suc n) zero (First g f ∷ cells) h e le = (h.0, whole-take n (g.width - 1) cells h.1 e (omega arith))
-whole-take (suc n) zero (Rest ∷ cells) h e le = absurd h
-whole-take (suc n) (suc due) (Rest ∷ cells) h e le = whole-take n due cells h e (omega arith)
-whole-take (suc n) (suc due) (Blank f ∷ cells) h e le = absurd h
-whole-take (suc n) (suc due) (First g f ∷ cells) h e le = absurd h
+-- both parts of a row that is cut where no character goes on hold whole characters
+whole-cut : (n due : ℕ) (cells : List Cell) → IsRowAfter due cells → later_columns (map Some (drop n cells)) ≡ 0 → n ≤ length cells
+    → IsRowAfter due (take n cells) × IsRowAfter 0 (drop n cells)
+whole-cut zero due cells h e le =
+    let none = none-due due cells h e in
+    (subst (λ d. IsRowAfter d []) (sym none) tt, subst (λ d. IsRowAfter d cells) none h)
+whole-cut (suc n) due [] h e le = absurd (omega arith)
+whole-cut (suc n) zero (Blank f ∷ cells) h e le = whole-cut n 0 cells h e (omega arith)
+whole-cut (suc n) zero (First g f ∷ cells) h e le =
+    let cut = whole-cut n (g.width - 1) cells h.1 e (omega arith) in
+    ((h.0, cut.0), cut.1)
+whole-cut (suc n) zero (Rest ∷ cells) h e le = absurd h
+whole-cut (suc n) (suc due) (Rest ∷ cells) h e le = whole-cut n due cells h e (omega arith)
+whole-cut (suc n) (suc due) (Blank f ∷ cells) h e le = absurd h
+whole-cut (suc n) (suc due) (First g f ∷ cells) h e le = absurd h
 
 later-blanks : (n : ℕ) → later_columns (map Some (replicate n blank)) ≡ 0
 later-blanks zero = refl
@@ -75,7 +71,7 @@ later-blanks (suc n) = refl
 -- from its begin the interval holds whole characters
 begin-whole : (old new : List Cell) (a : ℕ) → a < length old → a < length new → IsRowAfter 0 new → (a ≡ 0) ⊎ (goes_on old new a ≡ false) → IsRowAfter 0 (drop a new)
 begin-whole old new a p q h (inl e) = subst (λ k. IsRowAfter 0 (drop k new)) (sym e) h
-begin-whole old new a p q h (inr e) = whole-drop a 0 new h (at-whole old new a p q e).1 (omega (arith, q))
+begin-whole old new a p q h (inr e) = (whole-cut a 0 new h (at-whole old new a p q e).1 (omega (arith, q))).1
 
 -- ---- the end of a row
 
@@ -241,7 +237,7 @@ row_fed region above below old new cursor wait latest w few old_wide new_wide na
     let from_begin : IsRowAfter 0 (drop a new) = begin-whole old new a here (omega arith) row (begin-is old new first) in
     let sum : begin_of old new + (m - begin_of old new) ≡ m = omega arith in
     let stops : later_columns (map Some (drop (m - a) (drop a new))) ≡ 0 = ap (λ xs. later_columns (map Some xs)) (drop-drop (m - a) a new ∙ ap (λ j. drop j new) sum) ∙ text-ends old new k m same refl past in
-    let whole : IsRowAfter 0 cells = whole-take (m - a) 0 (drop a new) from_begin stops (omega (arith, length-drop a new)) in
+    let whole : IsRowAfter 0 cells = (whole-cut (m - a) 0 (drop a new) from_begin stops (omega (arith, length-drop a new))).0 in
     let fits : length cells ≤ length mid = omega (arith, cells_length, mid_length) in
     let enough : length cells ≤ length cells = omega arith in
     let fed = text_fed region (length cells) above below front mid back cells plain None enough fits whole (each-take IsColoured (m - a) (drop a new) (each-drop IsColoured a new colours)) starts ends.0 in

@@ -1,19 +1,20 @@
 -- A whole control sequence, read by a terminal that is not confused and stands between two sequences.
-use Rattle.std.proofs.Common.{◌≡◌, ℕ, ◌+◌, ◌<◌, ◌≤◌, ◌==◌, Bool, false, List, [], ◌∷◌, ◌++◌, length, All, Option, None, Some, refl, sym, ap, ◌∙◌, arith, append_assoc}
+use Rattle.std.proofs.Common.{◌≡◌, ℕ, ◌+◌, ◌-◌, ◌<◌, ◌≤◌, ◌==◌, Bool, true, false, List, [], ◌∷◌, ◌++◌, length, get_or, All, Option, None, Some, refl, sym, ap, ◌∙◌, arith, append_assoc}
 use Rattle.std.specs.Fmt.{decimal}
 use Rattle.std.specs.List.{flat_map, AllByRecursion}
+use Rattle.std.proofs.lemmas.Bool.Decides.{nat_tests}
 use Rattle.std.proofs.lemmas.List.{length-append}
 use Rattle.std.proofs.lemmas.List.Elements.{recursion_from_All}
 use Rattle.std.specs.Char.{is_ascii_digit}
 use Rattle.rd_base.specs.Faces.{Attributes}
 use Rattle.rd_term.specs.Controls.{control_of}
 use Rattle.rd_term.specs.Steps.{at_end}
-use Rattle.rd_term.specs.Terminals.{Tty, feed_byte, feed_bytes, perform}
+use Rattle.rd_term.specs.Terminals.{Tty, feed_byte, feed_bytes, on_screen, perform}
 use Rattle.rd_term.specs.declared.reading.Reading.{Reading}
 use Rattle.rd_term.specs.declared.reading.Reading.TheVariants.{Between}
 use Rattle.rd_term.proofs.Encoded.{Rows, standing}
 use Rattle.rd_term.proofs.Feeding.{feed_bytes-append}
-use Rattle.rd_update.specs.Updates.{parameter, sequence}
+use Rattle.rd_update.specs.Updates.{parameter, sequence, move}
 use Rattle.rd_update.proofs.Feeding.{amid, decimal_fed}
 
 -- what a sequence of these numbers with this last byte does
@@ -55,6 +56,22 @@ sequence_fed region rows cursor wait pen latest n byte ns d s first small few =
     feed_bytes-append (amid region rows cursor wait pen [] None) (decimal n) (flat_map parameter ns ++ byte ∷ [])
     ∙ ap (λ t. feed_bytes t (flat_map parameter ns ++ byte ∷ [])) (decimal_fed region rows cursor wait pen [] n none first)
     ∙ parameters_fed region rows cursor wait pen [] n byte ns d s room small
+
+-- ---- moves
+
+on_screen-here : (rows : Rows) (row column : ℕ) → row < length rows → column < length (get_or rows row []) → on_screen rows (row + 1) (column + 1) ≡ true
+on_screen-here rows row column r c =
+    let e : row + 1 - 1 ≡ row = omega arith in
+    rw e (grind (arith, nat_tests))
+
+pub move_fed : (region : Option (ℕ × ℕ)) → (rows : Rows) (cursor : Option (ℕ × ℕ)) (wait : Bool) (pen : Option Attributes) (latest : Option (ℕ × ℕ)) (row column : ℕ)
+    → row < length rows → column < length (get_or rows row []) → row < 65535 → column < 65535
+    → feed_bytes (standing region rows cursor wait pen latest) (move row column) ≡ standing region rows (Some (row, column)) false pen None
+move_fed region rows cursor wait pen latest row column r c row_small column_small =
+    let here = on_screen-here rows row column r c in
+    let e : row + 1 - 1 ≡ row = omega arith in
+    let f : column + 1 - 1 ≡ column = omega arith in
+    sequence_fed region rows cursor wait pen latest (row + 1) 72 ((column + 1) ∷ []) refl refl (omega arith) (omega arith, tt) (omega arith) ∙ rw (here, e, f) refl
 
 -- ---- any terminal
 

@@ -66,10 +66,6 @@ differs old new = nat_lt 0 (end_of_differences old new)
 
 -- ---- bytes
 
--- `\e[r;cH`, for a row and a column from 0
-abbrev pub move : ℕ → ℕ → List ℕ
-move row column = 27 ∷ 91 ∷ (decimal (row + 1) ++ 59 ∷ (decimal (column + 1) ++ 72 ∷ []))
-
 -- `\e[K`
 abbrev pub erase_to_end : List ℕ
 erase_to_end = 27 ∷ 91 ∷ 75 ∷ []
@@ -97,6 +93,10 @@ parameter n = 59 ∷ decimal n
 -- a control sequence: its numbers between semicolons, and its last byte
 abbrev pub sequence : ℕ → List ℕ → ℕ → List ℕ
 sequence n ns last = 27 ∷ 91 ∷ (decimal n ++ (flat_map parameter ns ++ last ∷ []))
+
+-- `\e[r;cH`, for a row and a column from 0
+abbrev pub move : ℕ → ℕ → List ℕ
+move row column = sequence (row + 1) ((column + 1) ∷ []) 72
 
 -- `\e[0;a;b;..m`, by which the pen becomes a face
 abbrev pub rendition : Attributes → List ℕ

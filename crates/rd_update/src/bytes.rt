@@ -1,11 +1,11 @@
-//! The bytes of moves, cells and rows.
+//! The bytes of control sequences, moves, cells and rows.
 ghost use Rattle.std.specs.Prelude.{◌≡◌, ◌<◌, ◌++◌, length, OnOk, IfOk};
 ghost use Rattle.std.specs.List.{flat_map};
 ghost use Rattle.rd_base.specs.Cells.{face_after};
 ghost use Rattle.rd_base.specs.Faces.{plain};
 ghost use Rattle.rd_base.specs.Chars.{encoded};
 ghost use Rattle.rd_base.specs.Glyphs.{glyph_bytes};
-ghost use Rattle.rd_update.specs.Updates.{move as move_bytes, renditions, number_if, parameter, dress, text_of_cell, text_by, pen_behind, row_bytes, first_difference as first_column, end_of_differences as end_column};
+ghost use Rattle.rd_update.specs.Updates.{move as move_bytes, renditions, number_if, parameter, sequence, dress, text_of_cell, text_by, pen_behind, row_bytes, first_difference as first_column, end_of_differences as end_column};
 
 use crate::span::{Columns, interval, used};
 use itoa::Buffer;
@@ -17,12 +17,34 @@ pub(crate) fn push_move(bytes: &mut ListOf<u8>, row: u32, column: u32) -> Result
     requires column { column < 65535 }
     ensures { OnOk result (bytes.new ≡ bytes.old ++ move_bytes row column) }
 {
+    push_sequence(bytes, row + 1, &[column + 1], b'H')
+}
+
+/// Adds a control sequence: its first number, the others, and its last byte. Its one error is want of memory.
+pub fn push_sequence(
+    bytes: &mut ListOf<u8>,
+    first: u32,
+    others: &[u32],
+    last: u8,
+) -> Result<(), Memory>
+    ensures { OnOk result (bytes.new ≡ bytes.old ++ sequence first others.now last) }
+{
     let mut buffer = Buffer::new();
     bytes.extend_from_slice(b"\x1b[")?;
-    bytes.extend_from_slice(buffer.format(row + 1).as_bytes())?;
-    bytes.push(b';')?;
-    bytes.extend_from_slice(buffer.format(column + 1).as_bytes())?;
-    bytes.push(b'H')?;
+    bytes.extend_from_slice(buffer.format(first).as_bytes())?;
+    push_parameters(bytes, others)?;
+    bytes.push(last)
+}
+
+/// Adds numbers, each behind a semicolon.
+fn push_parameters(bytes: &mut ListOf<u8>, numbers: &[u32]) -> Result<(), Memory>
+    ensures { OnOk result (bytes.new ≡ bytes.old ++ flat_map parameter numbers.now) }
+{
+    for number in numbers {
+        let mut buffer = Buffer::new();
+        bytes.push(b';')?;
+        bytes.extend_from_slice(buffer.format(*number).as_bytes())?;
+    }
     Ok(())
 }
 
@@ -146,9 +168,7 @@ fn push_if(bytes: &mut ListOf<u8>, holds: bool, number: u8) -> Result<(), Memory
     ensures { OnOk result (bytes.new ≡ bytes.old ++ flat_map parameter (number_if holds number)) }
 {
     if holds {
-        let mut buffer = Buffer::new();
-        bytes.push(b';')?;
-        bytes.extend_from_slice(buffer.format(number).as_bytes())?;
+        return push_parameters(bytes, &[number as u32]);
     }
     Ok(())
 }

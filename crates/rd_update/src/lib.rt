@@ -34,6 +34,7 @@ mod plan;
 mod span;
 mod words;
 
+pub use bytes::push_sequence;
 pub use law::{
     intervals_are_least, sequences_are_read, update_law, updates_keep_screens_sound,
     updates_reach_their_targets,

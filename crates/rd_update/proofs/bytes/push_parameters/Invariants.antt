@@ -1,7 +1,7 @@
 use Rattle.std.proofs.Common.{◌≡◌, ◌++◌, drop}
 use Rattle.std.specs.List.{flat_map}
 use Rattle.rd_update.specs.Updates.{parameter}
-use Rattle.rd_lineshift.proofs.bytes.push_parameters.Given as goal
+use Rattle.rd_update.proofs.bytes.push_parameters.Given as goal
 
 -- the bytes so far and those of the other numbers
 abbrev pub invariant-loop-number : goal.invariant-loop-number
