@@ -1,9 +1,9 @@
 -- Rows that are counted by their numbers.
-use Rattle.std.proofs.Common.{◌≡◌, ◌≢◌, ℕ, zero, suc, ◌+◌, ◌-◌, ◌<◌, ◌==◌, Bool, true, false, not, if◌then◌else◌, List, [], ◌∷◌, ◌++◌, length, get_or, map, drop, replicate, refl, sym, ap, ap₂, ◌∙◌, arith}
+use Rattle.std.proofs.Common.{◌≡◌, ℕ, zero, suc, ◌+◌, ◌<◌, ◌==◌, Bool, true, false, not, if◌then◌else◌, List, [], ◌∷◌, ◌++◌, length, get_or, map, refl, sym, ap, ap₂, ◌∙◌, arith}
 use Rattle.std.specs.List.{AllByRecursion}
-use Rattle.std.proofs.lemmas.Bool.{eq-eqb, eqb-true, ne_eqb}
+use Rattle.std.proofs.lemmas.Bool.{eq-eqb, eqb-true}
 use Rattle.std.proofs.lemmas.Bool.Decides.{nat_tests}
-use Rattle.std.proofs.lemmas.List.{drop_more, get_or_default}
+use Rattle.std.proofs.lemmas.List.{get_or_default}
 use Rattle.std.proofs.lemmas.List.Elements.{recursion_from_All}
 use Rattle.rd_base.specs.declared.cell.Cell.{Cell}
 use Rattle.rd_update.specs.Updates.{differs, differing}
@@ -24,29 +24,6 @@ unlike-append (x ∷ a) b [] d e = absurd (omega arith)
 unlike-append (x ∷ a) b (y ∷ c) d e =
     let ih = unlike-append a b c d (omega arith) in
     ap (λ n. if x == y then n else suc n) ih ∙ append-step (x == y) (unlike a c) (unlike b d)
-
--- numbers beside one number
-one-at : (x : ℕ) (xs : List ℕ) (i : ℕ) → i < length xs
-    → unlike (replicate (length xs - i) x) (drop i xs)
-    ≡ (if x == get_or xs i 0 then unlike (replicate (length xs - (i + 1)) x) (drop (i + 1) xs) else suc (unlike (replicate (length xs - (i + 1)) x) (drop (i + 1) xs)))
-one-at x xs i p =
-    let e : length xs - i ≡ suc (length xs - (i + 1)) = omega arith in
-    ap (λ k. unlike (replicate k x) (drop i xs)) e
-    ∙ ap (unlike (replicate (suc (length xs - (i + 1))) x)) (drop_more xs i 0 p)
-
-pub one-same : (x : ℕ) (xs : List ℕ) (i count whole : ℕ) → i < length xs → x ≡ get_or xs i 0 → count + unlike (replicate (length xs - i) x) (drop i xs) ≡ whole
-    → count + unlike (replicate (length xs - (i + 1)) x) (drop (i + 1) xs) ≡ whole
-one-same x xs i count whole p e h =
-    let rest = unlike (replicate (length xs - (i + 1)) x) (drop (i + 1) xs) in
-    ap (λ k. count + k) (sym (one-at x xs i p ∙ ap (λ b. if b then rest else suc rest) (eq-eqb x (get_or xs i 0) e))) ∙ h
-
-pub one-other : (x : ℕ) (xs : List ℕ) (i count whole : ℕ) → i < length xs → x ≢ get_or xs i 0 → count + unlike (replicate (length xs - i) x) (drop i xs) ≡ whole
-    → count + 1 + unlike (replicate (length xs - (i + 1)) x) (drop (i + 1) xs) ≡ whole
-one-other x xs i count whole p e h =
-    let rest = unlike (replicate (length xs - (i + 1)) x) (drop (i + 1) xs) in
-    let test : (x == get_or xs i 0) ≡ false = ne_eqb x (get_or xs i 0) e in
-    let more : suc (unlike (replicate (length xs - (i + 1)) x) (drop (i + 1) xs)) ≡ unlike (replicate (length xs - i) x) (drop i xs) = sym (one-at x xs i p ∙ ap (λ b. if b then rest else suc rest) test) in
-    omega (arith, more, h)
 
 -- ---- rows of equal numbers are the same
 

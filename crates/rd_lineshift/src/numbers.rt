@@ -33,11 +33,6 @@ pub(crate) fn unlike_one(number: u64, others: &[u64]) -> u32
     ensures value { result ≡ unlike_of (replicate (length others.now) number) others.now }
     ensures bound { result ≤ length others.now }
 {
-    let mut count = 0;
-    for i in 0..others.len() {
-        if number != others[i] {
-            count += 1;
-        }
-    }
-    count
+    let alike = [number; ROWS];
+    unlike(&alike[..others.len()], others)
 }
