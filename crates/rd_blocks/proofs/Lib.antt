@@ -1,4 +1,3 @@
-mod Origins
 mod Gives
 mod Within
 mod Ranges

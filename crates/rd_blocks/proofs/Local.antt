@@ -17,7 +17,7 @@ use Rattle.rd_rows.specs.Rows.{cutting_of, rows_of}
 use Rattle.rd_rows.specs.Shapes.{ShapeValues}
 use Rattle.rd_stack.specs.Lines.{line_elements}
 use Rattle.rd_stack.specs.Shown.{prefix}
-use Rattle.rd_blocks.specs.Rows.{line_prefix_of, wrap_prefix_of, prefix_elements, line_prefix, wrap_prefix, truncation_mark, continuation_mark, block_cutting, block_rows}
+use Rattle.rd_blocks.specs.Rows.{prefix_of, prefix_elements, truncation_mark, continuation_mark, block_cutting, block_rows}
 use Rattle.rd_blocks.specs.Sources.{rows_in}
 
 -- what is known of scenes in which objects were made
@@ -35,25 +35,19 @@ module _ (laws : GrowthLaws) (old new : Scene) (goes : GoesOnFrom old new) (clos
   abbrev IsString : ℕ → Type 0
   IsString n = n < length old.objects.strings
 
-  line-made : (es : List Seen) → ReadsMade old.objects es → IfSome (line_prefix_of old.parts.settings.line_prefix es) IsString
-  line-made [] made = settings.line_prefix
-  line-made (e ∷ es) made = either IsString e.line_prefix old.parts.settings.line_prefix (All-head (SeesMade old.objects) e es made).line_prefix settings.line_prefix
-
-  wrap-made : (es : List Seen) → ReadsMade old.objects es → IfSome (wrap_prefix_of old.parts.settings.wrap_prefix es) IsString
-  wrap-made [] made = settings.wrap_prefix
-  wrap-made (e ∷ es) made = either IsString e.wrap_prefix old.parts.settings.wrap_prefix (All-head (SeesMade old.objects) e es made).wrap_prefix settings.wrap_prefix
+  prefix-made : (own : Seen → Option ℕ) (setting : Option ℕ) (es : List Seen) → ((e : Seen) → SeesMade old.objects e → IfSome (own e) IsString) → IfSome setting IsString
+      → ReadsMade old.objects es → IfSome (prefix_of own setting es) IsString
+  prefix-made own setting [] each set made = set
+  prefix-made own setting (e ∷ es) each set made = either IsString (own e) setting (each e (All-head (SeesMade old.objects) e es made)) set
 
   same-prefix : (base : ℕ) (number : Option ℕ) → IfSome number IsString → prefix_elements new base number ≡ prefix_elements old base number
   same-prefix base None made = refl
   same-prefix base (Some n) made = laws.prefixes old new base n goes closed made
 
-  same-line-prefix : (base : ℕ) (es : List Seen) → ReadsMade old.objects es → line_prefix new base es ≡ line_prefix old base es
-  same-line-prefix base es made =
-      ap (λ (s : SettingValues). prefix_elements new base (line_prefix_of s.line_prefix es)) goes.settings ∙ same-prefix base (line_prefix_of old.parts.settings.line_prefix es) (line-made es made)
-
-  same-wrap-prefix : (base : ℕ) (es : List Seen) → ReadsMade old.objects es → wrap_prefix new base es ≡ wrap_prefix old base es
-  same-wrap-prefix base es made =
-      ap (λ (s : SettingValues). prefix_elements new base (wrap_prefix_of s.wrap_prefix es)) goes.settings ∙ same-prefix base (wrap_prefix_of old.parts.settings.wrap_prefix es) (wrap-made es made)
+  same-prefix-of : (own : Seen → Option ℕ) (base : ℕ) (es : List Seen) (now setting : Option ℕ) → now ≡ setting → ((e : Seen) → SeesMade old.objects e → IfSome (own e) IsString) → IfSome setting IsString
+      → ReadsMade old.objects es → prefix_elements new base (prefix_of own now es) ≡ prefix_elements old base (prefix_of own setting es)
+  same-prefix-of own base es now setting same each set made =
+      ap (λ n. prefix_elements new base (prefix_of own n es)) same ∙ same-prefix base (prefix_of own setting es) (prefix-made own setting es each set made)
 
   same-truncation : truncation_mark new ≡ truncation_mark old
   same-truncation = rw goes.table
@@ -62,8 +56,10 @@ module _ (laws : GrowthLaws) (old new : Scene) (goes : GoesOnFrom old new) (clos
   same-continuation base = rw goes.table
 
   same-cutting : (base : ℕ) (shape : ShapeValues) (es : List Seen) → ReadsMade old.objects es → block_cutting new base shape es ≡ block_cutting old base shape es
-  same-cutting base shape es made = λ i.
-      cutting_of shape base (same-line-prefix base es made i) (same-wrap-prefix base es made i) (same-truncation i) (same-continuation base i)
+  same-cutting base shape es made =
+      let line = same-prefix-of (λ e. e.line_prefix) base es _ _ (ap (λ (s : SettingValues). s.line_prefix) goes.settings) (λ e sees. sees.line_prefix) settings.line_prefix made in
+      let wrap = same-prefix-of (λ e. e.wrap_prefix) base es _ _ (ap (λ (s : SettingValues). s.wrap_prefix) goes.settings) (λ e sees. sees.wrap_prefix) settings.wrap_prefix made in
+      λ i. cutting_of shape base (line i) (wrap i) (same-truncation i) (same-continuation base i)
 
   pub same-rows : (base : ℕ) (shape : ShapeValues) (es : List Seen) → ReadsMade old.objects es → block_rows new base shape es ≡ block_rows old base shape es
   same-rows base shape es made = λ i. rows_of (same-cutting base shape es made i) (laws.lines old new base es goes closed made i)

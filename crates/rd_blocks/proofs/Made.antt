@@ -19,7 +19,7 @@ use Rattle.rd_rows.specs.Rows.{cutting_of}
 use Rattle.rd_rows.specs.Shapes.{ShapeValues}
 use Rattle.rd_stack.specs.Lines.{line_elements}
 use Rattle.rd_blocks.specs.Rows.{block_rows, line_prefix, wrap_prefix, prefix_elements, truncation_mark, continuation_mark}
-use Rattle.rd_blocks.proofs.Prefixes.{line-elements, wrap-elements}
+use Rattle.rd_blocks.proofs.Prefixes.{prefix-at}
 
 -- a maker that has made no row takes a whole line
 pub takes-line : (c : Cutting) (m : MakerValues) (es : List Element) → IsFresh c m → AreSound es → columns_at_most es < 2 ^ 60 → ends_once es ≡ true → Asks m es
@@ -43,5 +43,7 @@ pub left-seen : (scene : Scene) (base : ℕ) (shape : ShapeValues) (s : BufferVa
     → rows_left m line ≡ block_rows scene base shape (reading s objects p)
 left-seen scene base shape s objects p a settings first wrap line truncation continuation m looks set fresh f w t c l =
     left-is scene base shape (reading s objects p) first wrap line truncation continuation m fresh
-    (line-elements scene base s objects p a settings.line_prefix first looks (ap (λ (v : SettingValues). v.line_prefix) set) f)
-    (wrap-elements scene base s objects p a settings.wrap_prefix wrap looks (ap (λ (v : SettingValues). v.wrap_prefix) set) w) t c l
+    (prefix-at (λ e. e.line_prefix) scene base s objects p a.line_prefix scene.parts.settings.line_prefix settings.line_prefix first
+    (ap (λ (x : Appearance). x.line_prefix) looks) (ap (λ (v : SettingValues). v.line_prefix) set) f)
+    (prefix-at (λ e. e.wrap_prefix) scene base s objects p a.wrap_prefix scene.parts.settings.wrap_prefix settings.wrap_prefix wrap
+    (ap (λ (x : Appearance). x.wrap_prefix) looks) (ap (λ (v : SettingValues). v.wrap_prefix) set) w) t c l

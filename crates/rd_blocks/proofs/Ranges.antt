@@ -1,11 +1,11 @@
 -- The ranges of the items of a line are those of its block's items, in another order.
 use Rattle.std.proofs.Common.{◌≡◌, ℕ, zero, suc, ◌+◌, ◌<◌, ◌≤◌, nat_le, nat_lt, nat_eq, Bool, true, false, cond, not, ◌&&◌, List, [], ◌∷◌, ◌++◌, length, map, All, inl, inr, Option, None, Some, refl, ap, ap₂, sym, ◌∙◌, subst, arith}
 use Rattle.std.specs.Prelude.{if◌then◌else◌, slice_get, count_by}
-use Rattle.std.specs.List.{flat_map, range_with_len}
+use Rattle.std.specs.List.{flat_map, range_with_len, AllByRecursion}
 use Rattle.std.proofs.lemmas.Bool.Decides.{nat_tests}
 use Rattle.std.proofs.lemmas.Bool.{and_parts, cases_lt, lt-ltb, not-true}
 use Rattle.std.proofs.lemmas.List.{length-map}
-use Rattle.std.proofs.lemmas.List.Elements.{All-cons, All-nil, All-append, All-tail}
+use Rattle.std.proofs.lemmas.List.Elements.{All-cons, All-nil, All-append, All-tail, All-from_recursion}
 use Rattle.rd_base.specs.declared.element.Element.{Element}
 use Rattle.rd_base.specs.declared.element.Origin.{Origin}
 use Rattle.rd_items.specs.Pieces.{Scene}
@@ -19,9 +19,9 @@ use Rattle.rd_order.proofs.Once.{total, is_place, once-at-most}
 use Rattle.rd_rows.specs.Laws.{ranges_of}
 use Rattle.rd_rows.specs.Placing.{is_item}
 use Rattle.rd_stack.specs.Lines.{item_elements_by, turn_elements, origin_of, item_elements, item_class, item_code, item_turns, line_of_items}
+use Rattle.rd_stack.proofs.EachElement.{item-each}
 use Rattle.rd_base.proofs.Lists.{all-at, count-cons}
 use Rattle.rd_base.specs.Cells.{bit_of}
-use Rattle.rd_blocks.proofs.Origins.{AreOf, item-of}
 use Rattle.rd_blocks.proofs.Gives.{ItemsGive}
 
 abbrev pub range_of_item : Item → ℕ × ℕ
@@ -32,17 +32,25 @@ same-item k = grind (arith, nat_tests)
 
 -- the elements of one item, with those of others behind
 
+abbrev AreOf : Origin → List Element → Type 0
+AreOf origin es = AllByRecursion (λ (e : Element). e.origin ≡ origin) es
+
+-- what holds of whatever has an item's origin holds of each of its elements
+item-of : (P : Element → Type 0) (s : Scene) (base : ℕ) (x : Item) (odd : Bool) (origin : Origin) → ((e : Element) → e.origin ≡ origin → P e) → AllByRecursion P (item_elements_by s base x.kind x.overlay odd x.face origin)
+item-of P s base x odd origin own =
+    item-each s base origin (λ f. Unit {0}) P (λ n text found i under any. tt) (λ extent l f inner any. own _ refl) x.kind x.overlay odd x.face (λ ends. own _ refl) tt
+
 ranges-behind : (origin : Origin) (es rest : List Element) → AreOf origin es → ranges_of (Some origin.item) (es ++ rest) ≡ ranges_of (Some origin.item) rest
 ranges-behind origin [] rest own = refl
 ranges-behind origin (e ∷ es) rest own =
-    let here : e.origin ≡ origin = own 0 e (omega arith) in
-    rw here (rw (same-item origin.item) (ranges-behind origin es rest (All-tail (λ (x : Element). x.origin ≡ origin) e es own)))
+    let here : e.origin ≡ origin = own.0 in
+    rw here (rw (same-item origin.item) (ranges-behind origin es rest own.1))
 
 ranges-first : (before : Option ℕ) (origin : Origin) (e : Element) (es rest : List Element) → is_item before origin.item ≡ false → AreOf origin (e ∷ es)
     → ranges_of before ((e ∷ es) ++ rest) ≡ (origin.from, origin.to) ∷ ranges_of (Some origin.item) rest
 ranges-first before origin e es rest other own =
-    let here : e.origin ≡ origin = own 0 e (omega arith) in
-    rw here (rw other (ap (λ (rs : List (ℕ × ℕ)). (origin.from, origin.to) ∷ rs) (ranges-behind origin es rest (All-tail (λ (x : Element). x.origin ≡ origin) e es own))))
+    let here : e.origin ≡ origin = own.0 in
+    rw here (rw other (ap (λ (rs : List (ℕ × ℕ)). (origin.from, origin.to) ∷ rs) (ranges-behind origin es rest own.1)))
 
 -- counted by what each turn gives
 
@@ -110,7 +118,7 @@ module _ (s : Scene) (base : ℕ) (q : ℕ × ℕ → Bool) where
   counted-turn before t None rest n other some same later = same ∙ plus-none 0 n refl
   counted-turn before t (Some x) rest n other some same later =
       counted-by before t x (item_elements_by s base x.kind x.overlay t.odd x.face (origin_of t.index x)) rest n other
-      (item-of (origin_of t.index x) s base x.kind x.overlay t.odd x.face)
+      (item-of (λ (e : Element). e.origin ≡ origin_of t.index x) s base x t.odd (origin_of t.index x) (λ e is. is))
       (λ h. some x refl t.odd (origin_of t.index x) h) (λ e. same) later
 
   counted : (items : List Item) (before : Option ℕ) (ts : List Turn) → ((i : ℕ) (x : Item) → slice_get items i ≡ Some x → HasElements x) → IsOnce ts → IsBehind before ts
@@ -207,8 +215,9 @@ module _ (size : ℕ) where
   turn-in : (s : Scene) (base : ℕ) (t : Turn) (o : Option Item) → ((x : Item) → o ≡ Some x → LiesWithin size (range_of_item x)) → All LiesIn (turn_elements s base t o)
   turn-in s base t None each = All-nil LiesIn
   turn-in s base t (Some x) each =
-      let own = item-of (origin_of t.index x) s base x.kind x.overlay t.odd x.face in
-      λ k d inside. subst (λ (o : Origin). LiesWithin size (o.from, o.to)) (sym (own k d inside)) (each x refl)
+      let origin = origin_of t.index x in
+      All-from_recursion LiesIn (item_elements_by s base x.kind x.overlay t.odd x.face origin)
+      (item-of LiesIn s base x t.odd origin (λ e is. subst (λ (o : Origin). LiesWithin size (o.from, o.to)) (sym is) (each x refl)))
 
   turns-in : (s : Scene) (base : ℕ) (items : List Item) (ts : List Turn) → All (λ (x : Item). LiesWithin size (range_of_item x)) items → All LiesIn (flat_map (item_elements s base items) ts)
   turns-in s base items [] all = All-nil LiesIn

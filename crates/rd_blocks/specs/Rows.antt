@@ -13,15 +13,16 @@ use Rattle.rd_rows.specs.declared.cutting.Cutting.{Cutting}
 use Rattle.rd_rows.specs.Rows.{LaidRow, cutting_of, rows_of}
 use Rattle.rd_rows.specs.Shapes.{ShapeValues}
 
--- the number of the line prefix that is effective at a block's first position, else that of the setting
-abbrev pub line_prefix_of : Option ℕ → List Seen → Option ℕ
-line_prefix_of setting [] = setting
-line_prefix_of setting (e ∷ es) = option_or e.line_prefix setting
+-- the number of a prefix that is effective at a block's first position, else that of the setting
+abbrev pub prefix_of : (Seen → Option ℕ) → Option ℕ → List Seen → Option ℕ
+prefix_of own setting [] = setting
+prefix_of own setting (e ∷ es) = option_or (own e) setting
 
--- the same of the wrap prefix
+abbrev pub line_prefix_of : Option ℕ → List Seen → Option ℕ
+line_prefix_of = prefix_of (λ e. e.line_prefix)
+
 abbrev pub wrap_prefix_of : Option ℕ → List Seen → Option ℕ
-wrap_prefix_of setting [] = setting
-wrap_prefix_of setting (e ∷ es) = option_or e.wrap_prefix setting
+wrap_prefix_of = prefix_of (λ e. e.wrap_prefix)
 
 -- the elements of the prefix of a number, and none without one
 abbrev pub prefix_elements : Scene → ℕ → Option ℕ → List Element

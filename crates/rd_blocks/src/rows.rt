@@ -2,7 +2,6 @@
 ghost use Rattle.std.specs.Prelude.{◌≡◌, ◌+◌, ◌^◌, ◌<◌, ◌≤◌, length, IfOk};
 ghost use Rattle.std.specs.Option.{option_or};
 ghost use Rattle.rd_text.specs.Texts.{IsAccessible};
-ghost use Rattle.rd_glyphs.specs.Characters.{slot_or};
 ghost use Rattle.rd_props.specs.Buffers.{meaning};
 ghost use Rattle.rd_items.specs.Pieces.{scene_of};
 ghost use Rattle.rd_items.specs.Readings.{reading};
@@ -91,7 +90,7 @@ fn truncation_mark(view: &View) -> Glyph
     ensures value { result ≡ truncation_mark (scene_of view.now) }
     ensures columns { result.width ≡ 1 }
 {
-    mark(view, Slot::Truncation, '$')
+    parts_of(view).slot(Slot::Truncation, '$' as u32)
 }
 
 /// The mark of a continued row, in a line of this base.
@@ -99,19 +98,6 @@ fn continuation_mark(view: &View, base: u8) -> Glyph
     ensures value { result ≡ continuation_mark (scene_of view.now) base }
     ensures columns { result.width ≡ 1 }
 {
-    mark(view, Slot::Continuation, if base == 1 { '/' } else { '\\' })
-}
-
-/// The glyph of a slot of the buffer's table, and where it has none this character of one column.
-fn mark(view: &View, slot: Slot, default: char) -> Glyph
-    ensures value { result ≡ slot_or slot (scene_of view.now).parts.table default }
-    ensures columns { result.width ≡ 1 }
-{
-    let parts = parts_of(view);
-    if let Some(table) = parts.table {
-        if let Some(glyph) = table.slot(slot) {
-            return glyph;
-        }
-    }
-    Glyph::single(default as u32, 1)
+    let default = if base == 1 { '/' } else { '\\' };
+    parts_of(view).slot(Slot::Continuation, default as u32)
 }

@@ -1,9 +1,8 @@
 //! A few elements that are given in turn.
 ghost use Rattle.std.specs.Prelude.{◌≡◌};
 
-use crate::alone::glyph_element;
 use rd_base::{Ch, Element, Face, Glyph, Memory, Origin};
-use rd_glyphs::{Parts, expand};
+use rd_glyphs::{Parts, expand, of_glyphs};
 use smallvec::SmallVec;
 use std::alloc::Global;
 use std::marker::Model;
@@ -65,11 +64,7 @@ impl Few {
     ) -> Result<(), Memory>
         ensures { OnOk result (self.new ≡ glyph_elements face origin text.now) }
     {
-        let mut elements = SmallVec::new(alloc);
-        for glyph in text {
-            elements.push(glyph_element(*glyph, face, origin))?;
-        }
-        self.elements = elements;
+        self.elements = of_glyphs(alloc, text, face, origin)?;
         self.given = 0;
         Ok(())
     }

@@ -29,7 +29,6 @@
 //! The rules are in docs/RULES.md: "Elements of a character" and "Elements of a line"; "Levels and order" has those of step 1.
 #![tactic(auto)]
 
-mod alone;
 mod entrance;
 mod examples;
 mod few;

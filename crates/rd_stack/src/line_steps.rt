@@ -6,13 +6,13 @@ ghost use Rattle.rd_stack.specs.Lines.{ellipsis_glyphs, origin_of};
 ghost use Rattle.rd_stack.specs.Steps.{item_steps_by};
 ghost use Rattle.rd_stack.specs.Walks.{IsStep};
 
-use crate::alone::{end_element, glyph_element};
 use crate::entrance::Entrance;
 use crate::few::Few;
 use crate::line::LineFrame;
 use crate::showing::{char_step, space_step};
 use crate::step::Step;
 use rd_base::{Face, Glyph, Look, Memory, Origin};
+use rd_glyphs::element_of;
 use rd_items::{Item, ItemKind, parts_of};
 use rd_props::View;
 use std::alloc::Global;
@@ -72,13 +72,13 @@ fn step_of<'a>(
             number,
         })),
         ItemKind::Char(ch) => char_step(alloc, view, ch, odd, face, origin, few),
-        ItemKind::Marked(glyph) => Ok(Step::Gives(glyph_element(glyph, face, origin))),
+        ItemKind::Marked(glyph) => Ok(Step::Gives(element_of(Look::Glyph(glyph), face, origin))),
         ItemKind::Space(spec) => Ok(space_step(spec, face, origin)),
         ItemKind::Ellipsis => {
             put_ellipsis(alloc, view, face, origin, few)?;
             Ok(Step::Lists)
         }
-        ItemKind::Ender => Ok(Step::Gives(end_element(Look::LineEnd, face, origin))),
+        ItemKind::Ender => Ok(Step::Gives(element_of(Look::LineEnd, face, origin))),
     }
 }
 

@@ -1,14 +1,13 @@
 //! The steps of what shows no string.
-ghost use Rattle.std.specs.Prelude.{◌≡◌, ◌∷◌, [], IfOk};
+ghost use Rattle.std.specs.Prelude.{◌≡◌, ◌∷◌, [], option_to_list, IfOk};
 ghost use Rattle.rd_items.specs.Pieces.{scene_of};
 ghost use Rattle.rd_glyphs.specs.Characters.{elements_of};
 ghost use Rattle.rd_stack.specs.Shown.{space_elements};
 ghost use Rattle.rd_stack.specs.Walks.{IsStep};
 
-use crate::alone::space_element;
 use crate::few::Few;
 use crate::step::Step;
-use rd_base::{Ch, Face, Memory, Origin};
+use rd_base::{Ch, Element, Extent, Face, Look, Memory, Origin};
 use rd_items::parts_of;
 use rd_objects::Spec;
 use rd_props::View;
@@ -43,4 +42,21 @@ pub fn space_step<'a>(spec: Spec, face: Face, origin: Origin) -> Step<'a>
         Some(element) => Step::Gives(element),
         None => Step::Lists,
     }
+}
+
+/// The space of a spec; a spec of a string has none.
+fn space_element(spec: Spec, face: Face, origin: Origin) -> Option<Element>
+    ensures { option_to_list result ≡ space_elements spec face origin }
+{
+    let extent = match spec {
+        Spec::Text(_) => return None,
+        Spec::Width(columns) => Extent::Fixed(columns),
+        Spec::Align(column) => Extent::Column(column),
+    };
+    Some(Element {
+        extent,
+        look: Look::Blank,
+        face,
+        origin,
+    })
 }

@@ -5,7 +5,6 @@ ghost use Rattle.rd_stack.specs.Shown.{kind_elements};
 ghost use Rattle.rd_stack.specs.Steps.{part_steps};
 ghost use Rattle.rd_stack.specs.Walks.{IsStep};
 
-use crate::alone::{end_element, glyph_element};
 use crate::entrance::Entrance;
 use crate::few::Few;
 use crate::part::{PartKind, Shown, place_of};
@@ -13,6 +12,7 @@ use crate::showing::{char_step, space_step};
 use crate::step::Step;
 use crate::string::StringFrame;
 use rd_base::{Look, Memory, Origin};
+use rd_glyphs::element_of;
 use rd_objects::Spec;
 use rd_props::View;
 use std::alloc::Global;
@@ -47,7 +47,7 @@ impl<'a> StringFrame<'a> {
             return Ok(Step::Ends);
         }
         let place = place_of(self.replaced, self.text, self.under, self.end);
-        let end = end_element(Look::RowEnd, place.face, self.origin);
+        let end = element_of(Look::RowEnd, place.face, self.origin);
         *self = StringFrame::from_place(
             alloc,
             self.view,
@@ -103,8 +103,12 @@ fn display_part_step<'a>(
 {
     match part.kind {
         PartKind::Char(ch) => char_step(alloc, view, ch, part.odd, part.face, origin, few),
-        PartKind::Marked(glyph) => Ok(Step::Gives(glyph_element(glyph, part.face, origin))),
+        PartKind::Marked(glyph) => Ok(Step::Gives(element_of(
+            Look::Glyph(glyph),
+            part.face,
+            origin,
+        ))),
         PartKind::Replaced(spec) => Ok(space_step(spec, part.face, origin)),
-        PartKind::RowEnd => Ok(Step::Gives(end_element(Look::RowEnd, part.face, origin))),
+        PartKind::RowEnd => Ok(Step::Gives(element_of(Look::RowEnd, part.face, origin))),
     }
 }

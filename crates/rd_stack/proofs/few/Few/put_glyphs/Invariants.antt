@@ -1,6 +1,0 @@
-use Rattle.std.proofs.Common.{◌≡◌, ◌++◌, drop}
-use Rattle.rd_glyphs.specs.Characters.{glyph_elements}
-use Rattle.rd_stack.proofs.few.Few.put_glyphs.Given as goal
-
-abbrev pub invariant-loop-glyph : goal.invariant-loop-glyph
-invariant-loop-glyph l = l.elements.items ++ glyph_elements l.face l.origin (drop l.glyph-index l.text) ≡ glyph_elements l.face l.origin l.text
