@@ -98,6 +98,29 @@ impl<'a> Parts<'a> {
             self.shown(ch, odd),
         )
     }
+
+    /// The list of the elements of a character.
+    fn listed(
+        &self,
+        alloc: Global,
+        ch: Ch,
+        odd: bool,
+        face: Face,
+        origin: Origin,
+    ) -> Result<SmallVec<Element, 4>, Memory>
+        ensures value { IfOk result (λ elements. elements.items ≡ elements_of self.now ch odd face origin) }
+        ensures few { entry_of self.now.table ch ≡ None → IfOk result (λ elements. length elements.items ≤ 4) }
+        ensures inline { entry_of self.now.table ch ≡ None → IsOk result }
+    {
+        if let Some(element) = self.only_element(ch, odd, face, origin) {
+            return Ok(SmallVec::from_slice(alloc, &[element])?);
+        }
+        if let Some(text) = self.entry(ch.code()) {
+            return of_glyphs(alloc, text, face, origin);
+        }
+        let looks = self.own_looks(ch, odd);
+        of_looks(alloc, looks.as_slice(), face, origin)
+    }
 }
 
 /// The elements of a character, at an odd embedding level or not, in the order in which they stand from the reading edge. A
@@ -126,30 +149,7 @@ pub fn expand(
     ensures inline { entry_of parts.now.table ch ≡ None → IsOk result }
 {
     parts.parts_are_sound();
-    listed(alloc, parts, ch, odd, face, origin)
-}
-
-/// The list of the elements of a character.
-fn listed(
-    alloc: Global,
-    parts: &Parts,
-    ch: Ch,
-    odd: bool,
-    face: Face,
-    origin: Origin,
-) -> Result<SmallVec<Element, 4>, Memory>
-    ensures value { IfOk result (λ elements. elements.items ≡ elements_of parts.now ch odd face origin) }
-    ensures few { entry_of parts.now.table ch ≡ None → IfOk result (λ elements. length elements.items ≤ 4) }
-    ensures inline { entry_of parts.now.table ch ≡ None → IsOk result }
-{
-    if let Some(element) = parts.only_element(ch, odd, face, origin) {
-        return Ok(SmallVec::from_slice(alloc, &[element])?);
-    }
-    if let Some(text) = parts.entry(ch.code()) {
-        return of_glyphs(alloc, text, face, origin);
-    }
-    let looks = parts.own_looks(ch, odd);
-    of_looks(alloc, looks.as_slice(), face, origin)
+    parts.listed(alloc, ch, odd, face, origin)
 }
 
 /// The element of a look.
