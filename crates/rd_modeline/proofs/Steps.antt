@@ -1,11 +1,11 @@
 -- What one more character makes of the pieces of a format.
-use Rattle.std.proofs.Common.{◌≡◌, ◌+◌, ◌++◌, ℕ, List, [], ◌∷◌, Option, None, Some, Result, Ok, Err, option_to_list, IsErrAnd, refl, sym, ap, ◌∙◌, subst}
+use Rattle.std.proofs.Common.{◌≡◌, ◌+◌, ◌++◌, ℕ, List, [], ◌∷◌, Option, None, Some, Result, Ok, Err, option_to_list, drop, IsErrAnd, refl, sym, ap, ◌∙◌, subst}
 use Rattle.std.proofs.lemmas.List.{append_assoc, append-nil}
 use Rattle.rd_modeline.specs.declared.fault.FormatFault.{FormatFault}
 use Rattle.rd_modeline.specs.declared.fault.FormatFault.TheVariants.{BadFormat, Memory}
 use Rattle.rd_modeline.specs.declared.piece.Piece.{Piece}
 use Rattle.rd_modeline.specs.declared.reading.Begun.{Begun}
-use Rattle.rd_modeline.specs.Formats.{before, behind_all, fault_in, pieces_from, Checks, ReadsOn}
+use Rattle.rd_modeline.specs.Formats.{before, behind_all, fault_in, pieces_from, pieces_of, Checks, ReadsOn}
 
 fault-before : (p : Piece) (r : Result (List Piece) ℕ) → fault_in (before p r) ≡ fault_in r
 fault-before p (Ok ps) = refl
@@ -47,6 +47,13 @@ pub handed-on : {A : Type 0} (result : Result A FormatFault) (fault : FormatFaul
 handed-on (Ok a) fault whole is checks = absurd is
 handed-on (Err (BadFormat place)) fault whole is checks = subst (λ f. Checks {A = Unit {0}} (Err f) whole) (sym is) checks
 handed-on (Err Memory) fault whole is checks = tt
+
+-- a format of which the next character is bad answers that fault
+pub refused-at : {A : Type 0} (result : Result A FormatFault) (fault : FormatFault) (b : Begun) (place c : ℕ) (text : List ℕ) → IsErrAnd result (λ f. f ≡ fault) → ReadsOn (Err fault) b place c
+    → drop place text ≡ c ∷ drop (place + 1) text → fault_in (pieces_from b place (drop place text)) ≡ fault_in (pieces_of text) → Checks result (pieces_of text)
+refused-at result fault b place c text is reads split same =
+    handed-on result fault (pieces_of text) is
+    (step-bad fault b place c (drop (place + 1) text) (pieces_of text) reads (ap (λ l. fault_in (pieces_from b place l)) (sym split) ∙ same))
 
 -- what was read before is no fault
 pub fault-all : (ps : List Piece) (r : Result (List Piece) ℕ) → fault_in (behind_all ps r) ≡ fault_in r

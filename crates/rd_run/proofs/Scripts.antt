@@ -1,20 +1,13 @@
 -- The lines of a script, by the bytes of it that were taken.
 use Rattle.std.proofs.Common.{◌≡◌, ℕ, zero, suc, ◌<◌, ◌≤◌, inl, inr, ◌==◌, Bool, true, false, if◌then◌else◌, List, [], ◌∷◌, ◌++◌, length, take, Option, None, Some, refl, sym, ap, ◌∙◌, subst, append_assoc, append-nil, arith, length-append}
-use Rattle.std.specs.List.{AllByRecursion}
 use Rattle.std.proofs.lemmas.List.{take-append-le}
 use Rattle.std.specs.Io.KnownBytes.{Consumes, IsAtEnd}
 use Rattle.std.proofs.lemmas.Bool.{ne_eqb}
 use Rattle.rd_io.specs.Lines.{lines_of, in_front, text_of_lines, IsUnbroken}
-use Rattle.rd_io.proofs.Cuts.{lines-whole}
+use Rattle.rd_io.proofs.Cuts.{lines-behind}
 use Rattle.rd_run.specs.Ends.{Begins, AreFirst}
 
 -- ---- lines
-
-lines-behind : (lines : List (List ℕ)) (rest : List ℕ) → AllByRecursion IsUnbroken lines → lines_of (text_of_lines lines ++ rest) ≡ lines ++ lines_of rest
-lines-behind [] rest p = refl
-lines-behind (line ∷ lines) rest p =
-    let regrouped : text_of_lines (line ∷ lines) ++ rest ≡ line ++ 10 ∷ (text_of_lines lines ++ rest) = simp append_assoc in
-    ap lines_of regrouped ∙ lines-whole line (text_of_lines lines ++ rest) p.0 ∙ ap (λ ls. line ∷ ls) (lines-behind lines rest p.1)
 
 -- a first line, which has at least so many bytes
 pub record HasFirst (n : ℕ) (lines : List (List ℕ)) : Type 0 where
