@@ -1,8 +1,7 @@
 -- What holds of things whose marks have joined.
-use Rattle.std.proofs.Common.{◌≡◌, List, [], ◌∷◌, ◌++◌, Option, Some, None, option_map, All, refl, unwrap_or}
+use Rattle.std.proofs.Common.{◌≡◌, List, [], ◌∷◌, ◌++◌, Option, Some, None, option_map, refl, unwrap_or}
 use Rattle.std.specs.Prelude.{is_some, if◌then◌else◌}
 use Rattle.std.specs.List.{AllByRecursion}
-use Rattle.std.proofs.lemmas.List.Elements.{All-from_recursion, recursion_from_All}
 use Rattle.rd_base.specs.declared.cell.Glyph.{Glyph}
 use Rattle.rd_glyphs.specs.Marks.{Joins, marked_glyph, marks_joined_from, marks_joined}
 
@@ -24,7 +23,3 @@ marks_joined_from-all {A = A} j P grows held (x ∷ xs) p each =
 pub marks_joined-all : {A : Type 0} (j : Joins A) (P : A → Type 0) → Grows j P → (xs : List A) → AllByRecursion P xs → AllByRecursion P (marks_joined j xs)
 marks_joined-all j P grows [] each = tt
 marks_joined-all j P grows (x ∷ xs) each = marks_joined_from-all j P grows x xs each.0 each.1
-
--- what holds of each thing holds of each where marks have joined
-pub marks_joined-each : {A : Type 0} (j : Joins A) (P : A → Type 0) → Grows j P → (xs : List A) → All P xs → All P (marks_joined j xs)
-marks_joined-each j P grows xs each = All-from_recursion P (marks_joined j xs) (marks_joined-all j P grows xs (recursion_from_All P xs each))
