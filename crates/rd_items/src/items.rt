@@ -79,6 +79,14 @@ impl Items {
         self.list.len() as u32
     }
 
+    /// The items themselves.
+    pub fn as_slice(&self) -> &[Item]
+        ensures items { result.now ≡ self.now }
+        ensures few { length self.now < 4294967296 }
+    {
+        self.list.as_slice()
+    }
+
     /// The item of a number, counted from 0.
     pub fn item(&self, i: u32) -> &Item
         requires { i < length self.now }

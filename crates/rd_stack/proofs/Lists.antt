@@ -1,14 +1,7 @@
--- Lists that are given element by element, and what holds of each of their elements.
-use Rattle.std.proofs.Common.{◌≡◌, ℕ, suc, ◌+◌, ◌-◌, ◌<◌, List, [], ◌∷◌, ◌++◌, drop, Some, sym, ap, ◌∙◌, append_assoc, arith}
-use Rattle.std.specs.Prelude.{map, slice_get}
+-- Ranges that are given element by element, and what holds of each of a list's elements.
+use Rattle.std.proofs.Common.{◌≡◌, ℕ, suc, ◌+◌, ◌-◌, ◌<◌, List, [], ◌∷◌, ap, arith}
 use Rattle.std.specs.List.{flat_map, range_with_len, AllByRecursion}
-use Rattle.rd_base.proofs.Lists.{drop-at, each-append}
-
--- one more of a list by a function
-pub maps-next : {X A : Type 0} (f : X → A) (xs : List X) (i : ℕ) (x : X) (out more whole : List A) → slice_get xs i ≡ Some x → more ≡ out ++ f x ∷ [] → out ++ map f (drop i xs) ≡ whole → more ++ map f (drop (i + 1) xs) ≡ whole
-maps-next f xs i x out more whole found given all =
-    let rest = map f (drop (i + 1) xs) in
-    ap (λ l. l ++ rest) given ∙ append_assoc out (f x ∷ []) rest ∙ sym (ap (λ l. out ++ map f l) (drop-at xs i x found)) ∙ all
+use Rattle.rd_base.proofs.Lists.{each-append}
 
 pub range-next : (i n m : ℕ) → m ≡ n → i < m → range_with_len i (n - i) ≡ i ∷ range_with_len (i + 1) (n - (i + 1))
 range-next i n m size inside =

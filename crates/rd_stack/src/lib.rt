@@ -37,6 +37,7 @@ mod keeping;
 mod laws;
 mod line;
 mod line_steps;
+mod mapped;
 mod marks;
 mod order;
 mod part;

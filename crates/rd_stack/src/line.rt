@@ -3,6 +3,7 @@ ghost use Rattle.std.specs.Prelude.{◌≡◌, ◌≤◌, ◌<◌, map, length, 
 ghost use Rattle.rd_items.specs.Pieces.{scene_of};
 ghost use Rattle.rd_stack.specs.Lines.{item_class, item_code, item_turns};
 
+use crate::mapped::mapped;
 use crate::order::Order;
 use rd_base::{Class, ListOf, Memory};
 use rd_items::Items;
@@ -75,12 +76,7 @@ pub fn classes_of(alloc: Global, items: &Items) -> Result<ListOf<Class>, Memory>
     ensures classes { IfOk result (λ classes. classes ≡ map item_class items.now) }
     ensures few { length items.now < 4294967296 }
 {
-    let mut classes = ListOf::with_room(alloc, items.len() as usize)?;
-    for i in 0..items.len() {
-        let item = items.item(i);
-        classes.push(item.class)?;
-    }
-    Ok(classes)
+    mapped(alloc, items.as_slice(), |item| item.class)
 }
 
 /// The codes by which items may be brackets: a character's own, of one with marks that of its base, and one that is listed nowhere of all
@@ -88,10 +84,5 @@ pub fn classes_of(alloc: Global, items: &Items) -> Result<ListOf<Class>, Memory>
 pub fn codes_of(alloc: Global, items: &Items) -> Result<ListOf<u32>, Memory>
     ensures { IfOk result (λ codes. codes ≡ map item_code items.now) }
 {
-    let mut codes = ListOf::with_room(alloc, items.len() as usize)?;
-    for i in 0..items.len() {
-        let item = items.item(i);
-        codes.push(item.kind.bracket_code())?;
-    }
-    Ok(codes)
+    mapped(alloc, items.as_slice(), |item| item.kind.bracket_code())
 }

@@ -5,6 +5,7 @@ ghost use Rattle.rd_levels.specs.Turns.{turns_of};
 ghost use Rattle.rd_stack.specs.Strings.{ends_row, part_class, part_code, run_heads, row, rows_from, shown_from, behind_row};
 ghost use Rattle.rd_stack.specs.declared.part.Place.{Place};
 
+use crate::mapped::mapped;
 use crate::order::Order;
 use crate::part::{Part, Place, ends_row, kind_code, part_of, place_of};
 use rd_base::{Class, Face, ListOf, Memory};
@@ -71,20 +72,12 @@ pub fn order_of_parts(alloc: Global, view: &View, base: u8, parts: &[Part]) -> R
 fn classes_of(alloc: Global, parts: &[Part]) -> Result<ListOf<Class>, Memory>
     ensures { IfOk result (λ classes. classes ≡ map part_class parts.now) }
 {
-    let mut classes = ListOf::with_room(alloc, parts.len())?;
-    for part in parts {
-        classes.push(part.class)?;
-    }
-    Ok(classes)
+    mapped(alloc, parts, |part| part.class)
 }
 
 /// The codes by which parts may be brackets.
 fn codes_of(alloc: Global, parts: &[Part]) -> Result<ListOf<u32>, Memory>
     ensures { IfOk result (λ codes. codes ≡ map part_code parts.now) }
 {
-    let mut codes = ListOf::with_room(alloc, parts.len())?;
-    for part in parts {
-        codes.push(kind_code(part.kind))?;
-    }
-    Ok(codes)
+    mapped(alloc, parts, |part| kind_code(part.kind))
 }

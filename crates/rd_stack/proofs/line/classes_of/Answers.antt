@@ -1,7 +1,6 @@
+use Rattle.std.proofs.Common.{rules}
 use Rattle.rd_stack.specs.Lines.{item_class}
-use Rattle.rd_stack.proofs.Lists.{maps-next}
 use Rattle.rd_stack.proofs.line.classes_of.Goals as goal
 
-pub loop-i-preserved : goal.loop-i-preserved
-loop-i-preserved c =
-    maps-next item_class c.args.items.now c.loop-i.i c.item-item.result.now c.loop-i.classes c.push.new.self _ c.item-item.ensures c.in_ok-push.ensures.ok c.loop-i.invariant
+pub returns-clause-classes : goal.returns-clause-classes
+returns-clause-classes c = rw (← c.as_slice.ensures.items) (c.mapped.ensures item_class (λ x y told. search rules))
