@@ -5,8 +5,8 @@ use Rattle.std.proofs.lemmas.Bool.Decides.{nat_tests}
 use Rattle.rd_base.specs.Cells.{HasColours}
 use Rattle.rd_base.specs.Equals.{same_face}
 use Rattle.rd_base.specs.Faces.{Attributes, plain}
-use Rattle.rd_term.specs.Pens.{dressed}
-use Rattle.rd_dump.specs.Dumps.{flag_number, colour_number, numbers_of_face, numbers_behind, numbers_text}
+use Rattle.rd_term.specs.Pens.{dressed, flag_number, colour_number, numbers_of_face}
+use Rattle.rd_dump.specs.Dumps.{numbers_behind, numbers_text}
 use Rattle.rd_audit.specs.Cuts.{pieces}
 use Rattle.rd_audit.specs.Numbers.{number_of, both}
 use Rattle.rd_audit.specs.Runs.{place_of, comes_behind, face_from, face_of, span_of, run_by, run_of}

@@ -1,5 +1,5 @@
 -- The text of a dump.
-use Rattle.std.specs.Prelude.{ℕ, ◌+◌, ◌-◌, ◌==◌, ◌||◌, Bool, false, if◌then◌else◌, List, [], ◌∷◌, ◌++◌, Option, None, Some, is_some, codes}
+use Rattle.std.specs.Prelude.{ℕ, ◌+◌, ◌-◌, ◌||◌, Bool, false, if◌then◌else◌, List, [], ◌∷◌, ◌++◌, Option, None, Some, is_some, codes}
 use Rattle.std.specs.Fmt.{decimal}
 use Rattle.std.specs.List.{flat_map}
 use Rattle.rd_base.specs.Cells.{face_after}
@@ -8,6 +8,7 @@ use Rattle.rd_base.specs.Faces.{Attributes, plain}
 use Rattle.rd_base.specs.Glyphs.{glyph_bytes}
 use Rattle.rd_base.specs.declared.cell.Cell.{Cell}
 use Rattle.rd_base.specs.declared.cell.Cell.TheVariants.{Blank, First, Rest}
+use Rattle.rd_term.specs.Pens.{numbers_of_face}
 use Rattle.rd_term.specs.Pictures.{Picture}
 use Rattle.rd_dump.specs.declared.dump.WindowFacts.{WindowFacts}
 use Rattle.rd_dump.specs.declared.dump.DumpLine.{DumpLine}
@@ -81,16 +82,6 @@ runs_of [] = []
 runs_of (face ∷ faces) = with_columns 1 face (runs_of faces)
 
 -- ---- a face's numbers
-
-abbrev pub flag_number : Bool → ℕ → Option ℕ
-flag_number flag number = if flag then Some number else None
-
-abbrev pub colour_number : ℕ → ℕ → Option ℕ
-colour_number colour base = if colour == 8 then None else Some (base + colour)
-
--- 1 bold, 4 underline, 7 inverse, 30 and the colour of the character, 40 and the colour behind it
-abbrev pub numbers_of_face : Attributes → List (Option ℕ)
-numbers_of_face f = flag_number f.bold 1 ∷ flag_number f.underline 4 ∷ flag_number f.inverse 7 ∷ colour_number f.fg 30 ∷ colour_number f.bg 40 ∷ []
 
 -- a number, behind `;` where there are others before it and else behind `:`
 abbrev pub number_text : Bool → Option ℕ → List ℕ

@@ -1,13 +1,14 @@
 //! The runs of cells of one face in a row.
-ghost use Rattle.std.specs.Prelude.{◌≡◌, ◌-◌, ◌<◌, IfOk, if◌then◌else◌, ◌||◌, is_some};
+ghost use Rattle.std.specs.Prelude.{◌≡◌, ◌-◌, IfOk, if◌then◌else◌, ◌||◌, is_some};
 ghost use Rattle.rd_base.specs.Cells.{face_after};
 ghost use Rattle.rd_base.specs.Equals.{same_face};
-ghost use Rattle.rd_dump.specs.Dumps.{runs_of_row, run_text, ended_text, numbers_text, number_text, numbers_of_face, flag_number, colour_number};
+ghost use Rattle.rd_dump.specs.Dumps.{runs_of_row, run_text, ended_text, numbers_text, number_text};
 ghost use Rattle.rd_dump.specs.Prints.{Prints};
 
 use crate::print::{Token, print_tokens};
 use rd_base::{Cell, Face};
 use rd_io::{Failed, Sink};
+use rd_term::numbers_of_face;
 
 /// A run that may go on: its first column, from 0, and its face.
 #[derive(Clone, Copy)]
@@ -85,39 +86,6 @@ fn last_before(end: usize) -> usize
     ensures { result ≡ end - 1 }
 {
     end.saturating_sub(1)
-}
-
-/// A face's numbers, by what they stand for: 1 bold, 4 underline, 7 inverse, 30 and the colour of the character, 40 and the
-/// colour behind it.
-fn numbers_of_face(face: Face) -> [Option<u32>; 5]
-    ensures { result ≡ numbers_of_face face }
-{
-    [
-        flag_number(face.bold, 1),
-        flag_number(face.underline, 4),
-        flag_number(face.inverse, 7),
-        colour_number(face.fg, 30),
-        colour_number(face.bg, 40),
-    ]
-}
-
-/// The number of a flag that is set.
-fn flag_number(flag: bool, number: u32) -> Option<u32>
-    ensures { result ≡ flag_number flag number }
-{
-    if flag { Some(number) } else { None }
-}
-
-/// The number of a colour that is not none.
-fn colour_number(colour: u8, base: u32) -> Option<u32>
-    requires { base < 1000 }
-    ensures { result ≡ colour_number colour base }
-{
-    if colour == 8 {
-        None
-    } else {
-        Some(base + colour as u32)
-    }
 }
 
 /// Writes a face's numbers, `:` before the first one and `;` before each other one.

@@ -1,5 +1,5 @@
 -- The numbers that change a pen (ECMA-48, select graphic rendition).
-use Rattle.std.specs.Prelude.{ℕ, zero, suc, ◌-◌, ◌==◌, nat_lt, nat_le, Bool, true, if◌then◌else◌, ◌&&◌, ◌||◌, List, [], ◌∷◌, Option, None, Some}
+use Rattle.std.specs.Prelude.{ℕ, zero, suc, ◌+◌, ◌-◌, ◌==◌, nat_lt, nat_le, Bool, true, if◌then◌else◌, ◌&&◌, ◌||◌, List, [], ◌∷◌, Option, None, Some}
 use Rattle.rd_base.specs.Faces.{Attributes, plain}
 
 -- 0 plain, 1 bold, 4 underline, 7 inverse, 30 to 37 the colour of characters, 40 to 47 the colour behind them
@@ -19,6 +19,18 @@ dressed n f =
     else if n == 7 then record f { inverse = true }
     else if nat_lt n 40 then record f { fg = n - 30 }
     else record f { bg = n - 40 }
+
+-- the number of a flag that is set
+abbrev pub flag_number : Bool → ℕ → Option ℕ
+flag_number flag number = if flag then Some number else None
+
+-- the number of a colour that is not the terminal's own
+abbrev pub colour_number : ℕ → ℕ → Option ℕ
+colour_number colour base = if colour == 8 then None else Some (base + colour)
+
+-- the numbers that make a plain face this one
+abbrev pub numbers_of_face : Attributes → List (Option ℕ)
+numbers_of_face f = flag_number f.bold 1 ∷ flag_number f.underline 4 ∷ flag_number f.inverse 7 ∷ colour_number f.fg 30 ∷ colour_number f.bg 40 ∷ []
 
 -- a pen after such a number: only 0 makes an unknown pen known
 abbrev pub pen_after : ℕ → Option Attributes → Option Attributes

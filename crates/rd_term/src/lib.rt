@@ -22,6 +22,6 @@ mod terminal;
 
 pub use cells::first_blanks;
 pub use laws::{a_cut_makes_no_difference, characters_are_read};
-pub use pen::{dressed, is_rendition};
+pub use pen::{dressed, is_rendition, numbers_of_face};
 pub use screen::Screen;
 pub use terminal::Terminal;

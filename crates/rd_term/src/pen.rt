@@ -1,6 +1,6 @@
 //! The numbers that change a pen.
 ghost use Rattle.std.specs.Prelude.{◌≡◌, true};
-ghost use Rattle.rd_term.specs.Pens.{is_rendition, are_renditions, dressed, pen_after, pen_by};
+ghost use Rattle.rd_term.specs.Pens.{is_rendition, are_renditions, dressed, pen_after, pen_by, numbers_of_face};
 
 use rd_base::Face;
 
@@ -54,6 +54,20 @@ pub fn dressed(n: u32, face: Face) -> Face
             ..face
         },
     }
+}
+
+/// The numbers that make a plain face this one, in this order: 1 bold, 4 underline, 7 inverse, 30 and the colour of characters, 40
+/// and the colour behind them.
+pub fn numbers_of_face(face: Face) -> [Option<u32>; 5]
+    ensures { result ≡ numbers_of_face face }
+{
+    [
+        face.bold.then_some(1),
+        face.underline.then_some(4),
+        face.inverse.then_some(7),
+        (face.fg != 8).then_some(30 + face.fg as u32),
+        (face.bg != 8).then_some(40 + face.bg as u32),
+    ]
 }
 
 /// A pen after such a number. Only 0 makes an unknown pen known.

@@ -1,5 +1,5 @@
 -- The bytes that bring a terminal from the current screen to the target screen.
-use Rattle.std.specs.Prelude.{ℕ, zero, suc, ◌+◌, ◌-◌, ◌==◌, nat_lt, nat_le, min, max, Bool, true, false, if◌then◌else◌, ◌||◌, not, List, [], ◌∷◌, ◌++◌, length, take, drop, map, Option, None, Some, slice_index_or}
+use Rattle.std.specs.Prelude.{ℕ, zero, suc, ◌+◌, ◌-◌, nat_lt, nat_le, min, max, Bool, true, false, if◌then◌else◌, ◌||◌, not, List, [], ◌∷◌, ◌++◌, length, take, drop, map, Option, None, Some, option_to_list, slice_index_or}
 use Rattle.std.specs.Fmt.{decimal}
 use Rattle.std.specs.List.{flat_map}
 use Rattle.rd_base.specs.Cells.{face_after}
@@ -8,6 +8,7 @@ use Rattle.rd_base.specs.Faces.{Attributes, plain}
 use Rattle.rd_base.specs.Glyphs.{glyph_bytes}
 use Rattle.rd_base.specs.declared.cell.Cell.{Cell}
 use Rattle.rd_base.specs.declared.cell.Cell.TheVariants.{Blank, First, Rest}
+use Rattle.rd_term.specs.Pens.{numbers_of_face}
 use Rattle.rd_term.specs.Pictures.{Picture, blank, blank_row}
 
 -- ---- where two rows differ
@@ -74,18 +75,9 @@ erase_to_end = 27 ∷ 91 ∷ 75 ∷ []
 abbrev pub repaint : List ℕ
 repaint = 27 ∷ 91 ∷ 48 ∷ 109 ∷ 27 ∷ 91 ∷ 50 ∷ 74 ∷ []
 
--- a number, where this holds
-abbrev pub number_if : Bool → ℕ → List ℕ
-number_if holds n = if holds then n ∷ [] else []
-
--- the numbers of a face: 1 bold, 4 underline, 7 inverse, 30 and on the colour of characters, 40 and on the colour behind them
+-- those numbers of a face that there are
 abbrev pub renditions : Attributes → List ℕ
-renditions f =
-    number_if f.bold 1
-    ++ (number_if f.underline 4
-    ++ (number_if f.inverse 7
-    ++ (number_if (not (f.fg == 8)) (30 + f.fg)
-    ++ number_if (not (f.bg == 8)) (40 + f.bg))))
+renditions f = flat_map option_to_list (numbers_of_face f)
 
 abbrev pub parameter : ℕ → List ℕ
 parameter n = 59 ∷ decimal n

@@ -5,11 +5,12 @@ ghost use Rattle.rd_base.specs.Cells.{face_after};
 ghost use Rattle.rd_base.specs.Faces.{plain};
 ghost use Rattle.rd_base.specs.Chars.{encoded};
 ghost use Rattle.rd_base.specs.Glyphs.{glyph_bytes};
-ghost use Rattle.rd_update.specs.Updates.{move as move_bytes, renditions, number_if, parameter, sequence, dress, text_of_cell, text_by, pen_behind, row_bytes, first_difference as first_column, end_of_differences as end_column};
+ghost use Rattle.rd_update.specs.Updates.{move as move_bytes, renditions, parameter, sequence, dress, text_of_cell, text_by, pen_behind, row_bytes, first_difference as first_column, end_of_differences as end_column};
 
 use crate::span::{Columns, interval, used};
 use itoa::Buffer;
 use rd_base::{Cell, Face, Glyph, ListOf, Memory};
+use rd_term::numbers_of_face;
 
 /// Adds a move of the cursor to a row and a column, from 0.
 pub(crate) fn push_move(bytes: &mut ListOf<u8>, row: u32, column: u32) -> Result<(), Memory>
@@ -156,19 +157,10 @@ fn push_dress(bytes: &mut ListOf<u8>, pen: Face, face: Face) -> Result<(), Memor
 fn push_renditions(bytes: &mut ListOf<u8>, face: Face) -> Result<(), Memory>
     ensures { OnOk result (bytes.new ≡ bytes.old ++ flat_map parameter (renditions face)) }
 {
-    push_if(bytes, face.bold, 1)?;
-    push_if(bytes, face.underline, 4)?;
-    push_if(bytes, face.inverse, 7)?;
-    push_if(bytes, face.fg != 8, 30 + face.fg)?;
-    push_if(bytes, face.bg != 8, 40 + face.bg)
-}
-
-/// Adds a number of a sequence, where this holds.
-fn push_if(bytes: &mut ListOf<u8>, holds: bool, number: u8) -> Result<(), Memory>
-    ensures { OnOk result (bytes.new ≡ bytes.old ++ flat_map parameter (number_if holds number)) }
-{
-    if holds {
-        return push_parameters(bytes, &[number as u32]);
+    for number in numbers_of_face(face) {
+        if let Some(n) = number {
+            push_parameters(bytes, &[n])?;
+        }
     }
     Ok(())
 }

@@ -1,5 +1,5 @@
 use Rattle.std.proofs.Common.{◌<◌, length, rules}
-use Rattle.rd_dump.specs.Dumps.{numbers_of_face}
+use Rattle.rd_term.specs.Pens.{numbers_of_face}
 use Rattle.rd_dump.proofs.OnePass.{numbers-step, numbers-failed}
 use Rattle.rd_dump.proofs.Writing.{going-on, prints-fail}
 use Rattle.rd_dump.proofs.runs.print_numbers.Goals as goal
