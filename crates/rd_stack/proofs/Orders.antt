@@ -1,14 +1,10 @@
 -- A line of letters that are read from the left.
-use Rattle.std.proofs.Common.{◌≡◌, ℕ, zero, suc, ◌-◌, Bool, true, List, [], ◌∷◌, ◌++◌, length, take, replicate, refl, ap, subst, ◌∙◌, arith}
-use Rattle.std.specs.Prelude.{Result, IfOk}
+use Rattle.std.proofs.Common.{◌≡◌, ℕ, zero, suc, ◌-◌, true, List, [], ◌∷◌, ◌++◌, length, take, replicate, refl, ap, ◌∙◌, arith}
 use Rattle.std.proofs.lemmas.List.{length-replicate}
 use Rattle.rd_base.specs.declared.class.Class.{Class}
 use Rattle.rd_base.specs.declared.class.Class.TheVariants.{L}
-use Rattle.rd_base.specs.declared.memory.Memory.{Memory}
 use Rattle.rd_ucd.specs.declared.spans.BracketEntry.{BracketEntry}
 use Rattle.rd_levels.specs.Levels.{are_leveled, line_levels}
-use Rattle.rd_levels.specs.Turns.{turns_of}
-use Rattle.rd_stack.specs.Ahead.{Ahead}
 
 letters-leveled : (n : ℕ) → are_leveled (replicate n L) ≡ true
 letters-leveled zero = refl
@@ -25,14 +21,3 @@ pub letters-flat : ((entries : List BracketEntry) (classes : List Class) (codes 
 letters-flat law entries letters codes n same =
     ap (λ cs. line_levels entries 0 cs codes) same ∙ law entries (replicate n L) codes (letters-leveled n)
     ∙ ap (λ k. replicate k 0) (length-replicate n L)
-
-module _ (result : Result Ahead Memory) where
-  -- the turns of a line by what its classes and codes are
-  pub if-turns : (entries : List BracketEntry) (reorder : Bool) (base : ℕ) (xs ys : List Class) (us vs : List ℕ) → xs ≡ ys → us ≡ vs
-      → IfOk result (λ order. order.turns ≡ turns_of entries reorder base xs us) → IfOk result (λ order. order.turns ≡ turns_of entries reorder base ys vs)
-  if-turns entries reorder base xs ys us vs classes codes known =
-      subst (λ (cs : List Class). IfOk result (λ order. order.turns ≡ turns_of entries reorder base cs vs)) classes
-      (subst (λ (cs : List ℕ). IfOk result (λ order. order.turns ≡ turns_of entries reorder base xs cs)) codes known)
-
-  pub if-places : (m n : ℕ) → m ≡ n → IfOk result (λ order. order.places ≡ m) → IfOk result (λ order. order.places ≡ n)
-  if-places m n same known = subst (λ (k : ℕ). IfOk result (λ order. order.places ≡ k)) same known

@@ -68,7 +68,7 @@ fn order_of_items(alloc: Global, view: &View, base: u8, items: &Items) -> Result
 {
     let classes = classes_of(alloc, items)?;
     let codes = codes_of(alloc, items)?;
-    Order::new(alloc, view, base, classes.as_slice(), codes.as_slice())
+    Order::new(alloc, view, base, &classes, &codes)
 }
 
 /// The classes of items, by which a line of them is ordered.

@@ -42,8 +42,8 @@ impl Order {
         alloc: Global,
         view: &View,
         base: u8,
-        classes: &[Class],
-        codes: &[u32],
+        classes: &ListOf<Class>,
+        codes: &ListOf<u32>,
     ) -> Result<Order, Memory>
         requires base { base ≤ 1 }
         requires codes { length codes.now ≡ length classes.now }
@@ -52,7 +52,14 @@ impl Order {
     {
         let state = view.state;
         let settings = &state.settings;
-        let cache = levels_with(alloc, view.brackets, settings.reorder, base, classes, codes)?;
+        let cache = levels_with(
+            alloc,
+            view.brackets,
+            settings.reorder,
+            base,
+            classes.as_slice(),
+            codes.as_slice(),
+        )?;
         let walk = Visual::start(cache.levels(), base);
         Ok(Order { cache, walk })
     }

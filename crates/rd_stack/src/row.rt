@@ -65,7 +65,7 @@ pub fn order_of_parts(alloc: Global, view: &View, base: u8, parts: &[Part]) -> R
 {
     let classes = classes_of(alloc, parts)?;
     let codes = codes_of(alloc, parts)?;
-    Order::new(alloc, view, base, classes.as_slice(), codes.as_slice())
+    Order::new(alloc, view, base, &classes, &codes)
 }
 
 /// The classes of parts.
