@@ -139,43 +139,9 @@ same-hitting s window last row column = by (window_of window s.windows) where
   by (Some w) = same-pointed s window w last (place_of window s) row column
 
 pub same-step : (v : SessionValue) (op : Op) → session_step (without_copies v) op ≡ session_step v op
-same-step v (ops.Frame width height) = refl
-same-step v (ops.Buffer name) = refl
-same-step v (ops.Insert name place text) = refl
-same-step v (ops.InsertRaw name place bytes) = refl
-same-step v (ops.TypeText text) = refl
-same-step v (ops.Delete name from to) = refl
-same-step v (ops.Narrow name from to) = refl
-same-step v (ops.Widen name) = refl
-same-step v (ops.Put name from to kind value) = refl
-same-step v (ops.Overlay name from to priority front rear) = refl
-same-step v (ops.OverlayMove name overlay from to) = refl
-same-step v (ops.OverlayDrop name overlay) = refl
-same-step v (ops.OverlayPut name overlay kind value) = refl
-same-step v (ops.Setting name value) = refl
-same-step v (ops.AddString text runs) = refl
-same-step v (ops.AddSpec spec) = refl
-same-step v (ops.AddFace face) = refl
-same-step v (ops.AddTable entries truncation continuation escape control ellipsis border) = refl
-same-step v (ops.Split window side size) = refl
-same-step v (ops.Remove window) = refl
-same-step v (ops.Select window) = refl
-same-step v (ops.Show window name) = refl
-same-step v (ops.Point window place) = refl
-same-step v (ops.Start window place row) = refl
-same-step v (ops.Scroll window rows) = refl
-same-step v (ops.Hscroll window columns) = refl
-same-step v (ops.Wrap window mode) = refl
-same-step v (ops.ModeLine window format) = refl
-same-step v (ops.Scrolling margin conservatively) = refl
-same-step v (ops.Echo text) = refl
-same-step v (ops.Redisplay stop) = refl
-same-step v (ops.Shift on) = refl
-same-step v (ops.Go window right) = refl
 same-step v (ops.Hit window row column) =
     ap (λ (last : Option Layout). hitting v.state window last row column) (same-layout window v.layouts) ∙ same-hitting v.state window (layout_of window v.layouts) row column
-same-step v (ops.Margin window numbers strings) = refl
-same-step v (ops.MarginPut name overlay string) = refl
+same-step v op = refl
 
 -- ---- what is behind an op
 

@@ -230,38 +230,7 @@ pointed-session laws v window place t session form is =
 
 pub step-session : StepLaws → (v : SessionValue) (op : Op) (t : StateValue) → IsSession v → IsInForm op → IsStep op → session_step v op ≡ Ok t → IsSession (behind v op t)
 unfolding effect_of
-step-session laws v (ops.Frame width height) t session form step is = stays-session laws v (ops.Frame width height) t session form is
-step-session laws v (ops.Buffer name) t session form step is = stays-session laws v (ops.Buffer name) t session form is
-step-session laws v (ops.Insert name place text) t session form step is = stays-session laws v (ops.Insert name place text) t session form is
-step-session laws v (ops.InsertRaw name place bytes) t session form step is = stays-session laws v (ops.InsertRaw name place bytes) t session form is
-step-session laws v (ops.TypeText text) t session form step is = stays-session laws v (ops.TypeText text) t session form is
-step-session laws v (ops.Delete name from to) t session form step is = stays-session laws v (ops.Delete name from to) t session form is
-step-session laws v (ops.Narrow name from to) t session form step is = stays-session laws v (ops.Narrow name from to) t session form is
-step-session laws v (ops.Widen name) t session form step is = stays-session laws v (ops.Widen name) t session form is
-step-session laws v (ops.Put name from to kind value) t session form step is = stays-session laws v (ops.Put name from to kind value) t session form is
-step-session laws v (ops.Overlay name from to priority front rear) t session form step is = stays-session laws v (ops.Overlay name from to priority front rear) t session form is
-step-session laws v (ops.OverlayMove name overlay from to) t session form step is = stays-session laws v (ops.OverlayMove name overlay from to) t session form is
-step-session laws v (ops.OverlayDrop name overlay) t session form step is = stays-session laws v (ops.OverlayDrop name overlay) t session form is
-step-session laws v (ops.OverlayPut name overlay kind value) t session form step is = stays-session laws v (ops.OverlayPut name overlay kind value) t session form is
-step-session laws v (ops.Setting name value) t session form step is = stays-session laws v (ops.Setting name value) t session form is
-step-session laws v (ops.AddString text runs) t session form step is = stays-session laws v (ops.AddString text runs) t session form is
-step-session laws v (ops.AddSpec spec) t session form step is = stays-session laws v (ops.AddSpec spec) t session form is
-step-session laws v (ops.AddFace face) t session form step is = stays-session laws v (ops.AddFace face) t session form is
-step-session laws v (ops.AddTable entries truncation continuation escape control ellipsis border) t session form step is = stays-session laws v (ops.AddTable entries truncation continuation escape control ellipsis border) t session form is
-step-session laws v (ops.Split window side size) t session form step is = stays-session laws v (ops.Split window side size) t session form is
-step-session laws v (ops.Remove window) t session form step is = stays-session laws v (ops.Remove window) t session form is
-step-session laws v (ops.Select window) t session form step is = stays-session laws v (ops.Select window) t session form is
-step-session laws v (ops.Show window name) t session form step is = stays-session laws v (ops.Show window name) t session form is
-step-session laws v (ops.Point window place) t session form step is = stays-session laws v (ops.Point window place) t session form is
-step-session laws v (ops.Start window place row) t session form step is = stays-session laws v (ops.Start window place row) t session form is
-step-session laws v (ops.Scroll window rows) t session form step is = stays-session laws v (ops.Scroll window rows) t session form is
-step-session laws v (ops.Hscroll window columns) t session form step is = stays-session laws v (ops.Hscroll window columns) t session form is
-step-session laws v (ops.Wrap window mode) t session form step is = stays-session laws v (ops.Wrap window mode) t session form is
-step-session laws v (ops.ModeLine window format) t session form step is = stays-session laws v (ops.ModeLine window format) t session form is
-step-session laws v (ops.Scrolling margin conservatively) t session form step is = stays-session laws v (ops.Scrolling margin conservatively) t session form is
-step-session laws v (ops.Echo text) t session form step is = stays-session laws v (ops.Echo text) t session form is
 step-session laws v (ops.Redisplay stop) t session form step is = absurd step
-step-session laws v (ops.Shift on) t session form step is = stays-session laws v (ops.Shift on) t session form is
 step-session laws v (ops.Go window right) t session form step is =
     let w = found-window v.state t window _ is in
     pointed-session laws v window (stepped_to v.files v.state w.0 right) t session form w.1
@@ -269,5 +238,4 @@ step-session laws v (ops.Hit window row column) t session form step is =
     let w = found-window v.state t window _ is in
     let to = hit-moves v.state t window w.0 (layout_of window v.layouts) (place_of window v.state) row column w.1 in
     pointed-session laws v window to.0 t session form.0 to.1
-step-session laws v (ops.Margin window numbers strings) t session form step is = stays-session laws v (ops.Margin window numbers strings) t session form is
-step-session laws v (ops.MarginPut name overlay string) t session form step is = stays-session laws v (ops.MarginPut name overlay string) t session form is
+step-session laws v op t session form step is = stays-session laws v op t session form is

@@ -147,33 +147,7 @@ module _ (s t : StateValue) (v : IsValid s) where
       moved-stands i overlay from to (overlay_in s name overlay) le k b at (λ x is same. overlay-found name overlay k b x at is same)
   has-place (ops.OverlayDrop name overlay) h k b at = covered-stands (number_of name s.buffers) k b.content (overlay_in s name overlay)
   has-place (ops.OverlayPut name overlay kind value) h k b at = covered-stands (number_of name s.buffers) k b.content (overlay_in s name overlay)
-  has-place (ops.Narrow name from to) h k b at = tt
-  has-place (ops.Widen name) h k b at = tt
-  has-place (ops.Setting name value) h k b at = tt
-  has-place (ops.Show window name) h k b at = tt
-  has-place (ops.Frame width height) h k b at = tt
-  has-place (ops.Buffer name) h k b at = tt
-  has-place (ops.AddString text runs) h k b at = tt
-  has-place (ops.AddSpec spec) h k b at = tt
-  has-place (ops.AddFace face) h k b at = tt
-  has-place (ops.AddTable entries truncation continuation escape control ellipsis border) h k b at = tt
-  has-place (ops.Split window side size) h k b at = tt
-  has-place (ops.Remove window) h k b at = tt
-  has-place (ops.Select window) h k b at = tt
-  has-place (ops.Point window place) h k b at = tt
-  has-place (ops.Start window place row) h k b at = tt
-  has-place (ops.Scroll window rows) h k b at = tt
-  has-place (ops.Hscroll window columns) h k b at = tt
-  has-place (ops.Wrap window mode) h k b at = tt
-  has-place (ops.ModeLine window format) h k b at = tt
-  has-place (ops.Scrolling margin conservatively) h k b at = tt
-  has-place (ops.Echo text) h k b at = tt
-  has-place (ops.Redisplay stop) h k b at = tt
-  has-place (ops.Shift on) h k b at = tt
-  has-place (ops.Go window right) h k b at = tt
-  has-place (ops.Hit window row column) h k b at = tt
-  has-place (ops.Margin window numbers strings) h k b at = tt
-  has-place (ops.MarginPut name overlay string) h k b at = tt
+  has-place op h k b at = tt
 
   -- a position to which point moves has 64 bits
   whole-place : (c : ContentValue) (place : ℕ) → IsText c.text → is_accessible c.text place ≡ true → IsWhole place
