@@ -1,10 +1,10 @@
 -- What each window of a valid state shows has the sizes of its rectangle.
-use Rattle.std.proofs.Common.{◌≡◌, ℕ, suc, ◌+◌, ◌-◌, ◌^◌, ◌<◌, ◌≤◌, ◌==◌, Bool, true, false, is_some, if◌then◌else◌, cond, Option, None, Some, Result, Ok, Err, List, [], ◌∷◌, ◌++◌, length, drop, sym, ap, refl, subst, ◌∙◌, arith, length-take, length-drop, true≢false}
+use Rattle.std.proofs.Common.{◌≡◌, ℕ, suc, ◌+◌, ◌-◌, ◌^◌, ◌<◌, ◌≤◌, ◌==◌, ◌||◌, Bool, true, false, is_some, if◌then◌else◌, cond, Option, None, Some, Result, Ok, Err, List, [], ◌∷◌, length, drop, sym, ap, refl, subst, ◌∙◌, arith, length-take, length-drop}
 use Rattle.std.proofs.lemmas.List.{length-map}
 use Rattle.std.proofs.lemmas.List.Sums.{count_by-le-length}
 use Rattle.std.proofs.lemmas.List.Elements.{All-from_recursion, All-map, All-take, All-drop, recursion_from_All}
 use Rattle.std.specs.List.{All, AllByRecursion, find}
-use Rattle.std.specs.Option.{option_and_then, option_or}
+use Rattle.std.specs.Option.{option_and_then}
 use Rattle.std.proofs.lemmas.Option.{get_or_from_slice_get, slice_get_within}
 use Rattle.std.specs.Prelude.{IfSome, IsTrue, option_map, slice_get, slice_index_or}
 use Rattle.rd_base.proofs.Choices.{map-some, some-of}
@@ -44,7 +44,8 @@ use Rattle.rd_state.specs.Windows.{leaf_at, leaf_of, shown_content, window_of}
 use Rattle.rd_state.specs.declared.window.WindowState.{WindowState}
 use Rattle.rd_text.specs.Texts as text
 use Rattle.rd_tree.specs.Calls.{frame_of}
-use Rattle.rd_tree.specs.Windows.{Windows, Window, Split, first_part, of_number, placed, second_part, window_at}
+use Rattle.rd_tree.proofs.Keeping.{found_held, is_some-if, is_some-or}
+use Rattle.rd_tree.specs.Windows.{Windows, Window, Split, holds, window_at}
 use Rattle.rd_tree.specs.declared.placed.Placed.{Placed}
 use Rattle.rd_tree.specs.declared.rect.Rect.{Rect}
 use Rattle.rd_ucd.specs.Data.{Data}
@@ -112,36 +113,15 @@ cursor-hold width point (e ∷ es) wide columns =
 
 -- ---- windows and their leaves
 
-first-by : (t : Bool) (p : Placed) (o u : Option Placed) → (is_some o ≡ true → is_some u ≡ true) → is_some (if t then Some p else o) ≡ true → is_some (if t then Some p else u) ≡ true
-first-by true p o u f h = refl
-first-by false p o u f h = f h
-
-second-by : (t : Bool) (p : Placed) (o : Option Placed) → is_some o ≡ true → is_some (if t then Some p else o) ≡ true
-second-by true p o h = refl
-second-by false p o h = h
-
-some-first : (n : ℕ) (ps qs : List Placed) → is_some (of_number n ps) ≡ true → is_some (of_number n (ps ++ qs)) ≡ true
-some-first n [] qs h = absurd (true≢false (sym h))
-some-first n (p ∷ ps) qs h = first-by (p.number == n) p (of_number n ps) (of_number n (ps ++ qs)) (some-first n ps qs) h
-
-some-second : (n : ℕ) (ps qs : List Placed) → is_some (of_number n qs) ≡ true → is_some (of_number n (ps ++ qs)) ≡ true
-some-second n [] qs h = h
-some-second n (p ∷ ps) qs h = second-by (p.number == n) p (of_number n (ps ++ qs)) (some-second n ps qs h)
-
-split-found : (n : ℕ) (ps qs : List Placed) (o u : Option (Bool × ℕ)) (leaf : Bool × ℕ) → ((x : Bool × ℕ) → o ≡ Some x → is_some (of_number n ps) ≡ true) → ((x : Bool × ℕ) → u ≡ Some x → is_some (of_number n qs) ≡ true)
-    → option_or o u ≡ Some leaf → is_some (of_number n (ps ++ qs)) ≡ true
-split-found n ps qs (Some x) u leaf f g h = some-first n ps qs (f x refl)
-split-found n ps qs None u leaf f g h = some-second n ps qs (g leaf h)
-
-one-found : (t : Bool) (p : Placed) (x leaf : Bool × ℕ) → (if t then Some x else None) ≡ Some leaf → is_some (if t then Some p else None) ≡ true
-one-found true p x leaf h = refl
-one-found false p x leaf h = absurd (cc)
+leaf-held : (n : ℕ) (windows : Windows) → is_some (leaf_at n windows) ≡ holds n windows
+leaf-held n (Window number mode margins) = is_some-if (number == n) (mode, margins)
+leaf-held n (Split side size first second) =
+    let before = leaf-held n first in
+    let behind = leaf-held n second in
+    is_some-or (leaf_at n first) (leaf_at n second) ∙ (λ i. before i || behind i)
 
 leaf-found : (n : ℕ) (windows : Windows) (rect : Rect) (leaf : Bool × ℕ) → leaf_at n windows ≡ Some leaf → is_some (window_at n windows rect) ≡ true
-leaf-found n (Window number mode margins) rect leaf h = one-found (number == n) (record { number = number; mode = mode; margins = margins; rect = rect }) (mode, margins) leaf h
-leaf-found n (Split side size first second) rect leaf h =
-    split-found n (placed first (first_part side size rect)) (placed second (second_part side size rect)) (leaf_at n first) (leaf_at n second) leaf
-    (λ x is. leaf-found n first (first_part side size rect) x is) (λ x is. leaf-found n second (second_part side size rect) x is) h
+leaf-found n windows rect leaf h = found_held n windows rect ∙ (sym (leaf-held n windows) ∙ ap is_some h)
 
 codes-of : (o : Option TextValue) → ((t : TextValue) → o ≡ Some t → AreCodes t.chars) → AreCodes (text_of o)
 codes-of None h = All-from_recursion (λ c. IsTrue (is_code c)) [] tt

@@ -1,18 +1,19 @@
 -- The windows of a frame, in their order and by their numbers.
-use Rattle.std.proofs.Common.{◌≡◌, ◌≢◌, ◌⊎◌, inl, inr, ℕ, ◌+◌, ◌-◌, ◌<◌, ◌≤◌, ◌==◌, Bool, true, false, if◌then◌else◌, Some, List, [], ◌∷◌, ◌++◌, get_or, sym, ap, refl, ◌∙◌, arith, nat_le}
+use Rattle.std.proofs.Common.{◌≡◌, ◌≢◌, inl, inr, ℕ, ◌+◌, ◌-◌, ◌<◌, ◌≤◌, ◌==◌, Bool, true, false, if◌then◌else◌, Some, List, [], ◌∷◌, ◌++◌, get_or, is_some, sym, ap, refl, ◌∙◌, arith, nat_le}
 use Rattle.std.proofs.lemmas.Bool.{cases_eq, leb-true, leb-false, cond-false, cond-true, eq-eqb, ne_eqb}
 use Rattle.std.proofs.lemmas.List.Elements.{All-from_get_or, All-from_recursion, recursion_from_All}
-use Rattle.std.proofs.lemmas.Option.{slice_get-get_or, slice_get-map, none-some}
+use Rattle.std.proofs.lemmas.Option.{slice_get-get_or, slice_get-map}
 use Rattle.std.specs.List.{All, AllByRecursion, flat_map}
 use Rattle.std.specs.Prelude.{slice_get, option_map}
-use Rattle.rd_base.proofs.Choices.{one-at-least}
 use Rattle.rd_frame.specs.Panes.{body_height}
 use Rattle.rd_lineshift.specs.Choices.{AreWithin}
 use Rattle.rd_lineshift.specs.declared.band.Band.{Band}
 use Rattle.rd_state.specs.States.{StateValue}
 use Rattle.rd_state.specs.Valid.{IsValid}
 use Rattle.rd_tree.specs.Calls.{frame_of}
-use Rattle.rd_tree.specs.Windows.{Windows, Window, Split, first_part, leaves, of_number, placed, second_part, times, window_at}
+use Rattle.rd_tree.proofs.Keeping.{found_held}
+use Rattle.rd_tree.proofs.Standing.{held_times}
+use Rattle.rd_tree.specs.Windows.{Windows, leaves, of_number, times, window_at}
 use Rattle.rd_tree.specs.declared.placed.Placed.{Placed}
 use Rattle.rd_tree.specs.declared.rect.Rect.{Rect}
 use Rattle.rd_layout.specs.Laws.{PlaceLaws}
@@ -34,26 +35,8 @@ number-of n (q ∷ qs) p h = elim (cases_eq q.number n) [
   | inr e ↦ number-of n qs p (sym (placed-there n q qs e) ∙ h)
 ]
 
--- one of two lists has what both have together
-either : (n : ℕ) (ps qs : List Placed) (p : Placed) → of_number n (ps ++ qs) ≡ Some p → (of_number n ps ≡ Some p) ⊎ (of_number n qs ≡ Some p)
-either n [] qs p h = inr h
-either n (x ∷ xs) qs p h = elim (cases_eq x.number n) [
-  | inl e ↦ inl (placed-here n x xs e ∙ (sym (placed-here n x (xs ++ qs) e) ∙ h))
-  | inr e ↦ elim (either n xs qs p (sym (placed-there n x (xs ++ qs) e) ∙ h)) [
-    | inl l ↦ inl (placed-there n x xs e ∙ l)
-    | inr r ↦ inr r
-  ]
-]
-
 pub found-once : (n : ℕ) (windows : Windows) (rect : Rect) (p : Placed) → window_at n windows rect ≡ Some p → 1 ≤ times n windows
-found-once n (Window number mode margins) rect p h = elim (cases_eq number n) [
-  | inl e ↦ one-at-least (number == n) (eq-eqb number n e)
-  | inr e ↦ absurd (none-some p (sym (placed-there n (record { number = number; mode = mode; margins = margins; rect = rect }) [] e) ∙ h))
-]
-found-once n (Split side size first second) rect p h = elim (either n (placed first (first_part side size rect)) (placed second (second_part side size rect)) p h) [
-  | inl l ↦ let one = found-once n first (first_part side size rect) p l in omega arith
-  | inr r ↦ let one = found-once n second (second_part side size rect) p r in omega arith
-]
+found-once n windows rect p h = held_times n windows (sym (found_held n windows rect) ∙ ap is_some h)
 
 -- ---- the windows of a state
 
