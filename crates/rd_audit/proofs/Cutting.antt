@@ -62,16 +62,18 @@ parts-listed : (a b f k : List ℕ) (lines : List ℕ → List (List ℕ)) → �
 parts-listed a b f k lines e =
     ap (λ l. l ∷ lines b) (ap (λ x. front_of a x) e) ∙ ap (λ l. f ∷ lines l) (ap (λ x. back_of b x) e)
 
-lines-cut_at : (b : ℕ) (bs f k : List ℕ) (t : Bool) (o : Option (List ℕ × List ℕ)) → ((f' k' : List ℕ) → o ≡ Some (f', k') → lines_of bs ≡ f' ∷ lines_of k')
+-- a first piece stands before those of the rest
+cut-listed : (lines : List ℕ → List (List ℕ)) (b : ℕ) (bs f k : List ℕ) (t : Bool) (o : Option (List ℕ × List ℕ))
+    → ((f' k' : List ℕ) → o ≡ Some (f', k') → lines bs ≡ f' ∷ lines k')
     → (if t then cut_here bs else option_map (λ parts. (b ∷ parts.0, parts.1)) o) ≡ Some (f, k)
-    → (if t then [] ∷ lines_of bs else in_front b (lines_of bs)) ≡ f ∷ lines_of k
-lines-cut_at b bs f k true o so e = parts-listed [] bs f k lines_of e
-lines-cut_at b bs f k false None so e = absurd (cc)
-lines-cut_at b bs f k false (Some parts) so e = ap (in_front b) (so parts.0 parts.1 refl) ∙ parts-listed (b ∷ parts.0) parts.1 f k lines_of e
+    → (if t then [] ∷ lines bs else in_front b (lines bs)) ≡ f ∷ lines k
+cut-listed lines b bs f k true o so e = parts-listed [] bs f k lines e
+cut-listed lines b bs f k false None so e = absurd (cc)
+cut-listed lines b bs f k false (Some parts) so e = ap (in_front b) (so parts.0 parts.1 refl) ∙ parts-listed (b ∷ parts.0) parts.1 f k lines e
 
 pub lines-cut : (bs f k : List ℕ) → cut 10 bs ≡ Some (f, k) → lines_of bs ≡ f ∷ lines_of k
 lines-cut [] f k e = absurd (cc)
-lines-cut (b ∷ bs) f k e = lines-cut_at b bs f k (b == 10) (cut 10 bs) (lines-cut bs) e
+lines-cut (b ∷ bs) f k e = cut-listed lines_of b bs f k (b == 10) (cut 10 bs) (lines-cut bs) e
 
 lines-uncut_at : (b : ℕ) (bs : List ℕ) (t : Bool) (o : Option (List ℕ × List ℕ)) → (o ≡ None → 0 < length bs → lines_of bs ≡ bs ∷ [])
     → (if t then cut_here bs else option_map (λ parts. (b ∷ parts.0, parts.1)) o) ≡ None
@@ -85,16 +87,9 @@ pub lines-uncut : (bs : List ℕ) → cut 10 bs ≡ None → 0 < length bs → l
 lines-uncut [] e some = absurd (omega (arith, some))
 lines-uncut (b ∷ bs) e some = lines-uncut_at b bs (b == 10) (cut 10 bs) (lines-uncut bs) e
 
-pieces-cut_at : (byte b : ℕ) (bs f k : List ℕ) (t : Bool) (o : Option (List ℕ × List ℕ)) → ((f' k' : List ℕ) → o ≡ Some (f', k') → pieces byte bs ≡ f' ∷ pieces byte k')
-    → (if t then cut_here bs else option_map (λ parts. (b ∷ parts.0, parts.1)) o) ≡ Some (f, k)
-    → (if t then [] ∷ pieces byte bs else in_front b (pieces byte bs)) ≡ f ∷ pieces byte k
-pieces-cut_at byte b bs f k true o so e = parts-listed [] bs f k (pieces byte) e
-pieces-cut_at byte b bs f k false None so e = absurd (cc)
-pieces-cut_at byte b bs f k false (Some parts) so e = ap (in_front b) (so parts.0 parts.1 refl) ∙ parts-listed (b ∷ parts.0) parts.1 f k (pieces byte) e
-
 pub pieces-cut : (byte : ℕ) (bs f k : List ℕ) → cut byte bs ≡ Some (f, k) → pieces byte bs ≡ f ∷ pieces byte k
 pieces-cut byte [] f k e = absurd (cc)
-pieces-cut byte (b ∷ bs) f k e = pieces-cut_at byte b bs f k (b == byte) (cut byte bs) (pieces-cut byte bs) e
+pieces-cut byte (b ∷ bs) f k e = cut-listed (pieces byte) b bs f k (b == byte) (cut byte bs) (pieces-cut byte bs) e
 
 pieces-uncut_at : (byte b : ℕ) (bs : List ℕ) (t : Bool) (o : Option (List ℕ × List ℕ)) → (o ≡ None → pieces byte bs ≡ bs ∷ [])
     → (if t then cut_here bs else option_map (λ parts. (b ∷ parts.0, parts.1)) o) ≡ None

@@ -21,31 +21,29 @@ there [] = []
 there (None ∷ ns) = there ns
 there (Some n ∷ ns) = n ∷ there ns
 
--- numbers behind others, each behind a semicolon
-abbrev pub more_text : List ℕ → List ℕ
-more_text [] = []
-more_text (n ∷ ns) = 59 ∷ (decimal n ++ more_text ns)
+-- the text of numbers: this mark before the first, a semicolon before each other one
+abbrev pub marked : ℕ → List ℕ → List ℕ
+marked mark [] = []
+marked mark (n ∷ ns) = mark ∷ (decimal n ++ marked 59 ns)
 
--- numbers, the first behind a colon
-abbrev pub all_text : List ℕ → List ℕ
-all_text [] = []
-all_text (n ∷ ns) = 58 ∷ (decimal n ++ more_text ns)
+number-marked : (mark n : ℕ) (ns : List (Option ℕ)) → numbers_behind true ns ≡ marked 59 (there ns)
+    → (mark ∷ (decimal n ++ [])) ++ numbers_behind true ns ≡ marked mark (n ∷ there ns)
+number-marked mark n ns e =
+    ap (λ l. (mark ∷ l) ++ numbers_behind true ns) (append-nil (decimal n)) ∙ ap (λ l. mark ∷ (decimal n ++ l)) e
 
-behind-more : (ns : List (Option ℕ)) → numbers_behind true ns ≡ more_text (there ns)
-behind-more [] = refl
-behind-more (None ∷ ns) = behind-more ns
-behind-more (Some n ∷ ns) =
-    ap (λ l. (59 ∷ l) ++ numbers_behind true ns) (append-nil (decimal n)) ∙ ap (λ l. 59 ∷ (decimal n ++ l)) (behind-more ns)
+behind-marked : (any : Bool) (ns : List (Option ℕ)) → numbers_behind any ns ≡ marked (if any then 59 else 58) (there ns)
+behind-marked any [] = refl
+behind-marked true (None ∷ ns) = behind-marked true ns
+behind-marked false (None ∷ ns) = behind-marked false ns
+behind-marked true (Some n ∷ ns) = number-marked 59 n ns (behind-marked true ns)
+behind-marked false (Some n ∷ ns) = number-marked 58 n ns (behind-marked true ns)
 
-behind-all : (ns : List (Option ℕ)) → numbers_behind false ns ≡ all_text (there ns)
-behind-all [] = refl
-behind-all (None ∷ ns) = behind-all ns
-behind-all (Some n ∷ ns) =
-    ap (λ l. (58 ∷ l) ++ numbers_behind true ns) (append-nil (decimal n)) ∙ ap (λ l. 58 ∷ (decimal n ++ l)) (behind-more ns)
-
-more-lacks : (byte : ℕ) (ns : List ℕ) → is_no_digit byte ≡ true → not (59 == byte) ≡ true → lacks byte (more_text ns) ≡ true
-more-lacks byte [] p q = refl
-more-lacks byte (n ∷ ns) p q = ap (λ t. t && lacks byte (decimal n ++ more_text ns)) q ∙ lacks-append byte (decimal n) (more_text ns) (lacks-decimal byte n p) (more-lacks byte ns p q)
+marked-lacks : (byte mark : ℕ) (ns : List ℕ) → is_no_digit byte ≡ true → not (mark == byte) ≡ true → not (59 == byte) ≡ true
+    → lacks byte (marked mark ns) ≡ true
+marked-lacks byte mark [] p q r = refl
+marked-lacks byte mark (n ∷ ns) p q r =
+    and_from (not (mark == byte)) (lacks byte (decimal n ++ marked 59 ns)) q
+    (lacks-append byte (decimal n) (marked 59 ns) (lacks-decimal byte n p) (marked-lacks byte 59 ns p r r))
 
 -- ---- the face of numbers
 
@@ -71,13 +69,13 @@ numbered place n face texts small =
 
 -- the numbers behind a first one
 read-more : (place n : ℕ) (face : Attributes) (ns : List ℕ) → n < 1000 → AreSmall ns
-    → face_from place face (pieces 59 (decimal n ++ more_text ns)) ≡ with_numbers place face (n ∷ ns)
+    → face_from place face (pieces 59 (decimal n ++ marked 59 ns)) ≡ with_numbers place face (n ∷ ns)
 read-more place n face [] p q =
     ap (face_from place face) (ap (pieces 59) (append-nil (decimal n)) ∙ pieces-one 59 (decimal n) (lacks-decimal 59 n refl))
     ∙ numbered place n face [] p
 read-more place n face (m ∷ ns) p q =
-    ap (face_from place face) (pieces-seam 59 (decimal n) (decimal m ++ more_text ns) (lacks-decimal 59 n refl))
-    ∙ numbered place n face (pieces 59 (decimal m ++ more_text ns)) p
+    ap (face_from place face) (pieces-seam 59 (decimal n) (decimal m ++ marked 59 ns) (lacks-decimal 59 n refl))
+    ∙ numbered place n face (pieces 59 (decimal m ++ marked 59 ns)) p
     ∙ ap (λ o. if comes_behind place n then o else None) (read-more (place_of n) m (dressed n face) ns q.0 q.1)
 
 -- ---- the numbers of a face
@@ -155,17 +153,17 @@ all-small bold underline inverse fg bg p q = flag-small bold 1 _ (omega arith) (
 abbrev Reads : Attributes → List ℕ → Type 0
 Reads f text = (codes : List ℕ) × (text ≡ 58 ∷ codes) × (face_of codes ≡ Some f)
 
-reads-by : (f : Attributes) (ns : List ℕ) → AreSmall ns → with_numbers 0 plain ns ≡ Some f → same_face f plain ≡ false → Reads f (all_text ns)
+reads-by : (f : Attributes) (ns : List ℕ) → AreSmall ns → with_numbers 0 plain ns ≡ Some f → same_face f plain ≡ false → Reads f (marked 58 ns)
 reads-by f [] small e other =
     let same : plain ≡ f = cc in
     absurd (true≢false (subst (λ g. true ≡ same_face g plain) same refl ∙ other))
-reads-by f (n ∷ ns) small e other = (decimal n ++ more_text ns, refl, read-more 0 n plain ns small.0 small.1 ∙ e)
+reads-by f (n ∷ ns) small e other = (decimal n ++ marked 59 ns, refl, read-more 0 n plain ns small.0 small.1 ∙ e)
 
 numbers-read : (f : Attributes) → HasColours f → same_face f plain ≡ false → Reads f (numbers_text f)
 numbers-read f range other =
     let ns = there (numbers_of_face f) in
     let h = reads-by f ns (all-small f.bold f.underline f.inverse f.fg f.bg range.fg range.bg) (flags f.bold f.underline f.inverse f.fg f.bg range.fg range.bg) other in
-    (h.0, behind-all (numbers_of_face f) ∙ h.1, h.2)
+    (h.0, behind-marked false (numbers_of_face f) ∙ h.1, h.2)
 
 -- ---- a run
 
@@ -189,18 +187,13 @@ span-lacks : (byte first last : ℕ) → is_no_digit byte ≡ true → not (45 =
 span-lacks byte first last p q =
     lacks-append byte (decimal first) (45 ∷ decimal last) (lacks-decimal byte first p) (and_from (not (45 == byte)) (lacks byte (decimal last)) q (lacks-decimal byte last p))
 
-all-lacks : (byte : ℕ) (ns : List ℕ) → is_no_digit byte ≡ true → not (58 == byte) ≡ true → not (59 == byte) ≡ true → lacks byte (all_text ns) ≡ true
-all-lacks byte [] p q r = refl
-all-lacks byte (n ∷ ns) p q r =
-    and_from (not (58 == byte)) (lacks byte (decimal n ++ more_text ns)) q (lacks-append byte (decimal n) (more_text ns) (lacks-decimal byte n p) (more-lacks byte ns p r))
-
 pub piece-lacks : (byte first last : ℕ) (face : Attributes) → is_apart byte ≡ true → lacks byte (run_piece first last face) ≡ true
 piece-lacks byte first last face h =
     let one = and_parts (is_no_digit byte) (not (45 == byte) && (not (58 == byte) && not (59 == byte))) h in
     let two = and_parts (not (45 == byte)) (not (58 == byte) && not (59 == byte)) one.1 in
     let three = and_parts (not (58 == byte)) (not (59 == byte)) two.1 in
     lacks-append byte (span_text first last) (numbers_text face) (span-lacks byte first last one.0 two.0)
-    (ap (lacks byte) (behind-all (numbers_of_face face)) ∙ all-lacks byte (there (numbers_of_face face)) one.0 three.0 three.1)
+    (ap (lacks byte) (behind-marked false (numbers_of_face face)) ∙ marked-lacks byte 58 (there (numbers_of_face face)) one.0 three.0 three.1)
 
 -- the run that its text says
 pub run-read : (first last : ℕ) (face : Attributes) → first < 1000 → last < 1000 → HasColours face → same_face face plain ≡ false
