@@ -18,10 +18,6 @@ pub one-at-most : (b : Bool) → (if b then 1 else 0) ≤ 1
 one-at-most true = omega arith
 one-at-most false = omega arith
 
-pub one-at-least : (b : Bool) → b ≡ true → 1 ≤ (if b then 1 else 0)
-one-at-least true e = omega arith
-one-at-least false e = absurd (cc)
-
 -- ---- choices
 
 -- what holds of two things holds of the one that is chosen

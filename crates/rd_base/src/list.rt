@@ -1,5 +1,6 @@
 //! A list that contracts see as the list of its elements.
-ghost use Rattle.std.specs.Prelude.{◌≡◌, ◌==◌, ◌<◌, ◌+◌, ◌-◌, [], ◌∷◌, ◌++◌, length, OnOk, OnErr, IfOk, slice_get, slice_set, take, replicate, Some, MatchOption};
+ghost use Rattle.std.specs.Prelude.{◌≡◌, ◌==◌, ◌<◌, ◌≤◌, ◌+◌, ◌-◌, [], ◌∷◌, ◌++◌, length, OnOk, OnErr, IfOk, slice_get, slice_set, take, drop, replicate, map, Some, MatchOption};
+ghost use Rattle.std.specs.Borrow.{Bor};
 
 use crate::memory::Memory;
 use std::alloc::Global;
@@ -126,6 +127,14 @@ impl<T: Copy> ListOf<T> {
         self.items[i] = value;
     }
 
+    /// Puts these elements in place of those from a place on, counted from 0.
+    pub fn overwrite(&mut self, from: usize, items: &[T])
+        requires { from + length items.now ≤ length self.old }
+        ensures { self.new ≡ take from self.old ++ (items.now ++ drop (from + length items.now) self.old) }
+    {
+        self.items[from..from + items.len()].copy_from_slice(items);
+    }
+
     /// Adds these elements at the end.
     pub fn extend_from_slice(&mut self, more: &[T]) -> Result<(), Memory>
         ensures ok { OnOk result (self.new ≡ self.old ++ more.now) }
@@ -153,4 +162,20 @@ impl<T: Copy> ListOf<T> {
         self.items.resize(n, value)?;
         Ok(())
     }
+}
+
+/// What `make` makes of each element of a list, in the list's order.
+pub fn mapped<S, T: Drop, F: Fn(&S) -> T>(
+    alloc: Global,
+    items: &[S],
+    make: F,
+) -> Result<ListOf<T>, Memory>
+    requires { F.IsAlwaysCallable make }
+    ensures { (made : S → T) → ((x : Bor S) (y : T) → F.post make x y → y ≡ made x.now) → IfOk result (λ list. list ≡ map made items.now) }
+{
+    let mut list = ListOf::with_room(alloc, items.len())?;
+    for item in items {
+        list.push(make(item))?;
+    }
+    Ok(list)
 }
