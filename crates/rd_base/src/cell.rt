@@ -1,5 +1,5 @@
 //! Glyphs and the cells of a screen.
-ghost use Rattle.std.specs.Prelude.{◌≡◌, ◌<◌};
+ghost use Rattle.std.specs.Prelude.{◌≡◌, ◌<◌, take};
 ghost use Rattle.rd_base.specs.Glyphs.{is_space};
 ghost use Rattle.rd_base.specs.Equals.{same_glyph, same_cell};
 ghost use Rattle.rd_base.specs.Cells.{single, joined_glyph, bit_of, face_number, packed, glyph_number, words_of, AreOnlyOf};
@@ -46,6 +46,14 @@ impl Glyph {
         more.marks[more.count as usize] = mark;
         more.count += 1;
         Some(more)
+    }
+
+    /// The marks that join it, which count.
+    pub fn joining(&self) -> &[u32]
+        ensures { result.now ≡ take self.now.count self.now.marks }
+    {
+        let count = (self.count as usize).min(self.marks.len());
+        &self.marks[..count]
     }
 
     /// Whether both have the same characters and columns.

@@ -1,7 +1,7 @@
 //! Characters of a text: Unicode scalar values and raw bytes.
 ghost use Rattle.std.specs.Prelude.{◌≡◌, ◌+◌, ◌<◌, ◌≤◌, IfOk, IfSome, ◌↔◌, IsNone, IsTrue};
 ghost use Rattle.std.specs.Str.{chars};
-ghost use Rattle.rd_base.specs.Chars.{is_code, columns_of};
+ghost use Rattle.rd_base.specs.Chars.{is_code, columns_of, encoded};
 
 use crate::list::ListOf;
 use crate::memory::Memory;
@@ -78,6 +78,16 @@ pub fn characters(alloc: Global, text: &str) -> Result<ListOf<Ch>, Memory>
         list.push(Ch::scalar(c))?;
     }
     Ok(list)
+}
+
+/// The UTF-8 of a scalar value's code, for which it takes of this room; nothing for a number that is no scalar value.
+pub fn encode(code: u32, room: &mut [u8; 4]) -> &[u8]
+    ensures { result.now ≡ encoded code }
+{
+    match char::from_u32(code) {
+        Some(c) => c.encode_utf8(room).as_bytes(),
+        None => &[],
+    }
 }
 
 /// The columns of a scalar value in a terminal, by Unicode's widths with ambiguous characters narrow. None exactly for a control

@@ -1,6 +1,6 @@
 //! The bidirectional classes of UAX 9, table 4.
 
-ghost use Rattle.std.specs.Prelude.{◌≡◌};
+ghost use Rattle.std.specs.Prelude.{◌≡◌, if◌then◌else◌};
 ghost use Rattle.rd_base.specs.Classes.{is_initiator, is_removed, direction_of};
 
 /// A bidirectional class.
@@ -50,6 +50,13 @@ impl Class {
             Class::LRE | Class::RLE | Class::LRO | Class::RLO | Class::PDF | Class::BN => true,
             _ => false,
         }
+    }
+
+    /// The level that holds behind a character of this class: its own, or the one before it where rule X9 takes it out.
+    pub fn level_behind(self, before: u8, own: u8) -> u8
+        ensures { result ≡ (if is_removed self then before else own) }
+    {
+        if self.is_removed() { before } else { own }
     }
 
     /// The direction of an embedding level: L where it is even, R where it is odd.

@@ -19,7 +19,7 @@ mod steps;
 
 pub use cell::{Cell, Glyph};
 pub use cells::push_glyph;
-pub use chars::{Ch, characters, columns_of};
+pub use chars::{Ch, characters, columns_of, encode};
 pub use class::Class;
 pub use element::{Element, Elements, Extent, Look, Origin};
 pub use face::Face;

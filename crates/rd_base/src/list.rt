@@ -1,5 +1,5 @@
 //! A list that contracts see as the list of its elements.
-ghost use Rattle.std.specs.Prelude.{◌≡◌, ◌==◌, ◌<◌, ◌≤◌, ◌+◌, ◌-◌, [], ◌∷◌, ◌++◌, length, OnOk, OnErr, IfOk, slice_get, slice_set, take, drop, replicate, map, Some, MatchOption};
+ghost use Rattle.std.specs.Prelude.{◌≡◌, ◌==◌, ◌<◌, ◌≤◌, ◌+◌, ◌-◌, [], ◌∷◌, ◌++◌, length, OnOk, OnErr, IfOk, slice_get, slice_set, take, drop, replicate, map, option_to_list, Some, MatchOption};
 ghost use Rattle.std.specs.Borrow.{Bor};
 
 use crate::memory::Memory;
@@ -79,6 +79,17 @@ impl<T: Drop> ListOf<T> {
         Ok(())
     }
 
+    /// Adds what there is at the end.
+    pub fn push_some(&mut self, value: Option<T>) -> Result<(), Memory>
+        ensures ok { OnOk result (self.new ≡ self.old ++ option_to_list value) }
+        ensures err { OnErr result (self.new ≡ self.old) }
+    {
+        match value {
+            Some(value) => self.push(value),
+            None => Ok(()),
+        }
+    }
+
     /// Takes the last element away, and None exactly where there is none.
     pub fn pop(&mut self) -> Option<T>
         ensures { MatchOption result ((self.old ≡ []) × (self.new ≡ [])) (λ last. self.old ≡ self.new ++ last ∷ []) }
@@ -109,6 +120,15 @@ impl<T: Copy> ListOf<T> {
         Ok(ListOf {
             items: Vec::from_slice(alloc, items)?,
         })
+    }
+
+    /// A list of `n` copies of a value.
+    pub fn filled(alloc: Global, n: usize, value: T) -> Result<ListOf<T>, Memory>
+        ensures { IfOk result (λ list. list ≡ replicate n value) }
+    {
+        let mut list = ListOf::new(alloc);
+        list.resize(n, value)?;
+        Ok(list)
     }
 
     /// The element at a place, counted from 0.
