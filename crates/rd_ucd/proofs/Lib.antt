@@ -1,4 +1,3 @@
-mod Among
 mod Cuts
 mod Halves
 mod Large

@@ -1,5 +1,6 @@
 -- The names of the bidirectional classes (UAX 9, table 4).
-use Rattle.std.specs.Prelude.{ℕ, Bool, if◌then◌else◌, List, [], ◌∷◌, Option, None, Some, codes}
+use Rattle.std.specs.Prelude.{ℕ, Bool, List, [], ◌∷◌, Option, codes}
+use Rattle.std.specs.List.{find}
 use Rattle.std.specs.Str.{bytes_eq}
 use Rattle.rd_base.specs.declared.class.Class.{Class}
 use Rattle.rd_base.specs.declared.class.Class.TheVariants.{L, R, AL, EN, ES, ET, AN, CS, NSM, BN, B, S, WS, ON, LRE, LRO, RLE, RLO, PDF, LRI, RLI, FSI, PDI}
@@ -32,14 +33,9 @@ name_of PDI = codes "PDI"
 abbrev pub all_classes : List Class
 all_classes = L ∷ R ∷ AL ∷ EN ∷ ES ∷ ET ∷ AN ∷ CS ∷ NSM ∷ BN ∷ B ∷ S ∷ WS ∷ ON ∷ LRE ∷ LRO ∷ RLE ∷ RLO ∷ PDF ∷ LRI ∷ RLI ∷ FSI ∷ PDI ∷ []
 
--- the first of some classes that has a name
-abbrev pub named_among : List Class → List ℕ → Option Class
-named_among [] name = None
-named_among (c ∷ cs) name = if bytes_eq (name_of c) name then Some c else named_among cs name
-
 -- the class of a name
 abbrev pub named : List ℕ → Option Class
-named name = named_among all_classes name
+named name = find (λ class. bytes_eq name (name_of class)) all_classes
 
 abbrev pub same_class : Class → Class → Bool
 same_class a b = bytes_eq (name_of a) (name_of b)
