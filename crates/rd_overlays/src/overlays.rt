@@ -28,6 +28,7 @@ impl Model for Overlays {
     ghost use Rattle.std.specs.Prelude.{List, Option, ◌≤◌, length};
     ghost use Rattle.rd_overlays.specs.declared.overlay.Overlay.{Overlay};
     ghost use Rattle.rd_base.specs.declared.limits.TheConstants.{OVERLAYS};
+    ghost use Rattle.rd_overlays.specs.declared.fault.OverlayFault.TheVariants.{NoOverlay};
 
     ghost Value = { List (Option Overlay) };
 
@@ -37,8 +38,9 @@ impl Model for Overlays {
 }
 
 impl Overlays {
-    ghost use Rattle.std.specs.Prelude.{◌≡◌, ◌≤◌, [], length, map, Some, None, IfOk, MatchOption};
+    ghost use Rattle.std.specs.Prelude.{◌≡◌, ◌≤◌, ◌<◌, [], length, map, Some, None, IfOk, MatchOption, MatchResult};
     ghost use Rattle.rd_base.specs.declared.limits.TheConstants.{OVERLAYS};
+    ghost use Rattle.rd_overlays.specs.declared.fault.OverlayFault.TheVariants.{NoOverlay};
     ghost use Rattle.rd_overlays.specs.Overlays.{overlay_at, new_overlay, make_fault, number_fault, move_fault, dropped, moved, given, Makes, Moves, Answers, covering, starting, ending, next_edge, last_edge, AllFit, slot_grown, slot_shrunk};
 
     /// No overlay.
@@ -99,22 +101,18 @@ impl Overlays {
     pub fn move_to(&mut self, number: u32, from: Pos, to: Pos) -> Result<(), OverlayFault>
         ensures { Moves result (move_fault self.old number from to) self.old self.new (moved self.old number from to) }
     {
-        match overlay_at(self.slots.as_slice(), number) {
-            None => Err(OverlayFault::NoOverlay),
-            Some(overlay) => {
-                if to < from {
-                    return Err(OverlayFault::OutOfRange);
-                }
-                self.slots.settle()?;
-                let overlay = Overlay {
-                    from,
-                    to,
-                    ..overlay
-                };
-                self.slots.put(number, Some(overlay));
-                Ok(())
-            }
+        let overlay = self.living(number)?;
+        if to < from {
+            return Err(OverlayFault::OutOfRange);
         }
+        self.slots.settle()?;
+        let moved = Overlay {
+            from,
+            to,
+            ..overlay
+        };
+        self.slots.put(number, Some(moved));
+        Ok(())
     }
 
     /// Takes an overlay away; its number is never used again. NoOverlay comes exactly where no such overlay lives.
@@ -122,13 +120,9 @@ impl Overlays {
     pub fn drop_one(&mut self, number: u32) -> Result<(), OverlayFault>
         ensures { Answers result (number_fault self.old number) self.old self.new (dropped self.old number) }
     {
-        match overlay_at(self.slots.as_slice(), number) {
-            None => Err(OverlayFault::NoOverlay),
-            Some(_) => {
-                self.slots.put(number, None);
-                Ok(())
-            }
-        }
+        let _overlay = self.living(number)?;
+        self.slots.put(number, None);
+        Ok(())
     }
 
     /// Gives an overlay a value of a kind, or takes it away where `value` is None. NoOverlay comes exactly where no
@@ -136,14 +130,17 @@ impl Overlays {
     pub fn set(&mut self, number: u32, kind: Kind, value: Option<u32>) -> Result<(), OverlayFault>
         ensures { Answers result (number_fault self.old number) self.old self.new (given self.old number kind value) }
     {
-        match overlay_at(self.slots.as_slice(), number) {
-            None => Err(OverlayFault::NoOverlay),
-            Some(mut overlay) => {
-                overlay.values[kind as usize] = value;
-                self.slots.put(number, Some(overlay));
-                Ok(())
-            }
-        }
+        let mut overlay = self.living(number)?;
+        overlay.values[kind as usize] = value;
+        self.slots.put(number, Some(overlay));
+        Ok(())
+    }
+
+    /// The overlay of a number, which must live.
+    fn living(&self, number: u32) -> Result<Overlay, OverlayFault>
+        ensures { MatchResult result (λ overlay. (overlay_at self.now number ≡ Some overlay) × (number < length self.now)) (λ fault. (fault ≡ NoOverlay) × (overlay_at self.now number ≡ None)) }
+    {
+        overlay_at(self.slots.as_slice(), number).ok_or(OverlayFault::NoOverlay)
     }
 
     /// The overlay of a number, and None exactly where it does not live. Costs one step.
