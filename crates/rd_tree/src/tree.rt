@@ -1,5 +1,6 @@
 //! The windows of a frame, which share its rows but the last.
 use crate::fault::TreeFault;
+use crate::laws::windows_tile_their_rectangle;
 use crate::node::Node;
 use crate::placed::Placed;
 use crate::rect::Rect;
@@ -40,8 +41,8 @@ impl Model for Tree {
 }
 
 impl Tree {
-    ghost use Rattle.std.specs.Prelude.{◌≡◌, ◌≤◌, slice_get, IfOk, IfSome, Some};
-    ghost use Rattle.rd_tree.specs.Windows.{window_at, leaves, dressed};
+    ghost use Rattle.std.specs.Prelude.{◌≡◌, ◌<◌, ◌≤◌, slice_get, IfOk, IfSome, Some};
+    ghost use Rattle.rd_tree.specs.Windows.{window_at, leaves, placed, dressed};
     ghost use Rattle.rd_tree.specs.Places.{LiesIn, StandsIn};
     ghost use Rattle.rd_tree.specs.Calls.{opening, frame_of, split_tree, remove_tree, resize_tree, mode_tree, margins_tree, changed_to, rect_of, Answers, Splits, Removes, IsValid};
 
@@ -185,6 +186,19 @@ impl Tree {
         ensures inside { IfSome result (λ placed. StandsIn placed (frame_of self.now)) }
     {
         self.root.find(window, self.frame())
+    }
+
+    /// The window at a place in leaf order, counted from 0, with its mode line, margins and rectangle. None exactly past the last.
+    pub fn placed_leaf(&self, i: u32) -> Option<Placed>
+        ensures place { result ≡ slice_get (placed self.now.windows (frame_of self.now)) i }
+        ensures found { IfSome result (λ window. window_at window.number self.now.windows (frame_of self.now) ≡ Some window) }
+        ensures inside { IfSome result (λ window. StandsIn window (frame_of self.now)) }
+        ensures few { IfSome result (λ _. i < WINDOWS) }
+    {
+        windows_tile_their_rectangle();
+        self.trees_are_valid();
+        let number = self.leaf(i)?;
+        self.placed(number)
     }
 
     /// Each tree is valid: each window has the columns and rows that it needs, and its number stands once. The call does nothing.
