@@ -1,6 +1,5 @@
 -- What the elements of a character always are.
 use Rattle.std.proofs.Common.{rules, ◌≡◌, ℕ, ◌*◌, ◌<◌, ◌≤◌, Bool, true, false, IsTrue, List, [], ◌∷◌, length, Option, Some, None, IfSome, All, refl, map, arith, slice_index_or, unwrap_or}
-use Rattle.std.specs.Option.{option_or}
 use Rattle.std.specs.Prelude.{◌≢◌, ◌-◌, ◌==◌, nat_le, ◌&&◌, if◌then◌else◌}
 use Rattle.std.specs.List.{AllByRecursion, list_all}
 use Rattle.std.proofs.lemmas.Bool.Decides.{nat_tests}
@@ -21,11 +20,11 @@ use Rattle.rd_base.specs.declared.element.Look.TheVariants as look
 use Rattle.rd_base.specs.declared.element.Origin.{Origin}
 use Rattle.rd_ucd.specs.Lookup.{class_of}
 use Rattle.rd_ucd.specs.declared.spans.Pair.{Pair}
-use Rattle.rd_objects.specs.Tables.{TableValue, IsTable, HoldsGlyph, entry_in, is_glyph_character, is_glyph_text, is_slot_glyph}
+use Rattle.rd_objects.specs.Tables.{TableValue, IsTable, HoldsGlyph, is_glyph_character, is_glyph_text, is_slot_glyph}
 use Rattle.rd_objects.specs.Widths.{columns}
+use Rattle.rd_objects.proofs.Entries.{entry-text}
 use Rattle.rd_objects.proofs.Widths.{few-columns}
 use Rattle.rd_objects.specs.declared.run.Slot.TheVariants.{Escape, Control}
-use Rattle.rd_objects.specs.declared.table.TableEntry.{TableEntry}
 use Rattle.rd_glyphs.specs.declared.shown.Shown.{Shown}
 use Rattle.rd_glyphs.specs.declared.shown.Shown.TheVariants.{Caret, Octal, Space, Mark, Itself}
 use Rattle.rd_glyphs.specs.Characters.{PartValues, AreSoundParts, HasOrigin, TakesColumns, ShowsColumns, IsShortElement, is_control, is_formatting, caret, shown_as, mirrored, looks_of, element_of, glyph_elements, entry_of, slot_or, own_looks, elements_by, elements_of, tab_of}
@@ -165,17 +164,9 @@ of-glyphs face origin text is =
       glyph-narrow : (g : Glyph) → is_glyph_character g ≡ true → g.width ≤ 3
       glyph-narrow g is = grind (arith, nat_tests)
 
-entry-text : (entries : List TableEntry) (code : ℕ) → AllByRecursion (λ e. IsTrue (is_glyph_text e.text)) entries → IfSome (entry_in entries code) (λ text. IsTrue (is_glyph_text text))
-entry-text [] code each = tt
-entry-text (e ∷ es) code each = by-last (entry_in es code) (e.code == code) (entry-text es code each.1) where
-  by-last : (rest : Option (List Glyph)) (same : Bool) → IfSome rest (λ text. IsTrue (is_glyph_text text)) → IfSome (option_or rest (if same then Some e.text else None)) (λ text. IsTrue (is_glyph_text text))
-  by-last (Some text) same is = is
-  by-last None true is = each.0
-  by-last None false is = tt
-
 entry-sound : (table : Option TableValue) (code : ℕ) → IfSome table (λ t. IsTable t) → IfSome (entry_of table code) (λ text. IsTrue (is_glyph_text text))
 entry-sound None code is = tt
-entry-sound (Some t) code is = entry-text t.entries code (recursion_from_All (λ (e : TableEntry). IsTrue (is_glyph_text e.text)) t.entries is.entries)
+entry-sound (Some t) code is = entry-text t.entries code is.entries
 
 -- the elements of a character
 pub of-character : (parts : PartValues) (ch : ℕ) (odd : Bool) (face : Attributes) (origin : Origin) → AreSoundParts parts → IsTrue (is_code ch) → AreOfCharacter face origin (elements_of parts ch odd face origin)

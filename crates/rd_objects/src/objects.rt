@@ -183,28 +183,18 @@ fn characters_have_codes(text: &[Ch])
 fn are_made(runs: &[Run], faces: usize, specs: usize) -> bool
     ensures { result ≡ list_all (λ run. is_numbered run.kind faces specs run.value) runs.now }
 {
-    for run in runs {
-        let most = match run.kind {
-            RunKind::Face => faces,
-            RunKind::Display => specs,
-        };
-        if run.value as usize >= most {
-            return false;
-        }
-    }
-    true
+    runs.iter().all(|run| match run.kind {
+        RunKind::Face => (run.value as usize) < faces,
+        RunKind::Display => (run.value as usize) < specs,
+    })
 }
 
 /// Whether each run lies in a string of this length.
 fn are_inside(runs: &[Run], size: usize) -> bool
     ensures { result ≡ list_all (is_inside size) runs.now }
 {
-    for run in runs {
-        if run.from > run.to || run.to as usize > size {
-            return false;
-        }
-    }
-    true
+    runs.iter()
+        .all(|run| run.from <= run.to && run.to as usize <= size)
 }
 
 /// The number of the next object of a list that has at most so many. TooMany comes exactly where it has them.

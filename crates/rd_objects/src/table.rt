@@ -1,6 +1,6 @@
 //! Display tables: what a buffer shows in place of characters, and its marks.
-ghost use Rattle.std.specs.Prelude.{◌≡◌, None, Some, All, IsTrue, IfSome, MatchOption};
-ghost use Rattle.rd_objects.specs.Tables.{entry_in, is_glyph_text};
+ghost use Rattle.std.specs.Prelude.{◌≡◌, ◌==◌, option_map, reverse};
+ghost use Rattle.std.specs.List.{find};
 
 use crate::run::Slot;
 use rd_base::{Glyph, ListOf, Memory};
@@ -101,7 +101,11 @@ impl Table {
         ensures value { MatchOption result (entry_in self.now.entries code ≡ None) (λ text. entry_in self.now.entries code ≡ Some text.now) }
         ensures text { IfSome result (λ text. IsTrue (is_glyph_text text.now)) }
     {
-        last_entry(self.entries.as_slice(), code)
+        self.tables_are_valid();
+        match last_entry(self.entries.as_slice(), code) {
+            Some(entry) => Some(entry.text.as_slice()),
+            None => None,
+        }
     }
 
     /// The glyph of a slot, and None exactly where none was put or None was put last. It costs one step.
@@ -138,18 +142,9 @@ impl Table {
     }
 }
 
-/// What the last entry of a code shows.
-fn last_entry(entries: &[TableEntry], code: u32) -> Option<&[Glyph]>
-    requires { All (λ e. IsTrue (is_glyph_text e.text)) entries.now }
-    ensures text { IfSome result (λ text. IsTrue (is_glyph_text text.now)) }
-    ensures value { MatchOption result (entry_in entries.now code ≡ None) (λ text. entry_in entries.now code ≡ Some text.now) }
+/// The last entry of a code.
+fn last_entry(entries: &[TableEntry], code: u32) -> Option<&TableEntry>
+    ensures { option_map (λ entry. entry.now) result ≡ find (λ entry. entry.code == code) (reverse entries.now) }
 {
-    let mut end = entries.len();
-    while end > 0 {
-        end -= 1;
-        if entries[end].code == code {
-            return Some(entries[end].text.as_slice());
-        }
-    }
-    None
+    entries.iter().rev().find(|entry| entry.code == code)
 }
