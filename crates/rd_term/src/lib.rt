@@ -4,7 +4,6 @@
 //! terminal".
 #![tactic(auto)]
 
-mod cells;
 mod character;
 mod control;
 mod examples;
@@ -20,8 +19,7 @@ mod screen;
 mod shifting;
 mod terminal;
 
-pub use cells::first_blanks;
 pub use laws::{a_cut_makes_no_difference, characters_are_read};
 pub use pen::{dressed, is_rendition, numbers_of_face};
-pub use screen::Screen;
+pub use screen::{Screen, first_blanks};
 pub use terminal::Terminal;

@@ -1,18 +1,18 @@
 //! A screen of cells with a cursor.
 ghost use Rattle.std.specs.Prelude.{◌≡◌, ◌+◌, ◌<◌, ◌≤◌, IfOk, length, slice_set};
 ghost use Rattle.rd_base.specs.Cells.{row_at};
-ghost use Rattle.rd_term.specs.Pictures.{IsScreen, blank_picture, width_of, cell_at, with_cell, with_cells};
+ghost use Rattle.rd_term.specs.Pictures.{IsScreen, blank_picture, blank_row, width_of, cell_at, with_cell, with_cells};
 
-use crate::cells::{ScreenRow, blank_rows};
+use crate::rows::filled;
 use rd_base::limits::{FRAME_COLUMNS, FRAME_ROWS};
-use rd_base::{Cell, Memory};
+use rd_base::{Cell, Face, ListOf, Memory};
 use std::alloc::Global;
 use std::marker::Model;
 
 /// Up to 200 rows of one width, up to 400 columns, and a cursor on them. Rows and columns count from 0.
 #[derive(Drop)]
 pub struct Screen {
-    rows: Vec<ScreenRow>,
+    rows: Vec<ListOf<Cell>>,
     row: u32,
     column: u32,
 }
@@ -37,7 +37,7 @@ impl Screen {
         ensures { IfOk result (λ screen. screen ≡ blank_picture width height) }
     {
         Ok(Screen {
-            rows: blank_rows(alloc, width, height)?,
+            rows: filled(alloc, width, height, Cell::Blank(Face::PLAIN))?,
             row: 0,
             column: 0,
         })
@@ -49,7 +49,7 @@ impl Screen {
         ensures value { result ≡ width_of self.now.rows }
         ensures screen { IsScreen self.now }
     {
-        self.rows[0].as_slice().len() as u32
+        self.rows[0].len() as u32
     }
 
     /// How many rows there are.
@@ -74,7 +74,7 @@ impl Screen {
         requires column { column < width_of self.now.rows }
         ensures { result ≡ cell_at self.now.rows row column }
     {
-        self.rows[row as usize].as_slice()[column as usize]
+        self.rows[row as usize].at(column as usize)
     }
 
     /// Puts another cell at a place on the screen.
@@ -94,7 +94,7 @@ impl Screen {
         ensures { self.new ≡ record self.old { rows = with_cells self.old.rows row column cells.now } }
     {
         let old = &mut self.rows[row as usize];
-        old.put(column as usize, cells);
+        old.overwrite(column as usize, cells);
     }
 
     /// Puts other cells in place of a row's.
@@ -124,4 +124,13 @@ impl Screen {
         self.row = row;
         self.column = column;
     }
+}
+
+/// So many of the blank cells of the widest row.
+pub fn first_blanks(blanks: &[Cell], columns: u32) -> &[Cell]
+    requires blanks { blanks.now ≡ blank_row FRAME_COLUMNS }
+    requires columns { columns ≤ FRAME_COLUMNS }
+    ensures { result.now ≡ blank_row columns }
+{
+    &blanks[..columns as usize]
 }
