@@ -1,70 +1,32 @@
-//! What is put for one character: at most four looks.
+//! What is put for one character.
 ghost use Rattle.std.specs.Prelude.{◌≡◌, ◌≤◌, All, length};
 ghost use Rattle.rd_base.specs.Glyphs.{IsMeasured};
 ghost use Rattle.rd_base.specs.declared.cell.Glyph.{Glyph};
 ghost use Rattle.rd_glyphs.specs.Characters.{narrow, digit, on_blank, looks_of, only, look_columns, TakesColumns, ShowsColumns};
+ghost use Rattle.rd_glyphs.specs.Looks.{list_of};
 ghost use Rattle.rd_glyphs.specs.MarkRoles.{IsMark};
 
 use crate::shown::Shown;
 use rd_base::{Glyph, Look};
-use std::marker::Model;
 
-/// At most four looks. Contracts see them as their list.
+/// What is put for one character: one look, two or four.
 #[derive(Drop)]
-pub struct Looks {
-    places: [Look; 4],
-    count: usize,
-}
-
-impl Model for Looks {
-    ghost use Rattle.std.specs.Prelude.{List, take, ◌≤◌};
-    ghost use Rattle.rd_base.specs.declared.element.Look.{Look};
-
-    ghost Value = { List Look };
-
-    ghost view = { λ looks. take looks.count looks.places };
-
-    ghost invariant = { λ looks. looks.count ≤ 4 };
+pub enum Looks {
+    One([Look; 1]),
+    Two([Look; 2]),
+    Four([Look; 4]),
 }
 
 impl Looks {
-    ghost use Rattle.std.specs.Prelude.{◌≡◌, [], ◌∷◌};
-
-    /// One look.
-    fn one(a: Look) -> Looks
-        ensures { result ≡ a ∷ [] }
-    {
-        Looks {
-            places: [a; 4],
-            count: 1,
-        }
-    }
-
-    /// Two looks.
-    fn two(a: Look, b: Look) -> Looks
-        ensures { result ≡ a ∷ b ∷ [] }
-    {
-        Looks {
-            places: [a, b, b, b],
-            count: 2,
-        }
-    }
-
-    /// Four looks.
-    fn four(a: Look, b: Look, c: Look, d: Look) -> Looks
-        ensures { result ≡ a ∷ b ∷ c ∷ d ∷ [] }
-    {
-        Looks {
-            places: [a, b, c, d],
-            count: 4,
-        }
-    }
-
     /// The looks as a slice.
     pub fn as_slice(&self) -> &[Look]
-        ensures { result.now ≡ self.now }
+        ensures { result.now ≡ list_of self.now }
     {
-        &self.places[..self.count]
+        match self {
+            Looks::One(looks) => looks,
+            Looks::Two(looks) => looks,
+            Looks::Four(looks) => looks,
+        }
     }
 }
 
@@ -97,21 +59,21 @@ pub fn on_blank(code: u32) -> Glyph
 
 /// What is put for a character, with these glyphs for escapes and for controls.
 pub fn looks_of(escape: Glyph, control: Glyph, shown: Shown) -> Looks
-    ensures value { result ≡ looks_of escape control shown }
-    ensures columns { escape.width ≡ 1 → control.width ≡ 1 → ShowsColumns shown → All TakesColumns result }
-    ensures count { length result ≤ 4 }
+    ensures value { list_of result ≡ looks_of escape control shown }
+    ensures columns { escape.width ≡ 1 → control.width ≡ 1 → ShowsColumns shown → All TakesColumns (list_of result) }
+    ensures count { length (list_of result) ≤ 4 }
 {
     match shown {
-        Shown::Caret(letter) => Looks::two(Look::Glyph(control), narrow(letter)),
-        Shown::Octal(byte) => Looks::four(
+        Shown::Caret(letter) => Looks::Two([Look::Glyph(control), narrow(letter)]),
+        Shown::Octal(byte) => Looks::Four([
             Look::Glyph(escape),
             digit(byte / 64),
             digit(byte / 8),
             digit(byte),
-        ),
-        Shown::Space => Looks::one(Look::Blank),
-        Shown::Mark(code) => Looks::one(Look::Glyph(on_blank(code))),
-        Shown::Itself(code, width) => Looks::one(Look::Glyph(Glyph::single(code, width))),
+        ]),
+        Shown::Space => Looks::One([Look::Blank]),
+        Shown::Mark(code) => Looks::One([Look::Glyph(on_blank(code))]),
+        Shown::Itself(code, width) => Looks::One([Look::Glyph(Glyph::single(code, width))]),
     }
 }
 

@@ -41,6 +41,7 @@ impl<'a> Model for Parts<'a> {
 impl<'a> Parts<'a> {
     ghost use Rattle.std.specs.Prelude.{◌≡◌, ◌≤◌, length, MatchOption, None, Some};
     ghost use Rattle.rd_glyphs.specs.Characters.{AreSoundParts, entry_of, slot_or, own_shown, own_looks};
+    ghost use Rattle.rd_glyphs.specs.Looks.{list_of};
 
     /// The table holds glyph characters, and a tab has 1 to 32 columns. The call does nothing.
     pub fn parts_are_sound(&self)
@@ -89,8 +90,8 @@ impl<'a> Parts<'a> {
 
     /// The looks of a character that no table shows and that is no tab.
     fn own_looks(&self, ch: Ch, odd: bool) -> Looks
-        ensures value { result ≡ own_looks self.now ch odd }
-        ensures count { length result ≤ 4 }
+        ensures value { list_of result ≡ own_looks self.now ch odd }
+        ensures count { length (list_of result) ≤ 4 }
     {
         looks_of(
             self.slot(Slot::Escape, '\\' as u32),
