@@ -1,5 +1,6 @@
 -- The numbers that change a pen (ECMA-48, select graphic rendition).
 use Rattle.std.specs.Prelude.{ℕ, zero, suc, ◌+◌, ◌-◌, ◌==◌, nat_lt, nat_le, Bool, true, if◌then◌else◌, ◌&&◌, ◌||◌, List, [], ◌∷◌, Option, None, Some}
+use Rattle.std.specs.List.{list_all}
 use Rattle.rd_base.specs.Faces.{Attributes, plain}
 
 -- 0 plain, 1 bold, 4 underline, 7 inverse, 30 to 37 the colour of characters, 40 to 47 the colour behind them
@@ -7,8 +8,7 @@ abbrev pub is_rendition : ℕ → Bool
 is_rendition n = n == 0 || n == 1 || n == 4 || n == 7 || (nat_le 30 n && nat_le n 37) || (nat_le 40 n && nat_le n 47)
 
 abbrev pub are_renditions : List ℕ → Bool
-are_renditions [] = true
-are_renditions (n ∷ ns) = is_rendition n && are_renditions ns
+are_renditions numbers = list_all is_rendition numbers
 
 -- a face after such a number
 abbrev pub dressed : ℕ → Attributes → Attributes

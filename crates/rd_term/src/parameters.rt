@@ -2,6 +2,7 @@
 ghost use Rattle.std.specs.Prelude.{◌≡◌, ◌<◌, ◌≤◌, [], ◌∷◌, ◌++◌, length};
 ghost use Rattle.rd_term.specs.Parameters.{no_parameters, with_digit, separated, numbers_of, longer as one_longer};
 
+use arrayvec::ArrayVec;
 use std::marker::Model;
 
 /// The most numbers that a sequence may have.
@@ -13,18 +14,15 @@ const GREATEST: u32 = 65_535;
 /// At most 16 numbers, in order.
 #[derive(Drop)]
 pub(crate) struct Numbers {
-    places: [u32; 16],
-    count: usize,
+    items: ArrayVec<u32, MOST>,
 }
 
 impl Model for Numbers {
-    ghost use Rattle.std.specs.Prelude.{ℕ, List, take, ◌≤◌};
+    ghost use Rattle.std.specs.Prelude.{ℕ, List};
 
     ghost Value = { List ℕ };
 
-    ghost view = { λ s. take s.count s.places };
-
-    ghost invariant = { λ s. s.count ≤ 16 };
+    ghost view = { λ s. s.items.items };
 }
 
 impl Numbers {
@@ -33,8 +31,7 @@ impl Numbers {
         ensures { result ≡ [] }
     {
         Numbers {
-            places: [0; 16],
-            count: 0,
+            items: ArrayVec::new(),
         }
     }
 
@@ -43,7 +40,7 @@ impl Numbers {
         ensures value { result ≡ length self.now }
         ensures most { length self.now ≤ 16 }
     {
-        self.count
+        self.items.len()
     }
 
     /// One more at the end.
@@ -51,15 +48,14 @@ impl Numbers {
         requires { length self.old < 16 }
         ensures { self.new ≡ self.old ++ n ∷ [] }
     {
-        self.places[self.count] = n;
-        self.count += 1;
+        self.items.push(n);
     }
 
     /// The numbers as a slice.
     pub(crate) fn as_slice(&self) -> &[u32]
         ensures { result.now ≡ self.now }
     {
-        &self.places[..self.count]
+        self.items.as_slice()
     }
 }
 

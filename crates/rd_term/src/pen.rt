@@ -21,12 +21,7 @@ pub fn is_rendition(n: u32) -> bool
 pub(crate) fn are_renditions(numbers: &[u32]) -> bool
     ensures { result ≡ are_renditions numbers.now }
 {
-    for n in numbers {
-        if !is_rendition(*n) {
-            return false;
-        }
-    }
-    true
+    numbers.iter().all(|n| is_rendition(*n))
 }
 
 /// A face after such a number, a parameter of the sequence that ends in `m`.

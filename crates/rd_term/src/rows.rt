@@ -15,18 +15,9 @@ pub(crate) fn filled<T: Copy + Drop>(
 {
     let mut rows = Vec::with_capacity(alloc, height as usize)?;
     for made in 0..height {
-        rows.push(filled_row(alloc, width, value)?)?;
+        rows.push(ListOf::filled(alloc, width as usize, value)?)?;
     }
     Ok(rows)
-}
-
-/// A row of so many columns, each place with the same value.
-fn filled_row<T: Copy + Drop>(alloc: Global, width: u32, value: T) -> Result<ListOf<T>, Memory>
-    ensures { IfOk result (λ row. row ≡ replicate width value) }
-{
-    let mut row = ListOf::new(alloc);
-    row.resize(width as usize, value)?;
-    Ok(row)
 }
 
 /// Puts the same value in each column of a row from one to before another.
