@@ -45,10 +45,9 @@ impl Links {
         ensures pdis { IfOk result (λ s. s.pdis ≡ []) }
         ensures first { IfOk result (λ s. s.first ≡ None) }
     {
-        let mut begins = ListOf::new(alloc);
-        begins.resize(n, false)?;
-        let mut links = ListOf::new(alloc);
-        links.resize(
+        let begins = ListOf::filled(alloc, n, false)?;
+        let links = ListOf::filled(
+            alloc,
             n,
             Link {
                 next: None,

@@ -1,6 +1,6 @@
 //! Isolating run sequences of a line (UAX 9 BD13, X9, X10).
 ghost use Rattle.std.specs.Prelude.{◌≡◌, ◌<◌, ◌^◌, ◌++◌, ◌∷◌, [], length, max, All, AllPairs, IfOk, OnOk, if◌then◌else◌, slice_index_or, false};
-ghost use Rattle.rd_base.specs.Classes.{is_removed, direction_of};
+ghost use Rattle.rd_base.specs.Classes.{direction_of};
 ghost use Rattle.rd_explicit.specs.Sequences.{sequences_of};
 ghost use Rattle.rd_explicit.specs.Links.{LeadsOn, seq_at};
 
@@ -24,7 +24,7 @@ pub fn sequences(alloc: Global, line: &Line) -> Result<ListOf<Seq>, Memory>
     for i in 0..line.len() {
         let level = line.levels.at(i);
         add_sequence(alloc, &links, i, x10_sos(level, before), &mut found)?;
-        before = level_before_next(line.classes.at(i), level, before);
+        before = line.classes.at(i).level_behind(before, level);
     }
     Ok(found)
 }
@@ -54,11 +54,4 @@ fn x10_sos(level: u8, before: u8) -> Class
     ensures { result ≡ direction_of (max level before) }
 {
     Class::of_level(level.max(before))
-}
-
-/// For X10, the level of the last item that X9 leaves up to a character, where it was known before it.
-fn level_before_next(class: Class, level: u8, before: u8) -> u8
-    ensures { result ≡ (if is_removed class then before else level) }
-{
-    if class.is_removed() { before } else { level }
 }

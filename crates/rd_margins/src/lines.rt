@@ -42,9 +42,7 @@ fn no_number(alloc: Global, columns: u32) -> Result<ListOf<Cell>, Memory>
     ensures value { IfOk result (λ cells. cells ≡ blanks columns plain) }
     ensures margin { IfOk result (λ cells. IsMargin columns cells) }
 {
-    let mut cells = ListOf::new(alloc);
-    cells.push_copies(columns as u64, BLANK)?;
-    Ok(cells)
+    ListOf::filled(alloc, columns as usize, BLANK)
 }
 
 /// Adds digits at the right of so many columns, or as many plus signs.

@@ -1,6 +1,5 @@
 //! Rules I1 and I2 of UAX 9 over a line, and the levels of what rule X9 took out.
-ghost use Rattle.std.specs.Prelude.{◌≡◌, ◌≤◌, All, if◌then◌else◌};
-ghost use Rattle.rd_base.specs.Classes.{is_removed};
+ghost use Rattle.std.specs.Prelude.{◌≡◌, ◌≤◌, All};
 ghost use Rattle.rd_base.specs.Lines.{KeepsClasses};
 ghost use Rattle.rd_resolve.specs.Implicit.{raised, i1_i2, kept, implicit_levels, i1_even_levels, i2_odd_levels};
 
@@ -32,7 +31,7 @@ fn raise(line: &mut Line)
     let mut before = line.base;
     for i in 0..line.len() {
         let own = raised(line.levels.at(i), line.types.at(i));
-        before = kept(line.classes.at(i), before, own);
+        before = line.classes.at(i).level_behind(before, own);
         line.set_level(i, before);
     }
 }
@@ -70,11 +69,4 @@ fn i2_odd_levels(level: u8, class: Class) -> u8
         Class::L | Class::EN | Class::AN => level + 1,
         _ => level,
     }
-}
-
-/// A character's own level, or the level before it where X9 took it out.
-fn kept(class: Class, before: u8, own: u8) -> u8
-    ensures { result ≡ (if is_removed class then before else own) }
-{
-    if class.is_removed() { before } else { own }
 }

@@ -20,7 +20,7 @@ loop-i-preserved c =
     let next = gathered-next before i line.classes line.levels links.links links.begins c.at.result l within line.same_levels c.in_ok-links.ensures.links.0 c.in_ok-links.ensures.begins c.at.ensures c.at-level.ensures in
     let added : List Seq = if get_or links.begins i false then seq_at links.links i (direction_of (max l before)) ∷ [] else [] in
     let found : c.add_sequence.new.found ≡ c.loop-i.found ++ added = c.in_ok-add_sequence.ensures ∙ rw c.x10_sos.ensures in
-    rw (found, c.level_before_next-before.ensures) (append_assoc c.loop-i.found added _ ∙ ap (λ rest. c.loop-i.found ++ rest) (sym next) ∙ c.loop-i.invariant)
+    rw (found, c.level_behind-before.ensures) (append_assoc c.loop-i.found added _ ∙ ap (λ rest. c.loop-i.found ++ rest) (sym next) ∙ c.loop-i.invariant)
 
 -- where nothing of the line is left, what is found ascends
 ascends : (cs : List Class) (ls : List ℕ) (ks : List Link) (bs : List Bool) (base before i : ℕ) (found : List Seq) → length cs ≤ i → length ks ≤ length cs
