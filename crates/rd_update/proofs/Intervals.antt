@@ -10,7 +10,7 @@ use Rattle.rd_update.specs.Laws.{IsLeastInterval}
 use Rattle.rd_base.specs.Equals.{same_cell}
 use Rattle.rd_term.proofs.Cutting.{later-chosen}
 use Rattle.rd_update.specs.Updates.{first_difference, end_before, end_of_differences, is_rest, goes_on, begin_before, going_on, begin_of, end_of}
-use Rattle.rd_update.proofs.Spans.{first_before, end_within, begin-le, begin-is, going-stops}
+use Rattle.rd_update.proofs.Spans.{first_before, behind-here, behind-step, last-step, end_within, begin-le, begin-is, going-stops}
 
 -- ---- the first and the last difference
 
@@ -31,24 +31,13 @@ before-first k d (x ∷ xs) [] lt = absurd (omega arith)
 before-first zero d (x ∷ xs) (y ∷ ys) lt = first-same-here (same_cell x y) (first_difference xs ys) x y refl lt
 before-first (suc k) d (x ∷ xs) (y ∷ ys) lt = first-same-step (same_cell x y) k (first_difference xs ys) x y d xs ys refl (before-first k d xs ys) lt
 
-behind-step : (same : Bool) (k n : ℕ) → end_before same n ≤ suc k → n ≤ k
-behind-step true k zero le = omega arith
-behind-step false k zero le = omega arith
-behind-step true k (suc n) le = omega arith
-behind-step false k (suc n) le = omega arith
-
-behind-here : (same : Bool) (n : ℕ) (x y : Cell) → same_cell x y ≡ same → end_before same n ≤ 0 → same_cell x y ≡ true
-behind-here true n x y e le = e
-behind-here false zero x y e le = absurd (omega arith)
-behind-here false (suc n) x y e le = absurd (omega arith)
-
 -- from the end of the differences on cells are the same
 pub behind-last : (k : ℕ) (d : Cell) (old new : List Cell) → length old ≡ length new → k < length new → end_of_differences old new ≤ k → same_cell (get_or old k d) (get_or new k d) ≡ true
 behind-last k d [] [] n lt le = absurd (omega arith)
 behind-last k d [] (y ∷ ys) n lt le = absurd (cc)
 behind-last k d (x ∷ xs) [] n lt le = absurd (cc)
-behind-last zero d (x ∷ xs) (y ∷ ys) n lt le = behind-here (same_cell x y) (end_of_differences xs ys) x y refl le
-behind-last (suc k) d (x ∷ xs) (y ∷ ys) n lt le = behind-last k d xs ys (omega arith) (omega arith) (behind-step (same_cell x y) k (end_of_differences xs ys) le)
+behind-last zero d (x ∷ xs) (y ∷ ys) n lt le = behind-here (same_cell x y) (end_of_differences xs ys) le
+behind-last (suc k) d (x ∷ xs) (y ∷ ys) n lt le = behind-last k d xs ys (omega arith) (omega arith) (behind-step (same_cell x y) (end_of_differences xs ys) k le)
 
 -- at the first difference, and at the last, cells differ
 first-differs-step : (same : Bool) (n e : ℕ) (x y d : Cell) (xs ys : List Cell) → same_cell x y ≡ same → (0 < e → same_cell (get_or xs n d) (get_or ys n d) ≡ false)
@@ -63,21 +52,12 @@ first-differs d [] (y ∷ ys) p = absurd (omega arith)
 first-differs d (x ∷ xs) [] p = absurd (omega arith)
 first-differs d (x ∷ xs) (y ∷ ys) p = first-differs-step (same_cell x y) (first_difference xs ys) (end_of_differences xs ys) x y d xs ys refl (first-differs d xs ys) p
 
-last-differs-step : (same : Bool) (e j : ℕ) (x y d : Cell) (xs ys : List Cell) → same_cell x y ≡ same → ((j : ℕ) → suc j ≡ e → same_cell (get_or xs j d) (get_or ys j d) ≡ false)
-    → suc j ≡ end_before same e → same_cell (get_or (x ∷ xs) j d) (get_or (y ∷ ys) j d) ≡ false
-last-differs-step true zero j x y d xs ys s h p = absurd (omega arith)
-last-differs-step false zero zero x y d xs ys s h p = s
-last-differs-step false zero (suc j) x y d xs ys s h p = absurd (omega arith)
-last-differs-step true (suc e) zero x y d xs ys s h p = absurd (omega arith)
-last-differs-step false (suc e) zero x y d xs ys s h p = absurd (omega arith)
-last-differs-step true (suc e) (suc j) x y d xs ys s h p = h j (omega arith)
-last-differs-step false (suc e) (suc j) x y d xs ys s h p = h j (omega arith)
-
 pub last-differs : (d : Cell) (old new : List Cell) (j : ℕ) → suc j ≡ end_of_differences old new → same_cell (get_or old j d) (get_or new j d) ≡ false
 last-differs d [] [] j p = absurd (omega arith)
 last-differs d [] (y ∷ ys) j p = absurd (omega arith)
 last-differs d (x ∷ xs) [] j p = absurd (omega arith)
-last-differs d (x ∷ xs) (y ∷ ys) j p = last-differs-step (same_cell x y) (end_of_differences xs ys) j x y d xs ys refl (last-differs d xs ys) p
+last-differs d (x ∷ xs) (y ∷ ys) j p =
+    last-step (λ k. same_cell (get_or (x ∷ xs) k d) (get_or (y ∷ ys) k d) ≡ false) (same_cell x y) (end_of_differences xs ys) j (λ s. s) (last-differs d xs ys) p
 
 -- ---- columns at which no character goes on
 

@@ -65,6 +65,26 @@ end-step false zero n h = omega arith
 end-step true (suc end) n h = omega arith
 end-step false (suc end) n h = omega arith
 
+-- behind the last that differs
+pub behind-here : (same : Bool) (end : ℕ) → end_before same end ≤ 0 → same ≡ true
+behind-here true end le = refl
+behind-here false zero le = absurd (omega arith)
+behind-here false (suc end) le = absurd (omega arith)
+
+pub behind-step : (same : Bool) (end k : ℕ) → end_before same end ≤ suc k → end ≤ k
+behind-step true zero k le = omega arith
+behind-step false zero k le = omega arith
+behind-step true (suc end) k le = omega arith
+behind-step false (suc end) k le = omega arith
+
+-- the last that differs is the first of all, where none behind it differs, or the last of those behind it
+pub last-step : (D : ℕ → Type 0) (same : Bool) (end j : ℕ) → (same ≡ false → D 0) → ((k : ℕ) → suc k ≡ end → D (suc k)) → suc j ≡ end_before same end → D j
+last-step D true zero j here behind p = absurd (omega arith)
+last-step D false zero zero here behind p = here refl
+last-step D false zero (suc j) here behind p = absurd (omega arith)
+last-step D same (suc end) zero here behind p = absurd (omega arith)
+last-step D same (suc end) (suc j) here behind p = behind j (omega arith)
+
 pub end_within : (old new : List Cell) → end_of_differences old new ≤ length new
 end_within [] [] = omega arith
 end_within [] (y ∷ ys) = omega arith

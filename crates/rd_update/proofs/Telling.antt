@@ -18,7 +18,7 @@ use Rattle.rd_update.specs.Updates.{first_difference, end_before, end_of_differe
 use Rattle.rd_update.specs.Words.{row_words, AreTold, columns_from, columns_of_words, differing_columns}
 use Rattle.rd_update.specs.declared.span.Columns.{Columns}
 use Rattle.rd_base.proofs.Equals.{cell-told, cell-itself}
-use Rattle.rd_update.proofs.Spans.{first_before, end-step, end_within}
+use Rattle.rd_update.proofs.Spans.{first_before, behind-here, behind-step, end-step, end_within, last-step}
 
 -- ---- the words of two cells
 
@@ -110,40 +110,20 @@ end-le : (ps : List (ℕ × ℕ)) → end_of_pairs ps ≤ length ps
 end-le [] = omega arith
 end-le (p ∷ ps) = end-step (p.0 == p.1) (end_of_pairs ps) (length ps) (end-le ps)
 
-behind-here : (same : Bool) (e : ℕ) → end_before same e ≤ 0 → not (not same) ≡ true
-behind-here true e le = refl
-behind-here false zero le = absurd (omega arith)
-behind-here false (suc e) le = absurd (omega arith)
-
-behind-step : (same : Bool) (e k : ℕ) → end_before same e ≤ suc k → e ≤ k
-behind-step true zero k le = omega arith
-behind-step false zero k le = omega arith
-behind-step true (suc e) k le = omega arith
-behind-step false (suc e) k le = omega arith
-
 -- from that place on pairs do not differ
 behind-end : (ps : List (ℕ × ℕ)) (d : ℕ × ℕ) (k : ℕ) → end_of_pairs ps ≤ k → k < length ps → not (words_differ (get_or ps k d)) ≡ true
 behind-end [] d k le lt = absurd (omega arith)
-behind-end (p ∷ ps) d zero le lt = behind-here (p.0 == p.1) (end_of_pairs ps) le
+behind-end (p ∷ ps) d zero le lt = ap (λ b. not (not b)) (behind-here (p.0 == p.1) (end_of_pairs ps) le)
 behind-end (p ∷ ps) d (suc k) le lt = behind-end ps d k (behind-step (p.0 == p.1) (end_of_pairs ps) k le) (omega arith)
 
-at-step : (same : Bool) (e : ℕ) (p d : ℕ × ℕ) (ps : List (ℕ × ℕ)) → (p.0 == p.1) ≡ same → (0 < e → not (words_differ (get_or ps (e - 1) d)) ≡ false)
-    → 0 < end_before same e → not (words_differ (get_or (p ∷ ps) (end_before same e - 1) d)) ≡ false
-at-step true zero p d ps s h lt = absurd (omega arith)
-at-step false zero p d ps s h lt = rw s refl
-at-step same (suc e) p d ps s h lt =
-    let a : suc (suc e) - 1 ≡ suc e = omega arith in
-    let b : suc e - 1 ≡ e = omega arith in
-    let here : not (words_differ (get_or ps e d)) ≡ false = subst (λ k. not (words_differ (get_or ps k d)) ≡ false) b (h (omega arith)) in
-    rw a here
-
 -- at the last of them they do
-at-end : (ps : List (ℕ × ℕ)) (d : ℕ × ℕ) → 0 < end_of_pairs ps → not (words_differ (get_or ps (end_of_pairs ps - 1) d)) ≡ false
-at-end [] d lt = absurd (omega arith)
-at-end (p ∷ ps) d lt = at-step (p.0 == p.1) (end_of_pairs ps) p d ps refl (at-end ps d) lt
+at-end : (ps : List (ℕ × ℕ)) (d : ℕ × ℕ) (j : ℕ) → suc j ≡ end_of_pairs ps → not (words_differ (get_or ps j d)) ≡ false
+at-end [] d j e = absurd (omega (arith, e))
+at-end (p ∷ ps) d j e =
+    last-step (λ k. not (words_differ (get_or (p ∷ ps) k d)) ≡ false) (p.0 == p.1) (end_of_pairs ps) j (λ differ. ap (λ b. not (not b)) differ) (at-end ps d) e
 
 end-suffix : (ps : List (ℕ × ℕ)) → suffix_len (λ p. not (words_differ p)) ps ≡ length ps - end_of_pairs ps
-end-suffix ps = suffix_len_is (λ p. not (words_differ p)) ps (end_of_pairs ps) (0, 0) (end-le ps) (behind-end ps (0, 0)) (at-end ps (0, 0))
+end-suffix ps = suffix_len_is (λ p. not (words_differ p)) ps (end_of_pairs ps) (0, 0) (end-le ps) (behind-end ps (0, 0)) (λ some. at-end ps (0, 0) (end_of_pairs ps - 1) (omega (arith, some)))
 
 -- ---- the columns
 
