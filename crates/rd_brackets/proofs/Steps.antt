@@ -1,8 +1,8 @@
 -- One place more of a sequence (BD16), and a sequence without pairs.
-use Rattle.std.proofs.Common.{◌≡◌, ℕ, suc, ◌+◌, ◌-◌, ◌<◌, ◌==◌, Bool, true, false, List, [], ◌∷◌, ◌++◌, length, get_or, slice_get, take, drop, Option, None, Some, All, refl, sym, ap, subst, ◌∙◌, append_assoc, arith}
+use Rattle.std.proofs.Common.{◌≡◌, ℕ, suc, ◌+◌, ◌-◌, ◌<◌, ◌==◌, Bool, true, false, List, [], ◌∷◌, ◌++◌, length, get_or, slice_get, drop, Option, None, Some, All, refl, sym, ap, subst, ◌∙◌, append_assoc, arith}
 use Rattle.std.specs.Prelude.{if◌then◌else◌, replicate, unwrap_or, IfSome}
 use Rattle.std.proofs.lemmas.Bool.Decides.{nat_tests}
-use Rattle.std.proofs.lemmas.List.{drop_more, take_all, set-get_or, get_or-replicate, length-replicate}
+use Rattle.std.proofs.lemmas.List.{drop_more, set-get_or, get_or-replicate, length-replicate}
 use Rattle.std.proofs.lemmas.Option.{get_or_from_slice_get}
 use Rattle.rd_base.proofs.Lists.{drop-at}
 use Rattle.rd_base.specs.declared.class.Class.{Class}
@@ -41,12 +41,6 @@ module _ (old new : Matching) (place : ℕ) (role : Role) (goes_on : Bool)
   no-pairs off all rs whole read is =
       let none : bd16_pairs_from 0 [] whole ≡ None = sym is ∙ ap (all_pairs old place) read ∙ added rs ∙ ap (λ b. if b then all_pairs new (suc place) rs else None) off in
       ap (λ o. unwrap_or o []) none
-
--- a list of nothing, filled up
-pub filled : (n : ℕ) (xs : List (Option ℕ)) → xs ≡ [] → take n xs ++ replicate (n - length xs) None ≡ replicate n None
-filled n xs none =
-    let size : n - 0 ≡ n = omega arith in
-    ap (λ l. take n l ++ replicate (n - length l) None) none ∙ ap (λ l. l ++ replicate (n - 0) None) (take_all n [] (omega arith)) ∙ ap (λ k. replicate k None) size
 
 pub none-inside : (n m : ℕ) → All (λ (closing : Option ℕ). IfSome closing (λ place. place < m)) (replicate n None)
 none-inside n m = λ k d inside.

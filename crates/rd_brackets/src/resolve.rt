@@ -63,8 +63,7 @@ fn closings(alloc: Global, pairs: &[Pair], count: usize) -> Result<ListOf<Option
     ensures value { IfOk result (λ found. found ≡ closings pairs.now count) }
     ensures within { IfOk result (λ found. All (λ closing. IfSome closing (λ place. place < count)) found) }
 {
-    let mut found = ListOf::new(alloc);
-    found.resize(count, None)?;
+    let mut found = ListOf::filled(alloc, count, None)?;
     let mut left = pairs.len();
     while left > 0 {
         left -= 1;

@@ -43,8 +43,7 @@ impl Row {
         requires most { width ≤ FRAME_COLUMNS }
         ensures { IfOk result (λ row. row ≡ record { shown = blank_row width; copies = 0 }) }
     {
-        let mut cells = ListOf::new(alloc);
-        cells.resize(width as usize, Cell::Blank(Face::PLAIN))?;
+        let cells = ListOf::filled(alloc, width as usize, Cell::Blank(Face::PLAIN))?;
         Ok(Row::made(alloc, cells, ListOf::new(alloc), false, false))
     }
 

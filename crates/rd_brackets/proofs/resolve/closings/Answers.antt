@@ -6,7 +6,7 @@ use Rattle.std.proofs.lemmas.List.Elements.{All-set}
 use Rattle.rd_brackets.specs.Pairs.{closing_of, closings}
 use Rattle.rd_brackets.specs.declared.matching.Pair.{Pair}
 use Rattle.rd_brackets.proofs.Closings.{none-close, close-more}
-use Rattle.rd_brackets.proofs.Steps.{filled, none-inside}
+use Rattle.rd_brackets.proofs.Steps.{none-inside}
 use Rattle.rd_brackets.proofs.resolve.closings.Goals as goal
 
 abbrev nothing : Pair
@@ -16,7 +16,7 @@ pub loop-left-init : goal.loop-left-init
 loop-left-init c =
     let pairs = c.args.pairs.now in
     let n = c.args.count in
-    let made : c.resize.new.self ≡ replicate n None = c.in_ok-resize.ensures.ok ∙ filled n c.new-found.result c.new-found.ensures in
+    let made : c.in_ok-found.found ≡ replicate n None = c.in_ok-found.ensures in
     record {
       within = omega arith;
       found = made ∙ sym (none-close 0 n) ∙ sym (ap (λ ps. closings ps n) (drop_all (length pairs) pairs (omega arith)));
