@@ -1,11 +1,9 @@
 //! Forms of values: what a value says, where it is of a form.
-ghost use Rattle.std.specs.Prelude.{◌≡◌, pos};
+ghost use Rattle.std.specs.Prelude.{◌≡◌};
 ghost use Rattle.serde_json.specs.View.{view};
 ghost use Rattle.rd_script.specs.Fields.{within, signed};
-ghost use Rattle.rd_base.specs.declared.limits.TheConstants.{PRIORITY, SCROLL_ROWS};
 
 use rd_base::Memory;
-use rd_base::limits::{PRIORITY, SCROLL_ROWS};
 use serde_json::Value;
 use std::alloc::Global;
 
@@ -61,38 +59,21 @@ impl Form for Within {
     }
 }
 
-/// A priority of an overlay.
+/// A whole number that may be below 0, from `most` below 0 up to the same above.
 #[derive(Drop)]
-pub struct Priority;
+pub struct Signed {
+    pub most: i32,
+}
 
-impl Form for Priority {
-    ghost use Rattle.rd_base.specs.declared.limits.TheConstants.{PRIORITY};
+impl Form for Signed {
     ghost use Rattle.rd_script.specs.Fields.{signed};
 
     type Said = i32;
 
-    ghost kind = { λ _. signed PRIORITY };
+    ghost kind = { λ s. signed s.most };
 
     fn read(&self, _alloc: Global, value: &Value) -> Result<Option<i32>, Memory> {
-        Ok(priority_of(value))
-    }
-}
-
-/// How many rows a window is scrolled.
-#[derive(Drop)]
-pub struct ScrolledRows;
-
-impl Form for ScrolledRows {
-    ghost use Rattle.std.specs.Prelude.{pos};
-    ghost use Rattle.rd_base.specs.declared.limits.TheConstants.{SCROLL_ROWS};
-    ghost use Rattle.rd_script.specs.Fields.{signed};
-
-    type Said = i64;
-
-    ghost kind = { λ _. signed (pos SCROLL_ROWS) };
-
-    fn read(&self, _alloc: Global, value: &Value) -> Result<Option<i64>, Memory> {
-        Ok(rows_of(value))
+        Ok(number_near_zero(value, self.most))
     }
 }
 
@@ -122,22 +103,12 @@ pub fn number_within(value: &Value, least: u32, greatest: u32) -> Option<u32>
     }
 }
 
-/// A value's number, where an overlay may have it as its priority.
-fn priority_of(value: &Value) -> Option<i32>
-    ensures { result ≡ signed PRIORITY (view value.now) }
+/// A value's number, where it is a whole one of at most this size, below 0 or above.
+fn number_near_zero(value: &Value, most: i32) -> Option<i32>
+    ensures { result ≡ signed most (view value.now) }
 {
     match value.as_i64() {
-        Some(n) if -(PRIORITY as i64) <= n && n <= PRIORITY as i64 => Some(n as i32),
-        _ => None,
-    }
-}
-
-/// A value's number, where a window may be scrolled by so many rows.
-fn rows_of(value: &Value) -> Option<i64>
-    ensures { result ≡ signed (pos SCROLL_ROWS) (view value.now) }
-{
-    match value.as_i64() {
-        Some(n) if -(SCROLL_ROWS as i64) <= n && n <= SCROLL_ROWS as i64 => Some(n),
+        Some(n) if -(most as i64) <= n && n <= most as i64 => Some(n as i32),
         _ => None,
     }
 }

@@ -9,12 +9,13 @@ ghost use Rattle.rd_script.specs.declared.name.PropertyOp.TheVariants as propert
 use crate::asked::Asked;
 use crate::fault::OpFault;
 use crate::field::{bad, named, number, optional};
-use crate::form::{Flag, Priority, Whole};
+use crate::form::{Flag, Signed, Whole};
 use crate::name::PropertyOp;
 use crate::op::Op;
 use crate::place_field::{buffer, range, stretch};
 use crate::property_form::Property;
 use crate::setting_field::setting;
+use rd_base::limits::PRIORITY;
 use rd_overlays::Kind;
 use std::alloc::Global;
 
@@ -101,7 +102,7 @@ fn read_overlay(alloc: Global, asked: &mut Asked) -> Result<Op, OpFault>
 fn read_manner(alloc: Global, asked: &mut Asked) -> Result<(i32, (bool, bool)), OpFault>
     ensures { IsTaken result overlay_manner asked.old asked.new }
 {
-    let priority = optional(alloc, asked, "priority", &Priority)?.unwrap_or(0);
+    let priority = optional(alloc, asked, "priority", &Signed { most: PRIORITY })?.unwrap_or(0);
     let front = optional(alloc, asked, "front", &Flag)?.unwrap_or(false);
     let rear = optional(alloc, asked, "rear", &Flag)?.unwrap_or(false);
     Ok((priority, (front, rear)))

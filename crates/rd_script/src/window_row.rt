@@ -5,14 +5,15 @@ ghost use Rattle.rd_script.specs.Table.{window_row};
 use crate::asked::Asked;
 use crate::fault::OpFault;
 use crate::field::{named, number, optional, required};
-use crate::form::ScrolledRows;
+use crate::form::Signed;
 use crate::name::WindowOp;
 use crate::op::Op;
 use crate::place_field::{buffer, within};
 use crate::text_form::PlainText;
 use crate::word::Way;
 use rd_base::limits::{
-    FRAME_COLUMNS, FRAME_ROWS, HSCROLL_COLUMNS, NUMBER_COLUMNS, START_ROW, STRING_COLUMNS,
+    FRAME_COLUMNS, FRAME_ROWS, HSCROLL_COLUMNS, NUMBER_COLUMNS, SCROLL_ROWS, START_ROW,
+    STRING_COLUMNS,
 };
 use std::alloc::Global;
 
@@ -44,7 +45,14 @@ pub fn read_window(alloc: Global, asked: &mut Asked, op: WindowOp) -> Result<Op,
         }),
         WindowOp::Scroll => Ok(Op::Scroll {
             window,
-            rows: required(alloc, asked, "rows", &ScrolledRows)?,
+            rows: required(
+                alloc,
+                asked,
+                "rows",
+                &Signed {
+                    most: SCROLL_ROWS as i32,
+                },
+            )? as i64,
         }),
         WindowOp::Hscroll => Ok(Op::Hscroll {
             window,
