@@ -17,21 +17,7 @@ pub fn count(list: &[u32], x: u32) -> usize
         at += LANES;
     }
     let (_groups, rest) = list.split_at(at);
-    count + count_plainly(rest, x)
-}
-
-/// The same, number by number.
-fn count_plainly(list: &[u32], x: u32) -> usize
-    ensures value { result ≡ count_by (λ y. y == x) list.now }
-    ensures bound { result ≤ length list.now }
-{
-    let mut count = 0;
-    for i in 0..list.len() {
-        if list[i] == x {
-            count += 1;
-        }
-    }
-    count
+    count + rest.iter().filter(|y| **y == x).count()
 }
 
 /// Whether each number is less than `limit`.
