@@ -27,6 +27,15 @@ same-by listings s t objects x y stays reach =
       | inr within ↦ record { old_within = text.from within; new_within = within; agree = agree }
     ]
 
+-- the same where what the texts and the overlays become is known
+stays-by : (s t : BufferValue) (x y : ℕ) (text : TextValue) (slots : List (Option Overlay)) → t.text ≡ text → t.overlays ≡ slots → ReadsAlike s.text x text y → ((kind : ℕ) → s.properties kind x ≡ t.properties kind y) → SeeSame x y s.overlays slots
+    → StaysSame s x t y
+stays-by s t x y text slots is are reads properties sees = record {
+  text = subst (λ (u : TextValue). ReadsAlike s.text x u y) (sym is) reads;
+  properties = properties;
+  overlays = subst (λ (os : List (Option Overlay)). SeeSame x y s.overlays os) (sym are) sees;
+}
+
 module _ (listings : AreListings) (old new : BufferValue) (objects : ObjectLists) (text : IsText old.text) (ordered : AreOrdered old.overlays) where
   module _ (place : ℕ) (chars : List ℕ) (at : IsAccessible old.text place) (edit : IsInsertion old new place chars) where
     first : 1 ≤ place
@@ -37,23 +46,15 @@ module _ (listings : AreListings) (old new : BufferValue) (objects : ObjectLists
 
     insertion-before : (x : ℕ) → x < place → StaysSame old x new x
     insertion-before x less =
-        let P : TextValue → Type 0 = λ t. ReadsAlike old.text x t x in
-        let Q : List (Option Overlay) → Type 0 = λ slots. SeeSame x x old.overlays slots in
-        record {
-          text = subst P (sym edit.text) (inserted-reads-before old.text place x chars within at.1 less);
-          properties = λ kind. opened-before old.properties place (length chars) kind x less ∙ sym (edit.properties kind x);
-          overlays = subst Q (sym edit.overlays) (grown-before place (length chars) x old.overlays ordered less);
-        }
+        stays-by old new x x _ _ edit.text edit.overlays (inserted-reads-before old.text place x chars within at.1 less)
+        (λ kind. opened-before old.properties place (length chars) kind x less ∙ sym (edit.properties kind x))
+        (grown-before place (length chars) x old.overlays ordered less)
 
     insertion-behind : (x y : ℕ) → place < x → x + length chars ≡ y → StaysSame old x new y
     insertion-behind x y less is =
-        let P : TextValue → Type 0 = λ t. ReadsAlike old.text x t y in
-        let Q : List (Option Overlay) → Type 0 = λ slots. SeeSame x y old.overlays slots in
-        record {
-          text = subst P (sym edit.text) (inserted-reads-behind old.text place x y chars first within (omega arith) is);
-          properties = λ kind. opened-behind old.properties place (length chars) kind x y (omega arith) is ∙ sym (edit.properties kind y);
-          overlays = subst Q (sym edit.overlays) (grown-behind place (length chars) x y old.overlays ordered less is);
-        }
+        stays-by old new x y _ _ edit.text edit.overlays (inserted-reads-behind old.text place x y chars first within (omega arith) is)
+        (λ kind. opened-behind old.properties place (length chars) kind x y (omega arith) is ∙ sym (edit.properties kind y))
+        (grown-behind place (length chars) x y old.overlays ordered less is)
 
     pub insertion-edits : IsEdited old objects new objects place 0 (length chars)
     insertion-edits = record {
@@ -73,23 +74,15 @@ module _ (listings : AreListings) (old new : BufferValue) (objects : ObjectLists
 
     deletion-before : (x : ℕ) → x < from → StaysSame old x new x
     deletion-before x less =
-        let P : TextValue → Type 0 = λ t. ReadsAlike old.text x t x in
-        let Q : List (Option Overlay) → Type 0 = λ slots. SeeSame x x old.overlays slots in
-        record {
-          text = subst P (sym edit.text) (deleted-reads-before old.text from to x inside at.ordered at.last less);
-          properties = λ kind. closed-before old.properties from to kind x less ∙ sym (edit.properties kind x);
-          overlays = subst Q (sym edit.overlays) (shrunk-before from to x old.overlays at.ordered less);
-        }
+        stays-by old new x x _ _ edit.text edit.overlays (deleted-reads-before old.text from to x inside at.ordered at.last less)
+        (λ kind. closed-before old.properties from to kind x less ∙ sym (edit.properties kind x))
+        (shrunk-before from to x old.overlays at.ordered less)
 
     deletion-behind : (x y : ℕ) → from < y → y + (to - from) ≡ x → StaysSame old x new y
     deletion-behind x y less is =
-        let P : TextValue → Type 0 = λ t. ReadsAlike old.text x t y in
-        let Q : List (Option Overlay) → Type 0 = λ slots. SeeSame x y old.overlays slots in
-        record {
-          text = subst P (sym edit.text) (deleted-reads-behind old.text from to x y start at.ordered inside at.last (omega arith) is);
-          properties = λ kind. closed-behind old.properties from to kind x y (omega arith) is ∙ sym (edit.properties kind y);
-          overlays = subst Q (sym edit.overlays) (shrunk-behind from to x y old.overlays at.ordered less is);
-        }
+        stays-by old new x y _ _ edit.text edit.overlays (deleted-reads-behind old.text from to x y start at.ordered inside at.last (omega arith) is)
+        (λ kind. closed-behind old.properties from to kind x y (omega arith) is ∙ sym (edit.properties kind y))
+        (shrunk-behind from to x y old.overlays at.ordered less is)
 
     pub deletion-edits : IsEdited old objects new objects from (to - from) 0
     deletion-edits = record {

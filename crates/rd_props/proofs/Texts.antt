@@ -50,10 +50,6 @@ deleted-behind t from to x y first ordered within less is =
     sym (get-second (take (from - 1) t.text) (drop (to - 1) t.text) (y - 1) (y - from) (omega arith)
     ∙ get-drop (to - 1) t.text (x - 1) (y - from) (omega arith)))
 
--- the same with the ends of the accessible texts
-accessible-by : (t u : TextValue) (x y : ℕ) → nat_lt x t.end ≡ nat_lt y u.end → char_at t x ≡ char_at u y → accessible_char t x ≡ accessible_char u y
-accessible-by t u x y inside same = rw (inside, same)
-
 -- what is accessible reads the same at two positions of two texts, and neither end lies between them
 pub record ReadsAlike (t : TextValue) (x : ℕ) (u : TextValue) (y : ℕ) : Type 0 where
   pub inside : nat_lt x t.end ≡ nat_lt y u.end
@@ -61,47 +57,27 @@ pub record ReadsAlike (t : TextValue) (x : ℕ) (u : TextValue) (y : ℕ) : Type
   pub to : x ≤ t.end → y ≤ u.end
   pub from : y ≤ u.end → x ≤ t.end
 
+reads-by : (t u : TextValue) (x y : ℕ) → nat_lt x t.end ≡ nat_lt y u.end → char_at t x ≡ char_at u y → (x ≤ t.end → y ≤ u.end) → (y ≤ u.end → x ≤ t.end)
+    → ReadsAlike t x u y
+reads-by t u x y inside same to from = record { inside = inside; character = rw (inside, same); to = to; from = from }
+
 pub inserted-reads-before : (t : TextValue) (place x : ℕ) (new : List ℕ) → place ≤ length t.text + 1 → place ≤ t.end → x < place → ReadsAlike t x (inserted t place new) x
 inserted-reads-before t place x new within last less =
-    let inside : nat_lt x t.end ≡ nat_lt x (t.end + length new) = grind (arith, nat_tests) in
-    record {
-      inside = inside;
-      character = accessible-by t (inserted t place new) x x inside (inserted-before t place x new within less);
-      to = λ h. omega arith;
-      from = λ h. omega arith;
-    }
+    reads-by t (inserted t place new) x x (grind (arith, nat_tests)) (inserted-before t place x new within less) (λ h. omega arith) (λ h. omega arith)
 
 pub inserted-reads-behind : (t : TextValue) (place x y : ℕ) (new : List ℕ) → 1 ≤ place → place ≤ length t.text + 1 → place ≤ x → x + length new ≡ y
     → ReadsAlike t x (inserted t place new) y
 inserted-reads-behind t place x y new first within less is =
-    let inside : nat_lt x t.end ≡ nat_lt y (t.end + length new) = grind (arith, nat_tests) in
-    record {
-      inside = inside;
-      character = accessible-by t (inserted t place new) x y inside (inserted-behind t place x y new first within less is);
-      to = λ h. omega arith;
-      from = λ h. omega arith;
-    }
+    reads-by t (inserted t place new) x y (grind (arith, nat_tests)) (inserted-behind t place x y new first within less is) (λ h. omega arith) (λ h. omega arith)
 
 pub deleted-reads-before : (t : TextValue) (from to x : ℕ) → from ≤ length t.text + 1 → from ≤ to → to ≤ t.end → x < from → ReadsAlike t x (deleted t from to) x
 deleted-reads-before t from to x within ordered last less =
-    let inside : nat_lt x t.end ≡ nat_lt x (t.end - (to - from)) = grind (arith, nat_tests) in
-    record {
-      inside = inside;
-      character = accessible-by t (deleted t from to) x x inside (deleted-before t from to x within less);
-      to = λ h. omega arith;
-      from = λ h. omega arith;
-    }
+    reads-by t (deleted t from to) x x (grind (arith, nat_tests)) (deleted-before t from to x within less) (λ h. omega arith) (λ h. omega arith)
 
 pub deleted-reads-behind : (t : TextValue) (from to x y : ℕ) → 1 ≤ from → from ≤ to → from ≤ length t.text + 1 → to ≤ t.end → from ≤ y → y + (to - from) ≡ x
     → ReadsAlike t x (deleted t from to) y
 deleted-reads-behind t from to x y first ordered within last less is =
-    let inside : nat_lt x t.end ≡ nat_lt y (t.end - (to - from)) = grind (arith, nat_tests) in
-    record {
-      inside = inside;
-      character = accessible-by t (deleted t from to) x y inside (deleted-behind t from to x y first ordered within less is);
-      to = λ h. omega arith;
-      from = λ h. omega arith;
-    }
+    reads-by t (deleted t from to) x y (grind (arith, nat_tests)) (deleted-behind t from to x y first ordered within less is) (λ h. omega arith) (λ h. omega arith)
 
 -- ---- values
 
