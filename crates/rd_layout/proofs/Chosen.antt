@@ -5,12 +5,11 @@ use Rattle.std.proofs.lemmas.Option.{slice_get-get_or}
 use Rattle.std.specs.List.{AllByRecursion, flat_map, fold, reduce}
 use Rattle.std.specs.Prelude.{slice_get, option_map}
 use Rattle.rd_base.proofs.Lists.{each-append, each-back, each-front}
-use Rattle.rd_matrix.proofs.HeldLemmas.{later-start}
+use Rattle.rd_matrix.proofs.HeldLemmas.{end-behind, later-start}
 use Rattle.rd_matrix.specs.Blocks.{IsAmong, IsWithin, first_start}
 use Rattle.rd_matrix.specs.Entries.{EntryMeaning, all_rows, entries_of, numbered}
 use Rattle.rd_matrix.specs.Sources.{IsSource, SourceValues, rows_at}
 use Rattle.rd_matrix.specs.declared.block.Block.{Block}
-use Rattle.rd_reuse.proofs.Places.{below-end}
 use Rattle.rd_reuse.specs.Views.{anchor_of}
 use Rattle.rd_rows.specs.Laws.{begins_of}
 use Rattle.rd_rows.specs.Rows.{RowMeaning}
@@ -30,7 +29,7 @@ module _ (m : SourceValues) (shape : ShapeValues) (source : IsSource m) (is : Is
   pub block-inside : (b : Block) (p : ℕ) → IsAmong m.blocks b → b.start ≤ p → p < b.end → Inside p
   block-inside b p at low high =
       let first = (later-start (first_start m.blocks) at.0 m.blocks b source.blocks.stand at.1).0 in
-      let last = below-end (first_start m.blocks) 0 at.0 m.blocks b source.blocks.stand at.1 in
+      let last = end-behind (first_start m.blocks) 0 at.0 m.blocks b source.blocks.stand at.1 in
       (omega (arith, first, low), omega (arith, last, high))
 
   abbrev pub InBlock : Block → Begin → Type 0

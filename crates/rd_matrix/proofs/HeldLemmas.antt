@@ -249,10 +249,10 @@ end-least : (from : ℕ) (bs : List Block) → StandFrom from bs → from ≤ en
 end-least from [] h = omega arith
 end-least from (b ∷ bs) h = let start = h.0 in let some = h.1 in let rest = end-least b.end bs h.2 in omega (arith, start, some, rest)
 
-end-behind : (from k : ℕ) (bs : List Block) (b : Block) → StandFrom from bs → slice_get bs k ≡ Some b → b.end ≤ end_from from bs
-end-behind from k [] b h i = absurd cc
-end-behind from zero (a ∷ bs) b h i = let same : a ≡ b = cc in subst (λ (x : Block). x.end ≤ end_from a.end bs) same (end-least a.end bs h.2)
-end-behind from (suc k) (a ∷ bs) b h i = end-behind a.end k bs b h.2 i
+pub end-behind : (from last k : ℕ) (bs : List Block) (b : Block) → StandFrom from bs → slice_get bs k ≡ Some b → b.end ≤ end_from last bs
+end-behind from last k [] b h i = absurd cc
+end-behind from last zero (a ∷ bs) b h i = let same : a ≡ b = cc in subst (λ (x : Block). x.end ≤ end_from a.end bs) same (end-least a.end bs h.2)
+end-behind from last (suc k) (a ∷ bs) b h i = end-behind a.end a.end k bs b h.2 i
 
 pub start-within : (hs : List HeldBlock) (b : Block) → AreHeld hs → IsAmong (blocks_held hs) b → IsWithin b.start (blocks_held hs)
 start-within [] b held among = absurd cc
@@ -261,7 +261,7 @@ start-within (h ∷ hs) b held among =
     let stands = later-start (first_start bs) among.0 bs b held.stand among.1 in
     let low = stands.0 in
     let some = stands.1 in
-    let end = end-behind (first_start bs) among.0 bs b held.stand among.1 in
+    let end = end-behind (first_start bs) 0 among.0 bs b held.stand among.1 in
     (low, omega (arith, some, end))
 
 pub place-found : (hs : List HeldBlock) (n : ℕ) (g b : Block) → AreHeld hs → IsAmong (blocks_held hs) b → slice_get (blocks_held hs) n ≡ Some g → HoldsPosition b.start (blocks_held hs) g → slice_get (blocks_held hs) n ≡ Some b

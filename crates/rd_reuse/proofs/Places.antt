@@ -5,9 +5,9 @@ use Rattle.std.proofs.lemmas.List.{length-append}
 use Rattle.std.specs.List.{slice_get}
 use Rattle.rd_base.proofs.Lists.{get-first, get-second, at-seam}
 use Rattle.rd_base.specs.declared.settings.Anchor.{Anchor}
-use Rattle.rd_matrix.proofs.HeldLemmas.{later-start}
+use Rattle.rd_matrix.proofs.HeldLemmas.{end-behind, later-start}
 use Rattle.rd_matrix.proofs.Counting.{all-append, count-cons, length-numbered}
-use Rattle.rd_matrix.specs.Blocks.{IsWithin, StandFrom, end_from, first_start}
+use Rattle.rd_matrix.specs.Blocks.{IsWithin, StandFrom, first_start}
 use Rattle.rd_matrix.specs.Entries.{EntryMeaning, all_rows, entries_of, numbered}
 use Rattle.rd_matrix.specs.Sources.{SourceValues, IsSource, rows_at}
 use Rattle.rd_matrix.specs.declared.block.Block.{Block}
@@ -102,15 +102,6 @@ holding from place (x ∷ before) after b d zero stand starts at low high =
     absurd (omega (arith, ends, later, starts, high))
 holding from place (x ∷ before) after b d (suc j) stand starts at low high = holding x.end place before after b d j stand.2 starts at low high
 
-pub stand-le : (from : ℕ) (bs : List Block) → StandFrom from bs → from ≤ end_from from bs
-stand-le from [] h = omega arith
-stand-le from (b ∷ bs) h = let start = h.0 in let some = h.1 in let rest = stand-le b.end bs h.2 in omega (arith, start, some, rest)
-
-pub below-end : (from last k : ℕ) (bs : List Block) (b : Block) → StandFrom from bs → slice_get bs k ≡ Some b → b.end ≤ end_from last bs
-below-end from last k [] b h i = absurd cc
-below-end from last zero (a ∷ bs) b h i = let same : a ≡ b = cc in subst (λ (x : Block). x.end ≤ end_from a.end bs) same (stand-le a.end bs h.2)
-below-end from last (suc k) (a ∷ bs) b h i = below-end a.end a.end k bs b h.2 i
-
 -- the position of an anchor that names a row is one of its source's
 pub within : (m : SourceValues) (shape : ShapeValues) (anchor : Anchor) (k : ℕ) → IsSource m → Names anchor (rows_at m shape) k → IsWithin anchor.pos m.blocks
 within m shape anchor k source is =
@@ -121,6 +112,6 @@ within m shape anchor k source is =
     let low = later-start (first_start m.blocks) (length found.before) m.blocks found.block stand at in
     let first = low.0 in
     let some = low.1 in
-    let high = below-end (first_start m.blocks) 0 (length found.before) m.blocks found.block stand at in
+    let high = end-behind (first_start m.blocks) 0 (length found.before) m.blocks found.block stand at in
     let starts = found.starts in
     (omega (arith, first, starts), omega (arith, some, starts, high))
