@@ -12,7 +12,7 @@ use crate::fault::FormatFault;
 use crate::piece::{Field, Piece};
 use crate::reading::read;
 use itoa::Buffer;
-use rd_base::{Cell, Ch, Face, ListOf, Memory};
+use rd_base::{Cell, Ch, Face, ListOf, Memory, mapped};
 use rd_glyphs::{plain_columns, plain_line};
 use rd_ucd::Classes;
 use std::alloc::Global;
@@ -176,9 +176,5 @@ fn number(alloc: Global, n: u32) -> Result<ListOf<Ch>, Memory>
 fn text_of_bytes(alloc: Global, bytes: &[u8]) -> Result<ListOf<Ch>, Memory>
     ensures { IfOk result (λ text. text ≡ bytes.now) }
 {
-    let mut text = ListOf::new(alloc);
-    for byte in bytes {
-        text.push(Ch::scalar(*byte as char))?;
-    }
-    Ok(text)
+    mapped(alloc, bytes, |byte| Ch::scalar(*byte as char))
 }
