@@ -1,6 +1,6 @@
 -- What the elements of a character always are.
 use Rattle.std.proofs.Common.{rules, ◌≡◌, ℕ, ◌*◌, ◌<◌, ◌≤◌, Bool, true, false, IsTrue, List, [], ◌∷◌, length, Option, Some, None, IfSome, All, refl, map, arith, slice_index_or, unwrap_or}
-use Rattle.std.specs.Prelude.{◌≢◌, ◌-◌, ◌==◌, nat_le, ◌&&◌, if◌then◌else◌}
+use Rattle.std.specs.Prelude.{◌≢◌, ◌==◌, nat_le, ◌&&◌, if◌then◌else◌}
 use Rattle.std.specs.List.{AllByRecursion, list_all}
 use Rattle.std.proofs.lemmas.Bool.Decides.{nat_tests}
 use Rattle.std.proofs.lemmas.List.{length-map}
@@ -27,9 +27,9 @@ use Rattle.rd_objects.proofs.Widths.{few-columns}
 use Rattle.rd_objects.specs.declared.run.Slot.TheVariants.{Escape, Control}
 use Rattle.rd_glyphs.specs.declared.shown.Shown.{Shown}
 use Rattle.rd_glyphs.specs.declared.shown.Shown.TheVariants.{Caret, Octal, Space, Mark, Itself}
-use Rattle.rd_glyphs.specs.Characters.{PartValues, AreSoundParts, HasOrigin, TakesColumns, ShowsColumns, IsShortElement, is_control, is_formatting, caret, shown_as, mirrored, looks_of, element_of, glyph_elements, entry_of, slot_or, own_looks, elements_by, elements_of, tab_of}
+use Rattle.rd_glyphs.specs.Characters.{PartValues, AreSoundParts, HasOrigin, TakesColumns, ShowsColumns, IsShortElement, is_control, is_formatting, shown_as, mirrored, looks_of, element_of, glyph_elements, entry_of, slot_or, own_looks, elements_by, elements_of, tab_of}
 use Rattle.rd_glyphs.specs.MarkRoles.{is_empty_entry}
-use Rattle.rd_glyphs.proofs.Measures.{slot-measured, character-measured, shown_as-measured, mirrored-measured, looks-measured, elements-measured}
+use Rattle.rd_glyphs.proofs.Measures.{slot-measured, character-measured, shown-by, shown_as-measured, mirrored-measured, looks-measured, elements-measured}
 use Rattle.rd_glyphs.proofs.Short.{short_elements, short_glyphs, glyph_count}
 
 -- what holds of the elements of a character
@@ -45,21 +45,11 @@ pub record AreOfCharacter (face : Attributes) (origin : Origin) (es : List Eleme
 itself-columns : (code : ℕ) → columns code ≢ 0 → ShowsColumns (Itself code (columns code))
 itself-columns code some = (omega arith, few-columns code)
 
-columns-by : (control arrow raw high formatting none : Bool) (code letter byte : ℕ) → (none ≡ false → ShowsColumns (Itself code (columns code))) →
-    ShowsColumns (if control then (if arrow then Caret letter else Octal code) else if raw then Octal byte else if high then Octal code else if formatting then Space else if none then Mark code else Itself code (columns code))
-columns-by true true raw high formatting none code letter byte some = tt
-columns-by true false raw high formatting none code letter byte some = tt
-columns-by false arrow true high formatting none code letter byte some = tt
-columns-by false arrow false true formatting none code letter byte some = tt
-columns-by false arrow false false true none code letter byte some = tt
-columns-by false arrow false false false true code letter byte some = tt
-columns-by false arrow false false false false code letter byte some = some refl
-
 -- a character that is shown itself takes 1 to 3 columns
 pub shown_as-columns : (arrow : Bool) (class : Class) (code : ℕ) → ShowsColumns (shown_as arrow class code)
 shown_as-columns arrow class code =
-    columns-by (is_control code) arrow (nat_le 1114112 code) (nat_le 128 code && nat_le code 159) (is_formatting class code) (columns code == 0) code
-    (caret code) (code - 1114112) (λ none. itself-columns code (grind (arith, nat_tests)))
+    shown-by ShowsColumns (is_control code) arrow (nat_le 1114112 code) (nat_le 128 code && nat_le code 159) (is_formatting class code) (columns code == 0) code
+    (λ control. tt) (λ byte. tt) tt (λ control raw high none. tt) (λ none. itself-columns code (grind (arith, nat_tests)))
 
 pub mirrored-columns : (pairs : List Pair) (odd : Bool) (shown : Shown) → ShowsColumns shown → ShowsColumns (mirrored pairs odd shown)
 mirrored-columns pairs odd (Caret letter) s = s
@@ -77,12 +67,12 @@ looks-columns escape control Space e c s = ((omega arith, omega arith), tt)
 looks-columns escape control (Mark code) e c s = ((omega arith, omega arith), tt)
 looks-columns escape control (Itself code width) e c s = (s, tt)
 
-looks-count : (escape control : Glyph) (shown : Shown) → length (looks_of escape control shown) ≤ 4
-looks-count escape control (Caret letter) = omega arith
-looks-count escape control (Octal byte) = omega arith
-looks-count escape control Space = omega arith
-looks-count escape control (Mark code) = omega arith
-looks-count escape control (Itself code width) = omega arith
+looks-count : (escape control : Glyph) (shown : Shown) → (1 ≤ length (looks_of escape control shown)) × (length (looks_of escape control shown) ≤ 4)
+looks-count escape control (Caret letter) = (omega arith, omega arith)
+looks-count escape control (Octal byte) = (omega arith, omega arith)
+looks-count escape control Space = (omega arith, omega arith)
+looks-count escape control (Mark code) = (omega arith, omega arith)
+looks-count escape control (Itself code width) = (omega arith, omega arith)
 
 -- a slot's glyph of one column, or the one that stands for it
 pub record IsSlot (g : Glyph) : Type 0 where
@@ -181,7 +171,7 @@ of-character parts ch odd face origin is code = by-entry (entry_of parts.table c
         count = omega arith;
         columns = omega (arith, is.tab.1);
       }
-  by-tab false = of-looks face origin (own_looks parts ch odd) (own-columns parts ch odd is) (own-measured parts ch odd is code) (looks-count _ _ _)
+  by-tab false = of-looks face origin (own_looks parts ch odd) (own-columns parts ch odd is) (own-measured parts ch odd is code) (looks-count _ _ _).1
 
   by-entry : (entry : Option (List Glyph)) → IfSome entry (λ text. IsTrue (is_glyph_text text)) → AreOfCharacter face origin (elements_by entry parts ch odd face origin)
   by-entry (Some text) own = of-glyphs face origin text own
@@ -190,16 +180,9 @@ of-character parts ch odd face origin is code = by-entry (entry_of parts.table c
 -- a character that the table does not show as nothing has an element
 pub some-element : (parts : PartValues) (ch : ℕ) (odd : Bool) (face : Attributes) (origin : Origin) → is_empty_entry (entry_of parts.table ch) ≡ false → 1 ≤ length (elements_of parts ch odd face origin)
 some-element parts ch odd face origin some = by-entry (entry_of parts.table ch) some where
-  by-shown : (escape control : Glyph) (shown : Shown) → 1 ≤ length (map (element_of face origin) (looks_of escape control shown))
-  by-shown escape control (Caret letter) = omega arith
-  by-shown escape control (Octal byte) = omega arith
-  by-shown escape control Space = omega arith
-  by-shown escape control (Mark code) = omega arith
-  by-shown escape control (Itself code width) = omega arith
-
   by-tab : (tab : Bool) → 1 ≤ length (if tab then tab_of parts.settings.tab_width face origin ∷ [] else map (element_of face origin) (own_looks parts ch odd))
   by-tab true = omega arith
-  by-tab false = by-shown _ _ _
+  by-tab false = rw (length-map (own_looks parts ch odd) (element_of face origin)) (looks-count _ _ _).0
 
   by-entry : (entry : Option (List Glyph)) → is_empty_entry entry ≡ false → 1 ≤ length (elements_by entry parts ch odd face origin)
   by-entry None some = by-tab (ch == 9)

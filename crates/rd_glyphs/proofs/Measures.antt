@@ -148,20 +148,23 @@ mirrored-measured pairs odd Space s = s
 mirrored-measured pairs odd (Mark code) s = s
 mirrored-measured pairs odd (Itself code width) s = mirrored-by odd pairs code width s
 
-shown-by : (control arrow raw high formatting none : Bool) (code : ℕ) → (control ≡ true → (32 ≤ caret code) × (caret code < 127)) → (control ≡ false → raw ≡ false → high ≡ false → none ≡ true → IsTrue (is_scalar code) × (char_width false code ≡ Some 0)) → (none ≡ false → ShowsMeasured (Itself code (columns code))) → ShowsMeasured (if control then (if arrow then Caret (caret code) else Octal code) else if raw then Octal (code - 1114112) else if high then Octal code else if formatting then Space else if none then Mark code else Itself code (columns code))
-shown-by true true raw high formatting none code f g h = f refl
-shown-by true false raw high formatting none code f g h = tt
-shown-by false arrow true high formatting none code f g h = tt
-shown-by false arrow false true formatting none code f g h = tt
-shown-by false arrow false false true none code f g h = tt
-shown-by false arrow false false false true code f g h = g refl refl refl refl
-shown-by false arrow false false false false code f g h = h refl
+-- what holds of each way in which a character can be shown holds of the one that its tests choose
+pub shown-by : (P : Shown → Type 0) (control arrow raw high formatting none : Bool) (code : ℕ) → (control ≡ true → P (Caret (caret code))) → ((byte : ℕ) → P (Octal byte)) → P Space
+    → (control ≡ false → raw ≡ false → high ≡ false → none ≡ true → P (Mark code)) → (none ≡ false → P (Itself code (columns code)))
+    → P (if control then (if arrow then Caret (caret code) else Octal code) else if raw then Octal (code - 1114112) else if high then Octal code else if formatting then Space else if none then Mark code else Itself code (columns code))
+shown-by P true true raw high formatting none code letter octal space mark itself = letter refl
+shown-by P true false raw high formatting none code letter octal space mark itself = octal code
+shown-by P false arrow true high formatting none code letter octal space mark itself = octal (code - 1114112)
+shown-by P false arrow false true formatting none code letter octal space mark itself = octal code
+shown-by P false arrow false false true none code letter octal space mark itself = space
+shown-by P false arrow false false false true code letter octal space mark itself = mark refl refl refl refl
+shown-by P false arrow false false false false code letter octal space mark itself = itself refl
 
 -- how a character is shown
 pub shown_as-measured : (arrow : Bool) (class : Class) (code : ℕ) → IsTrue (is_code code) → ShowsMeasured (shown_as arrow class code)
 shown_as-measured arrow class code is =
-    shown-by (is_control code) arrow (nat_le 1114112 code) (nat_le 128 code && nat_le code 159) (is_formatting class code) (columns code == 0) code
-    (caret-printable code)
+    shown-by ShowsMeasured (is_control code) arrow (nat_le 1114112 code) (nat_le 128 code && nat_le code 159) (is_formatting class code) (columns code == 0) code
+    (caret-printable code) (λ byte. tt) tt
     (λ control raw high none.
     let low : 32 ≤ code = grind (arith, nat_tests) in
     let other : code ≡ 127 → ⊥ = grind (arith, nat_tests) in

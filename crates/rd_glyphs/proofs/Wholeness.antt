@@ -122,6 +122,15 @@ looks-all P [] each = All-nil P
 looks-all P (part ∷ parts) each =
     All-append P part.looks (looks_of_parts parts) (All-from_recursion P part.looks each.0) (looks-all P parts each.1)
 
+-- what holds of each part with marks joined holds of the looks of a plain line
+plain_looks-all : (P : Look → Type 0) (Q : PlainPart → Type 0) → ((part : PlainPart) → Q part → AllByRecursion P part.looks) → Grows plain_joins Q → (classes : List Span) (text : List ℕ)
+    → AllByRecursion Q (map (plain_part classes) text) → All P (plain_looks classes text)
+plain_looks-all P Q own grows classes text each =
+    looks-all P (marks_joined plain_joins (map (plain_part classes) text)) (each-looks _ (marks_joined-all plain_joins Q grows (map (plain_part classes) text) each)) where
+      each-looks : (parts : List PlainPart) → AllByRecursion Q parts → AllByRecursion (λ part. AllByRecursion P part.looks) parts
+      each-looks [] each = tt
+      each-looks (part ∷ parts) each = (own part each.0, each-looks parts each.1)
+
 record IsMeasuredPart (part : PlainPart) : Type 0 where
   looks : AllByRecursion IsMeasuredLook part.looks
   role : IsMeasuredRole part.role
@@ -145,11 +154,7 @@ measured-grows held next glyph h n e =
 
 plain_looks-measured : (classes : List Span) (text : List ℕ) → AllByRecursion (λ c. IsTrue (is_code c)) text → All IsMeasuredLook (plain_looks classes text)
 plain_looks-measured classes text codes =
-    looks-all IsMeasuredLook (marks_joined plain_joins (map (plain_part classes) text))
-    (each-looks _ (marks_joined-all plain_joins IsMeasuredPart measured-grows (map (plain_part classes) text) (parts-measured classes text codes))) where
-      each-looks : (parts : List PlainPart) → AllByRecursion IsMeasuredPart parts → AllByRecursion (λ part. AllByRecursion IsMeasuredLook part.looks) parts
-      each-looks [] each = tt
-      each-looks (part ∷ parts) each = (each.0.looks, each-looks parts each.1)
+    plain_looks-all IsMeasuredLook IsMeasuredPart (λ part is. is.looks) measured-grows classes text (parts-measured classes text codes)
 
 -- each glyph of a plain line stands whole
 pub plain-whole : (classes : List Span) (face : Attributes) (width : ℕ) (text : List ℕ) → All (λ c. IsTrue (is_code c)) text → IsRowAfter 0 (plain_cells classes face width text)
@@ -190,12 +195,7 @@ narrow-grows held next glyph h n e =
     record { looks = (found, tt); base = found }
 
 plain_looks-narrow : (classes : List Span) (text : List ℕ) → All TakesColumns (plain_looks classes text)
-plain_looks-narrow classes text =
-    looks-all TakesColumns (marks_joined plain_joins (map (plain_part classes) text))
-    (each-looks _ (marks_joined-all plain_joins IsNarrowPart narrow-grows (map (plain_part classes) text) (parts-narrow classes text))) where
-      each-looks : (parts : List PlainPart) → AllByRecursion IsNarrowPart parts → AllByRecursion (λ part. AllByRecursion TakesColumns part.looks) parts
-      each-looks [] each = tt
-      each-looks (part ∷ parts) each = (each.0.looks, each-looks parts each.1)
+plain_looks-narrow classes text = plain_looks-all TakesColumns IsNarrowPart (λ part is. is.looks) narrow-grows classes text (parts-narrow classes text)
 
 fitted-length : (face : Attributes) (room : ℕ) (ls : List Look) → AllByRecursion TakesColumns ls → length (fitted face room ls) ≡ room
 fitted-length face room [] each = length-replicate room (Blank face)
