@@ -39,4 +39,5 @@ mod window;
 pub use choice::choose;
 pub use laws::a_start_is_a_row;
 pub use rd_base::Anchor;
-pub use wanted::{Chosen, Wanted};
+pub use view::is_inside;
+pub use wanted::{Chosen, Wanted, margin_of};

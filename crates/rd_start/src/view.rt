@@ -3,25 +3,18 @@ ghost use Rattle.std.specs.Prelude.{◌≡◌, ◌+◌, ◌<◌, ◌^◌, true, 
 ghost use Rattle.std.specs.List.{find};
 ghost use Rattle.std.specs.Option.{option_map};
 ghost use Rattle.rd_start.specs.Chosen.{places_of};
-ghost use Rattle.rd_start.specs.Starts.{around, both_at, is_inside, margin_of, suits};
+ghost use Rattle.rd_start.specs.Starts.{around, both_at, is_inside, suits};
 ghost use Rattle.rd_start.specs.Strips.{IsLaidOut, IsStrip, IsUnsuited, BeginsAbove, Reaches, ShowsPoint, count_in, first_row, hides_edge, row_at, wanted_at};
 
 use crate::strip::Edge;
-use crate::wanted::Wanted;
+use crate::wanted::margin_of;
 use crate::window::Window;
 use rd_base::Memory;
 use rd_matrix::BlockSource;
 use std::alloc::Global;
 
-/// The rows that are wanted above and below point's, at most a quarter of the window's.
-fn margin_of(wanted: Wanted) -> usize
-    ensures { result ≡ margin_of wanted }
-{
-    wanted.margin.min(wanted.height / 4) as usize
-}
-
 /// Whether a row is one of those in view from a start on, at least so many below the first and so many above the last.
-fn is_inside(height: usize, above: usize, below: usize, start: usize, row: usize) -> bool
+pub fn is_inside(height: usize, above: usize, below: usize, start: usize, row: usize) -> bool
     requires start { start + height < 2 ^ 64 }
     requires above { start + above < 2 ^ 64 }
     requires below { row + below + 1 < 2 ^ 64 }
@@ -56,7 +49,7 @@ fn wanted_at<B: BlockSource>(
     ensures stays { B.meaning source.new ≡ B.meaning source.old }
     ensures value { IfOk result (λ rows. rows ≡ wanted_at edge window.now.wanted (count_in (B.meaning source.old) window.now.strip.sweep (B.meaning source.old).blocks) (first_row (B.meaning source.old) window.now.strip + start)) }
 {
-    let margin = margin_of(window.wanted);
+    let margin = margin_of(window.wanted) as usize;
     let hidden = hides_edge(window, start, edge);
     if margin == 0 || hidden {
         return Ok(margin);

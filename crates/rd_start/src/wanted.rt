@@ -1,4 +1,6 @@
 //! What a window wants of its start, and what is chosen for it.
+ghost use Rattle.std.specs.Prelude.{◌≡◌};
+ghost use Rattle.rd_start.specs.Starts.{margin_of};
 
 use rd_base::{Anchor, Pos};
 
@@ -23,4 +25,11 @@ pub struct Wanted {
 pub struct Chosen {
     pub anchor: Anchor,
     pub point: Pos,
+}
+
+/// The rows that are wanted above and below point's, at most a quarter of the window's.
+pub fn margin_of(wanted: Wanted) -> u32
+    ensures { result ≡ margin_of wanted }
+{
+    wanted.margin.min(wanted.height / 4)
 }

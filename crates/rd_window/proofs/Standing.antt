@@ -64,12 +64,12 @@ current l shape w e =
 -- ---- whether its start suits
 
 pub suits-shown : (w : Wanted) (at : Places) (row above below : ℕ) → at.point ≡ at.old + row → at.old < at.count → above ≡ wanted_above w at.old → below ≡ wanted_below w at.count at.old
-    → (leb above row && ltb (row + below) w.height) ≡ suits w at at.old
+    → is_inside w.height above below 0 row ≡ suits w at at.old
 suits-shown w at row above below place low up down =
     let inside = lt-ltb at.old at.count low in
-    let tests : (leb (at.old + above) at.point && leb (at.point + below + 1) (at.old + w.height)) ≡ (leb above row && ltb (row + below) w.height) = grind (arith, nat_tests, place) in
+    let tests : is_inside w.height above below at.old at.point ≡ is_inside w.height above below 0 row = grind (arith, nat_tests, place) in
     sym (ap (λ b. b && is_inside w.height (wanted_above w at.old) (wanted_below w at.count at.old) at.old at.point) inside
-    ∙ (sym (ap₂ (λ (a b : ℕ). leb (at.old + a) at.point && leb (at.point + b + 1) (at.old + w.height)) up down) ∙ tests))
+    ∙ (sym (ap₂ (λ (a b : ℕ). is_inside w.height a b at.old at.point) up down) ∙ tests))
 
 pub suits-hidden : (w : Wanted) (at : Places) → (at.old ≤ at.point → at.point < at.old + w.height → false ≡ true) → suits w at at.old ≡ false
 suits-hidden w at out =
@@ -93,6 +93,23 @@ above-known w l i known = ap (λ b. if b then 0 else margin_of w) known
 pub below-known : (w : Wanted) (l : Layout) (count i : ℕ) → l.height ≡ w.height → l.bottom ≡ leb count (i + l.height) → (if l.bottom then 0 else margin_of w) ≡ wanted_below w count i
 below-known w l count i height known = ap (λ b. if b then 0 else margin_of w) (known ∙ ap (λ n. leb count (i + n)) height)
 
+-- ---- what is seen from the row at which a window starts
+
+-- a layout that has the window's shape and height sees this from a start that is that row
+module _ (m : SourceValues) (shape : ShapeValues) (w : Wanted) (anchor : Anchor) (l : Layout) (shapes : l.shape ≡ shape) (heights : l.height ≡ w.height)
+    (place : anchor_row (λ b. m.rows_of b shape) anchor m.blocks ≡ start_row m shape w) where
+  start-seen : anchor_row (λ b. m.rows_of b l.shape) anchor m.blocks ≡ start_row m shape w
+  start-seen = ap (λ (s : ShapeValues). anchor_row (λ b. m.rows_of b s) anchor m.blocks) shapes ∙ place
+
+  rows-seen : take l.height (drop (anchor_row (λ b. m.rows_of b l.shape) anchor m.blocks) (rows_at m l.shape)) ≡ rows_in_view m shape w
+  rows-seen = λ i. take (heights i) (drop (start-seen i) (rows_at m (shapes i)))
+
+  top-seen : (anchor_row (λ b. m.rows_of b l.shape) anchor m.blocks == 0) ≡ has_first_row m shape w
+  top-seen = λ i. start-seen i == 0
+
+  bottom-seen : leb (length (rows_at m l.shape)) (anchor_row (λ b. m.rows_of b l.shape) anchor m.blocks + l.height) ≡ has_last_row m shape w
+  bottom-seen = λ i. leb (length (rows_at m (shapes i))) (start-seen i + heights i)
+
 -- ---- a window that rests
 
 pub record Rests (l : Layout) (m : SourceValues) (shape : ShapeValues) (w : Wanted) : Type 0 where
@@ -114,24 +131,13 @@ start-stays l m shape w r =
     ap (λ (b : Bool). if b then scrolled w at else following w at) r.current.free ∙ ap (λ o. unwrap_or o (centred w at)) (find-first (suits w at) at.old w.conservatively r.fits)
 
 rows-stay : (l : Layout) (m : SourceValues) (shape : ShapeValues) (w : Wanted) → Rests l m shape w → shown_entries l.matrix ≡ rows_in_view m shape w
-rows-stay l m shape w r =
-    r.stands.rows
-    ∙ (ap (λ (s : ShapeValues). take l.height (drop (anchor_row (λ b. m.rows_of b s) w.anchor m.blocks) (rows_at m s))) (same-shape l.shape shape r.current.shapes)
-    ∙ (ap (λ (n : ℕ). take n (drop (places_of m shape w).old (rows_at m shape))) r.current.height
-    ∙ sym (ap (λ (n : ℕ). take w.height (drop n (rows_at m shape))) (start-stays l m shape w r))))
+rows-stay l m shape w r = r.stands.rows ∙ rows-seen m shape w w.anchor l (same-shape l.shape shape r.current.shapes) r.current.height (sym (start-stays l m shape w r))
 
 pub top-stays : (l : Layout) (m : SourceValues) (shape : ShapeValues) (w : Wanted) → Rests l m shape w → l.top ≡ has_first_row m shape w
-top-stays l m shape w r =
-    r.stands.top
-    ∙ (ap (λ (s : ShapeValues). anchor_row (λ b. m.rows_of b s) w.anchor m.blocks == 0) (same-shape l.shape shape r.current.shapes)
-    ∙ sym (ap (λ (n : ℕ). n == 0) (start-stays l m shape w r)))
+top-stays l m shape w r = r.stands.top ∙ top-seen m shape w w.anchor l (same-shape l.shape shape r.current.shapes) r.current.height (sym (start-stays l m shape w r))
 
 pub bottom-stays : (l : Layout) (m : SourceValues) (shape : ShapeValues) (w : Wanted) → Rests l m shape w → l.bottom ≡ has_last_row m shape w
-bottom-stays l m shape w r =
-    r.stands.bottom
-    ∙ (ap (λ (s : ShapeValues). leb (length (rows_at m s)) (anchor_row (λ b. m.rows_of b s) w.anchor m.blocks + l.height)) (same-shape l.shape shape r.current.shapes)
-    ∙ (ap (λ (n : ℕ). leb (length (rows_at m shape)) ((places_of m shape w).old + n)) r.current.height
-    ∙ sym (ap (λ (n : ℕ). leb (length (rows_at m shape)) (n + w.height)) (start-stays l m shape w r))))
+bottom-stays l m shape w r = r.stands.bottom ∙ bottom-seen m shape w w.anchor l (same-shape l.shape shape r.current.shapes) r.current.height (sym (start-stays l m shape w r))
 
 -- it has a row
 pub some-stay : (l : Layout) (m : SourceValues) (shape : ShapeValues) (w : Wanted) → 1 ≤ w.height → Rests l m shape w → 0 < length l.matrix
@@ -190,23 +196,11 @@ pub stands-new : (last : Option Layout) (m : SourceValues) (shape : ShapeValues)
     → Stands m (chosen_of m shape w).anchor new
 stands-new last m shape w new source low laid =
     let anchor = (chosen_of m shape w).anchor in
-    let start = start_row m shape w in
-    let place = anchor-place m shape anchor start source (start-named m shape w low) in
+    let place = anchor-place m shape anchor (start_row m shape w) source (start-named m shape w low) in
     record {
-      rows =
-          laid.rows
-          ∙ (sym (ap (λ (n : ℕ). take w.height (drop n (rows_at m shape))) place)
-          ∙ (sym (ap (λ (n : ℕ). take n (drop (anchor_row (λ b. m.rows_of b shape) anchor m.blocks) (rows_at m shape))) laid.height)
-          ∙ sym (ap (λ (s : ShapeValues). take new.height (drop (anchor_row (λ b. m.rows_of b s) anchor m.blocks) (rows_at m s))) laid.shape_is)));
-      top =
-          laid.top
-          ∙ (sym (ap (λ (n : ℕ). n == 0) place)
-          ∙ sym (ap (λ (s : ShapeValues). anchor_row (λ b. m.rows_of b s) anchor m.blocks == 0) laid.shape_is));
-      bottom =
-          laid.bottom
-          ∙ (sym (ap (λ (n : ℕ). leb (length (rows_at m shape)) (n + w.height)) place)
-          ∙ (sym (ap (λ (n : ℕ). leb (length (rows_at m shape)) (anchor_row (λ b. m.rows_of b shape) anchor m.blocks + n)) laid.height)
-          ∙ sym (ap (λ (s : ShapeValues). leb (length (rows_at m s)) (anchor_row (λ b. m.rows_of b s) anchor m.blocks + new.height)) laid.shape_is)));
+      rows = laid.rows ∙ sym (rows-seen m shape w anchor new laid.shape_is laid.height place);
+      top = laid.top ∙ sym (top-seen m shape w anchor new laid.shape_is laid.height place);
+      bottom = laid.bottom ∙ sym (bottom-seen m shape w anchor new laid.shape_is laid.height place);
     }
 
 -- ---- a source with equal rows

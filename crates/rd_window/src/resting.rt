@@ -1,12 +1,10 @@
 //! Whether the last layout of a window is still right.
-ghost use Rattle.std.specs.Prelude.{◌≡◌, ◌+◌, ◌&&◌, nat_le, nat_lt};
-ghost use Rattle.rd_start.specs.Starts.{margin_of};
 
 use crate::layout::Layout;
 use rd_base::Anchor;
 use rd_matrix::Matrix;
 use rd_rows::Shape;
-use rd_start::{Chosen, Wanted};
+use rd_start::{Chosen, Wanted, is_inside, margin_of};
 
 impl Layout {
     ghost use Rattle.std.specs.Prelude.{◌≡◌, ◌<◌, if◌then◌else◌, Some, [], length};
@@ -53,7 +51,13 @@ impl Layout {
         };
         let above = self.wanted_above(wanted);
         let below = self.wanted_below(wanted);
-        is_inside(wanted.height, above, below, row)
+        is_inside(
+            wanted.height as usize,
+            above as usize,
+            below as usize,
+            0,
+            row as usize,
+        )
     }
 
     /// The rows that are wanted above point's.
@@ -96,18 +100,4 @@ impl Layout {
             point: wanted.point,
         }
     }
-}
-
-/// The rows that are wanted above and below point's, at most a quarter of the window's.
-fn margin_of(wanted: Wanted) -> u32
-    ensures { result ≡ margin_of wanted }
-{
-    wanted.margin.min(wanted.height / 4)
-}
-
-/// Whether a row in view has so many rows above it and so many below it, where so many rows are in view.
-fn is_inside(height: u32, above: u32, below: u32, row: u32) -> bool
-    ensures { result ≡ (nat_le above row && nat_lt (row + below) height) }
-{
-    above <= row && u64::from(row) + u64::from(below) < u64::from(height)
 }
