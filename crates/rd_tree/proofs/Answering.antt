@@ -1,16 +1,17 @@
 -- What the calls say, from the window that was found.
-use Rattle.std.proofs.Common.{◌≡◌, ℕ, suc, ◌≤◌, ◌<◌, Bool, true, false, ◌==◌, nat_le, length, List, [], ◌∷◌, Option, None, Some, Result, Ok, Err, inl, inr, refl, sym, ap, ◌∙◌, arith}
+use Rattle.std.proofs.Common.{◌≡◌, ℕ, suc, ◌≤◌, ◌<◌, Bool, true, false, nat_le, length, Option, None, Some, Result, Ok, Err, refl, sym, ap, ◌∙◌, arith}
 use Rattle.std.specs.Prelude.{is_some, ⊤}
-use Rattle.std.proofs.lemmas.Bool.{cases_Bool, eqb-true, or_left, or_right, or_from}
+use Rattle.std.proofs.lemmas.Bool.{or_left, or_right, or_from}
 use Rattle.std.proofs.lemmas.Bool.Decides.{nat_tests}
 use Rattle.rd_tree.specs.declared.rect.Rect.{Rect}
 use Rattle.rd_tree.specs.declared.side.Side.{Side}
 use Rattle.rd_tree.specs.declared.placed.Placed.{Placed}
 use Rattle.rd_tree.specs.declared.fault.TreeFault.{TreeFault}
 use Rattle.rd_tree.specs.declared.fault.TreeFault.TheVariants.{NoWindow, TooSmall, TooMany}
-use Rattle.rd_tree.specs.Windows.{Windows, Window, Split, HasRoom, fits, leaves, placed, of_number, window_at, holds, halves, split_at, dressed}
+use Rattle.rd_tree.specs.Windows.{Windows, Window, Split, HasRoom, fits, leaves, placed, window_at, holds, halves, split_at, dressed}
 use Rattle.rd_tree.specs.Calls.{Configuration, frame_of, is_full, split_tree, changed_to, mode_tree, margins_tree, rect_of_placed, rect_of, Answers}
 use Rattle.rd_tree.proofs.Keeping.{found_held, replaced_fits, replaced_found}
+use Rattle.rd_tree.proofs.Rooms.{found_number}
 
 not_held : (c : Configuration) (w : ℕ) → window_at w c.windows (frame_of c) ≡ None → holds w c.windows ≡ false
 not_held c w e = sym (found_held w c.windows (frame_of c)) ∙ ap is_some e
@@ -47,14 +48,6 @@ full_of_numbers c p = or_right (nat_le 64 (length (leaves c.windows))) (nat_le 4
 
 pub not_full : (c : Configuration) → length (leaves c.windows) < 64 → c.made < 4294967295 → is_full c ≡ false
 not_full c p q = or_from (nat_le 64 (length (leaves c.windows))) (nat_le 4294967295 c.made) (grind (arith, nat_tests)) (grind (arith, nat_tests))
-
-found_number : (w : ℕ) (windows : List Placed) (window : Placed) → of_number w windows ≡ Some window → window.number ≡ w
-found_number w [] window e = absurd (cc)
-found_number w (p ∷ windows) window e =
-    elim (cases_Bool (p.number == w)) [
-      | inl q ↦ let same : Some p ≡ Some window = rw q at e in let p_is : p ≡ window = cc in ap (λ (p : Placed). p.number) (sym p_is) ∙ eqb-true p.number w q
-      | inr q ↦ found_number w windows window (rw q at e)
-    ]
 
 -- a window that was found stands in its rectangle
 pub found_rect : (c : Configuration) (w : ℕ) (found : Option Placed) (window : Placed) → found ≡ window_at w c.windows (frame_of c) → found ≡ Some window → rect_of window.number c ≡ Some window.rect

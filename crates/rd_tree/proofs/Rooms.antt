@@ -1,6 +1,7 @@
 -- Needs, sizes and rectangles.
-use Rattle.std.proofs.Common.{◌≡◌, ℕ, ◌≤◌, ◌<◌, length, length-append, Bool, true, false, if◌then◌else◌, ◌==◌, List, [], ◌∷◌, ◌++◌, Option, None, Some, refl, sym, ap, ◌∙◌, arith}
+use Rattle.std.proofs.Common.{◌≡◌, ℕ, ◌≤◌, ◌<◌, length, length-append, Bool, true, false, if◌then◌else◌, ◌==◌, inl, inr, List, [], ◌∷◌, ◌++◌, Option, None, Some, refl, sym, ap, ◌∙◌, arith}
 use Rattle.std.specs.Option.{option_or}
+use Rattle.std.proofs.lemmas.Bool.{cases_Bool, eqb-true}
 use Rattle.rd_tree.specs.declared.rect.Rect.{Rect}
 use Rattle.rd_tree.specs.declared.side.Side.{Side}
 use Rattle.rd_tree.specs.declared.side.Side.TheVariants.{Below, Right}
@@ -137,6 +138,15 @@ resized_room (Split side size first second) rect p n =
 cond_or : (b : Bool) (window : Placed) (m n other : Option Placed) → m ≡ option_or n other → (if b then Some window else m) ≡ option_or (if b then Some window else n) other
 cond_or true window m n other e = refl
 cond_or false window m n other e = e
+
+-- a window that a number finds has this number
+pub found_number : (w : ℕ) (windows : List Placed) (window : Placed) → of_number w windows ≡ Some window → window.number ≡ w
+found_number w [] window e = absurd (cc)
+found_number w (p ∷ windows) window e =
+    elim (cases_Bool (p.number == w)) [
+      | inl q ↦ let same : Some p ≡ Some window = rw q at e in let p_is : p ≡ window = cc in ap (λ (p : Placed). p.number) (sym p_is) ∙ eqb-true p.number w q
+      | inr q ↦ found_number w windows window (rw q at e)
+    ]
 
 -- the window with a number among two lists
 pub of_number-append : (number : ℕ) (xs ys : List Placed) → of_number number (xs ++ ys) ≡ option_or (of_number number xs) (of_number number ys)
