@@ -15,23 +15,34 @@ outside a b c (inr below) = grind (arith, nat_tests)
 inside : (a b c : ℕ) → a ≤ c → c ≤ b → (nat_le a c && nat_le c b) ≡ true
 inside a b c from to = grind (arith, nat_tests)
 
+-- a look-up in a list, element by element
+module _ {E R : Type 0} (test : E → Bool) (value : E → R) (none : R) (looked : List E → R) (at_end : looked [] ≡ none) (at : (e : E) (es : List E) → looked (e ∷ es) ≡ (if test e then value e else looked es)) where
+  -- finds nothing where no element passes the test
+  miss : (es : List E) → ((i : ℕ) (d : E) → i < length es → test (get_or es i d) ≡ false) → looked es ≡ none
+  miss [] out = at_end
+  miss (e ∷ es) out =
+      at e es ∙ (ap (λ (t : Bool). if t then value e else looked es) (out 0 e (omega arith)) ∙ miss es (λ i d within. out (suc i) d (omega arith)))
+
+  -- and the first that passes it
+  hit : (es : List E) (i : ℕ) (d : E) → i < length es → test (get_or es i d) ≡ true → ((k : ℕ) (d : E) → k < i → test (get_or es k d) ≡ false) → looked es ≡ value (get_or es i d)
+  hit [] i d within is out = absurd (omega arith)
+  hit (e ∷ es) zero d within is out = at e es ∙ ap (λ (t : Bool). if t then value e else looked es) is
+  hit (e ∷ es) (suc i) d within is out =
+      at e es ∙ (ap (λ (t : Bool). if t then value e else looked es) (out 0 e (omega arith)) ∙ hit es i d (omega arith) is (λ k f less. out (suc k) f (omega arith)))
+
 -- no range holds the code
 pub class_in-miss : (spans : List Span) (code : ℕ)
     → ((i : ℕ) (d : Span) → i < length spans → ((get_or spans i d).last < code) ⊎ (code < (get_or spans i d).first)) → class_in spans code ≡ L
-class_in-miss [] code out = refl
-class_in-miss (s ∷ ss) code out =
-    ap (λ (t : Bool). if t then s.class else class_in ss code) (outside s.first s.last code (out 0 s (omega arith)))
-    ∙ class_in-miss ss code (λ i d within. out (suc i) d (omega arith))
+class_in-miss spans code out =
+    miss (λ (s : Span). nat_le s.first code && nat_le code s.last) (λ (s : Span). s.class) L (λ (ss : List Span). class_in ss code) refl (λ s ss. refl) spans
+    (λ i d within. outside (get_or spans i d).first (get_or spans i d).last code (out i d within))
 
 -- the first range that holds the code
 pub class_in-hit : (spans : List Span) (code i : ℕ) (d : Span) → i < length spans → (get_or spans i d).first ≤ code → code ≤ (get_or spans i d).last
     → ((k : ℕ) (d : Span) → k < i → (get_or spans k d).last < code) → class_in spans code ≡ (get_or spans i d).class
-class_in-hit [] code i d within from to out = absurd (omega arith)
-class_in-hit (s ∷ ss) code zero d within from to out =
-    ap (λ (t : Bool). if t then s.class else class_in ss code) (inside s.first s.last code from to)
-class_in-hit (s ∷ ss) code (suc i) d within from to out =
-    ap (λ (t : Bool). if t then s.class else class_in ss code) (outside s.first s.last code (inl (out 0 s (omega arith))))
-    ∙ class_in-hit ss code i d (omega arith) from to (λ k e less. out (suc k) e (omega arith))
+class_in-hit spans code i d within from to out =
+    hit (λ (s : Span). nat_le s.first code && nat_le code s.last) (λ (s : Span). s.class) L (λ (ss : List Span). class_in ss code) refl (λ s ss. refl) spans i d within
+    (inside (get_or spans i d).first (get_or spans i d).last code from to) (λ k e less. outside (get_or spans k e).first (get_or spans k e).last code (inl (out k e less)))
 
 other : (a b : ℕ) → (a < b) ⊎ (b < a) → (a == b) ≡ false
 other a b (inl less) = ne_eqb a b (λ e. omega arith)
@@ -40,20 +51,16 @@ other a b (inr less) = ne_eqb a b (λ e. omega arith)
 -- no entry has the code
 pub entry_in-miss : {E : Type 0} (key : E → ℕ) (es : List E) (code : ℕ)
     → ((i : ℕ) (d : E) → i < length es → (key (get_or es i d) < code) ⊎ (code < key (get_or es i d))) → entry_in key es code ≡ None
-entry_in-miss key [] code out = refl
-entry_in-miss key (e ∷ es) code out =
-    ap (λ (t : Bool). if t then Some e else entry_in key es code) (other (key e) code (out 0 e (omega arith)))
-    ∙ entry_in-miss key es code (λ i d within. out (suc i) d (omega arith))
+entry_in-miss {E = E} key es code out =
+    miss (λ (e : E). key e == code) (λ (e : E). Some e) None (λ (rest : List E). entry_in key rest code) refl (λ e rest. refl) es
+    (λ i d within. other (key (get_or es i d)) code (out i d within))
 
 -- the first entry that has the code
 pub entry_in-hit : {E : Type 0} (key : E → ℕ) (es : List E) (code i : ℕ) (d : E) → i < length es → key (get_or es i d) ≡ code
     → ((k : ℕ) (d : E) → k < i → key (get_or es k d) < code) → entry_in key es code ≡ Some (get_or es i d)
-entry_in-hit key [] code i d within is out = absurd (omega arith)
-entry_in-hit key (e ∷ es) code zero d within is out =
-    ap (λ (t : Bool). if t then Some e else entry_in key es code) (eq-eqb (key e) code is)
-entry_in-hit key (e ∷ es) code (suc i) d within is out =
-    ap (λ (t : Bool). if t then Some e else entry_in key es code) (other (key e) code (inl (out 0 e (omega arith))))
-    ∙ entry_in-hit key es code i d (omega arith) is (λ k f less. out (suc k) f (omega arith))
+entry_in-hit {E = E} key es code i d within is out =
+    hit (λ (e : E). key e == code) (λ (e : E). Some e) None (λ (rest : List E). entry_in key rest code) refl (λ e rest. refl) es i d within
+    (eq-eqb (key (get_or es i d)) code is) (λ k f less. other (key (get_or es k f)) code (inl (out k f less)))
 
 -- the last code of a range at another default
 pub default_last : (spans : List Span) (i j code : ℕ) (d e : Span) → i < length spans → i ≡ j → (get_or spans j e).last < code → (get_or spans i d).last < code
