@@ -19,6 +19,6 @@ pub use laws::{
     elements_are_sound, glyph_texts_are_sound, marks_join_measured_glyphs, plain_lines_are_whole,
 };
 pub use looks::on_blank;
-pub use mark_role::MarkRole;
+pub use mark_role::{MarkRole, marked_glyph};
 pub use parts::{Parts, element_of, expand, of_glyphs};
 pub use plain::plain_line;

@@ -1,7 +1,9 @@
 //! How characters stand towards marks.
 ghost use Rattle.std.specs.Prelude.{◌≡◌, None};
 ghost use Rattle.rd_glyphs.specs.MarkRoles.{mark_role_by};
+ghost use Rattle.rd_glyphs.specs.Marks.{marked_glyph};
 
+use crate::looks::on_blank;
 use crate::parts::Parts;
 use crate::shown::{Shown, shown_as};
 use rd_base::{Ch, Glyph};
@@ -17,6 +19,42 @@ pub enum MarkRole {
     Base(Glyph),
     /// It is a mark, which stands on a blank where it joins nothing.
     Mark(u32),
+}
+
+impl MarkRole {
+    ghost use Rattle.std.specs.Prelude.{◌≡◌};
+    ghost use Rattle.rd_glyphs.specs.MarkRoles.{base_of, mark_of};
+
+    /// The glyph that marks may join: the character, or the blank that it stands on as a mark.
+    pub fn base(self) -> Option<Glyph>
+        ensures { result ≡ base_of self }
+    {
+        match self {
+            MarkRole::Base(glyph) => Some(glyph),
+            MarkRole::Mark(code) => Some(on_blank(code)),
+            _ => None,
+        }
+    }
+
+    /// The mark that a character is.
+    pub fn mark(self) -> Option<u32>
+        ensures { result ≡ mark_of self }
+    {
+        match self {
+            MarkRole::Mark(code) => Some(code),
+            _ => None,
+        }
+    }
+}
+
+/// The glyph that a mark joins, with the mark, where it joins it.
+pub fn marked_glyph(base: Option<Glyph>, mark: Option<u32>) -> Option<Glyph>
+    ensures { result ≡ marked_glyph base mark }
+{
+    match (base, mark) {
+        (Some(glyph), Some(code)) => glyph.joined(code),
+        _ => None,
+    }
 }
 
 impl<'a> Parts<'a> {

@@ -1,12 +1,11 @@
 //! What positions give before marks join and ranges are handed on.
 ghost use Rattle.std.specs.Prelude.{◌≡◌, ◌<◌, option_map, slice_get};
 ghost use Rattle.rd_items.specs.Pieces.{scene_of, table_in, spec_in, gives_element, give_elements, string_gives, ellipsis_gives, inner_class, has_element, char_by, spec_piece, open_piece, piece_at};
-ghost use Rattle.rd_glyphs.specs.MarkRoles.{base_of, mark_of};
 
 use crate::item::ItemKind;
 use crate::showing::Showing;
 use rd_base::{Ch, Class, Face, Glyph};
-use rd_glyphs::{MarkRole, Parts, on_blank};
+use rd_glyphs::{MarkRole, Parts};
 use rd_objects::{Objects, Spec, Table, Text};
 use rd_props::{Hidden, View};
 
@@ -197,27 +196,6 @@ fn has_element(role: MarkRole) -> bool
     }
 }
 
-/// The glyph that marks may join.
-fn base_of(role: MarkRole) -> Option<Glyph>
-    ensures { result ≡ base_of role }
-{
-    match role {
-        MarkRole::Base(glyph) => Some(glyph),
-        MarkRole::Mark(code) => Some(on_blank(code)),
-        _ => None,
-    }
-}
-
-/// The mark that a character is.
-fn mark_of(role: MarkRole) -> Option<u32>
-    ensures { result ≡ mark_of role }
-{
-    match role {
-        MarkRole::Mark(code) => Some(code),
-        _ => None,
-    }
-}
-
 /// The piece of a character of this class.
 fn char_by(role: MarkRole, class: Class, face: Face, ch: Ch, at: u32) -> Piece
     requires { at < 4294967295 }
@@ -231,8 +209,8 @@ fn char_by(role: MarkRole, class: Class, face: Face, ch: Ch, at: u32) -> Piece
         covers: has_element(role),
         at,
         to: at + 1,
-        base: base_of(role),
-        mark: mark_of(role),
+        base: role.base(),
+        mark: role.mark(),
     }
 }
 

@@ -1,6 +1,5 @@
 //! The walk over a block: marks join, and ranges are handed on.
 ghost use Rattle.std.specs.Prelude.{◌≡◌};
-ghost use Rattle.rd_glyphs.specs.Marks.{marked_glyph};
 ghost use Rattle.rd_items.specs.Items.{item_of};
 ghost use Rattle.rd_items.specs.Walks.{TakesMark};
 
@@ -8,7 +7,8 @@ use crate::alike_range::{AlikeRange, run_end};
 use crate::item::{Item, ItemKind};
 use crate::piece::{Piece, piece_at};
 use crate::showing::{Showing, char_at};
-use rd_base::{Face, Glyph, ListOf, Memory, Pos};
+use rd_base::{Face, ListOf, Memory, Pos};
+use rd_glyphs::marked_glyph;
 use rd_props::{View, strings_at};
 use std::alloc::Global;
 
@@ -20,21 +20,11 @@ pub struct Walk {
     held: Option<Piece>,
 }
 
-/// The glyph that a mark joins, with the mark, where it joins it.
-fn marked_glyph(base: &Option<Glyph>, mark: Option<u32>) -> Option<Glyph>
-    ensures { result ≡ marked_glyph base.now mark }
-{
-    match (base, mark) {
-        (Some(glyph), Some(code)) => glyph.joined(code),
-        _ => None,
-    }
-}
-
 /// Whether the mark of the next piece joins one, which then stands up to the mark's end.
 fn takes_mark(held: &mut Piece, next: &Piece) -> bool
     ensures { TakesMark result held.old held.new next.now }
 {
-    match marked_glyph(&held.base, next.mark) {
+    match marked_glyph(held.base, next.mark) {
         None => false,
         Some(glyph) => {
             held.kind = Some(ItemKind::Marked(glyph));
