@@ -1,12 +1,12 @@
 //! Reading a format, character by character.
-ghost use Rattle.std.specs.Prelude.{◌≡◌, ◌≢◌, ◌+◌, IfErr, IfOk, Ok, [], ◌++◌, ℕ, OnOk, option_to_list};
+ghost use Rattle.std.specs.Prelude.{◌≡◌, ◌≢◌, ◌+◌, IfErr, IfOk, Ok, [], ℕ};
 ghost use Rattle.rd_modeline.specs.declared.fault.FormatFault.TheVariants as fault;
 ghost use Rattle.rd_modeline.specs.Formats.{pieces_from, pieces_of, Checks, IsBegun, ReadsOn};
 ghost use Rattle.rd_modeline.specs.declared.reading.Begun.TheVariants.{Text, Percent};
 
 use crate::fault::FormatFault;
 use crate::piece::{Piece, piece_of};
-use rd_base::{Ch, ListOf, Memory};
+use rd_base::{Ch, ListOf};
 use std::alloc::Global;
 
 /// What is begun before the next character: no code, or a percent sign at a place and so many digits that make a width.
@@ -42,21 +42,11 @@ pub(crate) fn read(alloc: Global, text: &[Ch]) -> Result<ListOf<Piece>, FormatFa
     let mut begun = Begun::Text;
     for (place, ch) in text.iter().enumerate() {
         let (after, piece) = read_on(begun, place as u64, *ch)?;
-        push_piece(&mut pieces, piece)?;
+        pieces.push_some(piece)?;
         begun = after;
     }
     ended(begun)?;
     Ok(pieces)
-}
-
-/// Adds a piece, where there is one.
-fn push_piece(pieces: &mut ListOf<Piece>, piece: Option<Piece>) -> Result<(), Memory>
-    ensures { OnOk result (pieces.new ≡ pieces.old ++ option_to_list piece) }
-{
-    match piece {
-        Some(piece) => pieces.push(piece),
-        None => Ok(()),
-    }
 }
 
 /// Whether a format can end here: behind a percent sign a code is wanting.

@@ -1,6 +1,5 @@
 //! The strings of overlays at a position.
 ghost use Rattle.std.specs.Prelude.{◌≡◌, ◌++◌, reverse, OnOk, IfOk};
-ghost use Rattle.std.specs.Option.{option_to_list};
 ghost use Rattle.rd_text.specs.Texts.{IsAccessible};
 ghost use Rattle.rd_overlays.specs.Overlays.{overlay_at};
 ghost use Rattle.rd_props.specs.Buffers.{meaning};
@@ -27,22 +26,12 @@ fn is_empty(overlay: &Overlay) -> bool
     overlay.from == overlay.to
 }
 
-/// Adds a string where there is one.
-fn add(strings: &mut ListOf<u32>, string: Option<u32>) -> Result<(), Memory>
-    ensures { OnOk result (strings.new ≡ strings.old ++ option_to_list string) }
-{
-    if let Some(string) = string {
-        strings.push(string)?;
-    }
-    Ok(())
-}
-
 /// Adds what an overlay puts where it covers nothing.
 fn add_both(strings: &mut ListOf<u32>, overlay: &Overlay) -> Result<(), Memory>
     ensures { OnOk result (strings.new ≡ strings.old ++ before_string overlay.now ++ after_string overlay.now) }
 {
-    add(strings, overlay.values[Kind::Before as usize])?;
-    add(strings, overlay.values[Kind::After as usize])
+    strings.push_some(overlay.values[Kind::Before as usize])?;
+    strings.push_some(overlay.values[Kind::After as usize])
 }
 
 /// Adds the strings of one overlay.
@@ -51,8 +40,8 @@ fn add_part(strings: &mut ListOf<u32>, part: StringPlace, overlay: &Overlay) -> 
 {
     match (part, is_empty(overlay)) {
         (StringPlace::Between, true) => add_both(strings, overlay),
-        (StringPlace::Closing, false) => add(strings, overlay.values[Kind::After as usize]),
-        (StringPlace::Opening, false) => add(strings, overlay.values[Kind::Before as usize]),
+        (StringPlace::Closing, false) => strings.push_some(overlay.values[Kind::After as usize]),
+        (StringPlace::Opening, false) => strings.push_some(overlay.values[Kind::Before as usize]),
         _ => Ok(()),
     }
 }

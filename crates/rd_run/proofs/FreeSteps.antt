@@ -17,17 +17,17 @@ use Rattle.rd_state.specs.Edits.{deletion, is_accessible, insertion, margin_putt
 use Rattle.rd_state.specs.Making.{refused_object, run_of, spec_of, unless_fault}
 use Rattle.rd_state.specs.States.{BufferValue, ContentValue, StateValue, number_of}
 use Rattle.rd_state.specs.Steps.{changing, edited, edited_moving, in_window, in_buffer, in_shown, making, moving, on_tree, placing, raw_text, refused_tree, replaced, setting, showing, step, typing, unless_bad, with_found, with_objects}
+use Rattle.rd_state.proofs.Free.{refused-free}
 use Rattle.rd_state.specs.declared.moves.Move.{Move}
 use Rattle.rd_state.specs.declared.moves.Move.TheVariants.{Deleted, Inserted, Narrowed}
 use Rattle.rd_state.specs.declared.refused.Refused.{Refused}
 use Rattle.rd_state.specs.declared.refused.Refused.TheVariants.{Memory, NameTaken, NoBuffer, NoObject, NoOverlay, NoWindow, NotShown, OutOfRange, TextTooLarge, TooManyBuffers, TooManyOverlays}
 use Rattle.rd_state.specs.declared.window.WindowState.{WindowState}
-use Rattle.rd_tree.specs.Calls.{Configuration, changed_to, margins_tree, mode_tree, remove_tree, resize_tree, split_to, split_tree}
-use Rattle.rd_tree.specs.Windows.{Windows, holds, split_at, with_margins, with_mode}
+use Rattle.rd_tree.specs.Calls.{Configuration}
+use Rattle.rd_tree.proofs.Free.{margins-free, mode-free, remove-free, resize-free, split-free}
 use Rattle.rd_tree.specs.declared.fault.TreeFault.{TreeFault}
 use Rattle.rd_tree.specs.declared.fault.TreeFault.TheVariants as trees
 use Rattle.rd_tree.specs.declared.placed.Placed.{Placed}
-use Rattle.rd_tree.specs.declared.side.Side.{Side}
 use Rattle.rd_window.specs.declared.layout.Layout.{Layout}
 use Rattle.rd_run.proofs.Faults.{choice-lacks, either-lacks, none-lacks, ok-lacks, other-lacks, some-lacks}
 
@@ -146,48 +146,9 @@ spec-free o spec = choice-lacks faults.Memory _ _ _ (some-lacks faults.Memory fa
 
 -- ---- windows
 
-refused-free : (fault : TreeFault) → fault ≢ trees.Memory → refused_tree fault ≢ Memory
-refused-free trees.NoWindow h = λ e. cc
-refused-free trees.TooSmall h = λ e. cc
-refused-free trees.TooMany h = λ e. cc
-refused-free trees.LastWindow h = λ e. cc
-refused-free trees.Memory h = λ e. h refl
-
 tree-free : (r : Result Configuration TreeFault) (f : Configuration → StateValue) → r ≢ Err trees.Memory → AnswersFree (on_tree r f)
 tree-free (Ok tree) f h = ok-free (f tree)
 tree-free (Err fault) f h = no-free (refused_tree fault) (refused-free fault (λ e. h (ap (λ x. Err x) e)))
-
-split_to-free : (c : Configuration) (windows : Windows) → split_to c windows ≢ Err trees.Memory
-split_to-free c windows = either-lacks trees.Memory _ _ _ (either-lacks trees.Memory _ _ _ (other-lacks trees.Memory trees.TooMany (λ e. cc)) (ok-lacks trees.Memory _)) (other-lacks trees.Memory trees.TooSmall (λ e. cc))
-
-split-free : (c : Configuration) (window : ℕ) (side : Side) (size : ℕ) → split_tree c window side size ≢ Err trees.Memory
-unfolding split_tree
-split-free c window side size =
-    let windows = split_at window side size c.made c.windows in
-    either-lacks trees.Memory (holds window c.windows) (split_to c windows) (Err trees.NoWindow) (split_to-free c windows) (other-lacks trees.Memory trees.NoWindow (λ e. cc))
-
-remove-free : (c : Configuration) (window : ℕ) → remove_tree c window ≢ Err trees.Memory
-unfolding remove_tree
-remove-free c window = either-lacks trees.Memory _ _ _ (either-lacks trees.Memory _ _ _ (other-lacks trees.Memory trees.LastWindow (λ e. cc)) (ok-lacks trees.Memory _)) (other-lacks trees.Memory trees.NoWindow (λ e. cc))
-
-resize-free : (c : Configuration) (width height : ℕ) → resize_tree c width height ≢ Err trees.Memory
-unfolding resize_tree
-resize-free c width height = either-lacks trees.Memory _ _ _ (ok-lacks trees.Memory _) (other-lacks trees.Memory trees.TooSmall (λ e. cc))
-
-changed-free : (c : Configuration) (windows : Windows) → changed_to c windows ≢ Err trees.Memory
-changed-free c windows = either-lacks trees.Memory _ _ _ (ok-lacks trees.Memory _) (other-lacks trees.Memory trees.TooSmall (λ e. cc))
-
-mode-free : (c : Configuration) (window : ℕ) (shown : Bool) → mode_tree c window shown ≢ Err trees.Memory
-unfolding mode_tree
-mode-free c window shown =
-    let windows = with_mode window shown c.windows in
-    either-lacks trees.Memory (holds window c.windows) (changed_to c windows) (Err trees.NoWindow) (changed-free c windows) (other-lacks trees.Memory trees.NoWindow (λ e. cc))
-
-margins-free : (c : Configuration) (window columns : ℕ) → margins_tree c window columns ≢ Err trees.Memory
-unfolding margins_tree
-margins-free c window columns =
-    let windows = with_margins window columns c.windows in
-    either-lacks trees.Memory (holds window c.windows) (changed_to c windows) (Err trees.NoWindow) (changed-free c windows) (other-lacks trees.Memory trees.NoWindow (λ e. cc))
 
 bad-free : (o : Option ℕ) (r : Result StateValue Refused) → AnswersFree r → AnswersFree (unless_bad o r)
 bad-free None r h = h

@@ -287,12 +287,7 @@ impl Strip {
     pub(crate) fn point_row(&self) -> Option<usize>
         ensures { result ≡ position (λ (r : StripRow). r.has_point) self.now.strip_rows.items }
     {
-        for row in 0..self.strip_rows.len() {
-            if self.strip_rows[row].has_point {
-                return Some(row);
-            }
-        }
-        None
+        self.strip_rows.iter().position(|row| row.has_point)
     }
 
     /// Where point's row is, as seen from the rows in view from one place up to another.

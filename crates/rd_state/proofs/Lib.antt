@@ -6,7 +6,7 @@ mod Contents
 mod Edited
 mod Faults
 mod Finding
-mod Free
+pub mod Free
 mod Glyphs
 mod Keeping
 mod Leaves

@@ -1,5 +1,6 @@
 mod Answering
 pub mod Composing
+pub mod Free
 pub mod Keeping
 mod Listing
 pub mod Rooms

@@ -1,4 +1,3 @@
 mod Cuts
-mod Halves
 mod Large
 mod Ranges

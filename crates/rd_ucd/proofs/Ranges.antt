@@ -6,7 +6,7 @@ use Rattle.std.proofs.lemmas.Bool.{cases_eq, eq-eqb, ne_eqb}
 use Rattle.std.proofs.lemmas.List.{get_or_default}
 use Rattle.rd_base.specs.declared.class.Class.TheVariants.{L}
 use Rattle.rd_ucd.specs.declared.spans.Span.{Span}
-use Rattle.rd_ucd.specs.Lookup.{class_in, entry_in}
+use Rattle.rd_ucd.specs.Lookup.{AreAscending, class_in, entry_in}
 
 outside : (a b c : ℕ) → (b < c) ⊎ (c < a) → (nat_le a c && nat_le c b) ≡ false
 outside a b c (inl above) = grind (arith, nat_tests)
@@ -29,6 +29,15 @@ module _ {E R : Type 0} (test : E → Bool) (value : E → R) (none : R) (looked
   hit (e ∷ es) zero d within is out = at e es ∙ ap (λ (t : Bool). if t then value e else looked es) is
   hit (e ∷ es) (suc i) d within is out =
       at e es ∙ (ap (λ (t : Bool). if t then value e else looked es) (out 0 e (omega arith)) ∙ hit es i d (omega arith) is (λ k f less. out (suc k) f (omega arith)))
+
+-- keys that ascend do not fall
+pub not_falling : {X : Type 0} (key : X → ℕ) (xs : List X) → AreAscending key xs → (i j : ℕ) (d : X) → i ≤ j → j < length xs → key (get_or xs i d) ≤ key (get_or xs j d)
+not_falling key xs ascend i j d upto within = elim (cases_eq i j) [
+  | inl same ↦
+      let e : key (get_or xs i d) ≡ key (get_or xs j d) = ap (λ (k : ℕ). key (get_or xs k d)) same in
+      omega arith
+  | inr other ↦ let less = ascend i j d (omega arith) within in omega arith
+]
 
 -- no range holds the code
 pub class_in-miss : (spans : List Span) (code : ℕ)

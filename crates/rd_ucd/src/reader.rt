@@ -1,5 +1,5 @@
 //! Reading a class file, line by line.
-ghost use Rattle.std.specs.Prelude.{◌≡◌, ◌++◌, OnOk, OnErr, option_to_list};
+ghost use Rattle.std.specs.Prelude.{◌≡◌};
 ghost use Rattle.rd_ucd.specs.ClassFile.{fault_of, span_by, opened_by, closes};
 
 use crate::entries::{DataEntry, EntryKind, Opened, read_entry};
@@ -8,7 +8,7 @@ use crate::lines::LineReader;
 use crate::names::same_class;
 use crate::pieces::without_return;
 use crate::spans::Span;
-use rd_base::{ListOf, Memory};
+use rd_base::ListOf;
 use std::alloc::Global;
 
 /// What was read so far: the ranges, one more than the code of the last entry, and the First that waits for its Last.
@@ -47,7 +47,7 @@ impl Reader {
         if let Some(fault) = fault(self.least, self.opened, number, entry) {
             return Err(fault);
         }
-        add(&mut self.spans, span(self.opened, entry))?;
+        self.spans.push_some(span(self.opened, entry))?;
         self.opened = opened(number, entry);
         self.least = entry.code + 1;
         Ok(())
@@ -124,16 +124,5 @@ fn opened(number: u64, entry: DataEntry) -> Option<Opened>
             class: entry.class,
         }),
         _ => None,
-    }
-}
-
-/// Adds a range, if there is one.
-fn add(spans: &mut ListOf<Span>, span: Option<Span>) -> Result<(), Memory>
-    ensures ok { OnOk result (spans.new ≡ spans.old ++ option_to_list span) }
-    ensures err { OnErr result (spans.new ≡ spans.old) }
-{
-    match span {
-        Some(span) => spans.push(span),
-        None => Ok(()),
     }
 }

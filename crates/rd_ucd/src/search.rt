@@ -19,17 +19,7 @@ pub fn count_up_to<T: Keyed>(entries: &[T], code: u32) -> usize
     ensures below { (i : ℕ) (d : T) → i < result → T.key (slice_index_or entries.now i d) ≤ code }
     ensures above { (i : ℕ) (d : T) → result ≤ i → i < length entries.now → code < T.key (slice_index_or entries.now i d) }
 {
-    let mut low = 0;
-    let mut high = entries.len();
-    while low < high {
-        let middle = low + (high - low) / 2;
-        if entries[middle].key() <= code {
-            low = middle + 1;
-        } else {
-            high = middle;
-        }
-    }
-    low
+    entries.partition_point(|entry| entry.key() <= code)
 }
 
 /// The entry that is listed under a code, if there is one. It costs the logarithm of their number.

@@ -14,7 +14,7 @@ loop-place-preserved c =
     let rest = drop (c.loop-place.place + 1) c.args.text.now in
     let split : drop c.loop-place.place c.args.text.now ≡ c.index-text-place.result ∷ rest = grind (arith, common_steps) in
     let moved = step-pieces c.loop-place.begun c.in_ok-after.after c.in_ok-after.piece c.loop-place.place c.index-text-place.result rest c.loop-place.pieces c.in_ok-after.ensures.reads in
-    let pushed = c.in_ok-push_piece.ensures in
+    let pushed = c.in_ok-push_some.ensures.ok in
     (rw pushed (sym moved ∙ ap (λ l. behind_all c.loop-place.pieces (pieces_from c.loop-place.begun c.loop-place.place l)) (sym split) ∙ c.loop-place.invariant.0), c.in_ok-after.ensures.begun)
 
 pub returns-in_err-ended-clause-checks : goal.returns-in_err-ended-clause-checks

@@ -1,27 +1,19 @@
-use Rattle.std.proofs.Common.{◌+◌, ◌-◌, ◌/◌, arith}
-use Rattle.rd_ucd.proofs.Halves.{lower_half, upper_half}
+use Rattle.std.proofs.Common.{leb, arith, rules}
+use Rattle.std.proofs.lemmas.Bool.{leb-true, leb-false}
+use Rattle.std.proofs.lemmas.List.Sorted.{IsPartitionPoint-from_clause, IsPartitionedBy-leb}
+use Rattle.rd_ucd.proofs.Ranges.{not_falling}
 use Rattle.rd_ucd.proofs.search.count_up_to.Goals as goal
 
-pub loop-low-preserved-then-key-code : goal.loop-low-preserved-then-key-code
-loop-low-preserved-then-key-code g c =
-    let inv = c.loop-low.invariant in
-    let within = inv.within in
-    record {
-      order = omega arith;
-      within = inv.within;
-      below = lower_half g.T.Keyed.key c.args.entries.now (c.loop-low.low + (c.loop-low.high - c.loop-low.low) / 2) c.args.code c.key.result c.index-entries-middle.result
-          c.requires (omega arith) c.index-entries-middle.is c.key.ensures c.if-key-code.true;
-      above = inv.above;
-    }
+pub returns-clause-below : goal.returns-clause-below
+returns-clause-below g c =
+    let key = g.T.Keyed.key in
+    let parted = IsPartitionedBy-leb key c.args.entries.now c.args.code (not_falling key c.args.entries.now c.requires) in
+    let point = IsPartitionPoint-from_clause (λ e. leb (key e) c.args.code) _ _ c.partition_point.ensures.partitioned parted (λ a r q k. search rules) in
+    λ i d h. leb-true _ _ (point.0 i d (omega arith) h)
 
-pub loop-low-preserved : goal.loop-low-preserved
-loop-low-preserved g c =
-    let inv = c.loop-low.invariant in
-    let within = inv.within in
-    record {
-      order = omega arith;
-      within = omega arith;
-      below = inv.below;
-      above = upper_half g.T.Keyed.key c.args.entries.now (c.loop-low.low + (c.loop-low.high - c.loop-low.low) / 2) c.args.code c.key.result c.index-entries-middle.result
-          c.requires (omega arith) c.index-entries-middle.is c.key.ensures c.if-key-code.false;
-    }
+pub returns-clause-above : goal.returns-clause-above
+returns-clause-above g c =
+    let key = g.T.Keyed.key in
+    let parted = IsPartitionedBy-leb key c.args.entries.now c.args.code (not_falling key c.args.entries.now c.requires) in
+    let point = IsPartitionPoint-from_clause (λ e. leb (key e) c.args.code) _ _ c.partition_point.ensures.partitioned parted (λ a r q k. search rules) in
+    λ i d h k. leb-false _ _ (point.1 i d h k)

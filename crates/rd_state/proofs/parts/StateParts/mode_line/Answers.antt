@@ -7,7 +7,8 @@ use Rattle.rd_state.specs.Effects.{effect_of}
 use Rattle.rd_state.specs.Steps.{refused_tree, step}
 use Rattle.rd_state.proofs.Finding.{found-in, some-found}
 use Rattle.rd_state.proofs.Sharing.{refuses, tree-refuses-change, asked, changes-with-tree, good-format, format-refuses}
-use Rattle.rd_state.proofs.Free.{mode-free, tree-free}
+use Rattle.rd_tree.proofs.Free.{mode-free}
+use Rattle.rd_state.proofs.Free.{tree-free}
 use Rattle.rd_state.proofs.parts.StateParts.mode_line.Goals as goal
 
 pub returns-in_err-check_format-clause-applies : goal.returns-in_err-check_format-clause-applies

@@ -10,7 +10,8 @@ use Rattle.rd_state.specs.Effects.{effect_of}
 use Rattle.rd_state.specs.Steps.{refused_tree, step}
 use Rattle.rd_state.proofs.Finding.{found-in}
 use Rattle.rd_state.proofs.Sharing.{refuses, tree-refuses, asked, removes-window, heir-chosen, heir-passed}
-use Rattle.rd_state.proofs.Free.{remove-free, tree-free}
+use Rattle.rd_tree.proofs.Free.{remove-free}
+use Rattle.rd_state.proofs.Free.{tree-free}
 use Rattle.rd_state.proofs.parts.StateParts.remove.Goals as goal
 
 pub returns-in_err-heir-clause-applies : goal.returns-in_err-heir-clause-applies

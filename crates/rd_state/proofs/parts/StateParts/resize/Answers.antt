@@ -1,6 +1,7 @@
 use Rattle.std.proofs.Common.{◌-◌}
 use Rattle.rd_state.specs.contracts.parts.StateParts.{the_view}
-use Rattle.rd_state.proofs.Free.{resize-free, tree-free}
+use Rattle.rd_tree.proofs.Free.{resize-free}
+use Rattle.rd_state.proofs.Free.{tree-free}
 use Rattle.rd_state.proofs.parts.StateParts.resize.Goals as goal
 
 pub returns-in_err-resize-clause-free : goal.returns-in_err-resize-clause-free

@@ -7,7 +7,8 @@ use Rattle.rd_state.specs.Effects.{effect_of}
 use Rattle.rd_state.specs.Steps.{refused_tree, step}
 use Rattle.rd_state.proofs.Finding.{found-in}
 use Rattle.rd_state.proofs.Sharing.{refuses, tree-refuses-change, asked, changes-with-tree}
-use Rattle.rd_state.proofs.Free.{margins-free, tree-free}
+use Rattle.rd_tree.proofs.Free.{margins-free}
+use Rattle.rd_state.proofs.Free.{tree-free}
 use Rattle.rd_state.proofs.parts.StateParts.set_margins.Goals as goal
 
 pub returns-in_err-margins-clause-applies : goal.returns-in_err-margins-clause-applies
