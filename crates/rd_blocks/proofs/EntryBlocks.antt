@@ -1,12 +1,13 @@
 -- The blocks of rows that stand under a start and a number.
-use Rattle.std.proofs.Common.{◌≡◌, ℕ, suc, ◌+◌, Bool, true, false, List, [], ◌∷◌, All, Some, refl, sym, ap, subst, ◌∙◌, arith}
+use Rattle.std.proofs.Common.{◌≡◌, ℕ, suc, ◌+◌, Bool, true, false, List, [], ◌∷◌, All, Some, refl, sym, ap, subst, ◌∙◌}
 use Rattle.std.specs.Prelude.{cond, find, slice_get, take, drop}
-use Rattle.std.proofs.lemmas.List.Elements.{All-nil, All-cons, All-append, All-head, All-tail, All-take, All-drop}
+use Rattle.std.proofs.lemmas.List.Elements.{All-from_recursion, All-nil, All-cons, All-head, All-tail, All-take, All-drop}
 use Rattle.std.proofs.lemmas.Option.{same_Some}
 use Rattle.rd_base.proofs.Lists.{all-at}
+use Rattle.rd_matrix.proofs.EachRow.{entries-each}
 use Rattle.rd_matrix.proofs.HeldLemmas.{same-place}
 use Rattle.rd_matrix.specs.Blocks.{IsAmong, StandFrom}
-use Rattle.rd_matrix.specs.Entries.{EntryMeaning, shown_entry, shown_entries, numbered, entries_of, all_rows}
+use Rattle.rd_matrix.specs.Entries.{EntryMeaning, shown_entry, shown_entries}
 use Rattle.rd_matrix.specs.Sources.{SourceValues, rows_at}
 use Rattle.rd_matrix.specs.declared.block.Block.{Block}
 use Rattle.rd_matrix.specs.declared.matrix.Entry.{Entry}
@@ -37,29 +38,12 @@ found-passes test (y ∷ ys) x e = found-by test y ys x (test y) refl e (found-p
 abbrev pub IsRowOf : (Block → List RowMeaning) → List Block → EntryMeaning → Type 0
 IsRowOf rows bs x = (b : Block) × IsAmong bs b × (b.start ≡ x.start) × (slice_get (rows b) x.number ≡ Some x.row)
 
-numbered-rows : (rows : Block → List RowMeaning) (bs : List Block) (b : Block) → IsAmong bs b → (k : ℕ) (rs : List RowMeaning)
-    → ((j i : ℕ) (r : RowMeaning) → i ≡ k + j → slice_get rs j ≡ Some r → slice_get (rows b) i ≡ Some r) → All (IsRowOf rows bs) (numbered b.start k rs)
-numbered-rows rows bs b among k [] at = All-nil (IsRowOf rows bs)
-numbered-rows rows bs b among k (r ∷ rs) at =
-    All-cons (IsRowOf rows bs) (record { start = b.start; number = k; row = r }) (numbered b.start (k + 1) rs)
-    (b, among, refl, at 0 k r (omega arith) refl)
-    (numbered-rows rows bs b among (k + 1) rs (λ j i s e f. at (suc j) i s (omega arith) f))
-
-rows-among : (rows : Block → List RowMeaning) (whole bs : List Block) → ((b : Block) → IsAmong bs b → IsAmong whole b) → All (IsRowOf rows whole) (all_rows rows bs)
-rows-among rows whole [] among = All-nil (IsRowOf rows whole)
-rows-among rows whole (b ∷ bs) among =
-    All-append (IsRowOf rows whole) (entries_of rows b) (all_rows rows bs)
-    (numbered-rows rows whole b (among b (0, refl)) 0 (rows b) (λ j i r e f. subst (λ (n : ℕ). slice_get (rows b) n ≡ Some r) (at j i e) f))
-    (rows-among rows whole bs (λ d h. among d (suc h.0, h.1)))
-  where
-    at : (j i : ℕ) → i ≡ 0 + j → j ≡ i
-    at j i e = omega arith
-
 pub row-block : (m : SourceValues) (shape : ShapeValues) (es : List Entry) (k : ℕ) (e : Entry) → AreRowsAt m shape es → slice_get es k ≡ Some e
     → IsRowOf (λ b. m.rows_of b shape) m.blocks (shown_entry e)
 row-block m shape es k e all found =
     let place = all-at (λ (x : Entry). (i : ℕ) × (slice_get (rows_at m shape) i ≡ Some (shown_entry x))) es k e all found in
-    all-at (IsRowOf (λ b. m.rows_of b shape) m.blocks) (rows_at m shape) place.0 (shown_entry e) (rows-among (λ b. m.rows_of b shape) m.blocks m.blocks (λ b h. h)) place.1
+    all-at (IsRowOf (λ b. m.rows_of b shape) m.blocks) (rows_at m shape) place.0 (shown_entry e) (All-from_recursion (IsRowOf (λ b. m.rows_of b shape) m.blocks) (rows_at m shape)
+    (entries-each (IsRowOf (λ b. m.rows_of b shape) m.blocks) (λ b. m.rows_of b shape) m.blocks (λ b k r among found. (b, among, refl, found)))) place.1
 
 -- blocks that start at one position are one
 pub same-start : (from j k : ℕ) (bs : List Block) (a b : Block) → StandFrom from bs → slice_get bs j ≡ Some a → slice_get bs k ≡ Some b → a.start ≡ b.start → a ≡ b

@@ -1,6 +1,6 @@
 -- The rows of a buffer's blocks are whole and coloured.
 use Rattle.std.proofs.Common.{ℕ, ◌+◌, ◌≤◌, List, [], ◌∷◌, Option, None, Some, All, refl, arith}
-use Rattle.std.proofs.lemmas.List.Elements.{All-nil, All-cons, All-tail, All-append, All-map}
+use Rattle.std.proofs.lemmas.List.Elements.{All-nil, All-cons, All-map}
 use Rattle.rd_base.specs.Cells.{HasColours, IsColoured}
 use Rattle.rd_base.specs.Elements.{AreSound}
 use Rattle.rd_base.specs.Glyphs.{AreMeasured}
@@ -11,8 +11,6 @@ use Rattle.rd_objects.specs.Sound.{AreObjects}
 use Rattle.rd_glyphs.specs.Characters.{AreSoundParts}
 use Rattle.rd_items.specs.Pieces.{Scene}
 use Rattle.rd_props.specs.Seen.{Seen}
-use Rattle.rd_matrix.specs.Entries.{EntryMeaning, numbered, all_rows}
-use Rattle.rd_matrix.specs.declared.block.Block.{Block}
 use Rattle.rd_rows.specs.Laws.{seen_rows}
 use Rattle.rd_rows.specs.Rows.{LaidRow, RowMeaning, cutting_of, rows_of}
 use Rattle.rd_rows.specs.Shapes.{ShapeValues, IsShape}
@@ -24,7 +22,7 @@ use Rattle.rd_blocks.specs.Rows.{line_prefix_of, wrap_prefix_of, prefix_elements
 use Rattle.rd_blocks.proofs.Prefixes.{is-prefix}
 use Rattle.rd_blocks.proofs.Marks.{truncation-is, continuation-is}
 
--- ---- rows that are seen, and the rows of all blocks
+-- ---- rows that are seen
 
 pub all-whole : (width : ℕ) (rows : List LaidRow) → AreWhole width rows → All (IsWhole width) (seen_rows rows)
 all-whole width [] whole = All-nil (IsWhole width)
@@ -32,19 +30,6 @@ all-whole width (r ∷ rs) whole = All-cons (IsWhole width) r.row (seen_rows rs)
 
 pub all-coloured : (rows : List LaidRow) → All (λ r. All IsColoured r.row.cells) rows → All (λ r. All IsColoured r.cells) (seen_rows rows)
 all-coloured rows all = All-map (λ (r : RowMeaning). All IsColoured r.cells) (λ (r : LaidRow). r.row) rows all
-
-module _ (P : RowMeaning → Type 0) where
-  abbrev Of : EntryMeaning → Type 0
-  Of e = P e.row
-
-  numbered-all : (start number : ℕ) (rows : List RowMeaning) → All P rows → All Of (numbered start number rows)
-  numbered-all start number [] all = All-nil Of
-  numbered-all start number (r ∷ rs) all =
-      All-cons Of (record { start = start; number = number; row = r }) (numbered start (number + 1) rs) (all 0 r (omega arith)) (numbered-all start (number + 1) rs (All-tail P r rs all))
-
-  pub each-row : (rows : Block → List RowMeaning) → ((b : Block) → All P (rows b)) → (bs : List Block) → All Of (all_rows rows bs)
-  each-row rows own [] = All-nil Of
-  each-row rows own (b ∷ bs) = All-append Of (numbered b.start 0 (rows b)) (all_rows rows bs) (numbered-all b.start 0 (rows b) (own b)) (each-row rows own bs)
 
 -- ---- what lower layers promise
 

@@ -1,13 +1,14 @@
--- The turns of a line go through each of its places once.
+-- The turns of a line go through each of its places once, and are as many.
 use Rattle.std.proofs.Common.{◌≡◌, ℕ, ◌+◌, ◌<◌, nat_eq, Bool, true, false, cond, List, [], ◌∷◌, length, map, refl, ap, ◌∙◌, arith}
 use Rattle.std.specs.Prelude.{◌==◌, count_by}
 use Rattle.std.specs.List.{range_with_len}
-use Rattle.std.proofs.lemmas.List.{length-replicate}
+use Rattle.std.proofs.lemmas.List.{length-map, length-replicate}
 use Rattle.std.proofs.lemmas.List.Sums.{sum_by-cons}
 use Rattle.rd_base.specs.declared.class.Class.{Class}
 use Rattle.rd_ucd.specs.declared.spans.BracketEntry.{BracketEntry}
 use Rattle.rd_order.specs.Order.{l2_visual_order}
 use Rattle.rd_order.proofs.Once.{total, total-order, is_place, once-at-most, once-at-least}
+use Rattle.rd_order.proofs.Reversals.{l2_visual_order-length}
 use Rattle.rd_levels.specs.Turns.{levels_with, turn_of, turns_of}
 use Rattle.rd_levels.specs.declared.turn.Turn.{Turn}
 use Rattle.rd_levels.proofs.Lengths.{line-length}
@@ -24,6 +25,11 @@ in-turns f levels (i ∷ is) = ap (λ n. f i + n) (in-turns f levels is)
 as-long : (entries : List BracketEntry) (reorder : Bool) (base : ℕ) (classes : List Class) (codes : List ℕ) → length (levels_with entries reorder base classes codes) ≡ length classes
 as-long entries true base classes codes = line-length entries base classes codes
 as-long entries false base classes codes = length-replicate (length classes) 0
+
+pub turns-count : (entries : List BracketEntry) (reorder : Bool) (base : ℕ) (classes : List Class) (codes : List ℕ) → length (turns_of entries reorder base classes codes) ≡ length classes
+turns-count entries reorder base classes codes =
+    let levels = levels_with entries reorder base classes codes in
+    length-map (l2_visual_order base levels) (turn_of levels) ∙ l2_visual_order-length base levels ∙ as-long entries reorder base classes codes
 
 pub each-turn : (entries : List BracketEntry) (reorder : Bool) (base : ℕ) (classes : List Class) (codes : List ℕ) (f : ℕ → ℕ)
     → total_in f (turns_of entries reorder base classes codes) ≡ total f (range_with_len 0 (length classes))

@@ -1,5 +1,6 @@
 -- The embedding levels of a line (UAX 9, rules X1 to L1 in turn).
-use Rattle.std.specs.Prelude.{◌≡◌, ℕ, ◌<◌, ◌≤◌, ◌^◌, Bool, true, false, ◌&&◌, List, [], ◌∷◌, length}
+use Rattle.std.specs.Prelude.{◌≡◌, ℕ, ◌<◌, ◌≤◌, ◌^◌, Bool, true, false, List, [], ◌∷◌, length}
+use Rattle.std.specs.List.{list_all}
 use Rattle.rd_base.specs.declared.class.Class.{Class}
 use Rattle.rd_base.specs.declared.class.Class.TheVariants.{L, EN, ES, ET, CS, NSM, BN, B, S, WS, ON}
 use Rattle.rd_base.specs.declared.line.Seq.{Seq}
@@ -61,5 +62,4 @@ is_leveled ON = true
 is_leveled c = false
 
 abbrev pub are_leveled : List Class → Bool
-are_leveled [] = true
-are_leveled (c ∷ cs) = is_leveled c && are_leveled cs
+are_leveled cs = list_all is_leveled cs

@@ -21,6 +21,11 @@ turns_by base levels = map (turn_of levels) (l2_visual_order base levels)
 abbrev pub turns_of : List BracketEntry → Bool → ℕ → List Class → List ℕ → List Turn
 turns_of entries reorder base cs codes = turns_by base (levels_with entries reorder base cs codes)
 
+-- what a walk through a line in visual order has before it: the turns that are left, and how many places the line has
+pub record Ahead : Type 0 where
+  pub turns : List Turn
+  pub places : ℕ
+
 -- the place with this index comes last, and each other has a lower one
 pub record ComesLast (turns : List Turn) (n : ℕ) : Type 0 where
   pub front : List Turn

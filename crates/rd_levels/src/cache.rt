@@ -1,5 +1,5 @@
 //! The levels of the last line that was filled.
-ghost use Rattle.std.specs.Prelude.{◌≡◌, ◌<◌, [], length, slice_get, Some, IfOk, OnOk, OnErr};
+ghost use Rattle.std.specs.Prelude.{◌≡◌, ◌<◌, ◌^◌, [], length, replicate, slice_get, Some, IfOk, OnOk, OnErr};
 ghost use Rattle.rd_levels.specs.Levels.{IsLine, line_levels};
 
 use crate::fill::fill_line;
@@ -39,6 +39,16 @@ impl LevelCache {
             shown: Line::new(alloc),
             spare: Line::new(alloc),
         })
+    }
+
+    /// The levels of a line of these classes that is not reordered: 0 for each character.
+    pub fn flat(alloc: Global, classes: &[Class]) -> Result<LevelCache, Memory>
+        requires { length classes.now < 2 ^ 32 }
+        ensures { IfOk result (λ cache. cache ≡ replicate (length classes.now) 0) }
+    {
+        let mut cache = LevelCache::new(alloc)?;
+        cache.shown.refill(classes, 0)?;
+        Ok(cache)
     }
 
     /// Becomes the levels of a line of these classes with a base level of 0 or 1, by rules X1 to L1 of UAX 9. `codes` has the code of

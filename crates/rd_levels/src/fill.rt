@@ -66,12 +66,7 @@ fn x10_resolve(
 fn are_leveled(classes: &[Class]) -> bool
     ensures { result ≡ are_leveled classes.now }
 {
-    for class in classes {
-        if !is_leveled(*class) {
-            return false;
-        }
-    }
-    true
+    classes.iter().all(|class| is_leveled(*class))
 }
 
 /// Whether a class is no letter or number that is read from the right, and opens and closes no embedding, override or isolate.

@@ -2,7 +2,7 @@
 //!
 //! What goes in: the bidirectional class and the code of each character of a line, the line's base level (0 or 1, which rules P2 and P3
 //! found), and the codes that are brackets. What comes out: a level for each character (`LevelCache`), and the places of the line
-//! in visual order from the reading edge, each with whether its level is odd (`turns_of`).
+//! in visual order from the reading edge, each with whether its level is odd (`Order`).
 //!
 //! 1. `rd_explicit::explicit`, rules X1 to X8: embeddings, overrides and isolates are followed on a stack, and each character takes a level
 //!    and, in an override, a type of its own from the stack's last entry.
@@ -34,10 +34,12 @@ mod cache;
 mod examples;
 mod fill;
 mod laws;
+mod order;
 mod turn;
 
 pub use cache::LevelCache;
 pub use laws::{
     each_place_has_one_turn, enders_come_last, lines_have_a_level_each, lines_read_from_the_left,
 };
-pub use turn::{Turn, turns_of};
+pub use order::Order;
+pub use turn::Turn;

@@ -1,3 +1,4 @@
 mod Below
 pub mod HeldLemmas
 pub mod Counting
+pub mod EachRow

@@ -1,8 +1,7 @@
 -- The faces of lines and prefixes have their colours in range, where those that are read and those of all objects have.
-use Rattle.std.proofs.Common.{◌≡◌, ℕ, List, [], ◌∷◌, Option, None, Some, All, IfSome}
+use Rattle.std.proofs.Common.{◌≡◌, ℕ, List, Option, None, Some, All, IfSome}
 use Rattle.std.specs.Prelude.{slice_get}
 use Rattle.std.specs.List.{AllByRecursion}
-use Rattle.std.proofs.lemmas.Bool.{cond_both}
 use Rattle.std.proofs.lemmas.List.Elements.{All-from_recursion, recursion_from_All}
 use Rattle.rd_base.specs.Cells.{HasColours}
 use Rattle.rd_base.specs.Faces.{Attributes, plain, over}
@@ -12,20 +11,14 @@ use Rattle.rd_base.proofs.Lists.{all-at}
 use Rattle.rd_base.specs.declared.element.Element.{Element}
 use Rattle.rd_objects.specs.Sound.{AreObjects, IsString}
 use Rattle.rd_objects.specs.Texts.{TextValue, face_of}
-use Rattle.rd_objects.specs.declared.run.Spec.{Spec}
-use Rattle.rd_objects.specs.declared.run.Spec.TheVariants.{Text, Width, Align}
-use Rattle.rd_text.specs.Texts.{is_newline}
 use Rattle.rd_glyphs.proofs.Joined.{Grows}
 use Rattle.rd_props.specs.Seen.{Seen}
-use Rattle.rd_props.specs.declared.hiding.Hidden.{Hidden}
-use Rattle.rd_props.specs.declared.hiding.Hidden.TheVariants.{No, Plain, Ellipsis}
-use Rattle.rd_items.specs.Readings.{showing_of}
-use Rattle.rd_items.specs.Pieces.{Scene, spec_in, string_pieces, spec_piece, char_piece, ender_piece, open_piece, unreplaced_piece, piece_by}
+use Rattle.rd_items.specs.Pieces.{Scene}
 use Rattle.rd_items.specs.Items.{piece_joins, items_of}
 use Rattle.rd_items.specs.declared.item.Item.{Item}
 use Rattle.rd_items.specs.declared.item.ItemKind.{ItemKind}
 use Rattle.rd_items.specs.declared.piece.Piece.{Piece}
-use Rattle.rd_items.proofs.EachItem.{items-each}
+use Rattle.rd_items.proofs.EachItem.{GivesOnly, items-each}
 use Rattle.rd_levels.specs.declared.turn.Turn.{Turn}
 use Rattle.rd_stack.specs.Shown.{display_elements, outside, prefix, AreColoured}
 use Rattle.rd_stack.specs.Lines.{turn_elements, origin_of, item_elements, item_turns, line_elements}
@@ -46,35 +39,22 @@ abbrev ItemColours : Item → Type 0
 ItemColours x = HasColours x.face
 
 module _ (s : Scene) where
-  strings-pieced : (k : ℕ) (face : Attributes) (numbers : List ℕ) → HasColours face → AllByRecursion PieceColours (string_pieces k face numbers)
-  strings-pieced k face [] h = tt
-  strings-pieced k face (n ∷ ns) h = (h, strings-pieced k face ns h)
-
-  spec-pieced : (spec : Spec) (face : Attributes) (p to : ℕ) → HasColours face → PieceColours (spec_piece s spec face p to)
-  spec-pieced (Text n) face p to h = h
-  spec-pieced (Width n) face p to h = h
-  spec-pieced (Align n) face p to h = h
-
-  open-pieced : (face : Attributes) (ch : Option ℕ) (p : ℕ) → HasColours face → PieceColours (open_piece s face ch p)
-  open-pieced face None p h = h
-  open-pieced face (Some c) p h = cond_both (is_newline c) (ender_piece face p) (char_piece s face c p) PieceColours (λ ends. h) (λ shown. h)
-
-  unreplaced-pieced : (hidden : Hidden) (face : Attributes) (ch : Option ℕ) (p to : ℕ) → HasColours face → PieceColours (unreplaced_piece s hidden face ch p to)
-  unreplaced-pieced No face ch p to h = open-pieced face ch p h
-  unreplaced-pieced Plain face ch p to h = h
-  unreplaced-pieced Ellipsis face ch p to h = h
-
-  piece-coloured : (display : Option ℕ) (hidden : Hidden) (face : Attributes) (ch : Option ℕ) (p to : ℕ) → HasColours face → PieceColours (piece_by s display hidden face ch p to)
-  piece-coloured (Some n) hidden face ch p to h = spec-pieced (spec_in s.objects n) face p to h
-  piece-coloured None hidden face ch p to h = unreplaced-pieced hidden face ch p to h
+  gives : (k to : ℕ) (e : Seen) → HasColours e.face → GivesOnly s PieceColours k to e
+  gives k to e h = record {
+    string = λ i d inside. h;
+    text = λ covers m n shown is. h;
+    space = λ m spec shown is. h;
+    char = λ c is. h;
+    nothing = h;
+    ellipsis = λ covers. h;
+    ender = h;
+  }
 
   pieces-grow : Grows piece_joins PieceColours
   pieces-grow held next glyph these those e = these
 
   items-coloured : (es : List Seen) → AllByRecursion (λ (e : Seen). HasColours e.face) es → AllByRecursion ItemColours (items_of s es)
-  items-coloured = items-each s PieceColours ItemColours (λ (e : Seen). HasColours e.face) (λ k e h. strings-pieced k e.face e.strings h)
-      (λ k to e h. let showing = showing_of s.parts.settings.invisible e in piece-coloured showing.display showing.hidden showing.face e.character k to h)
-      pieces-grow (λ since x h. if-value (λ (k : ItemKind). HasColours x.face) x.kind (λ k e. h))
+  items-coloured = items-each s PieceColours ItemColours (λ (e : Seen). HasColours e.face) gives pieces-grow (λ since x h. if-value (λ (k : ItemKind). HasColours x.face) x.kind (λ k e. h))
 
 -- ---- lines and prefixes
 

@@ -1,5 +1,4 @@
 mod Lists
-mod Orders
 mod Rows
 mod Walks
 mod Strings
@@ -7,7 +6,6 @@ mod Elements
 mod Prefixes
 mod LineEnds
 mod Joined
-mod TurnCounts
 mod Good
 mod Parts
 mod EachPart

@@ -23,6 +23,7 @@ use Rattle.rd_glyphs.proofs.Measures.{MarkLaws}
 use Rattle.rd_items.specs.Pieces.{Scene, spec_in, same_spec}
 use Rattle.rd_levels.specs.Turns.{turns_of}
 use Rattle.rd_levels.specs.declared.turn.Turn.{Turn}
+use Rattle.rd_levels.proofs.Turns.{turns-count}
 use Rattle.rd_stack.specs.Strings.{place_of, places_from, run_heads, ends_row, part_by, part_of, part_joins, shown_by, shown_at, part_class, part_code, row, row_end, rows_from, string_parts}
 use Rattle.rd_stack.specs.declared.part.Place.{Place}
 use Rattle.rd_stack.specs.declared.part.Part.{Part}
@@ -32,7 +33,6 @@ use Rattle.rd_stack.specs.declared.part.PartKind.TheVariants as kind
 use Rattle.rd_stack.proofs.EachPart.{string-each}
 use Rattle.rd_stack.proofs.Good.{found}
 use Rattle.rd_stack.proofs.Joined.{marks_joined-few}
-use Rattle.rd_stack.proofs.TurnCounts.{LevelsLaw, turns-count}
 
 -- what a part of a sound string shows
 abbrev pub IsFitKind : PartKind → Type 0
@@ -111,12 +111,12 @@ turned-few xs (t ∷ ts) =
     let rest = turned-few xs ts in
     omega (arith, sum, one, rest)
 
-module _ (levels : LevelsLaw) (s : Scene) (base : ℕ) where
+module _ (s : Scene) (base : ℕ) where
   row-few : (xs : List Part) → length (row s base xs) ≤ length xs
   row-few xs =
       let ys = marks_joined part_joins xs in
       let turns = turns_of s.brackets s.parts.settings.reorder base (map part_class ys) (map part_code ys) in
-      let count : length turns ≡ length ys = turns-count levels s.brackets s.parts.settings.reorder base (map part_class ys) (map part_code ys) ∙ length-map ys part_class in
+      let count : length turns ≡ length ys = turns-count s.brackets s.parts.settings.reorder base (map part_class ys) (map part_code ys) ∙ length-map ys part_class in
       let less = marks_joined-few part_joins xs in
       let shown = turned-few ys turns in
       omega (arith, count, less, shown)

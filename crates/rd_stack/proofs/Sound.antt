@@ -33,6 +33,7 @@ use Rattle.rd_items.specs.declared.item.ItemKind.{ItemKind}
 use Rattle.rd_items.specs.declared.item.ItemKind.TheVariants as item
 use Rattle.rd_props.specs.Seen.{Seen}
 use Rattle.rd_levels.specs.declared.turn.Turn.{Turn}
+use Rattle.rd_levels.proofs.Turns.{turns-count}
 use Rattle.rd_stack.specs.Strings.{string_parts}
 use Rattle.rd_stack.specs.Shown.{space_elements, kind_elements, display_part_elements, display_elements, overlay_part_by, overlay_part_elements, overlay_elements, before_row_end, is_row_end, outside, prefix, IsRight}
 use Rattle.rd_stack.specs.Lines.{ellipsis_glyphs, text_elements, item_elements_by, turn_elements, origin_of, item_elements, item_class, item_code, item_turns, line_of_items, line_elements, IsCodedKind, AreCodedItems}
@@ -46,7 +47,6 @@ use Rattle.rd_stack.proofs.Holds.{Gives, items-hold, all-read, items-few}
 use Rattle.rd_stack.proofs.Parts.{IsFitKind, IsFitShown, spec-small, string-at, string-fit, string-few}
 use Rattle.rd_stack.proofs.Lists.{each-any}
 use Rattle.rd_stack.proofs.Prefixes.{before-each}
-use Rattle.rd_stack.proofs.TurnCounts.{LevelsLaw, turns-count}
 
 -- what is known of the elements of characters and of glyph characters
 pub record GlyphLaws : Type 0 where
@@ -165,7 +165,7 @@ before-few : (es : List Element) → columns_at_most (before_row_end es) ≤ col
 before-few [] = omega arith
 before-few (e ∷ es) = fewer (is_row_end e.look) e (before_row_end es) es (before-few es)
 
-module _ (laws : GlyphLaws) (marks : MarkLaws) (levels : LevelsLaw) (s : Scene) (base : ℕ) (sound : AreObjects s.objects) (parts : AreSoundParts s.parts) where
+module _ (laws : GlyphLaws) (marks : MarkLaws) (s : Scene) (base : ℕ) (sound : AreObjects s.objects) (parts : AreSoundParts s.parts) where
   part-good : (k : PartKind) (face : Attributes) (odd : Bool) (origin : Origin) → IsFitKind k → AreRightWithin SPACE_COLUMNS (kind_elements s k face odd origin)
   part-good (kind.Char c) face odd origin fit = good-more 48 SPACE_COLUMNS (elements_of s.parts c odd face origin) (omega arith) (char-good laws s.parts parts c odd face origin fit)
   part-good (kind.Marked g) face odd origin fit = glyph-good SPACE_COLUMNS g face origin fit (omega arith)
@@ -180,7 +180,7 @@ module _ (laws : GlyphLaws) (marks : MarkLaws) (levels : LevelsLaw) (s : Scene) 
   parts-good replaced f most each under text is =
       let xs = string_parts s base replaced text under in
       let fit = string-fit marks s base sound replaced text under is in
-      let few = string-few levels s base replaced text under is in
+      let few = string-few s base replaced text under is in
       good-more (length xs * most) (STRING_CHARACTERS * most) (flat_map f xs) (mul-le-mul_right most few) (good-each f IsFitShown most each xs fit)
 
   display-good : (origin : Origin) (under : Attributes) (text : Option TextValue) → IfSome text (λ t. IsString t) → AreRightWithin most_display_columns (display_elements s base origin under text)
@@ -228,7 +228,7 @@ module _ (laws : GlyphLaws) (marks : MarkLaws) (levels : LevelsLaw) (s : Scene) 
   line-good items fit =
       let turns = item_turns s base items in
       let reorder = s.parts.settings.reorder in
-      let count : length turns ≡ length items = turns-count levels s.brackets reorder base (map item_class items) (map item_code items) ∙ length-map items item_class in
+      let count : length turns ≡ length items = turns-count s.brackets reorder base (map item_class items) (map item_code items) ∙ length-map items item_class in
       good-more (length turns * most_overlay_columns) (length items * most_overlay_columns) (line_of_items s base items) (omega (arith, count))
       (good-each (item_elements s base items) (λ (t : Turn). Unit {0}) most_overlay_columns
       (λ t own. turn-good t (slice_get items t.index) (found (λ (i : Item). IsFitItem i.kind) items t.index fit)) turns (each-any turns))

@@ -1,4 +1,3 @@
-pub mod Ahead
 pub mod Strings
 pub mod Shown
 pub mod Lines

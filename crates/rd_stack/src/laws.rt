@@ -21,7 +21,7 @@ ghost use Rattle.rd_stack.specs.Limits.{AreFew, AreRightWithin, most_columns, mo
 
 use rd_glyphs::{elements_are_sound, glyph_texts_are_sound, marks_join_measured_glyphs};
 use rd_items::{items_are_measured, items_cover_their_block};
-use rd_levels::{enders_come_last, lines_have_a_level_each};
+use rd_levels::enders_come_last;
 use rd_objects::strings_have_colours;
 use rd_props::{merged_faces_have_their_colours, overlays_have_two_strings};
 
@@ -43,7 +43,6 @@ pub fn elements_are_right()
     elements_are_sound();
     glyph_texts_are_sound();
     marks_join_measured_glyphs();
-    lines_have_a_level_each();
 }
 
 /// The elements of a line are sound, and its glyphs have the columns that Unicode gives them, where the objects are sound, a tab has 1

@@ -37,7 +37,6 @@ mod keeping;
 mod laws;
 mod line;
 mod line_steps;
-mod mapped;
 mod marks;
 mod order;
 mod part;
@@ -54,6 +53,6 @@ pub use laws::{
     lines_are_coloured, lines_are_sound, lines_end_once, prefixes_are_sound, prefixes_end_no_line,
     readings_are_few, readings_have_codes, scenes_are_sound,
 };
-pub use line::{classes_of, codes_of};
+pub use line::order_of_items;
 pub use prefix::string_line;
 pub use walker::Walker;

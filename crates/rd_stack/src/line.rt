@@ -3,10 +3,10 @@ ghost use Rattle.std.specs.Prelude.{◌≡◌, ◌≤◌, ◌<◌, map, length, 
 ghost use Rattle.rd_items.specs.Pieces.{scene_of};
 ghost use Rattle.rd_stack.specs.Lines.{item_class, item_code, item_turns};
 
-use crate::mapped::mapped;
-use crate::order::Order;
-use rd_base::{Class, ListOf, Memory};
+use crate::order::order_of;
+use rd_base::{Class, ListOf, Memory, mapped};
 use rd_items::Items;
+use rd_levels::Order;
 use rd_props::View;
 use std::alloc::Global;
 use std::marker::Model;
@@ -59,8 +59,8 @@ impl<'a> LineFrame<'a> {
     }
 }
 
-/// The turns of items in a line of this base.
-fn order_of_items(alloc: Global, view: &View, base: u8, items: &Items) -> Result<Order, Memory>
+/// The turns of items in a line of this base, in visual order from the reading edge.
+pub fn order_of_items(alloc: Global, view: &View, base: u8, items: &Items) -> Result<Order, Memory>
     requires { base ≤ 1 }
     ensures turns { IfOk result (λ order. order.turns ≡ item_turns (scene_of view.now) base items.now) }
     ensures places { IfOk result (λ order. order.places ≡ length items.now) }
@@ -68,11 +68,11 @@ fn order_of_items(alloc: Global, view: &View, base: u8, items: &Items) -> Result
 {
     let classes = classes_of(alloc, items)?;
     let codes = codes_of(alloc, items)?;
-    Order::new(alloc, view, base, &classes, &codes)
+    order_of(alloc, view, base, &classes, &codes)
 }
 
 /// The classes of items, by which a line of them is ordered.
-pub fn classes_of(alloc: Global, items: &Items) -> Result<ListOf<Class>, Memory>
+fn classes_of(alloc: Global, items: &Items) -> Result<ListOf<Class>, Memory>
     ensures classes { IfOk result (λ classes. classes ≡ map item_class items.now) }
     ensures few { length items.now < 4294967296 }
 {
@@ -81,7 +81,7 @@ pub fn classes_of(alloc: Global, items: &Items) -> Result<ListOf<Class>, Memory>
 
 /// The codes by which items may be brackets: a character's own, of one with marks that of its base, and one that is listed nowhere of all
 /// else.
-pub fn codes_of(alloc: Global, items: &Items) -> Result<ListOf<u32>, Memory>
+fn codes_of(alloc: Global, items: &Items) -> Result<ListOf<u32>, Memory>
     ensures { IfOk result (λ codes. codes ≡ map item_code items.now) }
 {
     mapped(alloc, items.as_slice(), |item| item.kind.bracket_code())

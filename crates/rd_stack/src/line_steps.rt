@@ -11,6 +11,7 @@ use crate::few::Few;
 use crate::line::LineFrame;
 use crate::showing::{char_step, space_step};
 use crate::step::Step;
+use crate::string::Surroundings;
 use rd_base::{Face, Glyph, Look, Memory, Origin};
 use rd_glyphs::element_of;
 use rd_items::{Item, ItemKind, parts_of};
@@ -64,11 +65,13 @@ fn step_of<'a>(
     let face = item.face;
     match item.kind {
         ItemKind::Text(number) => Ok(Step::Enters(Entrance {
-            view: *view,
-            base,
-            replaced: item.overlay,
-            origin,
-            under: face,
+            around: Surroundings {
+                view: *view,
+                base,
+                replaced: item.overlay,
+                origin,
+                under: face,
+            },
             number,
         })),
         ItemKind::Char(ch) => char_step(alloc, view, ch, odd, face, origin, few),

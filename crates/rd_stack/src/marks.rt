@@ -1,13 +1,12 @@
 //! Marks join the parts of a string.
 ghost use Rattle.std.specs.Prelude.{◌≡◌, ◌∷◌, ◌++◌, List, IfOk, Some};
-ghost use Rattle.rd_glyphs.specs.MarkRoles.{base_of, mark_of};
-ghost use Rattle.rd_glyphs.specs.Marks.{marked_glyph, marked, marks_joined, with_held};
+ghost use Rattle.rd_glyphs.specs.Marks.{marked, marks_joined, with_held};
 ghost use Rattle.rd_stack.specs.Strings.{part_joins};
 ghost use Rattle.rd_stack.specs.declared.part.Part.{Part};
 
 use crate::part::{Part, PartKind};
-use rd_base::{Glyph, ListOf, Memory};
-use rd_glyphs::{MarkRole, on_blank};
+use rd_base::{ListOf, Memory};
+use rd_glyphs::{MarkRole, marked_glyph};
 use std::alloc::Global;
 
 /// Parts in which each mark has joined the part directly before it, where it may.
@@ -38,22 +37,11 @@ fn hold(made: &mut ListOf<Part>, held: Option<Part>, next: &Part) -> Result<Part
     Ok(*next)
 }
 
-/// The glyph that a mark joins, with the mark, where it joins it.
-fn glyph_with(held: MarkRole, next: MarkRole) -> Option<Glyph>
-    ensures { result ≡ marked_glyph (base_of held) (mark_of next) }
-{
-    match (held, next) {
-        (MarkRole::Base(glyph), MarkRole::Mark(code)) => glyph.joined(code),
-        (MarkRole::Mark(first), MarkRole::Mark(code)) => on_blank(first).joined(code),
-        _ => None,
-    }
-}
-
 /// A part with the mark of the next, where it joins it.
 fn marked(held: &Part, next: &Part) -> Option<Part>
     ensures { result ≡ marked part_joins held.now next.now }
 {
-    match glyph_with(held.role, next.role) {
+    match marked_glyph(held.role.base(), next.role.mark()) {
         Some(glyph) => Some(Part {
             kind: PartKind::Marked(glyph),
             role: MarkRole::Base(glyph),

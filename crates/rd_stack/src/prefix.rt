@@ -8,6 +8,7 @@ use crate::entrance::Entrance;
 use crate::keeping::view_stays_sound;
 use crate::laws::prefixes_are_sound;
 use crate::step::Frame;
+use crate::string::Surroundings;
 use crate::walker::Walker;
 use rd_base::{Element, Face, ListOf, Look, Memory, Origin};
 use rd_props::View;
@@ -35,11 +36,13 @@ pub fn string_line(
         to: 0,
     };
     let entrance = Entrance {
-        view: *view,
-        base,
-        replaced: false,
-        origin: outside,
-        under: Face::PLAIN,
+        around: Surroundings {
+            view: *view,
+            base,
+            replaced: false,
+            origin: outside,
+            under: Face::PLAIN,
+        },
         number: string,
     };
     let mut elements = ListOf::new(alloc);

@@ -5,11 +5,11 @@ ghost use Rattle.rd_levels.specs.Turns.{turns_of};
 ghost use Rattle.rd_stack.specs.Strings.{ends_row, part_class, part_code, run_heads, row, rows_from, shown_from, behind_row};
 ghost use Rattle.rd_stack.specs.declared.part.Place.{Place};
 
-use crate::mapped::mapped;
-use crate::order::Order;
+use crate::order::order_of;
 use crate::part::{Part, Place, ends_row, kind_code, part_of, place_of};
-use rd_base::{Class, Face, ListOf, Memory};
+use rd_base::{Class, Face, ListOf, Memory, mapped};
 use rd_items::same_spec;
+use rd_levels::Order;
 use rd_objects::Text;
 use rd_props::View;
 use std::alloc::Global;
@@ -65,7 +65,7 @@ pub fn order_of_parts(alloc: Global, view: &View, base: u8, parts: &[Part]) -> R
 {
     let classes = classes_of(alloc, parts)?;
     let codes = codes_of(alloc, parts)?;
-    Order::new(alloc, view, base, &classes, &codes)
+    order_of(alloc, view, base, &classes, &codes)
 }
 
 /// The classes of parts.

@@ -10,7 +10,7 @@ use crate::few::Few;
 use crate::part::{PartKind, Shown, place_of};
 use crate::showing::{char_step, space_step};
 use crate::step::Step;
-use crate::string::StringFrame;
+use crate::string::{StringFrame, Surroundings};
 use rd_base::{Look, Memory, Origin};
 use rd_glyphs::element_of;
 use rd_objects::Spec;
@@ -33,60 +33,44 @@ impl<'a> StringFrame<'a> {
                 face: part.face,
                 odd: turn.odd,
             };
-            return step_of(
-                alloc,
-                &self.view,
-                self.base,
-                self.replaced,
-                self.origin,
-                &shown,
-                few,
-            );
+            return step_of(alloc, &self.around, &shown, few);
         }
         if self.end >= self.text.len() {
             return Ok(Step::Ends);
         }
-        let place = place_of(self.replaced, self.text, self.under, self.end);
-        let end = element_of(Look::RowEnd, place.face, self.origin);
-        *self = StringFrame::from_place(
-            alloc,
-            self.view,
-            self.base,
-            self.replaced,
-            self.origin,
-            self.under,
+        let place = place_of(
+            self.around.replaced,
             self.text,
-            self.end + 1,
-        )?;
+            self.around.under,
+            self.end,
+        );
+        let end = element_of(Look::RowEnd, place.face, self.around.origin);
+        *self = StringFrame::from_place(alloc, &self.around, self.text, self.end + 1)?;
         Ok(Step::Gives(end))
     }
 }
 
-/// The step of a part of a string: where a display run of it names a string and display runs are used, which `replaced` says, that string
-/// is entered.
+/// The step of a part of a string: where a display run of it names a string and display runs are used, that string is entered.
 fn step_of<'a>(
     alloc: Global,
-    view: &View<'a>,
-    base: u8,
-    replaced: bool,
-    origin: Origin,
+    around: &Surroundings<'a>,
     part: &Shown,
     few: &mut Few,
 ) -> Result<Step<'a>, Memory>
-    requires base { base ≤ 1 }
+    requires base { around.now.base ≤ 1 }
     requires few { few.old ≡ [] }
-    ensures { IfOk result (λ step. IsStep step few.new (part_steps (scene_of view.now) base replaced origin part.now) []) }
+    ensures { IfOk result (λ step. IsStep step few.new (part_steps (scene_of around.now.view) around.now.base around.now.replaced around.now.origin part.now) []) }
 {
     match part.kind {
-        PartKind::Replaced(Spec::Text(number)) if replaced => Ok(Step::Enters(Entrance {
-            view: *view,
-            base,
-            replaced: false,
-            origin,
-            under: part.face,
+        PartKind::Replaced(Spec::Text(number)) if around.replaced => Ok(Step::Enters(Entrance {
+            around: Surroundings {
+                replaced: false,
+                under: part.face,
+                ..*around
+            },
             number,
         })),
-        _ => display_part_step(alloc, view, origin, part, few),
+        _ => display_part_step(alloc, &around.view, around.origin, part, few),
     }
 }
 

@@ -6,7 +6,7 @@ mod table;
 use crate::claims::assert_of;
 use crate::explicit::nested;
 use rd_base::{Class, ListOf, Memory};
-use rd_levels::{LevelCache, Turn, turns_of};
+use rd_levels::{LevelCache, Order, Turn};
 use rd_order::Visual;
 use rd_ucd::Brackets;
 use std::alloc::Global;
@@ -258,17 +258,16 @@ fn brackets_take_a_direction(rt: HostRuntime) -> Result<(), Fail> {
 /// Whether the line of R, EN and B has these turns.
 fn turns(alloc: Global, reorder: bool, wanted: &[Turn; 3]) -> bool {
     let classes = [Class::R, Class::EN, Class::B];
-    match turns_of(
-        alloc,
-        reorder,
-        0,
-        &classes,
-        &[0, 0, 0],
-        &Brackets::none(alloc),
-    ) {
-        Ok(turns) => turns.as_slice() == wanted.as_slice(),
-        Err(_) => false,
+    let brackets = Brackets::none(alloc);
+    let Ok(mut order) = Order::new(alloc, reorder, 0, &classes, &[0, 0, 0], &brackets) else {
+        return false;
+    };
+    for turn in wanted {
+        if order.next() != Some(*turn) {
+            return false;
+        }
     }
+    order.next().is_none()
 }
 
 #[test]

@@ -1,23 +1,17 @@
 -- Lists that are given element by element.
-use Rattle.std.proofs.Common.{◌≡◌, ℕ, zero, suc, ◌+◌, ◌-◌, ◌<◌, ◌≤◌, nat_lt, Bool, true, false, cond, List, [], ◌∷◌, ◌++◌, length, map, All, drop, Option, None, Some, refl, sym, ap, subst, ◌∙◌, append_assoc, arith, inl, inr}
+use Rattle.std.proofs.Common.{◌≡◌, ℕ, zero, suc, ◌+◌, ◌-◌, ◌<◌, ◌≤◌, Bool, true, false, List, [], ◌∷◌, ◌++◌, length, All, drop, Option, None, Some, refl, sym, ap, subst, ◌∙◌, append_assoc, arith, inl, inr}
 use Rattle.std.specs.Prelude.{slice_get, if◌then◌else◌}
-use Rattle.std.specs.List.{range_with_len}
-use Rattle.std.proofs.lemmas.Bool.Decides.{nat_tests}
-use Rattle.std.proofs.lemmas.List.{length-drop, length-map}
+use Rattle.std.proofs.lemmas.List.{length-drop}
 use Rattle.std.proofs.lemmas.List.Elements.{All-cons, All-nil}
 use Rattle.std.proofs.lemmas.Option.{same_Some}
 use Rattle.rd_base.proofs.Lists.{drop-at, element-at}
-use Rattle.rd_base.specs.declared.class.Class.{Class}
 use Rattle.rd_props.specs.Seen.{Seen}
 use Rattle.rd_items.specs.Covers.{Tile}
 use Rattle.rd_items.specs.Items.{items_of}
 use Rattle.rd_items.specs.Pieces.{Scene}
 use Rattle.rd_items.specs.declared.item.Item.{Item}
-use Rattle.rd_levels.specs.Turns.{turns_of}
 use Rattle.rd_levels.specs.declared.turn.Turn.{Turn}
-use Rattle.rd_levels.proofs.Turns.{total_in, each-turn}
-use Rattle.rd_order.proofs.Once.{total}
-use Rattle.rd_stack.specs.Lines.{item_class, item_code, item_turns}
+use Rattle.rd_stack.specs.Lines.{item_turns}
 use Rattle.rd_visual.specs.Motion.{holds, last, range_by, ranges_in_turn, ranges_of}
 use Rattle.rd_visual.specs.Ways.{beside, opposite, origin}
 use Rattle.rd_visual.specs.declared.range.Range.{Range}
@@ -25,47 +19,13 @@ use Rattle.rd_visual.specs.declared.way.Way.{Way}
 use Rattle.rd_visual.specs.declared.way.Way.TheVariants.{Forward, Backward}
 
 -- the range of one more item
-pub turns-next : (start : ℕ) (items : List Item) (ts : List Turn) (i : ℕ) (t : Turn) (x : Item) (out more whole : List Range) → slice_get ts i ≡ Some t → slice_get items t.index ≡ Some x
-    → more ≡ out ++ range_by start (Some x) → out ++ ranges_in_turn start items (drop i ts) ≡ whole → more ++ ranges_in_turn start items (drop (i + 1) ts) ≡ whole
-turns-next start items ts i t x out more whole turn item given all =
-    let rest = ranges_in_turn start items (drop (i + 1) ts) in
+pub turns-next : (start : ℕ) (items : List Item) (left : List Turn) (t : Turn) (ts : List Turn) (x : Item) (out more whole : List Range) → left ≡ t ∷ ts → slice_get items t.index ≡ Some x
+    → more ≡ out ++ range_by start (Some x) → out ++ ranges_in_turn start items left ≡ whole → more ++ ranges_in_turn start items ts ≡ whole
+turns-next start items left t ts x out more whole turn item given all =
+    let rest = ranges_in_turn start items ts in
     ap (λ l. l ++ rest) given ∙ append_assoc out (range_by start (Some x)) rest
     ∙ ap (λ (o : Option Item). out ++ (range_by start o ++ rest)) (sym item)
-    ∙ sym (ap (λ l. out ++ ranges_in_turn start items l) (drop-at ts i t turn)) ∙ all
-
--- each turn has the place of an item
-
-abbrev outside : ℕ → ℕ → ℕ
-outside n i = cond (nat_lt i n) 0 1
-
-none-outside : (n a m : ℕ) → a + m ≤ n → total (outside n) (range_with_len a m) ≡ 0
-none-outside n a zero few = refl
-none-outside n a (suc m) few =
-    let inside : nat_lt a n ≡ true = grind (arith, nat_tests) in
-    let here : outside n a ≡ 0 = rw inside refl in
-    let rest = none-outside n (a + 1) m (omega (arith, few)) in
-    omega (arith, here, rest)
-
-inside-by : (b : Bool) (n i rest : ℕ) → nat_lt i n ≡ b → cond b 0 1 + rest ≡ 0 → i < n
-inside-by true n i rest e h = grind (arith, nat_tests)
-inside-by false n i rest e h = absurd (omega (arith, h))
-
-turns-inside : (n : ℕ) (ts : List Turn) → total_in (outside n) ts ≡ 0 → All (λ (t : Turn). t.index < n) ts
-turns-inside n [] none = All-nil (λ (t : Turn). t.index < n)
-turns-inside n (t ∷ ts) none =
-    All-cons (λ (u : Turn). u.index < n) t ts (inside-by (nat_lt t.index n) n t.index (total_in (outside n) ts) refl none) (turns-inside n ts (omega (arith, none)))
-
-pub turns-within : (scene : Scene) (base : ℕ) (items : List Item) → All (λ (t : Turn). t.index < length items) (item_turns scene base items)
-turns-within scene base items =
-    let size = length-map items item_class in
-    let each = each-turn scene.brackets scene.parts.settings.reorder base (map item_class items) (map item_code items) (outside (length items)) in
-    let none = none-outside (length items) 0 (length (map item_class items)) (omega (arith, size)) in
-    turns-inside (length items) (item_turns scene base items) (each ∙ none)
-
-pub same-turns : (scene : Scene) (base : ℕ) (items : List Item) (classes : List Class) (codes : List ℕ) (ts : List Turn) → classes ≡ map item_class items → codes ≡ map item_code items
-    → ts ≡ turns_of scene.brackets scene.parts.settings.reorder base classes codes → ts ≡ item_turns scene base items
-same-turns scene base items classes codes ts c d e =
-    e ∙ (ap (λ xs. turns_of scene.brackets scene.parts.settings.reorder base xs codes) c ∙ ap (turns_of scene.brackets scene.parts.settings.reorder base (map item_class items)) d)
+    ∙ sym (ap (λ l. out ++ ranges_in_turn start items l) turn) ∙ all
 
 pub ranges-same : (scene : Scene) (start base : ℕ) (es : List Seen) (items : List Item) (ts : List Turn) → items ≡ items_of scene es → ts ≡ item_turns scene base items
     → ranges_in_turn start items ts ≡ ranges_of scene start base es

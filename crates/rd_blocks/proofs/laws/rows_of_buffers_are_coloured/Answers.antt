@@ -6,13 +6,14 @@ use Rattle.rd_ucd.specs.Data.{Data}
 use Rattle.rd_props.specs.Buffers.{BufferValue}
 use Rattle.rd_items.specs.Readings.{reading}
 use Rattle.rd_items.specs.Pieces.{scene_in}
+use Rattle.rd_matrix.proofs.EachRow.{rows-each}
 use Rattle.rd_matrix.specs.declared.block.Block.{Block}
 use Rattle.rd_rows.specs.Rows.{RowMeaning}
 use Rattle.rd_rows.specs.Shapes.{ShapeValues}
 use Rattle.rd_stack.specs.Lines.{line_elements}
 use Rattle.rd_blocks.specs.Rows.{line_prefix_of, wrap_prefix_of, line_prefix, wrap_prefix, truncation_mark, continuation_mark}
 use Rattle.rd_blocks.specs.Sources.{rows_in, text_source}
-use Rattle.rd_blocks.proofs.WholeRows.{all-coloured, each-row, prefix-coloured}
+use Rattle.rd_blocks.proofs.WholeRows.{all-coloured, prefix-coloured}
 use Rattle.rd_blocks.proofs.laws.rows_of_buffers_are_coloured.Goals as goal
 
 pub returns : goal.returns
@@ -30,5 +31,5 @@ returns c =
     record {
       block = coloured;
       all = λ s objects files shape sound.
-          each-row (λ (r : RowMeaning). All IsColoured r.cells) (λ b. (text_source s objects files).rows_of b shape) (λ b. coloured s objects files b shape sound) (text_source s objects files).blocks;
+          rows-each (λ (r : RowMeaning). All IsColoured r.cells) (λ b. (text_source s objects files).rows_of b shape) (text_source s objects files).blocks (λ b. coloured s objects files b shape sound);
     }

@@ -6,11 +6,12 @@ use Rattle.rd_ucd.specs.Data.{Data}
 use Rattle.rd_props.specs.Buffers.{BufferValue}
 use Rattle.rd_items.specs.Readings.{reading}
 use Rattle.rd_items.specs.Pieces.{scene_in}
+use Rattle.rd_matrix.proofs.EachRow.{rows-each}
 use Rattle.rd_matrix.specs.declared.block.Block.{Block}
 use Rattle.rd_rows.specs.Shapes.{ShapeValues, IsShape}
 use Rattle.rd_rows.specs.Whole.{IsWhole}
 use Rattle.rd_blocks.specs.Sources.{rows_in, text_source}
-use Rattle.rd_blocks.proofs.WholeRows.{PrefixLaws, RowLaws, all-whole, each-row, rows-whole}
+use Rattle.rd_blocks.proofs.WholeRows.{PrefixLaws, RowLaws, all-whole, rows-whole}
 use Rattle.rd_blocks.proofs.laws.rows_of_buffers_are_whole.Goals as goal
 
 pub returns : goal.returns
@@ -36,5 +37,5 @@ returns c =
     record {
       block = whole;
       all = λ s objects files shape sound least most codes is.
-          each-row (IsWhole shape.width) (λ b. (text_source s objects files).rows_of b shape) (λ b. whole s objects files b shape sound least most codes is) (text_source s objects files).blocks;
+          rows-each (IsWhole shape.width) (λ b. (text_source s objects files).rows_of b shape) (text_source s objects files).blocks (λ b. whole s objects files b shape sound least most codes is);
     }

@@ -19,6 +19,6 @@ returns c =
       joined = c.marks_join_measured_glyphs.ensures.joined;
     } in
     record {
-      line = λ scene base es sound parts measured coded. read-good glyphs marks c.lines_have_a_level_each.ensures scene base sound parts es measured coded;
-      prefix = λ scene base number sound parts. prefix-good glyphs marks c.lines_have_a_level_each.ensures scene base sound parts number;
+      line = λ scene base es sound parts measured coded. read-good glyphs marks scene base sound parts es measured coded;
+      prefix = λ scene base number sound parts. prefix-good glyphs marks scene base sound parts number;
     }

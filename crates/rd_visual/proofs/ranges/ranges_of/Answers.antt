@@ -17,8 +17,8 @@ new-requires c =
     let s = meaning v.state.now in
     start-in s v.objects.now (files_of v) (c.blocks_are_tiled.ensures s c.begin-begin.ensures.right) c.args.block.now c.requires
 
-pub turns_of_items-requires : goal.turns_of_items-requires
-turns_of_items-requires c =
+pub order_of_items-requires : goal.order_of_items-requires
+order_of_items-requires c =
     let v = c.args.view.now in
     let source = c.buffers_are_sources.ensures (meaning v.state.now) v.objects.now (files_of v) c.begin-begin.ensures.right in
     all-at (λ (b : Block). b.base ≤ 1) (view_blocks v) c.requires.0 c.args.block.now source.blocks.bases c.requires.1
@@ -35,6 +35,6 @@ pub returns : goal.returns
 returns c =
     let v = c.args.view.now in
     IfOk-weaker c.in_turn.result _ _
-    (λ ranges h. h ∙ ranges-same (scene_of v) c.args.block.now.start c.args.block.now.base (reading (meaning v.state.now) v.objects.now c.args.block.now.start) c.in_ok-items.items c.in_ok-turns.turns
-    c.in_ok-items.ensures.value c.in_ok-turns.ensures.turns)
+    (λ ranges h. h ∙ ranges-same (scene_of v) c.args.block.now.start c.args.block.now.base (reading (meaning v.state.now) v.objects.now c.args.block.now.start) c.in_ok-items.items c.in_ok-order.order.turns
+    c.in_ok-items.ensures.value c.in_ok-order.ensures.turns)
     c.in_turn.ensures

@@ -7,7 +7,7 @@ use Rattle.rd_stack.proofs.string.StringFrame.step.Goals as goal
 pub returns : goal.returns
 returns c =
     sym c.self.view_is
-    ∙ row-over (scene_of c.self.inside.view) c.self.inside.base c.self.inside.replaced c.self.inside.origin c.self.inside.under c.place_of-place.result.face
+    ∙ row-over (scene_of c.self.inside.around.view) c.self.inside.around.base c.self.inside.around.replaced c.self.inside.around.origin c.self.inside.around.under c.place_of-place.result.face
     c.self.inside.text.now c.self.inside.parts c.self.inside.order.turns c.self.inside.end c.len.result c.element_of-end.result c.args.few.now _
     c.in_default.ensures.turns.0 c.len.ensures c.if-self-len.false (ap (λ (p : Place). p.face) c.place_of-place.ensures) c.element_of-end.ensures c.requires
     (c.drop.view_is ∙ c.in_ok-self-inside.ensures)

@@ -1,5 +1,5 @@
 use Rattle.std.proofs.Common.{length, ap, ◌∙◌}
-use Rattle.rd_stack.proofs.order.levels_with.Goals as goal
+use Rattle.rd_levels.proofs.order.levels_with.Goals as goal
 
 pub returns-clause-places : goal.returns-clause-places
 returns-clause-places c =

@@ -1,0 +1,31 @@
+-- What holds of each row of each block holds of all rows of the blocks.
+use Rattle.std.proofs.Common.{◌≡◌, ℕ, suc, ◌+◌, List, [], ◌∷◌, All, Some, refl, subst, arith}
+use Rattle.std.specs.Prelude.{slice_get}
+use Rattle.std.specs.List.{AllByRecursion}
+use Rattle.std.proofs.lemmas.List.Elements.{All-from_recursion}
+use Rattle.rd_base.proofs.Lists.{all-at, each-append}
+use Rattle.rd_matrix.specs.Blocks.{IsAmong}
+use Rattle.rd_matrix.specs.Entries.{EntryMeaning, all_rows, entries_of, numbered}
+use Rattle.rd_matrix.specs.declared.block.Block.{Block}
+use Rattle.rd_rows.specs.Rows.{RowMeaning}
+
+numbered-each : (P : EntryMeaning → Type 0) (start number : ℕ) (rows : List RowMeaning)
+    → ((j k : ℕ) (r : RowMeaning) → k ≡ number + j → slice_get rows j ≡ Some r → P (record { start = start; number = k; row = r })) → AllByRecursion P (numbered start number rows)
+numbered-each P start number [] own = tt
+numbered-each P start number (r ∷ rs) own =
+    (own 0 number r (omega arith) refl, numbered-each P start (number + 1) rs (λ j k x is found. own (suc j) k x (omega (arith, is)) found))
+
+-- by the start of the row's block, and its number in it
+pub entries-each : (P : EntryMeaning → Type 0) (rows : Block → List RowMeaning) (bs : List Block)
+    → ((b : Block) (k : ℕ) (r : RowMeaning) → IsAmong bs b → slice_get (rows b) k ≡ Some r → P (record { start = b.start; number = k; row = r })) → AllByRecursion P (all_rows rows bs)
+entries-each P rows [] own = tt
+entries-each P rows (b ∷ bs) own =
+    each-append P (entries_of rows b) (all_rows rows bs)
+    (numbered-each P b.start 0 (rows b)
+    (λ j k r is found. let same : j ≡ k = omega (arith, is) in own b k r (0, refl) (subst (λ (n : ℕ). slice_get (rows b) n ≡ Some r) same found)))
+    (entries-each P rows bs (λ d k r among found. own d k r (suc among.0, among.1) found))
+
+-- of the row alone
+pub rows-each : (P : RowMeaning → Type 0) (rows : Block → List RowMeaning) (bs : List Block) → ((b : Block) → All P (rows b)) → All (λ (e : EntryMeaning). P e.row) (all_rows rows bs)
+rows-each P rows bs own =
+    All-from_recursion (λ (e : EntryMeaning). P e.row) (all_rows rows bs) (entries-each (λ (e : EntryMeaning). P e.row) rows bs (λ b k r among found. all-at P (rows b) k r (own b) found))
