@@ -20,13 +20,13 @@ mod verdict;
 
 use crate::report::tell;
 use crate::verdict::Verdict;
-use rd_io::{HostFiles, StdSink, StdSource};
+use rd_io::{HostFiles, StdSink, StdSource, host_words};
+use std::io;
 use std::process::ExitCode;
-use std::{env, io};
 
 fn main(rt: HostRuntime) -> io::Result<ExitCode> {
     let mut report = StdSink::new(rt.stderr());
-    let verdict = match words(&rt) {
+    let verdict = match host_words(&rt) {
         Ok(words) => audit::audit(
             rt.alloc(),
             words,
@@ -40,14 +40,4 @@ fn main(rt: HostRuntime) -> io::Result<ExitCode> {
         },
     };
     Ok(ExitCode::from(verdict.code()))
-}
-
-/// The words behind the program's name; where they can't be had memory was wanting. Where one is no UTF-8 there are none, which is as
-/// faulty.
-fn words(rt: &HostRuntime) -> io::Result<Vec<String>> {
-    match env::args(rt) {
-        Ok(args) => Ok(args.skip(1).collect(rt.alloc())?),
-        Err(fault) if fault.kind() == io::ErrorKind::InvalidData => Ok(Vec::new(rt.alloc())),
-        Err(fault) => Err(fault),
-    }
 }

@@ -1,9 +1,9 @@
-//! Thin adapters over the streams and files of the system. Contracts know no bytes of theirs.
+//! Thin adapters over the streams, files and words of the system. Contracts know no bytes of theirs.
 
 use crate::traits::{Failed, Files, Sink, Source, failure};
 use std::fs::File;
 use std::io::{Read, Seek, SeekFrom, Write};
-use std::rt;
+use std::{env, io, rt};
 
 /// A source over a reader, as standard input.
 #[derive(Drop)]
@@ -95,5 +95,15 @@ impl<'a, R: rt::Files> Files for HostFiles<'a, R> {
             }
         }
         Err(failure(&mut self.faults))
+    }
+}
+
+/// The words behind the program's name. Where one is no UTF-8 there are none, which is as faulty for a program that asks for some; where
+/// they can't be had memory was wanting.
+pub fn host_words(rt: &HostRuntime) -> io::Result<Vec<String>> {
+    match env::args(rt) {
+        Ok(args) => Ok(args.skip(1).collect(rt.alloc())?),
+        Err(fault) if fault.kind() == io::ErrorKind::InvalidData => Ok(Vec::new(rt.alloc())),
+        Err(fault) => Err(fault),
     }
 }

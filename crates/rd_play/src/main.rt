@@ -8,14 +8,13 @@
 ghost use Rattle.std.specs.Prelude.{◌≡◌, ◌<◌};
 
 use rd_base::Steps;
-use rd_io::{HostFiles, StdSink, StdSource};
+use rd_io::{HostFiles, StdSink, StdSource, host_words};
 use rd_player::{play, tell_status};
 use rd_run::Status;
-use std::alloc::Global;
+use std::io;
 use std::marker::Brand;
 use std::process::ExitCode;
 use std::sync::ledger::{Blank, Ledger};
-use std::{env, io};
 
 fn main(rt: HostRuntime) -> io::Result<ExitCode> {
     Ok(ExitCode::from(start::<Brand>(&rt, Blank::new(1))))
@@ -28,7 +27,7 @@ fn start<L: Ledger>(rt: &HostRuntime, blank: Blank) -> u8
     requires some { 0 < L.parts }
 {
     let mut report = StdSink::new(rt.stderr());
-    let status = match words(rt) {
+    let status = match host_words(rt) {
         Ok(words) => play(
             rt.alloc(),
             words,
@@ -41,21 +40,4 @@ fn start<L: Ledger>(rt: &HostRuntime, blank: Blank) -> u8
         Err(_starved) => tell_status(&mut report, Status::NoMemory, 0),
     };
     status.code()
-}
-
-/// The words behind the program's name; where they can't be had memory was wanting. In the place of words of which one is no UTF-8 stands
-/// an empty word, which is as faulty.
-fn words(rt: &HostRuntime) -> io::Result<Vec<String>> {
-    match env::args(rt) {
-        Ok(args) => Ok(args.skip(1).collect(rt.alloc())?),
-        Err(fault) if fault.kind() == io::ErrorKind::InvalidData => faulty(rt.alloc()),
-        Err(fault) => Err(fault),
-    }
-}
-
-/// An empty word.
-fn faulty(alloc: Global) -> io::Result<Vec<String>> {
-    let mut words = Vec::new(alloc);
-    words.push(String::new(alloc))?;
-    Ok(words)
 }
