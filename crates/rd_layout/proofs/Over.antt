@@ -1,7 +1,7 @@
 -- A last layout stands over a later state in which nothing changed of what its window shows.
-use Rattle.std.proofs.Common.{◌≡◌, ◌⊎◌, inl, inr, ℕ, zero, suc, ◌+◌, ◌-◌, ◌<◌, ◌≤◌, ◌==◌, ◌&&◌, ◌||◌, min, max, nat_lt, nat_le, Bool, true, false, if◌then◌else◌, pos, ◌+ℤ◌, Some, List, [], ◌∷◌, ◌++◌, length, take, drop, sym, ap, refl, subst, ◌∙◌, arith}
+use Rattle.std.proofs.Common.{◌≡◌, ◌⊎◌, inl, inr, ℕ, zero, suc, ◌+◌, ◌-◌, ◌<◌, ◌≤◌, ◌==◌, ◌&&◌, ◌||◌, min, max, nat_le, Bool, true, false, if◌then◌else◌, pos, ◌+ℤ◌, [], ◌∷◌, ap, refl, subst, ◌∙◌, arith}
 use Rattle.std.proofs.lemmas.Bool.{leb-true}
-use Rattle.std.specs.Prelude.{◌-ℤ◌, slice_get}
+use Rattle.std.specs.Prelude.{◌-ℤ◌}
 use Rattle.rd_base.specs.declared.settings.Anchor.{Anchor}
 use Rattle.rd_base.specs.Settings.{without_flags}
 use Rattle.rd_blocks.specs.Bases.{blocks_in}
@@ -9,8 +9,7 @@ use Rattle.rd_blocks.specs.Leads.{LeadsTo}
 use Rattle.rd_blocks.specs.Sources.{rows_in, text_source}
 use Rattle.rd_items.specs.Readings.{ends_block, reading, reading_from}
 use Rattle.rd_matrix.proofs.HeldLemmas.{later-start}
-use Rattle.rd_matrix.specs.Blocks.{first_start}
-use Rattle.rd_matrix.specs.Entries.{all_rows, numbered}
+use Rattle.rd_matrix.specs.Blocks.{IsAmong, first_start}
 use Rattle.rd_matrix.specs.Sources.{SourceValues}
 use Rattle.rd_matrix.specs.declared.block.Block.{Block}
 use Rattle.rd_objects.specs.Sound.{IsClosed, Extends}
@@ -21,9 +20,7 @@ use Rattle.rd_props.specs.Seen.{seen_at}
 use Rattle.rd_reuse.specs.Changes.{IsChange, all, change_of, edit, is_all, is_none, is_small, join, moved, none}
 use Rattle.rd_reuse.specs.declared.change.Change.{Change}
 use Rattle.rd_rows.specs.Laws.{seen_rows}
-use Rattle.rd_rows.specs.Rows.{RowMeaning}
 use Rattle.rd_rows.specs.Shapes.{IsShape, ShapeValues}
-use Rattle.rd_start.specs.Chosen.{anchor_row, row_in_block}
 use Rattle.rd_state.specs.declared.effect.Effect.{Effect}
 use Rattle.rd_state.specs.declared.effect.Effect.TheVariants.{Nothing, Edit, Moved, All, Window}
 use Rattle.rd_text.specs.Texts.{IsText}
@@ -42,6 +39,7 @@ pub record OverLaws : Type 0 where
   pub local : (old new : BufferValue) (made objects : ObjectLists) (files : Data) (a b : Block) (shape : ShapeValues) → without_flags new.settings ≡ without_flags old.settings → IsClosed made → AreMade old made → Extends made objects
       → a.base ≡ b.base → reading old made a.start ≡ reading new objects b.start → rows_in new objects files b shape ≡ rows_in old made files a shape
   pub last_none : (c : Change) → IsChange c → join c none ≡ c
+  pub stand : (m n : SourceValues) (anchor : Anchor) (l : Layout) → n.blocks ≡ m.blocks → ((b : Block) → IsAmong m.blocks b → n.rows_of b l.shape ≡ m.rows_of b l.shape) → Stands m anchor l → Stands n anchor l
 
 -- ---- changes
 
@@ -100,39 +98,6 @@ joined-change x y is = by (is_all x || is_all y) where
 pub first-none : OverLaws → (x y : Change) → IsChange x → y ≡ none → is_none (join x y) ≡ true → is_none x ≡ true
 first-none laws x y is same h = subst (λ (c : Change). is_none c ≡ true) (ap (join x) same ∙ laws.last_none x is) h
 
--- ---- sources with equal rows
-
-module _ (first second : Block → List RowMeaning) where
-  abbrev pub Alike : List Block → Type 0
-  Alike bs = (k : ℕ) (b : Block) → slice_get bs k ≡ Some b → first b ≡ second b
-
-  same-rows : (bs : List Block) → Alike bs → all_rows first bs ≡ all_rows second bs
-  same-rows [] alike = refl
-  same-rows (b ∷ bs) alike =
-      let here = alike 0 b refl in
-      let behind = same-rows bs (λ k c at. alike (suc k) c at) in
-      λ i. numbered b.start 0 (here i) ++ behind i
-
-  same-anchor : (anchor : Anchor) (bs : List Block) → Alike bs → anchor_row first anchor bs ≡ anchor_row second anchor bs
-  same-anchor anchor [] alike = refl
-  same-anchor anchor (b ∷ bs) alike =
-      let here = alike 0 b refl in
-      let behind = same-anchor anchor bs (λ k c at. alike (suc k) c at) in
-      λ i. if nat_lt anchor.pos b.end then row_in_block anchor b.start (here i) else length (here i) + behind i
-
-stands-over : (m : SourceValues) (other : Block → ShapeValues → List RowMeaning) (anchor : Anchor) (l : Layout) (cost : Block → ShapeValues → ℕ)
-    → ((k : ℕ) (b : Block) → slice_get m.blocks k ≡ Some b → m.rows_of b l.shape ≡ other b l.shape) → Stands m anchor l → Stands (record { blocks = m.blocks; rows_of = other; cost_of = cost }) anchor l
-stands-over m other anchor l cost alike stands =
-    let first : Block → List RowMeaning = λ b. m.rows_of b l.shape in
-    let second : Block → List RowMeaning = λ b. other b l.shape in
-    let rows : all_rows first m.blocks ≡ all_rows second m.blocks = same-rows first second m.blocks alike in
-    let place : anchor_row first anchor m.blocks ≡ anchor_row second anchor m.blocks = same-anchor first second anchor m.blocks alike in
-    record {
-      rows = stands.rows ∙ (λ i. take l.height (drop (place i) (rows i)));
-      top = stands.top ∙ (λ i. place i == 0);
-      bottom = stands.bottom ∙ (λ i. nat_le (length (rows i)) (place i + l.height));
-    }
-
 -- ---- objects that were made since
 
 module _ (laws : OverLaws) (s : BufferValue) (made objects : ObjectLists) (closed : IsClosed made) (named : AreMade s made) (extends : Extends made objects) (text : IsText s.text) where
@@ -157,14 +122,14 @@ module _ (laws : OverLaws) (s : BufferValue) (made objects : ObjectLists) (close
   same-reading : (p : ℕ) → s.text.begin ≤ p → p ≤ s.text.end → reading s made p ≡ reading s objects p
   same-reading p low high = reads-same (s.text.end - p) p low (omega arith)
 
-  block-rows : (views : ViewLaws) (files : Data) (shape : ShapeValues) (is : IsShape shape) (k : ℕ) (b : Block) → slice_get (blocks_in files.classes s) k ≡ Some b
-      → seen_rows (rows_in s made files b shape) ≡ seen_rows (rows_in s objects files b shape)
-  block-rows views files shape is k b at =
+  block-rows : (views : ViewLaws) (files : Data) (shape : ShapeValues) (is : IsShape shape) (b : Block) → IsAmong (blocks_in files.classes s) b
+      → seen_rows (rows_in s objects files b shape) ≡ seen_rows (rows_in s made files b shape)
+  block-rows views files shape is b among =
       let source = views.source s made files text in
-      let some = (later-start (first_start (blocks_in files.classes s)) k (blocks_in files.classes s) b source.blocks.stand at).1 in
-      let inside = accessible views files.classes s b.start text (block-inside (text_source s made files) shape source is b b.start (k, at) (omega arith) some) in
-      ap seen_rows (sym (laws.local s s made objects files b b shape refl closed named extends refl (same-reading b.start inside.0 inside.1)))
+      let some = (later-start (first_start (blocks_in files.classes s)) among.0 (blocks_in files.classes s) b source.blocks.stand among.1).1 in
+      let inside = accessible views files.classes s b.start text (block-inside (text_source s made files) shape source is b b.start among (omega arith) some) in
+      ap seen_rows (laws.local s s made objects files b b shape refl closed named extends refl (same-reading b.start inside.0 inside.1))
 
   pub objects-over : (views : ViewLaws) (files : Data) (anchor : Anchor) (l : Layout) → IsShape l.shape → Stands (text_source s made files) anchor l → Stands (text_source s objects files) anchor l
   objects-over views files anchor l is stands =
-      stands-over (text_source s made files) (λ b shape. seen_rows (rows_in s objects files b shape)) anchor l (text_source s objects files).cost_of (block-rows views files l.shape is) stands
+      laws.stand (text_source s made files) (text_source s objects files) anchor l refl (block-rows views files l.shape is) stands

@@ -44,7 +44,7 @@ use rd_start::a_start_is_a_row;
 use rd_state::{ops_leave_the_rest, steps_keep_states, windows_are_leaves};
 use rd_tree::windows_tile_their_rectangle;
 use rd_visual::items_begin_in_the_window;
-use rd_window::{new_layouts_stand, no_rows_are_kept};
+use rd_window::{layouts_stand_over_equal_rows, new_layouts_stand, no_rows_are_kept};
 
 /// A redisplay leaves a valid state valid: the starts and the points that it chooses are accessible, and its windows have shapes. The
 /// call does nothing.
@@ -77,6 +77,7 @@ pub fn sessions_stay_known()
     joined_with_all();
     joined_with_none();
     kept_rows_are_fresh();
+    layouts_stand_over_equal_rows();
     no_rows_are_kept();
     ops_leave_the_rest();
     rows_are_local();

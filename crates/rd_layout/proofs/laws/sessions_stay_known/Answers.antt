@@ -9,7 +9,12 @@ returns-clause-opened c = λ files. opened-session files c.steps_keep_states.ens
 
 pub returns-clause-step : goal.returns-clause-step
 returns-clause-step c =
-    let over : OverLaws = record { grown = c.changes_lead_on.ensures.grown; local = c.rows_are_local.ensures; last_none = c.joined_with_none.ensures.last } in
+    let over : OverLaws = record {
+      grown = c.changes_lead_on.ensures.grown;
+      local = c.rows_are_local.ensures;
+      last_none = c.joined_with_none.ensures.last;
+      stand = c.layouts_stand_over_equal_rows.ensures;
+    } in
     let laws : StepLaws = record {
       valid = c.steps_keep_states.ensures.step;
       found = c.windows_are_leaves.ensures.found;
