@@ -16,7 +16,7 @@ use Rattle.rd_layout.specs.Since.{FitsFrame, IsSession}
 use Rattle.rd_layout.specs.Windows.{places}
 use Rattle.rd_run.proofs.Effects.{effect-is, shown-done}
 use Rattle.rd_run.proofs.Leading.{Lives, LiveLaws, all-live}
-use Rattle.rd_run.proofs.Sizes.{is-screen, width-is}
+use Rattle.rd_update.proofs.Sizes.{is-screen, width-is}
 use Rattle.rd_run.proofs.Inputs.{run-append, run-clear, run-push}
 use Rattle.rd_run.specs.Alike.{End}
 use Rattle.rd_run.specs.Ends.{Comes, Drawn, Ended, IsWhole, Ran, Sunk, Took, done_of, last_in, told_in}

@@ -33,13 +33,14 @@ use Rattle.rd_state.specs.States.{ContentValue, StateValue, seen}
 use Rattle.rd_state.specs.Valid.{IsValid, IsWindow}
 use Rattle.rd_state.specs.Windows.{content_in, shown_content, window_of}
 use Rattle.rd_state.specs.declared.window.WindowState.{WindowState}
-use Rattle.rd_term.specs.Pictures.{IsGrid, IsOfSize, IsScreen, Picture, width_of}
+use Rattle.rd_term.specs.Pictures.{IsGrid, IsOfSize, IsScreen, Picture}
 use Rattle.rd_term.specs.Terminals.{Tty, feed_bytes, known, unknown}
 use Rattle.rd_term.specs.declared.reading.Reading.TheVariants.{Between}
-use Rattle.rd_term.proofs.Shapes.{grid-width, grid-known}
+use Rattle.rd_term.proofs.Shapes.{grid-known}
 use Rattle.rd_tree.specs.declared.placed.Placed.{Placed}
 use Rattle.rd_ucd.specs.Data.{Data}
 use Rattle.rd_update.specs.Laws.{IsCurrent, IsReady, IsSound, IsUpdated}
+use Rattle.rd_update.proofs.Sizes.{is-screen, one-size}
 use Rattle.rd_update.specs.Plans.{HaveOneSize}
 use Rattle.rd_window.specs.Layouts.{IsLaidOut, Stands}
 use Rattle.rd_window.specs.Views.{start_row}
@@ -76,7 +77,7 @@ abbrev pub shows : ℕ → ℕ → Option Picture → Tty
 shows width height None = unknown width height
 shows width height (Some screen) = record (unknown width height) { rows = known screen.rows; pen = Some plain }
 
-module _ (laws : SendLaws) (width height : ℕ) (target : Picture) (bands : List Band) (limit : Option ℕ) (wide : width ≤ 400) (tall : height ≤ 200) (some : 0 < height)
+module _ (laws : SendLaws) (width height : ℕ) (target : Picture) (bands : List Band) (limit : Option ℕ) (wide : width ≤ 400) (tall : height ≤ 200)
     (size : IsOfSize width height target) (sound : IsSound target) (within : AreWithin height bands) where
   abbrev pub Fits : Option Picture → Type 0
   Fits None = Unit {0}
@@ -104,30 +105,14 @@ module _ (laws : SendLaws) (width height : ℕ) (target : Picture) (bands : List
   ready (Some screen) fits =
       ready-by (Some screen) (shows width height (Some screen)) refl refl (length-map screen.rows (map Some) ∙ fits.0.rows) (grid-known width screen.rows fits.0.each) (fits.0, refl, refl)
 
-  wide-as : (rows : List (List Cell)) → length rows ≡ height → IsGrid width rows → width_of rows ≡ width
-  wide-as rows h each = grid-width width rows (omega (arith, h, some)) each
-
-  one-size : (current : Option Picture) → Fits current → HaveOneSize current target
-  one-size None fits = tt
-  one-size (Some screen) fits =
-      (fits.0.rows ∙ sym size.rows, wide-as screen.rows fits.0.rows fits.0.each ∙ sym (wide-as target.rows size.rows size.each))
-
-  is-screen : (current : Option Picture) → Fits current → IfSome current (λ screen. IsScreen screen × IsSound screen)
-  is-screen None fits = tt
-  is-screen (Some screen) fits =
-      let w = wide-as screen.rows fits.0.rows fits.0.each in (
-        record {
-          size = subst₂ (λ (x : ℕ) (y : ℕ). IsOfSize x y screen) (sym w) (sym fits.0.rows) fits.0;
-          wide = subst (λ (x : ℕ). x ≤ 400) (sym w) wide;
-          tall = subst (λ (x : ℕ). x ≤ 200) (sym fits.0.rows) tall;
-        },
-        fits.1,
-      )
+  sized : (current : Option Picture) → Fits current → HaveOneSize current target × IfSome current (λ screen. IsScreen screen × IsSound screen)
+  sized None fits = (tt, tt)
+  sized (Some screen) fits = (one-size width height screen target fits.0 size, is-screen width height screen wide tall fits.0, fits.1)
 
   new-screen : (current : Option Picture) → Fits current → Fits (Some (shifted_update current target bands limit).screen)
   new-screen current fits = (
     (laws.read width height current target bands limit (shows width height current) (ready current fits) within).size,
-    laws.sound current target bands limit (one-size current fits) (is-screen current fits) (subst (λ (n : ℕ). AreWithin n bands) (sym size.rows) within) sound,
+    laws.sound current target bands limit (sized current fits).0 (sized current fits).1 (subst (λ (n : ℕ). AreWithin n bands) (sym size.rows) within) sound,
   )
 
 -- ---- the new layouts
@@ -190,17 +175,14 @@ module _ (laws : SendLaws) (rows : ℕ) (done : Bool) (stop : Option ℕ) (old n
   same-windows : (number : ℕ) → window_of number new.state.windows ≡ option_map (λ w. settled_by old.files s w (place_of number s)) (window_of number s.windows)
   same-windows number = ap (λ (x : StateValue). window_of number x.windows) now ∙ under-became (λ n w. settled_by old.files s w (place_of n s)) number s.windows
 
-  high : 0 < s.height
-  high = let least : 2 ≤ s.height = session.state.frame.high in omega arith
-
   sent-screen : FitsFrame new.current new.state
   sent-screen =
       subst (λ (c : Option Picture). FitsFrame c new.state) (sym sent.current)
       (subst (λ (x : StateValue). FitsFrame (Some (update_of old stop).screen) x) (sym now)
-      (new-screen laws s.width s.height (laid_out old.files s).picture (bands_of s) stop session.state.frame.narrow session.state.frame.low high size sound
+      (new-screen laws s.width s.height (laid_out old.files s).picture (bands_of s) stop session.state.frame.narrow session.state.frame.low size sound
       (bands-within laws.views.places s session.state) old.current (fits old.current session.screen)))
     where
-      fits : (c : Option Picture) → FitsFrame c s → Fits laws s.width s.height (laid_out old.files s).picture (bands_of s) stop session.state.frame.narrow session.state.frame.low high size sound
+      fits : (c : Option Picture) → FitsFrame c s → Fits laws s.width s.height (laid_out old.files s).picture (bands_of s) stop session.state.frame.narrow session.state.frame.low size sound
           (bands-within laws.views.places s session.state) c
       fits None h = h
       fits (Some screen) h = h

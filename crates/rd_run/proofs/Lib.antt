@@ -12,7 +12,6 @@ mod Lines
 pub mod OnRuns
 mod Ops
 mod Scripts
-pub mod Sizes
 mod Starved
 mod Validity
 mod Whole

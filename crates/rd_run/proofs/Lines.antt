@@ -31,7 +31,7 @@ use Rattle.rd_run.specs.declared.status.ScriptFault.TheVariants as faults
 use Rattle.rd_run.proofs.Effects.{effect-is, shown-done}
 use Rattle.rd_run.proofs.Leading.{LeadLaws, leads-on}
 use Rattle.rd_run.proofs.Ops.{keeps-size}
-use Rattle.rd_run.proofs.Sizes.{is-screen, width-is}
+use Rattle.rd_update.proofs.Sizes.{is-screen, one-size}
 
 -- what the layers below promise of sessions and of updates
 pub record RunLaws : Type 0 where
@@ -129,7 +129,7 @@ reached-from : (laws : RunLaws) (s : StateValue) (current : Option Picture) (tar
 reached-from laws s None target stop valid fits size within = laws.reached None target (bands_of s) stop tt tt within
 reached-from laws s (Some screen) target stop valid fits size within =
     let frame = valid.frame in
-    laws.reached (Some screen) target (bands_of s) stop (fits.0.rows ∙ sym size.rows, width-is s.width s.height screen fits.0 ∙ sym (width-is s.width s.height target size))
+    laws.reached (Some screen) target (bands_of s) stop (one-size s.width s.height screen target fits.0 size)
     (is-screen s.width s.height screen frame.narrow frame.low fits.0) within
 
 target-reached : (laws : RunLaws) (v : SessionValue) (stop : Option ℕ) → IsSession v → (update_of v stop).done ≡ true → (update_of v stop).screen ≡ (laid_out v.files v.state).picture

@@ -1,3 +1,2 @@
 mod Banding
-mod Fitting
 mod Leading

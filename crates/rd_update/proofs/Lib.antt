@@ -7,6 +7,7 @@ mod Reaching
 mod Rows
 pub mod Sequences
 mod Showing
+pub mod Sizes
 mod Soundness
 pub mod Spans
 mod Telling
