@@ -1,5 +1,5 @@
 -- A redisplay that is sent leads from a session to a session.
-use Rattle.std.proofs.Common.{◌≡◌, inl, inr, ℕ, suc, ◌<◌, ◌≤◌, Bool, false, Option, None, Some, List, [], ◌∷◌, length, map, replicate, take, drop, sym, ap, refl, subst, subst₂, ◌∙◌, arith}
+use Rattle.std.proofs.Common.{◌≡◌, inl, inr, ℕ, suc, ◌<◌, ◌≤◌, Bool, false, Option, None, Some, List, [], ◌∷◌, length, map, replicate, take, drop, sym, ap, refl, subst, subst₂, ◌∙◌}
 use Rattle.std.proofs.lemmas.Bool.{cases_eq}
 use Rattle.std.proofs.lemmas.List.{length-map, length-replicate}
 use Rattle.std.proofs.lemmas.List.Elements.{All-replicate}
