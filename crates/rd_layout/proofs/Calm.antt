@@ -3,7 +3,7 @@ use Rattle.std.proofs.Common.{◌≡◌, ◌⊎◌, inl, inr, ℕ, zero, suc, �
 use Rattle.std.proofs.lemmas.Bool.{cases_eq, eqb-true, cond-false, cond-true, eq-eqb, ne_eqb, and_parts}
 use Rattle.std.specs.Option.{option_and_then}
 use Rattle.std.specs.Ordering.{int_eq}
-use Rattle.std.specs.Prelude.{ℤ, ◌-ℤ◌, slice_get, option_map, IfOk}
+use Rattle.std.specs.Prelude.{ℤ, ◌-ℤ◌, slice_get, IfOk}
 use Rattle.rd_margins.specs.Marks as marks
 use Rattle.rd_objects.specs.Things.{ObjectLists}
 use Rattle.rd_overlays.specs.Overlays.{overlay_at}
@@ -31,7 +31,7 @@ use Rattle.rd_tree.specs.Calls.{Configuration, split_tree, remove_tree, resize_t
 use Rattle.rd_tree.specs.declared.fault.TreeFault.{TreeFault}
 use Rattle.rd_layout.specs.Changes.{change_by, if_shown, restyled}
 use Rattle.rd_layout.proofs.Standing.{one-of, unless}
-use Rattle.rd_state.proofs.ByNumber.{NumberedWindow, under-became, under-here, under-there, window-other, window-same, window-gone, window-left}
+use Rattle.rd_state.proofs.ByNumber.{NumberedWindow, Each, each-same, each-with, each-moved, each-end, each-without, window-other}
 use Rattle.rd_state.proofs.Options.{one-value, get-set}
 use Rattle.rd_state.proofs.Tests.{if-ok}
 
@@ -134,35 +134,32 @@ contents-set effect bs i x content at kept number k b c hb hc quiet = elim (get-
 
 -- ---- windows
 
+-- a window of which an effect tells no change
+abbrev pub IsCalm : Effect → ℕ → WindowState → WindowState → Type 0
+IsCalm effect number old new = Quiet effect number old.buffer → Same old new
+
+itself : (effect : Effect) (number : ℕ) (w : WindowState) → IsCalm effect number w w
+itself effect number w quiet = same w w refl
+
 abbrev pub Windows : Effect → List NumberedWindow → List NumberedWindow → Type 0
-Windows effect ws vs = (number : ℕ) (old new : WindowState) → window_of number ws ≡ Some old → window_of number vs ≡ Some new → Quiet effect number old.buffer → Same old new
+Windows effect ws vs = Each (IsCalm effect) ws vs
 
 windows-same : (effect : Effect) (ws : List NumberedWindow) → Windows effect ws ws
-windows-same effect ws number old new h k quiet = same old new (one-value (window_of number ws) old new h k)
+windows-same effect ws = each-same (IsCalm effect) (itself effect) ws
 
 windows-with : (effect : Effect) (ws : List NumberedWindow) (n : ℕ) (f : WindowState → WindowState) → ((w : WindowState) → Quiet effect n w.buffer → Same w (f w))
     → Windows effect ws (with_window n f ws)
-windows-with effect ws n f good number old new h k quiet = elim (cases_eq number n) [
-  | inl p ↦
-      let here : window_of n ws ≡ Some old = ap (λ j. window_of j ws) (sym p) ∙ h in
-      let after : option_map f (window_of n ws) ≡ Some new = sym (window-same n f ws) ∙ (ap (λ j. window_of j (with_window n f ws)) (sym p) ∙ k) in
-      let is : f old ≡ new = cc (sym (ap (option_map f) here) ∙ after) in
-      subst (Same old) is (good old (subst (λ j. Quiet effect j old.buffer) p quiet))
-  | inr q ↦ same old new (one-value (window_of number ws) old new h (sym (window-other n number f ws q) ∙ k))
-]
+windows-with effect ws n f good = each-with (IsCalm effect) (itself effect) n f ws good
 
 -- a window that moves with the text of a buffer
-abbrev pub moved-by : ℕ → Move → ℕ → WindowState → WindowState
-moved-by i how number w = if w.buffer == i then moved_window how w else w
+abbrev pub moved-by : ℕ → Move → WindowState → WindowState
+moved-by i how w = if w.buffer == i then moved_window how w else w
 
 windows-moved : (effect : Effect) (ws : List NumberedWindow) (i : ℕ) (how : Move) → Loud effect i → Windows effect ws (map (moved_in i how) ws)
-windows-moved effect ws i how loud number old new h k quiet =
-    let after : option_map (moved-by i how number) (window_of number ws) ≡ Some new = sym (under-became (moved-by i how) number ws) ∙ k in
-    let is : moved-by i how number old ≡ new = cc (sym (ap (option_map (moved-by i how number)) h) ∙ after) in
-    elim (cases_eq old.buffer i) [
-      | inl p ↦ absurd (loud number old.buffer p quiet)
-      | inr q ↦ same old new (sym (cond-false (old.buffer == i) (moved_window how old) old (ne_eqb old.buffer i q)) ∙ is)
-    ]
+windows-moved effect ws i how loud = each-moved (IsCalm effect) (moved-by i how) ws (λ number old quiet. elim (cases_eq old.buffer i) [
+  | inl p ↦ absurd (loud number old.buffer p quiet)
+  | inr q ↦ same old (moved-by i how old) (sym (cond-false (old.buffer == i) (moved_window how old) old (ne_eqb old.buffer i q)))
+])
 
 windows-typed : (effect : Effect) (ws : List NumberedWindow) (i : ℕ) (how : Move) (n : ℕ) (f : WindowState → WindowState) (w : WindowState) → Loud effect i → window_of n ws ≡ Some w → w.buffer ≡ i
     → Windows effect ws (with_window n f (map (moved_in i how) ws))
@@ -173,23 +170,11 @@ windows-typed effect ws i how n f w loud at there number old new h k quiet = eli
   | inr q ↦ windows-moved effect ws i how loud number old new h (sym (window-other n number f (map (moved_in i how) ws) q) ∙ k) quiet
 ]
 
-found-front : (n : ℕ) (ws : List NumberedWindow) (e : NumberedWindow) (w : WindowState) → window_of n ws ≡ Some w → window_of n (ws ++ e ∷ []) ≡ Some w
-found-front n [] e w h = absurd (cc)
-found-front n (d ∷ ds) e w h = elim (cases_eq d.0 n) [
-  | inl p ↦ under-here n d (ds ++ e ∷ []) p ∙ (sym (under-here n d ds p) ∙ h)
-  | inr q ↦ under-there n d (ds ++ e ∷ []) q ∙ found-front n ds e w (sym (under-there n d ds q) ∙ h)
-]
-
 windows-end : (effect : Effect) (ws : List NumberedWindow) (e : NumberedWindow) → Windows effect ws (ws ++ e ∷ [])
-windows-end effect ws e number old new h k quiet = same old new (one-value (window_of number (ws ++ e ∷ [])) old new (found-front number ws e old h) k)
+windows-end effect ws e = each-end (IsCalm effect) (itself effect) ws e
 
 windows-without : (effect : Effect) (ws : List NumberedWindow) (n : ℕ) → AreApart ws → Windows effect ws (without_window n ws)
-windows-without effect ws n apart number old new h k quiet = elim (cases_eq number n) [
-  | inl p ↦ absurd (none-some new (sym (window-gone n ws apart) ∙ (ap (λ j. window_of j (without_window n ws)) (sym p) ∙ k)))
-  | inr q ↦ same old new (one-value (window_of number ws) old new h (sym (window-left n number ws q) ∙ k))
-] where
-  none-some : (w : WindowState) → None ≡ Some w → ⊥
-  none-some w h = absurd (cc)
+windows-without effect ws n apart = each-without (IsCalm effect) (itself effect) n ws apart
 
 -- ---- parts of steps
 

@@ -1,5 +1,5 @@
 -- What each window of a valid state shows has the sizes of its rectangle.
-use Rattle.std.proofs.Common.{◌≡◌, ℕ, suc, ◌+◌, ◌-◌, ◌^◌, ◌<◌, ◌≤◌, ◌==◌, ◌||◌, Bool, true, false, is_some, if◌then◌else◌, cond, Option, None, Some, Result, Ok, Err, List, [], ◌∷◌, length, drop, sym, ap, refl, subst, ◌∙◌, arith, length-take, length-drop}
+use Rattle.std.proofs.Common.{◌≡◌, ℕ, suc, ◌+◌, ◌-◌, ◌^◌, ◌<◌, ◌≤◌, Bool, true, false, is_some, if◌then◌else◌, cond, Option, None, Some, Result, Ok, Err, List, [], ◌∷◌, length, drop, sym, ap, refl, subst, ◌∙◌, arith, length-take, length-drop}
 use Rattle.std.proofs.lemmas.List.{length-map}
 use Rattle.std.proofs.lemmas.List.Sums.{count_by-le-length}
 use Rattle.std.proofs.lemmas.List.Elements.{All-from_recursion, All-map, All-take, All-drop, recursion_from_All}
@@ -7,7 +7,7 @@ use Rattle.std.specs.List.{All, AllByRecursion, find}
 use Rattle.std.specs.Option.{option_and_then}
 use Rattle.std.proofs.lemmas.Option.{get_or_from_slice_get, slice_get_within}
 use Rattle.std.specs.Prelude.{IfSome, IsTrue, option_map, slice_get, slice_index_or}
-use Rattle.rd_base.proofs.Choices.{map-some, some-of}
+use Rattle.rd_base.proofs.Choices.{some-of}
 use Rattle.rd_base.specs.Chars.{is_code}
 use Rattle.rd_base.specs.declared.element.Element.{Element}
 use Rattle.rd_base.proofs.Lists.{each-append, element-at}
@@ -39,13 +39,14 @@ use Rattle.rd_rows.specs.Shapes.{IsShape, ShapeValues}
 use Rattle.rd_rows.specs.Whole.{IsWhole}
 use Rattle.rd_rows.specs.declared.begin.Begin.{Begin}
 use Rattle.rd_state.specs.States.{StateValue, seen}
+use Rattle.rd_state.proofs.Leaves.{is_some-leaf, placed-window}
 use Rattle.rd_state.specs.Valid.{IsContent, IsGoodFormat, IsValid, IsWindow}
 use Rattle.rd_state.specs.Windows.{leaf_at, leaf_of, shown_content, window_of}
 use Rattle.rd_state.specs.declared.window.WindowState.{WindowState}
 use Rattle.rd_text.specs.Texts as text
 use Rattle.rd_tree.specs.Calls.{frame_of}
-use Rattle.rd_tree.proofs.Keeping.{found_held, is_some-if, is_some-or}
-use Rattle.rd_tree.specs.Windows.{Windows, Window, Split, holds, window_at}
+use Rattle.rd_tree.proofs.Keeping.{found_held}
+use Rattle.rd_tree.specs.Windows.{Windows, window_at}
 use Rattle.rd_tree.specs.declared.placed.Placed.{Placed}
 use Rattle.rd_tree.specs.declared.rect.Rect.{Rect}
 use Rattle.rd_ucd.specs.Data.{Data}
@@ -113,15 +114,8 @@ cursor-hold width point (e ∷ es) wide columns =
 
 -- ---- windows and their leaves
 
-leaf-held : (n : ℕ) (windows : Windows) → is_some (leaf_at n windows) ≡ holds n windows
-leaf-held n (Window number mode margins) = is_some-if (number == n) (mode, margins)
-leaf-held n (Split side size first second) =
-    let before = leaf-held n first in
-    let behind = leaf-held n second in
-    is_some-or (leaf_at n first) (leaf_at n second) ∙ (λ i. before i || behind i)
-
 leaf-found : (n : ℕ) (windows : Windows) (rect : Rect) (leaf : Bool × ℕ) → leaf_at n windows ≡ Some leaf → is_some (window_at n windows rect) ≡ true
-leaf-found n windows rect leaf h = found_held n windows rect ∙ (sym (leaf-held n windows) ∙ ap is_some h)
+leaf-found n windows rect leaf h = found_held n windows rect ∙ (sym (is_some-leaf n windows) ∙ ap is_some h)
 
 codes-of : (o : Option TextValue) → ((t : TextValue) → o ≡ Some t → AreCodes t.chars) → AreCodes (text_of o)
 codes-of None h = All-from_recursion (λ c. IsTrue (is_code c)) [] tt
@@ -149,7 +143,7 @@ line-told t pos is = let small = line-small t pos is in omega (arith, small)
 
 module _ (laws : FitLaws) (files : Data) (s : StateValue) (valid : IsValid s) where
   pub place-window : (p : Placed) → place_of p.number s ≡ Some p → (w : WindowState) × (window_of p.number s.windows ≡ Some w) × (leaf_of w ≡ (p.mode, p.margins))
-  place-window p at = map-some leaf_of (window_of p.number s.windows) (p.mode, p.margins) (sym (valid.windows.leaves p.number) ∙ laws.leaf p.number s.tree.windows (frame_of s.tree) p at)
+  place-window p at = placed-window s p.number p valid at
 
   pub shown-right : (w : WindowState) → IsWindow s.buffers w → IsContent s.objects (shown_content s w)
   shown-right w window =

@@ -1,6 +1,7 @@
 -- The windows of a frame, in their order and by their numbers.
-use Rattle.std.proofs.Common.{◌≡◌, ◌≢◌, inl, inr, ℕ, ◌+◌, ◌-◌, ◌<◌, ◌≤◌, ◌==◌, Bool, true, false, if◌then◌else◌, Some, List, [], ◌∷◌, ◌++◌, get_or, is_some, sym, ap, refl, ◌∙◌, arith, nat_le}
+use Rattle.std.proofs.Common.{◌≡◌, ◌≢◌, inl, inr, ℕ, ◌+◌, ◌-◌, ◌<◌, ◌≤◌, ◌==◌, Bool, true, false, if◌then◌else◌, Option, None, Some, List, [], ◌∷◌, ◌++◌, get_or, is_some, length, map, unwrap_or, sym, ap, refl, ◌∙◌, arith, nat_le}
 use Rattle.std.proofs.lemmas.Bool.{cases_eq, leb-true, leb-false, cond-false, cond-true, eq-eqb, ne_eqb}
+use Rattle.std.proofs.lemmas.List.{length-map}
 use Rattle.std.proofs.lemmas.List.Elements.{All-from_get_or, All-from_recursion, recursion_from_All}
 use Rattle.std.proofs.lemmas.Option.{slice_get-get_or, slice_get-map}
 use Rattle.std.specs.List.{All, AllByRecursion, flat_map}
@@ -8,8 +9,11 @@ use Rattle.std.specs.Prelude.{slice_get, option_map}
 use Rattle.rd_frame.specs.Panes.{body_height}
 use Rattle.rd_lineshift.specs.Choices.{AreWithin}
 use Rattle.rd_lineshift.specs.declared.band.Band.{Band}
-use Rattle.rd_state.specs.States.{StateValue}
+use Rattle.rd_state.proofs.Leaves.{placed-window}
+use Rattle.rd_state.specs.States.{StateValue, opening_window}
 use Rattle.rd_state.specs.Valid.{IsValid}
+use Rattle.rd_state.specs.Windows.{window_of}
+use Rattle.rd_state.specs.declared.window.WindowState.{WindowState}
 use Rattle.rd_tree.specs.Calls.{frame_of}
 use Rattle.rd_tree.proofs.Keeping.{found_held}
 use Rattle.rd_tree.proofs.Standing.{held_times}
@@ -55,6 +59,37 @@ module _ (laws : PlaceLaws) (s : StateValue) (valid : IsValid s) where
   -- what holds of each window that is found by its number holds of all
   pub all-places : (P : Placed → Type 0) → ((p : Placed) → place_of p.number s ≡ Some p → P p) → All P (places s)
   all-places P each = All-from_get_or P (places s) none (λ i less. each (get_or (places s) i none) (placed-at i (get_or (places s) i none) (slice_get-get_or (places s) i none less)))
+
+  -- what is shown of each window, in the order of their places
+  module _ {B : Type 0} (by_window : Placed → Option WindowState → List B) (one : Placed → WindowState → B) (gives : (p : Placed) (w : WindowState) → by_window p (Some w) ≡ one p w ∷ []) where
+    abbrev pub of-place : Placed → List B
+    of-place p = by_window p (window_of p.number s.windows)
+
+    abbrev pub each-one : Placed → B
+    each-one p = one p (unwrap_or (window_of p.number s.windows) opening_window)
+
+    abbrev pub IsOne : Placed → Type 0
+    IsOne p = of-place p ≡ each-one p ∷ []
+
+    pub shown-listed : flat_map of-place (places s) ≡ map each-one (places s)
+    shown-listed = by (places s) (recursion_from_All IsOne (places s) (all-places IsOne (λ p at.
+        let w = placed-window s p.number p valid at in
+        ap (by_window p) w.1 ∙ (gives p w.0 ∙ ap (λ (o : Option WindowState). one p (unwrap_or o opening_window) ∷ []) (sym w.1)))))
+      where
+        by : (ps : List Placed) → AllByRecursion IsOne ps → flat_map of-place ps ≡ map each-one ps
+        by [] h = refl
+        by (p ∷ ps) h = ap (λ (ys : List B). ys ++ flat_map of-place ps) h.0 ∙ ap (λ (ys : List B). each-one p ∷ ys) (by ps h.1)
+
+    pub shown-at : (i : ℕ) (p : Placed) (w : WindowState) → slice_get (places s) i ≡ Some p → window_of p.number s.windows ≡ Some w → slice_get (flat_map of-place (places s)) i ≡ Some (one p w)
+    shown-at i p w at window =
+        ap (λ (bs : List B). slice_get bs i) shown-listed
+        ∙ (slice_get-map each-one (places s) i ∙ (ap (option_map each-one) at ∙ ap (λ (o : Option WindowState). Some (one p (unwrap_or o opening_window))) window))
+
+    pub none-shown : (i : ℕ) → slice_get (places s) i ≡ None → slice_get (flat_map of-place (places s)) i ≡ None
+    none-shown i past = ap (λ (bs : List B). slice_get bs i) shown-listed ∙ (slice_get-map each-one (places s) i ∙ ap (option_map each-one) past)
+
+    pub shown-count : length (flat_map of-place (places s)) ≡ length (places s)
+    shown-count = ap length shown-listed ∙ length-map (places s) each-one
 
   pub made-number : (number : ℕ) (p : Placed) → place_of number s ≡ Some p → number < s.tree.made
   made-number number p at =

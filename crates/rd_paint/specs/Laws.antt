@@ -9,14 +9,13 @@ use Rattle.rd_items.specs.Blocks.{Adjoin, blocks_of}
 use Rattle.rd_props.specs.Buffers as props
 use Rattle.rd_state.specs.States.{StateValue}
 use Rattle.rd_state.specs.Valid.{IsValid, IsWindow}
-use Rattle.rd_state.specs.Windows.{leaf_at, shown_content, window_of}
+use Rattle.rd_state.specs.Windows.{shown_content, window_of}
 use Rattle.rd_state.specs.declared.window.WindowState.{WindowState}
 use Rattle.rd_text.specs.Texts.{IsAccessible}
 use Rattle.rd_tree.specs.Calls.{frame_of}
 use Rattle.rd_tree.specs.Compositions.{HasSize}
-use Rattle.rd_tree.specs.Windows.{Windows, placed, window_at}
+use Rattle.rd_tree.specs.Windows.{placed, window_at}
 use Rattle.rd_tree.specs.declared.placed.Placed.{Placed}
-use Rattle.rd_tree.specs.declared.rect.Rect.{Rect}
 use Rattle.rd_layout.specs.Laws.{PlaceLaws}
 use Rattle.rd_layout.specs.Screens.{frame_in}
 use Rattle.rd_layout.specs.Windows.{place_of, view_in}
@@ -24,7 +23,6 @@ use Rattle.rd_layout.specs.Windows.{place_of, view_in}
 -- of the windows of a frame in leaf order
 pub record LeafLaws : Type 0 where
   pub places : PlaceLaws
-  pub leaf : (number : ℕ) (windows : Windows) (rect : Rect) (window : Placed) → window_at number windows rect ≡ Some window → leaf_at number windows ≡ Some (window.mode, window.margins)
   pub found : (s : StateValue) (number : ℕ) (w : WindowState) → IsValid s → window_of number s.windows ≡ Some w → IsWindow s.buffers w
 
 -- where the blocks of an accessible text are listed

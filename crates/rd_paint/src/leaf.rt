@@ -33,8 +33,7 @@ fn found_leaf(state: &State, i: u32) -> Option<Leaf<'_>>
 {
     state.states_are_valid();
     leaf_laws();
-    let tree = state.tree();
-    let place = tree.placed(tree.leaf(i)?)?;
+    let place = state.tree().placed_leaf(i)?;
     let window = state.window(place.number)?;
     let content = content_of(state, window.buffer)?;
     Some(Leaf {

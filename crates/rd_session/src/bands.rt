@@ -1,7 +1,6 @@
 //! The bands of rows that the terminal may shift.
-ghost use Rattle.std.specs.Prelude.{◌≡◌, ◌<◌, ◌≤◌, ◌++◌, OnOk, IfOk, IfSome, slice_get};
+ghost use Rattle.std.specs.Prelude.{◌≡◌, ◌≤◌, ◌++◌, OnOk, IfOk};
 ghost use Rattle.std.specs.List.{flat_map};
-ghost use Rattle.rd_base.specs.declared.limits.TheConstants.{WINDOWS};
 ghost use Rattle.rd_layout.specs.Redisplays.{band_of, bands_of};
 ghost use Rattle.rd_tree.specs.Calls.{frame_of};
 ghost use Rattle.rd_tree.specs.Windows.{placed, rows_for};
@@ -10,7 +9,7 @@ use rd_base::{ListOf, Memory};
 use rd_frame::body_height;
 use rd_lineshift::Band;
 use rd_state::State;
-use rd_tree::{Placed, Tree, windows_tile_their_rectangle};
+use rd_tree::{Placed, Tree};
 use std::alloc::Global;
 
 /// The text rows of each window that is as wide as the frame, in leaf order; none where the terminal may not shift rows.
@@ -30,7 +29,7 @@ fn push_bands(bands: &mut ListOf<Band>, tree: &Tree, width: u32) -> Result<(), M
     ensures { OnOk result (bands.new ≡ bands.old ++ flat_map (band_of width) (placed tree.now.windows (frame_of tree.now))) }
 {
     let mut i = 0u32;
-    while let Some(place) = place_at(tree, i) {
+    while let Some(place) = tree.placed_leaf(i) {
         push_band(bands, width, place)?;
         i += 1;
     }
@@ -49,16 +48,4 @@ fn push_band(bands: &mut ListOf<Band>, width: u32, place: Placed) -> Result<(), 
         top: place.rect.y,
         height: body_height(place),
     })
-}
-
-/// The window at a place in leaf order, from 0, and where it stands; None exactly past the last.
-fn place_at(tree: &Tree, i: u32) -> Option<Placed>
-    ensures place { result ≡ slice_get (placed tree.now.windows (frame_of tree.now)) i }
-    ensures few { IfSome result (λ _. i < WINDOWS) }
-    ensures room { IfSome result (λ place. rows_for place.mode ≤ place.rect.height) }
-{
-    windows_tile_their_rectangle();
-    tree.trees_are_valid();
-    let number = tree.leaf(i)?;
-    tree.placed(number)
 }

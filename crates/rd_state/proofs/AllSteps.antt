@@ -29,7 +29,7 @@ use Rattle.rd_state.proofs.Naming.{setting-keeps, margin-keeps, string-valid, sp
 use Rattle.rd_state.proofs.Options.{get-set}
 use Rattle.rd_state.proofs.Showing.{set-valid, found-ok, buffer-ok, setting-valid, placing-valid, point-keeps, start-keeps, look-keeps, scroll-keeps, showing-valid, splitting-valid, removing-valid, resizing-valid, selecting-valid, mode_lining-valid, margining-valid}
 use Rattle.rd_state.proofs.Slots.{table-right}
-use Rattle.rd_state.proofs.Stepping.{raw-codes, edited-valid, edited_moving-valid, moving-done, insertion-keeps, insertion-means, deletion-keeps, narrowing-keeps, widening-keeps, put-keeps, making-keeps, moving-keeps, dropping-keeps, giving-keeps}
+use Rattle.rd_state.proofs.Stepping.{raw-codes, edited-valid, edited_moving-valid, moving-is, moving-valid, insertion-keeps, insertion-means, deletion-keeps, narrowing-keeps, widening-keeps, put-keeps, making-keeps, moving-keeps, dropping-keeps, giving-keeps}
 use Rattle.rd_state.proofs.Tests.{text-codes}
 
 -- the laws of all layers below
@@ -66,7 +66,8 @@ typed-done laws s t w b new (Ok d) v codes found at is h =
     let i = w.buffer in
     let place = w.point + length new in
     let u : StateValue = record s { buffers = slice_set s.buffers i (holding b d); windows = map (moved_in i how) s.windows } in
-    let valid : IsValid u = moving-done s u i b how (insertion w.point new) (Ok d) v (insertion-keeps laws.texts laws.made s.objects w.point new codes) at is refl in
+    let valid : IsValid u = moving-valid s u i how (insertion w.point new) v (insertion-keeps laws.texts laws.made s.objects w.point new codes)
+    (moving-is s u i b how (insertion w.point new) (Ok d) at is refl) in
     let m = insertion-means w.point new b.content d is in
     let end : IsAccessible d.text place = subst (λ (x : ContentValue). IsAccessible x.text place) m.2 (typed-place b.content.text w.point (length new) m.0) in
     let same : record u { windows = with_window s.selected (λ old. record old { point = place }) u.windows } ≡ t = cc (h) in

@@ -5,6 +5,7 @@ use Rattle.std.specs.Prelude.{slice_get, option_map}
 use Rattle.std.specs.List.{remove}
 use Rattle.std.specs.Option.{option_or}
 use Rattle.rd_state.specs.declared.window.WindowState.{WindowState}
+use Rattle.rd_state.proofs.Options.{one-value}
 use Rattle.rd_state.specs.Windows.{under, window_of, place_in, with_window, without_window, AreApart}
 
 abbrev pub NumberedWindow : Type 0
@@ -254,6 +255,52 @@ pub get-each : (f : WindowState → WindowState) (ws : List NumberedWindow) (k :
 get-each f [] k e h = absurd (cc)
 get-each f (x ∷ rest) zero e h = (x, refl, cc)
 get-each f (x ∷ rest) (suc k) e h = get-each f rest k e h
+
+-- ---- windows that correspond
+
+-- what holds of each window that lives before and after
+abbrev pub Each : (ℕ → WindowState → WindowState → Type 0) → List NumberedWindow → List NumberedWindow → Type 0
+Each R ws vs = (number : ℕ) (w v : WindowState) → window_of number ws ≡ Some w → window_of number vs ≡ Some v → R number w v
+
+-- where all windows become others
+pub each-moved : (R : ℕ → WindowState → WindowState → Type 0) (f : WindowState → WindowState) (ws : List NumberedWindow) → ((number : ℕ) (w : WindowState) → R number w (f w)) → Each R ws (map (each_by f) ws)
+each-moved R f ws moved number w v h k =
+    let after : option_map f (window_of number ws) ≡ Some v = sym (window-each number f ws) ∙ k in
+    let is : f w ≡ v = cc (sym (ap (option_map f) h) ∙ after) in
+    subst (R number w) is (moved number w)
+
+module _ (R : ℕ → WindowState → WindowState → Type 0) (stays : (number : ℕ) (w : WindowState) → R number w w) where
+  stays-found : (number : ℕ) (ws : List NumberedWindow) (w v : WindowState) → window_of number ws ≡ Some w → window_of number ws ≡ Some v → R number w v
+  stays-found number ws w v h k = subst (R number w) (one-value (window_of number ws) w v h k) (stays number w)
+
+  pub each-same : (ws : List NumberedWindow) → Each R ws ws
+  each-same ws number w v h k = stays-found number ws w v h k
+
+  -- where one becomes another
+  pub each-with : (n : ℕ) (f : WindowState → WindowState) (ws : List NumberedWindow) → ((w : WindowState) → R n w (f w)) → Each R ws (with_window n f ws)
+  each-with n f ws changed number w v h k = elim (cases_eq number n) [
+    | inl p ↦
+        let here : window_of n ws ≡ Some w = ap (λ (m : ℕ). window_of m ws) (sym p) ∙ h in
+        let after : option_map f (window_of n ws) ≡ Some v = sym (window-same n f ws) ∙ (ap (λ (m : ℕ). window_of m (with_window n f ws)) (sym p) ∙ k) in
+        let is : f w ≡ v = cc (sym (ap (option_map f) here) ∙ after) in
+        subst (λ (m : ℕ). R m w v) (sym p) (subst (R n w) is (changed w))
+    | inr q ↦ stays-found number ws w v h (sym (window-other n number f ws q) ∙ k)
+  ]
+
+  -- where one comes
+  pub each-end : (ws : List NumberedWindow) (e : NumberedWindow) → Each R ws (ws ++ e ∷ [])
+  each-end ws e number w v h k =
+      let other = if e.0 == number then Some e.1 else None in
+      let after : option_or (window_of number ws) other ≡ Some v = sym (window-end number ws e) ∙ k in
+      let is : w ≡ v = cc (sym (ap (λ (o : Option WindowState). option_or o other) h) ∙ after) in
+      subst (R number w) is (stays number w)
+
+  -- where one goes
+  pub each-without : (n : ℕ) (ws : List NumberedWindow) → AreApart ws → Each R ws (without_window n ws)
+  each-without n ws apart number w v h k = elim (cases_eq number n) [
+    | inl p ↦ absurd (some-none v (window_of n (without_window n ws)) (ap (λ (m : ℕ). window_of m (without_window n ws)) (sym p) ∙ k) (window-gone n ws apart))
+    | inr q ↦ stays-found number ws w v h (sym (window-left n number ws q) ∙ k)
+  ]
 
 -- ---- places and numbers
 

@@ -1,26 +1,26 @@
 -- What a buffer holds stays valid through each edit of it, and what each edit is in the terms of properties and overlays.
-use Rattle.std.proofs.Common.{◌≡◌, ℕ, ◌+◌, ◌-◌, ◌<◌, ◌≤◌, ◌==◌, ◌&&◌, ◌++◌, ◌⊎◌, inl, inr, Bool, true, false, if◌then◌else◌, nat_lt, nat_le, ℤ, Option, None, Some, List, [], ◌∷◌, length, map, take, drop, subst, sym, refl, ◌∙◌, arith, IsTrue}
+use Rattle.std.proofs.Common.{◌≡◌, ℕ, ◌+◌, ◌-◌, ◌<◌, ◌≤◌, ◌==◌, ◌&&◌, ◌++◌, ◌⊎◌, inl, inr, Bool, true, false, if◌then◌else◌, nat_lt, nat_le, ℤ, Option, None, Some, List, [], ◌∷◌, length, take, drop, subst, sym, refl, ◌∙◌, arith, IsTrue}
 use Rattle.std.proofs.lemmas.Bool.{leb-true, ltb-true, eqb-true, cond-false, le-ltb}
 use Rattle.std.proofs.lemmas.List.Elements.{All-append, All-take, All-drop}
 use Rattle.std.specs.Prelude.{IfSome}
 use Rattle.rd_base.specs.Chars.{is_code}
 use Rattle.rd_base.specs.Settings.{SettingValues}
-use Rattle.rd_text.specs.Texts.{TextValue, IsText, IsAccessible, most_characters, inserted, deleted, narrowed, widened}
+use Rattle.rd_text.specs.Texts.{TextValue, IsText, IsAccessible, most_characters, narrowed, widened}
 use Rattle.rd_text.specs.Answers.{IsAccessibleRange, IsRangeOfAll}
 use Rattle.rd_overlays.specs.declared.overlay.Overlay.{Overlay}
 use Rattle.rd_overlays.specs.declared.overlay.Kind.{Kind}
 use Rattle.rd_overlays.specs.declared.overlay.Kind.TheVariants as kinds
-use Rattle.rd_overlays.specs.Overlays.{new_overlay, place_of, slot_grown, slot_shrunk, moved, dropped, given}
+use Rattle.rd_overlays.specs.Overlays.{new_overlay, place_of, moved, dropped, given}
 use Rattle.rd_objects.specs.Sound.{AreCodes}
 use Rattle.rd_objects.specs.Things.{ObjectLists}
 use Rattle.rd_props.specs.Buffers as props
-use Rattle.rd_props.specs.Edits.{opened, closed, put_on, IsInsertion, IsDeletion, IsPut, HasOverlays}
+use Rattle.rd_props.specs.Edits.{put_on, IsInsertion, IsDeletion, IsPut, HasOverlays}
 use Rattle.rd_props.specs.Made.{IsMade, SettingsMade, AreMade}
 use Rattle.rd_props.specs.Values.{value_of}
 use Rattle.rd_script.specs.Forms.{is_text_kind}
 use Rattle.rd_state.specs.States.{ContentValue, seen, values_on, value_in}
 use Rattle.rd_state.specs.Valid.{IsWithin, IsContent}
-use Rattle.rd_state.specs.Edits.{is_range_of_all, is_made, is_value_made, marked_modified, grown, shrunk}
+use Rattle.rd_state.specs.Edits.{is_range_of_all, is_made, is_value_made, marked_modified, grown, shrunk, seen_grown, seen_shrunk}
 use Rattle.rd_state.proofs.Below.{TextLaws, MadeLaws}
 use Rattle.rd_state.proofs.Tables.{AreAlike, value-in-table}
 use Rattle.rd_state.proofs.Within.{grown-within, shrunk-within, same-within, made-within, put-within, moved-within, given-within}
@@ -40,22 +40,13 @@ listed-within b within = same-within b (listed_values b) within refl (listed-ali
 
 -- ---- insertion
 
--- a buffer with its values as they are opened
-abbrev opened_values : ContentValue → ℕ → List ℕ → props.BufferValue
-opened_values c pos new = record {
-  text = inserted c.text pos new;
-  properties = opened (value_in c.properties) pos (length new);
-  overlays = map (slot_grown pos (length new)) c.overlays;
-  settings = marked_modified (nat_lt 0 (length new)) c.settings;
-}
-
-opened-within : (c : ContentValue) (pos : ℕ) (new : List ℕ) → IsText c.text → IsWithin (seen c) → IsAccessible c.text pos → IsWithin (opened_values c pos new)
-opened-within c pos new text within at = grown-within (seen c) (opened_values c pos new) pos new text within at refl (λ kind p. refl) refl
+opened-within : (c : ContentValue) (pos : ℕ) (new : List ℕ) → IsText c.text → IsWithin (seen c) → IsAccessible c.text pos → IsWithin (seen_grown c pos new)
+opened-within c pos new text within at = grown-within (seen c) (seen_grown c pos new) pos new text within at refl (λ kind p. refl) refl
 
 pub grown-is : (c : ContentValue) (pos : ℕ) (new : List ℕ) → IsText c.text → IsWithin (seen c) → IsAccessible c.text pos → IsInsertion (seen c) (seen (grown c pos new)) pos new
 grown-is c pos new text within at = record {
   text = refl;
-  properties = listed-alike (opened_values c pos new) (opened-within c pos new text within at);
+  properties = listed-alike (seen_grown c pos new) (opened-within c pos new text within at);
   overlays = refl;
 }
 
@@ -74,7 +65,7 @@ grown-valid texts made o c pos new v codes at room =
       text = texts.inserted c.text pos new v.text at room;
       characters = All-append code (take (pos - 1) c.text.text ++ new) (drop (pos - 1) c.text.text)
           (All-append code (take (pos - 1) c.text.text) new (All-take code (pos - 1) c.text.text v.characters) codes) (All-drop code (pos - 1) c.text.text v.characters);
-      within = listed-within (opened_values c pos new) (opened-within c pos new v.text v.within at);
+      within = listed-within (seen_grown c pos new) (opened-within c pos new v.text v.within at);
       least_tab = v.least_tab;
       most_tab = v.most_tab;
       names = made.inserted (seen c) (seen (grown c pos new)) o pos new v.names (settings-kept o c.settings (marked_modified (nat_lt 0 (length new)) c.settings) refl refl refl v.names.settings)
@@ -84,21 +75,13 @@ grown-valid texts made o c pos new v codes at room =
 
 -- ---- deletion
 
-abbrev closed_values : ContentValue → ℕ → ℕ → props.BufferValue
-closed_values c from to = record {
-  text = deleted c.text from to;
-  properties = closed (value_in c.properties) from to;
-  overlays = map (slot_shrunk from to) c.overlays;
-  settings = marked_modified (nat_lt from to) c.settings;
-}
-
-closed-within : (c : ContentValue) (from to : ℕ) → IsText c.text → IsWithin (seen c) → IsAccessibleRange c.text from to → IsWithin (closed_values c from to)
-closed-within c from to text within at = shrunk-within (seen c) (closed_values c from to) from to text within at refl (λ kind p. refl) refl
+closed-within : (c : ContentValue) (from to : ℕ) → IsText c.text → IsWithin (seen c) → IsAccessibleRange c.text from to → IsWithin (seen_shrunk c from to)
+closed-within c from to text within at = shrunk-within (seen c) (seen_shrunk c from to) from to text within at refl (λ kind p. refl) refl
 
 pub shrunk-is : (c : ContentValue) (from to : ℕ) → IsText c.text → IsWithin (seen c) → IsAccessibleRange c.text from to → IsDeletion (seen c) (seen (shrunk c from to)) from to
 shrunk-is c from to text within at = record {
   text = refl;
-  properties = listed-alike (closed_values c from to) (closed-within c from to text within at);
+  properties = listed-alike (seen_shrunk c from to) (closed-within c from to text within at);
   overlays = refl;
 }
 
@@ -108,7 +91,7 @@ shrunk-valid texts made o c from to v at =
     record {
       text = texts.deleted c.text from to v.text at;
       characters = All-append code (take (from - 1) c.text.text) (drop (to - 1) c.text.text) (All-take code (from - 1) c.text.text v.characters) (All-drop code (to - 1) c.text.text v.characters);
-      within = listed-within (closed_values c from to) (closed-within c from to v.text v.within at);
+      within = listed-within (seen_shrunk c from to) (closed-within c from to v.text v.within at);
       least_tab = v.least_tab;
       most_tab = v.most_tab;
       names = made.deleted (seen c) (seen (shrunk c from to)) o from to v.names (settings-kept o c.settings (marked_modified (nat_lt from to) c.settings) refl refl refl v.names.settings)

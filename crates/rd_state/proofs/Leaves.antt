@@ -2,7 +2,7 @@
 use Rattle.std.proofs.Common.{◌≡◌, ◌≢◌, ℕ, ◌≤◌, ◌==◌, ◌||◌, Bool, true, false, is_some, if◌then◌else◌, Option, None, Some, sym, ap, refl, ◌∙◌, arith}
 use Rattle.std.proofs.lemmas.Bool.{eqb-true, false_from_ne_true, cond-false, cond-true, eq-eqb, ne_eqb}
 use Rattle.std.proofs.lemmas.Iterator.Adapters.{option_map_id}
-use Rattle.rd_base.proofs.Choices.{none-both, or-first, map-or, second-holds, none-of}
+use Rattle.rd_base.proofs.Choices.{none-both, or-first, map-or, map-some, second-holds, none-of}
 use Rattle.std.specs.Prelude.{option_map}
 use Rattle.std.specs.Option.{option_or}
 use Rattle.rd_tree.proofs.Keeping.{is_some-if, is_some-or, not_single}
@@ -12,7 +12,11 @@ use Rattle.rd_tree.specs.declared.placed.Placed.{Placed}
 use Rattle.rd_tree.specs.declared.rect.Rect.{Rect}
 use Rattle.rd_tree.specs.declared.side.Side.{Side}
 use Rattle.rd_tree.specs.Windows.{Windows, Window, Split, first_part, second_part, first_size, placed, of_number, window_at, holds, resized, replaced, halves, split_at, is_leaf_of, is_single, sibling, removed, first_leaf, times}
-use Rattle.rd_state.specs.Windows.{leaf_at}
+use Rattle.rd_tree.specs.Calls.{frame_of}
+use Rattle.rd_state.specs.States.{StateValue}
+use Rattle.rd_state.specs.Valid.{IsValid}
+use Rattle.rd_state.specs.Windows.{leaf_at, leaf_of, window_of}
+use Rattle.rd_state.specs.declared.window.WindowState.{WindowState}
 use Rattle.rd_state.proofs.Options.{or-none, some-or}
 
 abbrev pub Leaf : Type 0
@@ -229,3 +233,20 @@ heir-held n (Split side size first second) rect held many =
     let other = second-holds (holds n first) (holds n second) f held in
     or-held (leaf_at (first_leaf (sibling n second)) first) (leaf_at (first_leaf (sibling n second)) (removed n second (second_part side size rect)))
     (heir-held n second (second_part side size rect) other (not_single n second g other)))))
+
+-- ---- the windows of a valid state
+
+map-none : {X Y : Type 0} (f : X → Y) (o : Option X) → option_map f o ≡ None → o ≡ None
+map-none f None h = refl
+map-none f (Some x) h = absurd (cc)
+
+-- a window that was not made does not live
+pub unmade : (s : StateValue) (number : ℕ) → IsValid s → s.tree.made ≤ number → window_of number s.windows ≡ None
+unmade s number v past =
+    map-none leaf_of (window_of number s.windows) (sym (v.windows.leaves number) ∙ leaf-times number s.tree.windows (v.windows.tree.known number past))
+
+-- a window that has a place lives, with the mode line and the margins of its place
+pub placed-window : (s : StateValue) (number : ℕ) (p : Placed) → IsValid s → window_at number s.tree.windows (frame_of s.tree) ≡ Some p
+    → (w : WindowState) × (window_of number s.windows ≡ Some w) × (leaf_of w ≡ (p.mode, p.margins))
+placed-window s number p v at =
+    map-some leaf_of (window_of number s.windows) (p.mode, p.margins) (sym (v.windows.leaves number) ∙ placed-leaf number s.tree.windows (frame_of s.tree) p at)

@@ -1,7 +1,6 @@
 -- What ops leave of what is seen.
-use Rattle.std.proofs.Common.{◌≡◌, ◌≢◌, ℕ, ◌+◌, ◌-◌, inl, inr, Bool, true, is_some, if◌then◌else◌, nat_le, min, max, ℤ, pos, Option, None, Some, Result, Ok, Err, List, [], ◌∷◌, ◌++◌, length, map, subst, sym, ap, refl, ◌∙◌}
+use Rattle.std.proofs.Common.{◌≡◌, ◌≢◌, ℕ, ◌+◌, ◌-◌, inl, inr, Bool, true, is_some, min, max, ℤ, pos, Option, Some, Result, Ok, List, [], ◌∷◌, ◌++◌, length, subst, sym, ap, refl, ◌∙◌}
 use Rattle.std.specs.Prelude.{slice_get, slice_set, ◌-ℤ◌}
-use Rattle.rd_base.proofs.Choices.{some-of}
 use Rattle.rd_overlays.specs.declared.overlay.Overlay.{Overlay}
 use Rattle.rd_overlays.specs.declared.overlay.Kind.{Kind}
 use Rattle.rd_overlays.specs.Overlays as overlays
@@ -11,20 +10,17 @@ use Rattle.rd_objects.specs.Things.{ObjectLists}
 use Rattle.rd_props.specs.Edits.{AreOrdered}
 use Rattle.rd_script.specs.Forms.{is_text_kind}
 use Rattle.rd_margins.specs.Marks as marks
-use Rattle.rd_state.specs.declared.moves.Move.{Move}
 use Rattle.rd_state.specs.declared.refused.Refused.{Refused}
-use Rattle.rd_state.specs.declared.refused.Refused.TheVariants.{NoBuffer, NoObject, NoOverlay, OutOfRange, TooManyOverlays}
-use Rattle.rd_state.specs.States.{BufferValue, ContentValue, StateValue, seen, number_of}
+use Rattle.rd_state.specs.declared.refused.Refused.TheVariants.{NoObject, NoOverlay}
+use Rattle.rd_state.specs.States.{BufferValue, ContentValue, StateValue, seen}
 use Rattle.rd_state.specs.Valid.{IsContent}
 use Rattle.rd_state.specs.Changes.{Stays, StaysWhole}
-use Rattle.rd_state.specs.Edits.{is_accessible_range, is_range_of_all, is_made, is_value_made, most_overlays, grown, shrunk, insertion, deletion, property_putting, overlay_making, overlay_moving, overlay_dropping, overlay_putting, margin_putting}
-use Rattle.rd_state.specs.Moves.{moved_in}
-use Rattle.rd_state.specs.Steps.{with_found, replaced, moving, edited, edited_moving}
+use Rattle.rd_state.specs.Edits.{is_made, grown, shrunk, insertion, deletion, property_putting, overlay_making, overlay_moving, overlay_dropping, overlay_putting, margin_putting}
 use Rattle.rd_state.proofs.Below.{LeaveLaws}
 use Rattle.rd_state.proofs.Contents.{grown-is, shrunk-is, put-is, overlays-are, with_property, with_overlays}
 use Rattle.rd_state.proofs.Keeping.{holding}
-use Rattle.rd_state.proofs.Stepping.{insertion-means, deletion-means}
-use Rattle.rd_state.proofs.Tests.{if-ok, if-not, is_accessible_range-means, is_range_of_all-means}
+use Rattle.rd_state.proofs.Stepping.{IsEditOf, insertion-means, deletion-means, putting-means, making-means, dropping-means, giving-means, moving-means}
+use Rattle.rd_state.proofs.Tests.{both-ok, is_range_of_all-means}
 use Rattle.rd_state.proofs.Options.{one-value, get-set}
 
 -- ---- the same buffer
@@ -71,28 +67,17 @@ pub stays-put : (laws : LeaveLaws) (o : ObjectLists) (from to : ℕ) (kind : Kin
     → property_putting o from to kind value c ≡ Ok d → StaysAround o from to c d
 stays-put laws o from to kind value c d is v h =
     let new = with_property c from to kind value in
-    let outer = if-ok (is_accessible_range c.text from to) (if is_value_made o kind value then Ok new else Err NoObject) OutOfRange d h in
-    let inner = if-ok (is_value_made o kind value) (Ok new) NoObject d outer.1 in
-    let same : new ≡ d = cc (inner.1) in
-    subst (StaysAround o from to c) same (record {
-      seen = laws.put (seen c) (seen new) o kind from to value (put-is c from to kind value v.text v.within is (is_accessible_range-means c.text from to outer.0));
-      settings = refl;
-    })
+    let m = putting-means o from to kind value c d h in
+    subst (StaysAround o from to c) m.2 (record { seen = laws.put (seen c) (seen new) o kind from to value (put-is c from to kind value v.text v.within is m.0); settings = refl })
 
 pub stays-made : (laws : LeaveLaws) (o : ObjectLists) (from to : ℕ) (priority : ℤ) (front rear : Bool) (c d : ContentValue) → IsContent o c
     → overlay_making from to priority front rear c ≡ Ok d → StaysAround o from to c d
 stays-made laws o from to priority front rear c d v h =
     let overlay = new_overlay from to priority front rear in
-    let new = with_overlays c (c.overlays ++ Some overlay ∷ []) in
-    let all = nat_le most_overlays (length c.overlays) in
-    let outer = if-ok (is_range_of_all c.text from to) (if all then Err TooManyOverlays else Ok new) OutOfRange d h in
-    let inner = if-not all (Ok new) TooManyOverlays d outer.1 in
-    let same : new ≡ d = cc (inner.1) in
-    let range = is_range_of_all-means c.text from to outer.0 in
-    subst (StaysAround o from to c) same (record {
-      seen = laws.overlays.made (seen c) (seen new) o overlay range.ordered (overlays-are c (c.overlays ++ Some overlay ∷ []));
-      settings = refl;
-    })
+    let all = c.overlays ++ Some overlay ∷ [] in
+    let m = making-means from to priority front rear c d h in
+    let range = is_range_of_all-means c.text from to m.0 in
+    subst (StaysAround o from to c) m.2 (record { seen = laws.overlays.made (seen c) (seen (with_overlays c all)) o overlay range.ordered (overlays-are c all); settings = refl })
 
 -- what happens around an overlay that lives
 abbrev pub AroundOverlay : ObjectLists → ℕ → ContentValue → ContentValue → Type 0
@@ -100,32 +85,25 @@ AroundOverlay o number c d = (overlay : Overlay) × (overlay_at c.overlays numbe
 
 pub stays-dropped : (laws : LeaveLaws) (o : ObjectLists) (number : ℕ) (c d : ContentValue) → IsContent o c → overlay_dropping number c ≡ Ok d → AroundOverlay o number c d
 stays-dropped laws o number c d v h =
-    let new = with_overlays c (overlays.dropped c.overlays number) in
-    let outer = if-ok (is_some (overlay_at c.overlays number)) (Ok new) NoOverlay d h in
-    let there = some-of (overlay_at c.overlays number) outer.0 in
-    let same : new ≡ d = cc (outer.1) in (
+    let all = overlays.dropped c.overlays number in
+    let m = dropping-means number c d h in
+    let there = m.0 in (
       there.0,
       there.1,
-      subst (StaysAround o there.0.from there.0.to c) same (record {
-        seen = laws.overlays.dropped (seen c) (seen new) o number there.0 there.1 (ordered o c v number there.0 there.1) (overlays-are c (overlays.dropped c.overlays number));
-        settings = refl;
-      }),
+      subst (StaysAround o there.0.from there.0.to c) m.2
+          (record { seen = laws.overlays.dropped (seen c) (seen (with_overlays c all)) o number there.0 there.1 (ordered o c v number there.0 there.1) (overlays-are c all); settings = refl }),
     )
 
 pub stays-given : (laws : LeaveLaws) (o : ObjectLists) (number : ℕ) (kind : Kind) (value : Option ℕ) (c d : ContentValue) → IsContent o c → overlay_putting o number kind value c ≡ Ok d
     → AroundOverlay o number c d
 stays-given laws o number kind value c d v h =
-    let new = with_overlays c (overlays.given c.overlays number kind value) in
-    let outer = if-ok (is_some (overlay_at c.overlays number)) (if is_value_made o kind value then Ok new else Err NoObject) NoOverlay d h in
-    let inner = if-ok (is_value_made o kind value) (Ok new) NoObject d outer.1 in
-    let there = some-of (overlay_at c.overlays number) outer.0 in
-    let same : new ≡ d = cc (inner.1) in (
+    let all = overlays.given c.overlays number kind value in
+    let m = giving-means o number kind value c d h in
+    let there = m.0 in (
       there.0,
       there.1,
-      subst (StaysAround o there.0.from there.0.to c) same (record {
-        seen = laws.overlays.given (seen c) (seen new) o number there.0 kind value there.1 (ordered o c v number there.0 there.1) (overlays-are c (overlays.given c.overlays number kind value));
-        settings = refl;
-      }),
+      subst (StaysAround o there.0.from there.0.to c) m.2
+          (record { seen = laws.overlays.given (seen c) (seen (with_overlays c all)) o number there.0 kind value there.1 (ordered o c v number there.0 there.1) (overlays-are c all); settings = refl }),
     )
 
 -- what happens around both ranges of an overlay
@@ -134,85 +112,33 @@ AroundBoth o number from to c d = (overlay : Overlay) × (overlay_at c.overlays 
 
 pub stays-moved : (laws : LeaveLaws) (o : ObjectLists) (number from to : ℕ) (c d : ContentValue) → IsContent o c → overlay_moving number from to c ≡ Ok d → AroundBoth o number from to c d
 stays-moved laws o number from to c d v h =
-    let new = with_overlays c (overlays.moved c.overlays number from to) in
-    let in_range = is_range_of_all c.text from to in
-    let outer = if-ok (is_some (overlay_at c.overlays number)) (if in_range then Ok new else Err OutOfRange) NoOverlay d h in
-    let inner = if-ok in_range (Ok new) OutOfRange d outer.1 in
-    let there = some-of (overlay_at c.overlays number) outer.0 in
-    let range = is_range_of_all-means c.text from to inner.0 in
-    let same : new ≡ d = cc (inner.1) in (
+    let all = overlays.moved c.overlays number from to in
+    let m = moving-means number from to c d h in
+    let there = m.0 in
+    let range = is_range_of_all-means c.text from to m.1 in (
       there.0,
       there.1,
-      subst (λ (x : ContentValue). Stays c o x o (min there.0.from from) (max there.0.to to + 1) (pos 0)) same (record {
-        seen = laws.overlays.moved (seen c) (seen new) o number from to there.0 there.1 (ordered o c v number there.0 there.1) range.ordered (overlays-are c (overlays.moved c.overlays number from to));
-        settings = refl;
-      }),
+      subst (λ (x : ContentValue). Stays c o x o (min there.0.from from) (max there.0.to to + 1) (pos 0)) m.2
+          (record { seen = laws.overlays.moved (seen c) (seen (with_overlays c all)) o number from to there.0 there.1 (ordered o c v number there.0 there.1) range.ordered (overlays-are c all); settings = refl }),
     )
 
 pub stays-margin : (laws : LeaveLaws) (o : ObjectLists) (number : ℕ) (string : Option ℕ) (c d : ContentValue) → margin_putting o number string c ≡ Ok d → StaysWhole c o d o
 stays-margin laws o number string c d h =
     let new : ContentValue = record c { marks = marks.marked c.marks number string } in
-    let outer = if-ok (is_some (overlay_at c.overlays number)) (if is_made (length o.strings) string then Ok new else Err NoObject) NoOverlay d h in
-    let inner = if-ok (is_made (length o.strings) string) (Ok new) NoObject d outer.1 in
-    let same : new ≡ d = cc (inner.1) in
-    subst (λ (x : ContentValue). StaysWhole c o x o) same (λ head tail. record {
+    let m = both-ok (is_some (overlay_at c.overlays number)) (is_made (length o.strings) string) new NoObject NoOverlay d h in
+    subst (λ (x : ContentValue). StaysWhole c o x o) m.2 (λ head tail. record {
       seen = laws.settings (seen c) (seen new) o head tail (record { text = refl; properties = λ kind p. refl; overlays = refl });
       settings = refl;
     })
 
 -- ---- one buffer of a state
 
--- a state in which one buffer was edited
-pub record IsEditOf (s t : StateValue) (i : ℕ) (edit : ContentValue → Result ContentValue Refused) : Type 0 where
-  pub buffer : BufferValue
-  pub content : ContentValue
-  pub at : slice_get s.buffers i ≡ Some buffer
-  pub gives : edit buffer.content ≡ Ok content
-  pub buffers : t.buffers ≡ slice_set s.buffers i (holding buffer content)
-  pub objects : t.objects ≡ s.objects
-
-edit-by : (s t : StateValue) (i : ℕ) (b : BufferValue) (d : ContentValue) (edit : ContentValue → Result ContentValue Refused) → slice_get s.buffers i ≡ Some b → edit b.content ≡ Ok d
-    → t.buffers ≡ slice_set s.buffers i (holding b d) → t.objects ≡ s.objects → IsEditOf s t i edit
-edit-by s t i b d edit at gives buffers objects = record { buffer = b; content = d; at = at; gives = gives; buffers = buffers; objects = objects }
-
-replaced-is : (s t : StateValue) (i : ℕ) (b : BufferValue) (edit : ContentValue → Result ContentValue Refused) (r : Result ContentValue Refused) → slice_get s.buffers i ≡ Some b → edit b.content ≡ r
-    → replaced s i b r ≡ Ok t → IsEditOf s t i edit × (t.windows ≡ s.windows)
-replaced-is s t i b edit (Err e) at is h = absurd (cc)
-replaced-is s t i b edit (Ok d) at is h =
-    let same : record s { buffers = slice_set s.buffers i (holding b d) } ≡ t = cc (h) in
-    (edit-by s t i b d edit at is (sym (ap (λ (x : StateValue). x.buffers) same)) (sym (ap (λ (x : StateValue). x.objects) same)), sym (ap (λ (x : StateValue). x.windows) same))
-
-pub moving-is : (s t : StateValue) (i : ℕ) (b : BufferValue) (how : Move) (edit : ContentValue → Result ContentValue Refused) (r : Result ContentValue Refused) → slice_get s.buffers i ≡ Some b
-    → edit b.content ≡ r → moving i how (replaced s i b r) ≡ Ok t → IsEditOf s t i edit × (t.windows ≡ map (moved_in i how) s.windows)
-moving-is s t i b how edit (Err e) at is h = absurd (cc)
-moving-is s t i b how edit (Ok d) at is h =
-    let same : record s { buffers = slice_set s.buffers i (holding b d); windows = map (moved_in i how) s.windows } ≡ t = cc (h) in
-    (edit-by s t i b d edit at is (sym (ap (λ (x : StateValue). x.buffers) same)) (sym (ap (λ (x : StateValue). x.objects) same)), sym (ap (λ (x : StateValue). x.windows) same))
-
-found-edit : (s t : StateValue) (i : ℕ) (o : Option BufferValue) (edit : ContentValue → Result ContentValue Refused) → slice_get s.buffers i ≡ o
-    → with_found NoBuffer o (λ b. replaced s i b (edit b.content)) ≡ Ok t → IsEditOf s t i edit × (t.windows ≡ s.windows)
-found-edit s t i None edit at h = absurd (cc)
-found-edit s t i (Some b) edit at h = replaced-is s t i b edit (edit b.content) at refl h
-
-found-move : (s t : StateValue) (i : ℕ) (o : Option BufferValue) (how : Move) (edit : ContentValue → Result ContentValue Refused) → slice_get s.buffers i ≡ o
-    → with_found NoBuffer o (λ b. moving i how (replaced s i b (edit b.content))) ≡ Ok t → IsEditOf s t i edit × (t.windows ≡ map (moved_in i how) s.windows)
-found-move s t i None how edit at h = absurd (cc)
-found-move s t i (Some b) how edit at h = moving-is s t i b how edit (edit b.content) at refl h
-
-pub edited-is : (s t : StateValue) (name : List ℕ) (edit : ContentValue → Result ContentValue Refused) → edited s name edit ≡ Ok t
-    → IsEditOf s t (number_of name s.buffers) edit × (t.windows ≡ s.windows)
-edited-is s t name edit h = found-edit s t (number_of name s.buffers) (slice_get s.buffers (number_of name s.buffers)) edit refl h
-
-pub edited_moving-is : (s t : StateValue) (name : List ℕ) (how : Move) (edit : ContentValue → Result ContentValue Refused) → edited_moving s name how edit ≡ Ok t
-    → IsEditOf s t (number_of name s.buffers) edit × (t.windows ≡ map (moved_in (number_of name s.buffers) how) s.windows)
-edited_moving-is s t name how edit h = found-move s t (number_of name s.buffers) (slice_get s.buffers (number_of name s.buffers)) how edit refl h
-
 pub same-at : (s t : StateValue) (i k : ℕ) (edit : ContentValue → Result ContentValue Refused) (b c : BufferValue) → IsEditOf s t i edit → slice_get s.buffers k ≡ Some b → slice_get t.buffers k ≡ Some c
     → k ≡ i → (edit b.content ≡ Ok c.content) × (slice_get s.buffers i ≡ Some b)
 same-at s t i k edit b c e hb hc is =
     let here : slice_get s.buffers i ≡ Some b = ap (slice_get s.buffers) (sym is) ∙ hb in
     let was : e.buffer ≡ b = one-value (slice_get s.buffers i) e.buffer b e.at here in
-    let after : slice_get (slice_set s.buffers i (holding e.buffer e.content)) k ≡ Some c = ap (λ (bs : List BufferValue). slice_get bs k) (sym e.buffers) ∙ hc in
+    let after : slice_get (slice_set s.buffers i (holding e.buffer e.content)) k ≡ Some c = ap (λ (x : StateValue). slice_get x.buffers k) e.is ∙ hc in
     elim (get-set s.buffers i k (holding e.buffer e.content) c after) [
       | inl p ↦ (ap (λ (x : BufferValue). edit x.content) (sym was) ∙ (e.gives ∙ ap (λ (x : BufferValue). Ok x.content) (sym p.1)), here)
       | inr p ↦ absurd (p.0 is)
@@ -221,7 +147,7 @@ same-at s t i k edit b c e hb hc is =
 pub other-at : (s t : StateValue) (i k : ℕ) (edit : ContentValue → Result ContentValue Refused) (b c : BufferValue) → IsEditOf s t i edit → slice_get s.buffers k ≡ Some b → slice_get t.buffers k ≡ Some c
     → k ≢ i → b ≡ c
 other-at s t i k edit b c e hb hc ne =
-    let after : slice_get (slice_set s.buffers i (holding e.buffer e.content)) k ≡ Some c = ap (λ (bs : List BufferValue). slice_get bs k) (sym e.buffers) ∙ hc in
+    let after : slice_get (slice_set s.buffers i (holding e.buffer e.content)) k ≡ Some c = ap (λ (x : StateValue). slice_get x.buffers k) e.is ∙ hc in
     elim (get-set s.buffers i k (holding e.buffer e.content) c after) [
       | inl p ↦ absurd (ne p.0)
       | inr p ↦ one-value (slice_get s.buffers k) b c hb p.1
@@ -231,7 +157,7 @@ other-at s t i k edit b c e hb hc ne =
 pub others-whole : (laws : LeaveLaws) (s t : StateValue) (i k : ℕ) (edit : ContentValue → Result ContentValue Refused) (b c : BufferValue) → IsEditOf s t i edit → slice_get s.buffers k ≡ Some b
     → slice_get t.buffers k ≡ Some c → k ≢ i → StaysWhole b.content s.objects c.content t.objects
 others-whole laws s t i k edit b c e hb hc ne =
-    subst (λ (o : ObjectLists). StaysWhole b.content s.objects c.content o) (sym e.objects)
+    subst (λ (o : ObjectLists). StaysWhole b.content s.objects c.content o) (ap (λ (x : StateValue). x.objects) e.is)
     (subst (λ (x : BufferValue). StaysWhole b.content s.objects x.content s.objects) (other-at s t i k edit b c e hb hc ne) (whole laws s.objects b.content))
 
 -- what an edit leaves of its own buffer
@@ -240,4 +166,4 @@ pub here-stays : (s t : StateValue) (i k : ℕ) (edit : ContentValue → Result 
     → P b.content c.content t.objects
 here-stays s t i k edit b c P e hb hc stays is =
     let both = same-at s t i k edit b c e hb hc is in
-    subst (P b.content c.content) (sym e.objects) (stays b.content c.content both.1 both.0 refl)
+    subst (P b.content c.content) (ap (λ (x : StateValue). x.objects) e.is) (stays b.content c.content both.1 both.0 refl)

@@ -9,7 +9,7 @@ mod Finding
 pub mod Free
 mod Glyphs
 mod Keeping
-mod Leaves
+pub mod Leaves
 mod Leaving
 mod Mapped
 mod Naming

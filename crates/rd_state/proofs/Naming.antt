@@ -39,7 +39,7 @@ use Rattle.rd_state.proofs.ByNumber.{some-none}
 use Rattle.rd_state.proofs.Keeping.{buffers-appended, windows-appended}
 use Rattle.rd_state.proofs.Stepping.{Keeps, text-kept, with_parts}
 use Rattle.rd_state.proofs.Tables.{nothing-within}
-use Rattle.rd_state.proofs.Tests.{if-ok, if-not}
+use Rattle.rd_state.proofs.Tests.{both-ok, if-not, made-ok}
 
 -- ---- settings
 
@@ -77,7 +77,7 @@ with_setting-tab (setting.ReadOnly flag) s form h = h
 pub setting-keeps : (o : ObjectLists) (value : Setting) → IsSettingInForm value → Keeps o (λ p. p) (setting_putting o value)
 setting-keeps o value form c d v h =
     let new : ContentValue = record c { settings = with_setting value c.settings } in
-    let parts = if-ok (is_setting_made o value) (Ok new) NoObject d h in
+    let parts = made-ok (is_setting_made o value) new NoObject d h in
     let tab = with_setting-tab value c.settings form (v.least_tab, v.most_tab) in
     text-kept o c new d parts.1 refl (record {
       text = v.text;
@@ -106,16 +106,15 @@ margin-made count m number (Some n) made old k x h =
 pub margin-keeps : (o : ObjectLists) (number : ℕ) (string : Option ℕ) → Keeps o (λ p. p) (margin_putting o number string)
 margin-keeps o number string c d v h =
     let new : ContentValue = record c { marks = marked c.marks number string } in
-    let outer = if-ok (is_some (overlay_at c.overlays number)) (if is_made (length o.strings) string then Ok new else Err NoObject) NoOverlay d h in
-    let inner = if-ok (is_made (length o.strings) string) (Ok new) NoObject d outer.1 in
-    text-kept o c new d inner.1 refl (record {
+    let m = both-ok (is_some (overlay_at c.overlays number)) (is_made (length o.strings) string) new NoObject NoOverlay d h in
+    text-kept o c new d m.2 refl (record {
       text = v.text;
       characters = v.characters;
       within = v.within;
       least_tab = v.least_tab;
       most_tab = v.most_tab;
       names = v.names;
-      marks = margin-made (length o.strings) c.marks number string inner.0 v.marks;
+      marks = margin-made (length o.strings) c.marks number string m.1 v.marks;
     })
 
 -- ---- objects

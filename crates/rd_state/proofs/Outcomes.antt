@@ -1,9 +1,9 @@
 -- What each op leaves: of buffers what its effect tells, objects that go on, and windows that show what they showed.
-use Rattle.std.proofs.Common.{◌≡◌, ℕ, ◌+◌, ◌-◌, ◌≤◌, inl, inr, ◌==◌, true, false, is_some, if◌then◌else◌, nat_lt, nat_le, min, max, pos, ◌+ℤ◌, Option, None, Some, Result, Ok, Err, List, [], ◌∷◌, ◌++◌, length, map, subst, sym, ap, refl, ◌∙◌, arith, length-append, unwrap_or}
+use Rattle.std.proofs.Common.{◌≡◌, ℕ, ◌+◌, ◌-◌, ◌≤◌, inl, inr, ◌==◌, true, false, is_some, if◌then◌else◌, nat_lt, nat_le, min, max, pos, ◌+ℤ◌, Option, Some, Result, Ok, Err, List, [], ◌∷◌, ◌++◌, length, map, subst, sym, ap, refl, ◌∙◌, arith, length-append, unwrap_or}
 use Rattle.std.proofs.lemmas.Bool.{cases_eq}
 use Rattle.std.proofs.lemmas.List.{length-set}
 use Rattle.std.proofs.lemmas.Option.{slice_get_within}
-use Rattle.std.specs.Option.{option_and_then, option_or}
+use Rattle.std.specs.Option.{option_and_then}
 use Rattle.std.specs.Prelude.{slice_get, option_map, ◌-ℤ◌}
 use Rattle.rd_overlays.specs.declared.overlay.Overlay.{Overlay}
 use Rattle.rd_overlays.specs.Overlays.{overlay_at}
@@ -33,17 +33,21 @@ use Rattle.rd_state.specs.Moves.{moved, moved_in}
 use Rattle.rd_state.specs.Steps.{with_objects, changing, inserting, typing, setting, placing, on_tree, held, format_fault, making, raw_text, step}
 use Rattle.rd_state.proofs.AllSteps.{moved-buffer}
 use Rattle.rd_state.proofs.Below.{LeaveLaws, GrowLaws}
-use Rattle.rd_state.proofs.ByNumber.{NumberedWindow, window-each, window-same, window-other, window-end, window-gone, window-left, get-end, some-none}
+use Rattle.rd_state.proofs.ByNumber.{NumberedWindow, Each, window-each, each-same, each-with, each-moved, each-end, each-without, get-end}
 use Rattle.rd_state.proofs.Keeping.{moved_by}
-use Rattle.rd_state.proofs.Leaving.{whole, whole-objects, stays-inserted, stays-deleted, StaysAround, stays-put, stays-made, AroundOverlay, stays-dropped, stays-given, stays-moved, stays-margin, IsEditOf, moving-is, edited-is, edited_moving-is, others-whole, here-stays}
+use Rattle.rd_state.proofs.Leaving.{whole, whole-objects, stays-inserted, stays-deleted, StaysAround, stays-put, stays-made, AroundOverlay, stays-dropped, stays-given, stays-moved, stays-margin, others-whole, here-stays}
 use Rattle.rd_state.proofs.Naming.{made-none}
-use Rattle.rd_state.proofs.Showing.{found-ok, buffer-ok, on_tree-ok, changing-ok, same-window, unless-ok}
+use Rattle.rd_state.proofs.Showing.{found-ok, buffer-ok, on_tree-ok, changing-ok, retold-ok, unless-ok}
+use Rattle.rd_state.proofs.Stepping.{IsEditOf, moving-is, edited-is, edited_moving-is}
 use Rattle.rd_state.proofs.Tests.{if-ok, if-not}
 use Rattle.rd_state.proofs.Options.{one-value}
 
 -- windows show the buffers that they showed, but for those that an effect tells
+abbrev pub Shows : Effect → ℕ → WindowState → WindowState → Type 0
+Shows effect number w v = (effect ≡ Window number → ⊥) → v.buffer ≡ w.buffer
+
 abbrev pub Show : StateValue → StateValue → Effect → Type 0
-Show s t effect = (number : ℕ) (w v : WindowState) → window_of number s.windows ≡ Some w → window_of number t.windows ≡ Some v → (effect ≡ Window number → ⊥) → v.buffer ≡ w.buffer
+Show s t effect = Each (Shows effect) s.windows t.windows
 
 pub record Outcome (s t : StateValue) (effect : Effect) : Type 0 where
   pub contents : (k : ℕ) (b c : BufferValue) → slice_get s.buffers k ≡ Some b → slice_get t.buffers k ≡ Some c → Leaves effect k b.content s.objects c.content t.objects
@@ -53,47 +57,31 @@ pub record Outcome (s t : StateValue) (effect : Effect) : Type 0 where
 
 -- ---- windows
 
+show-by : (s t : StateValue) (effect : Effect) (ws : List NumberedWindow) → t.windows ≡ ws → Each (Shows effect) s.windows ws → Show s t effect
+show-by s t effect ws is show = subst (Each (Shows effect) s.windows) (sym is) show
+
 show-same : (s t : StateValue) (effect : Effect) → t.windows ≡ s.windows → Show s t effect
-show-same s t effect is number w v hw hv ne =
-    ap (λ (x : WindowState). x.buffer) (same-window number s.windows v w (ap (window_of number) (sym is) ∙ hv) hw)
+show-same s t effect is = show-by s t effect s.windows is (each-same (Shows effect) (λ number w ne. refl) s.windows)
 
 show-each : (s t : StateValue) (effect : Effect) (i : ℕ) (how : Move) → t.windows ≡ map (moved_in i how) s.windows → Show s t effect
-show-each s t effect i how is number w v hw hv ne =
-    let after : option_map (moved_by i how) (window_of number s.windows) ≡ Some v = sym (window-each number (moved_by i how) s.windows) ∙ (ap (window_of number) (sym is) ∙ hv) in
-    let same : moved_by i how w ≡ v = cc (sym (ap (option_map (moved_by i how)) hw) ∙ after) in
-    ap (λ (x : WindowState). x.buffer) (sym same) ∙ moved-buffer (w.buffer == i) (moved how) w (λ x. refl)
-
-with-buffer : (n number : ℕ) (f : WindowState → WindowState) (ws : List NumberedWindow) (w v : WindowState) → window_of number ws ≡ Some w → window_of number (with_window n f ws) ≡ Some v
-    → (number ≡ n → (f w).buffer ≡ w.buffer) → v.buffer ≡ w.buffer
-with-buffer n number f ws w v hw hv keep = elim (cases_eq number n) [
-  | inl p ↦
-      let here : window_of n ws ≡ Some w = ap (λ (k : ℕ). window_of k ws) (sym p) ∙ hw in
-      let after : option_map f (window_of n ws) ≡ Some v = sym (window-same n f ws) ∙ (ap (λ (k : ℕ). window_of k (with_window n f ws)) (sym p) ∙ hv) in
-      let same : f w ≡ v = cc (sym (ap (option_map f) here) ∙ after) in
-      ap (λ (x : WindowState). x.buffer) (sym same) ∙ keep p
-  | inr q ↦ ap (λ (x : WindowState). x.buffer) (same-window number ws v w (sym (window-other n number f ws q) ∙ hv) hw)
-]
+show-each s t effect i how is =
+    show-by s t effect (map (moved_in i how) s.windows) is
+    (each-moved (Shows effect) (moved_by i how) s.windows (λ number w ne. moved-buffer (w.buffer == i) (moved how) w (λ x. refl)))
 
 show-with : (s t : StateValue) (effect : Effect) (n : ℕ) (f : WindowState → WindowState) → t.windows ≡ with_window n f s.windows → ((w : WindowState) → (f w).buffer ≡ w.buffer) → Show s t effect
-show-with s t effect n f is keep number w v hw hv ne = with-buffer n number f s.windows w v hw (ap (window_of number) (sym is) ∙ hv) (λ p. keep w)
+show-with s t effect n f is keep =
+    show-by s t effect (with_window n f s.windows) is (each-with (Shows effect) (λ number w ne. refl) n f s.windows (λ w ne. keep w))
 
 show-other : (s t : StateValue) (n : ℕ) (f : WindowState → WindowState) → t.windows ≡ with_window n f s.windows → Show s t (Window n)
-show-other s t n f is number w v hw hv ne =
-    with-buffer n number f s.windows w v hw (ap (window_of number) (sym is) ∙ hv) (λ p. absurd (ne (ap (λ (k : ℕ). Window k) (sym p))))
+show-other s t n f is =
+    show-by s t (Window n) (with_window n f s.windows) is (each-with (Shows (Window n)) (λ number w ne. refl) n f s.windows (λ w ne. absurd (ne refl)))
 
 show-end : (s t : StateValue) (effect : Effect) (e : NumberedWindow) → t.windows ≡ s.windows ++ e ∷ [] → Show s t effect
-show-end s t effect e is number w v hw hv ne =
-    let other = if e.0 == number then Some e.1 else None in
-    let after : option_or (window_of number s.windows) other ≡ Some v = sym (window-end number s.windows e) ∙ (ap (window_of number) (sym is) ∙ hv) in
-    let same : w ≡ v = cc (sym (ap (λ (o : Option WindowState). option_or o other) hw) ∙ after) in
-    ap (λ (x : WindowState). x.buffer) (sym same)
+show-end s t effect e is = show-by s t effect (s.windows ++ e ∷ []) is (each-end (Shows effect) (λ number w ne. refl) s.windows e)
 
 show-without : (s t : StateValue) (effect : Effect) (n : ℕ) → IsValid s → t.windows ≡ without_window n s.windows → Show s t effect
-show-without s t effect n valid is number w v hw hv ne = elim (cases_eq number n) [
-  | inl p ↦ absurd (some-none v (window_of number t.windows) hv
-      (ap (window_of number) is ∙ (ap (λ (k : ℕ). window_of k (without_window n s.windows)) p ∙ window-gone n s.windows valid.windows.apart)))
-  | inr q ↦ ap (λ (x : WindowState). x.buffer) (same-window number s.windows v w (sym (window-left n number s.windows q) ∙ (ap (window_of number) (sym is) ∙ hv)) hw)
-]
+show-without s t effect n valid is =
+    show-by s t effect (without_window n s.windows) is (each-without (Shows effect) (λ number w ne. refl) n s.windows valid.windows.apart)
 
 -- the windows of a buffer, and the selected one once more
 show-typed : (s t : StateValue) (effect : Effect) (i : ℕ) (how : Move) (n : ℕ) (f : WindowState → WindowState) → t.windows ≡ with_window n f (map (moved_in i how) s.windows)
@@ -101,8 +89,7 @@ show-typed : (s t : StateValue) (effect : Effect) (i : ℕ) (how : Move) (n : �
 show-typed s t effect i how n f is keep number w v hw hv ne =
     let u : StateValue = record s { windows = map (moved_in i how) s.windows } in
     let between : window_of number u.windows ≡ Some (moved_by i how w) = window-each number (moved_by i how) s.windows ∙ ap (option_map (moved_by i how)) hw in
-    with-buffer n number f u.windows (moved_by i how w) v between (ap (window_of number) (sym is) ∙ hv) (λ p. keep (moved_by i how w))
-    ∙ moved-buffer (w.buffer == i) (moved how) w (λ x. refl)
+    show-with u t effect n f is keep number (moved_by i how w) v between hv ne ∙ moved-buffer (w.buffer == i) (moved how) w (λ x. refl)
 
 -- ---- ops that leave buffers and objects
 
@@ -141,8 +128,8 @@ edit-outcome : (laws : LeaveLaws) (grow : GrowLaws) (s t : StateValue) (i : ℕ)
     → ((k : ℕ) (b c : BufferValue) → slice_get s.buffers k ≡ Some b → slice_get t.buffers k ≡ Some c → Leaves effect k b.content s.objects c.content t.objects) → Show s t effect → Outcome s t effect
 edit-outcome laws grow s t i edit effect e contents show = record {
   contents = contents;
-  objects = extends-kept grow s t e.objects;
-  buffers = let size = ap length e.buffers ∙ length-set s.buffers i _ in omega (arith, size);
+  objects = extends-kept grow s t (sym (ap (λ (x : StateValue). x.objects) e.is));
+  buffers = let size = sym (ap (λ (x : StateValue). length x.buffers) e.is) ∙ length-set s.buffers i _ in omega (arith, size);
   windows = show;
 }
 
@@ -296,11 +283,9 @@ placing-outcome laws grow s t n place f keep h =
 tree-outcome : (laws : LeaveLaws) (grow : GrowLaws) (s t : StateValue) (n : ℕ) (f : WindowState → WindowState) (r : Result Configuration TreeFault) → ((w : WindowState) → (f w).buffer ≡ w.buffer)
     → changing n f (on_tree r (λ tree. record s { tree = tree })) ≡ Ok t → Outcome s t Nothing
 tree-outcome laws grow s t n f r keep h =
-    let u = changing-ok n f (on_tree r (λ tree. record s { tree = tree })) t h in
-    let d = on_tree-ok r (λ tree. record s { tree = tree }) u.0 u.1 in
-    let same : record s { tree = d.0; windows = with_window n f s.windows } ≡ t = ap (λ (x : StateValue). record x { windows = with_window n f x.windows }) d.2 ∙ u.2 in
-    nothing laws grow s t (keeps-by s (record s { tree = d.0; windows = with_window n f s.windows }) t refl refl same)
-    (show-with s t Nothing n f (sym (ap (λ (x : StateValue). x.windows) same)) keep)
+    let d = retold-ok s t n f r h in
+    nothing laws grow s t (keeps-by s (record s { tree = d.0; windows = with_window n f s.windows }) t refl refl d.2)
+    (show-with s t Nothing n f (sym (ap (λ (x : StateValue). x.windows) d.2)) keep)
 
 typing-outcome : (laws : LeaveLaws) (grow : GrowLaws) (s t : StateValue) (new : List ℕ) → IsValid s → typing s new ≡ Ok t
     → Outcome s t (inserted_effect (selected_window s).buffer (selected_window s).point new)
@@ -315,18 +300,18 @@ typing-outcome laws grow s t new v h =
     let e = moving-is s u.0 i b.0 (Inserted place n) (insertion place new) (insertion place new b.0.content) b.1 refl u.1 in
     let is : selected_window s ≡ w.0 = ap (λ (o : Option WindowState). unwrap_or o opening_window) w.1 in
     let same : record u.0 { windows = with_window s.selected f u.0.windows } ≡ t = u.2 in
+    let windows : t.windows ≡ with_window s.selected f u.0.windows = sym (ap (λ (x : StateValue). x.windows) same) in
     let edit : IsEditOf s t i (insertion place new) = record {
       buffer = e.0.buffer;
       content = e.0.content;
       at = e.0.at;
       gives = e.0.gives;
-      buffers = sym (ap (λ (x : StateValue). x.buffers) same) ∙ e.0.buffers;
-      objects = sym (ap (λ (x : StateValue). x.objects) same) ∙ e.0.objects;
+      is = ap (λ (x : StateValue). record x { windows = t.windows }) e.0.is ∙ (ap (λ (ws : List NumberedWindow). record u.0 { windows = ws }) windows ∙ same);
     } in
     subst (λ (x : WindowState). Outcome s t (inserted_effect x.buffer x.point new)) (sym is)
     (range-outcome laws grow s t i place 0 n (insertion place new) edit (λ x d at gives. stays-inserted laws s.objects place new x.content d (v.buffers.contents i x at) gives)
     (show-typed s t (Edit i place 0 n) i (Inserted place n) s.selected f
-    (sym (ap (λ (x : StateValue). x.windows) same) ∙ ap (with_window s.selected f) e.1) (λ x. refl)))
+    (windows ∙ ap (with_window s.selected f) e.1) (λ x. refl)))
 
 inserted-outcome : (laws : LeaveLaws) (grow : GrowLaws) (s t : StateValue) (name : List ℕ) (place : ℕ) (text : List ℕ) → IsValid s → inserting s name place text ≡ Ok t
     → Outcome s t (inserted_effect (number_of name s.buffers) place text)

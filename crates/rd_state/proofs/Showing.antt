@@ -13,7 +13,7 @@ use Rattle.rd_script.specs.Forms.{IsFormat}
 use Rattle.rd_script.specs.Numbers.{is_near_zero}
 use Rattle.rd_tree.specs.Calls as tree
 use Rattle.rd_tree.specs.Calls.{Configuration, frame_of, is_full, split_to, changed_to, split_tree, remove_tree, resize_tree, mode_tree, margins_tree}
-use Rattle.rd_tree.specs.Windows.{Windows, Window, fits, holds, is_single, split_at, removed, resized, with_mode, with_margins, columns_needed, rows_needed, first_leaf, sibling}
+use Rattle.rd_tree.specs.Windows.{Windows, Window, fits, holds, is_single, split_at, removed, replaced, resized, with_mode, with_margins, columns_needed, rows_needed, first_leaf, sibling}
 use Rattle.rd_tree.specs.declared.fault.TreeFault.{TreeFault}
 use Rattle.rd_tree.specs.declared.fault.TreeFault.TheVariants as tree_faults
 use Rattle.rd_tree.specs.declared.side.Side.{Side}
@@ -28,8 +28,8 @@ use Rattle.rd_state.specs.Steps.{with_found, in_window, changing, on_tree, split
 use Rattle.rd_state.proofs.Below.{TreeLaws}
 use Rattle.rd_state.proofs.ByNumber.{NumberedWindow, window-end, apart-end, get-end, window-gone, window-left, apart-without, get-without, get-window, some-none}
 use Rattle.rd_state.proofs.Keeping.{window-placed, windows-changed}
-use Rattle.rd_state.proofs.Leaves.{Leaf, leaf-resized, leaf-same, leaf-other, split-same, split-other, split-new, removed-same, removed-other, heir-held, leaf-times}
-use Rattle.rd_state.proofs.Tests.{if-ok, if-not, is_accessible-means}
+use Rattle.rd_state.proofs.Leaves.{Leaf, leaf-resized, leaf-same, leaf-other, split-same, split-other, split-new, removed-same, removed-other, heir-held, unmade}
+use Rattle.rd_state.proofs.Tests.{found-value, if-ok, if-not, is_accessible-means}
 use Rattle.rd_state.proofs.Options.{map-map, one-value, or-none, some-or}
 
 -- ---- what the calls of the tree mean
@@ -121,25 +121,17 @@ set-valid s t number f v same keep h =
     let is : record s { windows = with_window number f s.windows } ≡ t = cc (h) in
     subst IsValid is (with_windows s s.tree (with_window number f s.windows) s.selected v (windows-set s.buffers s.tree s.windows s.selected number f same keep v.windows) refl refl)
 
-in_window-ok : (s t : StateValue) (o : Option WindowState) (f : WindowState → Result StateValue Refused) → with_found NoWindow o f ≡ Ok t → (w : WindowState) × (o ≡ Some w) × (f w ≡ Ok t)
-in_window-ok s t None f h = absurd (cc)
-in_window-ok s t (Some w) f h = (w, refl, h)
-
 pub found-ok : (s t : StateValue) (number : ℕ) (f : WindowState → Result StateValue Refused) → in_window s number f ≡ Ok t → (w : WindowState) × (window_of number s.windows ≡ Some w) × (f w ≡ Ok t)
-found-ok s t number f h = in_window-ok s t (window_of number s.windows) f h
+found-ok s t number f h = found-value NoWindow (window_of number s.windows) f t h
 
 pub buffer-ok : (t : StateValue) (o : Option BufferValue) (f : BufferValue → Result StateValue Refused) → with_found NoBuffer o f ≡ Ok t → (b : BufferValue) × (o ≡ Some b) × (f b ≡ Ok t)
-buffer-ok t None f h = absurd (cc)
-buffer-ok t (Some b) f h = (b, refl, h)
+buffer-ok t o f h = found-value NoBuffer o f t h
 
 pub setting-valid : (s t : StateValue) (number : ℕ) (f : WindowState → WindowState) → IsValid s → ((w : WindowState) → leaf_of (f w) ≡ leaf_of w)
     → ((w : WindowState) → window_of number s.windows ≡ Some w → IsWindow s.buffers w → IsWindow s.buffers (f w)) → setting s number f ≡ Ok t → IsValid t
 setting-valid s t number f v same keep h = set-valid s t number f v same keep (found-ok s t number (λ w. changing number f (Ok s)) h).2
 
 -- ---- points and views
-
-pub same-window : (n : ℕ) (ws : List NumberedWindow) (w v : WindowState) → window_of n ws ≡ Some w → window_of n ws ≡ Some v → w ≡ v
-same-window n ws w v h k = cc
 
 pub placing-valid : (s t : StateValue) (number place : ℕ) (f : WindowState → WindowState) → IsValid s → ((w : WindowState) → leaf_of (f w) ≡ leaf_of w)
     → ((w : WindowState) → IsWindow s.buffers w → ((b : BufferValue) → slice_get s.buffers w.buffer ≡ Some b → IsAccessible b.content.text place) → IsWindow s.buffers (f w))
@@ -151,7 +143,7 @@ placing-valid s t number place f v same keep h =
     let at = is_accessible-means b.0.content.text place parts.0 in
     set-valid s t number f v same
     (λ x found old. keep x old (λ c hc.
-    let is : w.0 ≡ x = same-window number s.windows w.0 x w.1 found in
+    let is : w.0 ≡ x = one-value (window_of number s.windows) w.0 x w.1 found in
     let here : slice_get s.buffers w.0.buffer ≡ Some c = ap (λ (y : WindowState). slice_get s.buffers y.buffer) is ∙ hc in
     subst (λ (z : BufferValue). IsAccessible z.content.text place) (one-value (slice_get s.buffers w.0.buffer) b.0 c b.1 here) at))
     parts.1
@@ -245,63 +237,54 @@ good-format : (format : Option (List ℕ)) → IsFormat format → format_fault 
 good-format None form h = tt
 good-format (Some text) form h = record { plain = form; good = h }
 
--- one window
-abbrev tree_window : ℕ → Bool → ℕ → Windows
-tree_window number mode margins = Window number mode margins
-
 -- a state with another tree and another window
-pub retold : (s : StateValue) (d : Configuration) (number : ℕ) (f : WindowState → WindowState) (g : Leaf → Leaf) → IsValid s → tree.IsValid d → d.width ≡ s.tree.width → d.height ≡ s.tree.height
-    → leaf_at number d.windows ≡ option_map g (leaf_at number s.tree.windows) → ((w : WindowState) → g (leaf_of w) ≡ leaf_of (f w))
-    → ((k : ℕ) → k ≢ number → leaf_at k d.windows ≡ leaf_at k s.tree.windows) → ((w : WindowState) → IsWindow s.buffers w → IsWindow s.buffers (f w))
-    → IsValid (record s { tree = d; windows = with_window number f s.windows })
-retold s d number f g v valid wide high here gives others keep =
-    with_windows s d (with_window number f s.windows) s.selected v
-    (windows-changed s.buffers s.tree d s.windows s.selected number f valid
+pub retold-ok : (s t : StateValue) (number : ℕ) (f : WindowState → WindowState) (r : Result Configuration TreeFault) → changing number f (on_tree r (λ c. record s { tree = c })) ≡ Ok t
+    → (d : Configuration) × (r ≡ Ok d) × (record s { tree = d; windows = with_window number f s.windows } ≡ t)
+retold-ok s t number f r h =
+    let u = changing-ok number f (on_tree r (λ c. record s { tree = c })) t h in
+    let d = on_tree-ok r (λ c. record s { tree = c }) u.0 u.1 in
+    (d.0, d.1, ap (λ (x : StateValue). record x { windows = with_window number f x.windows }) d.2 ∙ u.2)
+
+both-parts : (x : Leaf) → ◌≡◌ {A = Leaf} (x.0, x.1) x
+both-parts (mode, margins) = refl
+
+-- the same window of the tree with another mode line or other margins
+abbrev retold : ℕ → (Leaf → Leaf) → Bool → ℕ → Windows
+retold number g mode margins = Window number (g (mode, margins)).0 (g (mode, margins)).1
+
+retold-valid : (s t : StateValue) (number : ℕ) (f : WindowState → WindowState) (g : Leaf → Leaf) (r : Result Configuration TreeFault) → IsValid s
+    → ((d : Configuration) → r ≡ Ok d → tree.IsValid d × (record s.tree { windows = replaced number (retold number g) s.tree.windows } ≡ d)) → ((w : WindowState) → g (leaf_of w) ≡ leaf_of (f w))
+    → ((w : WindowState) → IsWindow s.buffers w → IsWindow s.buffers (f w)) → changing number f (on_tree r (λ c. record s { tree = c })) ≡ Ok t → IsValid t
+retold-valid s t number f g r v means gives keep h =
+    let d = retold-ok s t number f r h in
+    let is = means d.0 d.1 in
+    let new : Configuration = record s.tree { windows = replaced number (retold number g) s.tree.windows } in
+    let here : leaf_at number new.windows ≡ option_map g (leaf_at number s.tree.windows)
+    = leaf-same number (retold number g) g s.tree.windows (λ mode margins. cond-true (number == number) _ None (eq-eqb number number refl) ∙ ap (λ (x : Leaf). Some x) (both-parts (g (mode, margins)))) in
+    let others : (k : ℕ) → k ≢ number → leaf_at k new.windows ≡ leaf_at k s.tree.windows
+    = λ k q. leaf-other number k (retold number g) s.tree.windows q (λ mode margins. cond-false (number == k) _ None (ne_eqb number k (λ p. q (sym p)))) in
+    subst IsValid (ap (λ (x : Configuration). record s { tree = x; windows = with_window number f s.windows }) is.1 ∙ d.2)
+    (with_windows s new (with_window number f s.windows) s.selected v
+    (windows-changed s.buffers s.tree new s.windows s.selected number f (subst tree.IsValid (sym is.1) is.0)
     (here ∙ (ap (option_map g) (v.windows.leaves number) ∙ map-map leaf_of g (λ w. leaf_of (f w)) (window_of number s.windows) gives)) others (λ w found old. keep w old) v.windows)
-    wide high
-
-mode-leaf : (n k : ℕ) (shown : Bool) (margins : ℕ) → k ≢ n → leaf_at k (tree_window n shown margins) ≡ None
-mode-leaf n k shown margins ne = cond-false (n == k) (Some (shown, margins)) None (ne_eqb n k (λ p. ne (sym p)))
-
-here-leaf : (n : ℕ) (shown : Bool) (margins : ℕ) → leaf_at n (tree_window n shown margins) ≡ Some (shown, margins)
-here-leaf n shown margins = cond-true (n == n) (Some (shown, margins)) None (eq-eqb n n refl)
+    refl refl)
 
 pub mode_lining-valid : (laws : TreeLaws) (s t : StateValue) (number : ℕ) (format : Option (List ℕ)) → IsValid s → IsFormat format → mode_lining s number format ≡ Ok t → IsValid t
 mode_lining-valid laws s t number format v form h =
     let w = found-ok s t number _ h in
     let good = unless-ok (format_fault format) _ t w.2 in
-    let f : WindowState → WindowState = λ old. record old { format = format } in
-    let u = changing-ok number f _ t good.1 in
-    let d = on_tree-ok (mode_tree s.tree number (is_some format)) _ u.0 u.1 in
-    let is = mode-means s.tree d.0 number (is_some format) d.1 in
-    let new : Configuration = record s.tree { windows = with_mode number (is_some format) s.tree.windows } in
-    let valid = laws.mode s.tree d.0 number (is_some format) v.windows.tree d.1 in
-    let made = retold s new number f (λ x. (is_some format, x.1)) v (subst tree.IsValid (sym is) valid) refl refl
-    (leaf-same number (λ _ margins. tree_window number (is_some format) margins) (λ x. (is_some format, x.1)) s.tree.windows (λ mode margins. here-leaf number (is_some format) margins))
-    (λ x. refl) (λ k q. leaf-other number k (λ _ margins. tree_window number (is_some format) margins) s.tree.windows q (λ mode margins. mode-leaf number k (is_some format) margins q))
-    (λ x old. look-keeps s.buffers x (record x { format = format }) refl refl refl old.pending old.hscroll (good-format format form good.0) old.numbers old.strings old) in
-    let end : record s { tree = new; windows = with_window number f s.windows } ≡ t
-    = ap (λ (x : Configuration). record s { tree = x; windows = with_window number f s.windows }) is
-    ∙ (ap (λ (x : StateValue). record x { windows = with_window number f x.windows }) d.2 ∙ u.2) in
-    subst IsValid end made
+    let shown = is_some format in
+    retold-valid s t number (λ old. record old { format = format }) (λ x. (shown, x.1)) (mode_tree s.tree number shown) v
+    (λ d at. (laws.mode s.tree d number shown v.windows.tree at, mode-means s.tree d number shown at)) (λ x. refl)
+    (λ x old. look-keeps s.buffers x (record x { format = format }) refl refl refl old.pending old.hscroll (good-format format form good.0) old.numbers old.strings old) good.1
 
 pub margining-valid : (laws : TreeLaws) (s t : StateValue) (number numbers strings : ℕ) → IsValid s → numbers ≤ 10 → strings ≤ 20 → margining s number numbers strings ≡ Ok t → IsValid t
 margining-valid laws s t number numbers strings v few some h =
     let w = found-ok s t number _ h in
-    let f : WindowState → WindowState = λ old. record old { numbers = numbers; strings = strings } in
-    let u = changing-ok number f _ t w.2 in
-    let d = on_tree-ok (margins_tree s.tree number (numbers + strings)) _ u.0 u.1 in
-    let is = margins-means s.tree d.0 number (numbers + strings) d.1 in
-    let new : Configuration = record s.tree { windows = with_margins number (numbers + strings) s.tree.windows } in
-    let valid = laws.margins s.tree d.0 number (numbers + strings) v.windows.tree d.1 in
-    let made = retold s new number f (λ x. (x.0, numbers + strings)) v (subst tree.IsValid (sym is) valid) refl refl
-    (leaf-same number (λ mode _. tree_window number mode (numbers + strings)) (λ x. (x.0, numbers + strings)) s.tree.windows (λ mode margins. here-leaf number mode (numbers + strings)))
-    (λ x. refl) (λ k q. leaf-other number k (λ mode _. tree_window number mode (numbers + strings)) s.tree.windows q (λ mode margins. mode-leaf number k mode (numbers + strings) q))
-    (λ x old. look-keeps s.buffers x (record x { numbers = numbers; strings = strings }) refl refl refl old.pending old.hscroll old.format few some old) in
-    let end : record s { tree = new; windows = with_window number f s.windows } ≡ t
-    = ap (λ (x : Configuration). record s { tree = x; windows = with_window number f s.windows }) is
-    ∙ (ap (λ (x : StateValue). record x { windows = with_window number f x.windows }) d.2 ∙ u.2) in
-    subst IsValid end made
+    let columns = numbers + strings in
+    retold-valid s t number (λ old. record old { numbers = numbers; strings = strings }) (λ x. (x.0, columns)) (margins_tree s.tree number columns) v
+    (λ d at. (laws.margins s.tree d number columns v.windows.tree at, margins-means s.tree d number columns at)) (λ x. refl)
+    (λ x old. look-keeps s.buffers x (record x { numbers = numbers; strings = strings }) refl refl refl old.pending old.hscroll old.format few some old) w.2
 
 -- ---- splits
 
@@ -312,21 +295,12 @@ split-old number k side size made ws q = elim (cases_eq k number) [
   | inr n ↦ split-other number k side size made ws n q
 ]
 
-map-none : {X Y : Type 0} (f : X → Y) (o : Option X) → option_map f o ≡ None → o ≡ None
-map-none f None h = refl
-map-none f (Some x) h = absurd (cc)
-
-unmade : (s : StateValue) → IsValid s → window_of s.tree.made s.windows ≡ None
-unmade s v =
-    let none = leaf-times s.tree.made s.tree.windows (v.windows.tree.known s.tree.made (omega arith)) in
-    map-none leaf_of (window_of s.tree.made s.windows) (sym (v.windows.leaves s.tree.made) ∙ none)
-
 split-windows : (s : StateValue) (d : Configuration) (number : ℕ) (side : Side) (size : ℕ) (w copy : WindowState) → IsValid s → tree.IsValid d
     → d.windows ≡ split_at number side size s.tree.made s.tree.windows → window_of number s.windows ≡ Some w → leaf_of copy ≡ leaf_of w → IsWindow s.buffers copy
     → AreWindows s.buffers d (s.windows ++ (s.tree.made, copy) ∷ []) s.selected
 split-windows s d number side size w copy v valid is found leaf new =
     let made = s.tree.made in
-    let fresh = unmade s v in
+    let fresh = unmade s made v (omega arith) in
     let other : number ≢ made = λ p. absurd (some-none w (window_of made s.windows) (ap (λ (k : ℕ). window_of k s.windows) (sym p) ∙ found) fresh) in
     record {
       tree = valid;

@@ -1,5 +1,5 @@
 -- A step leads from a valid state to a valid one: the ops on buffers and on objects.
-use Rattle.std.proofs.Common.{◌≡◌, ℕ, ◌+◌, ◌-◌, ◌≤◌, ◌&&◌, Bool, true, false, is_some, if◌then◌else◌, nat_lt, nat_le, ℤ, Option, None, Some, Result, Ok, Err, List, [], ◌∷◌, ◌++◌, length, map, min, max, subst, sym, ap, refl, ◌∙◌, arith, IsTrue}
+use Rattle.std.proofs.Common.{◌≡◌, ℕ, ◌+◌, ◌-◌, ◌≤◌, ◌&&◌, Bool, true, false, is_some, if◌then◌else◌, nat_lt, nat_le, ℤ, Option, Some, Result, Ok, Err, List, [], ◌∷◌, ◌++◌, length, map, min, max, subst, sym, ap, refl, ◌∙◌, arith, IsTrue}
 use Rattle.std.proofs.lemmas.Bool.{ltb-true, ltb-false, leb-true, or_right}
 use Rattle.std.proofs.lemmas.Bool.Decides.{nat_tests}
 use Rattle.std.proofs.lemmas.List.Elements.{All-map, All-weaker}
@@ -7,6 +7,8 @@ use Rattle.std.specs.Prelude.{All, slice_get, slice_set}
 use Rattle.rd_base.specs.Chars.{is_code, is_scalar}
 use Rattle.rd_text.specs.Texts.{TextValue, IsAccessible, most_characters}
 use Rattle.rd_text.specs.Answers.{IsAccessibleRange, IsRangeOfAll}
+use Rattle.rd_base.proofs.Choices.{some-of}
+use Rattle.rd_overlays.specs.declared.overlay.Overlay.{Overlay}
 use Rattle.rd_overlays.specs.declared.overlay.Kind.{Kind}
 use Rattle.rd_overlays.specs.Overlays as overlays
 use Rattle.rd_overlays.specs.Overlays.{overlay_at, new_overlay, after_deletion}
@@ -22,11 +24,12 @@ use Rattle.rd_state.specs.States.{BufferValue, ContentValue, StateValue, number_
 use Rattle.rd_state.specs.Valid.{AreBuffers, AreWindows, IsContent, IsValid}
 use Rattle.rd_state.specs.Edits.{is_accessible, is_accessible_range, is_range_of_all, has_room, is_value_made, most_overlays, grown, shrunk, insertion, deletion, narrowing, widening, property_putting, overlay_making, overlay_moving, overlay_dropping, overlay_putting}
 use Rattle.rd_state.specs.Moves.{point_after_insertion, brought_into, place_after, moved_in}
-use Rattle.rd_state.specs.Steps.{with_found, replaced, moving, edited, edited_moving, raw_text}
+use Rattle.rd_state.specs.Steps.{replaced, moving, edited, edited_moving, raw_text}
 use Rattle.rd_state.proofs.Below.{TextLaws, MadeLaws}
 use Rattle.rd_state.proofs.Contents.{grown-valid, shrunk-valid, narrowed-valid, widened-valid, put-valid, made-valid, moved-valid, dropped-valid, given-valid, with_property, with_overlays}
+use Rattle.rd_state.proofs.ByNumber.{NumberedWindow}
 use Rattle.rd_state.proofs.Keeping.{holding, buffers-replaced, windows-replaced, windows-moved}
-use Rattle.rd_state.proofs.Tests.{if-ok, if-not, is_accessible-means, is_accessible_range-means, is_range_of_all-means}
+use Rattle.rd_state.proofs.Tests.{both-ok, found-value, if-ok, if-not, made-ok, is_accessible-means, is_accessible_range-means, is_range_of_all-means}
 
 -- ---- texts
 
@@ -77,54 +80,81 @@ with_parts s bs objects ws v a sound closed b = record {
   echo = v.echo;
 }
 
-replaced-done : (s t : StateValue) (i : ℕ) (b : BufferValue) (edit : ContentValue → Result ContentValue Refused) (r : Result ContentValue Refused) → IsValid s
-    → Keeps s.objects (λ p. p) edit → slice_get s.buffers i ≡ Some b → edit b.content ≡ r → replaced s i b r ≡ Ok t → IsValid t
-replaced-done s t i b edit (Err e) v k at is h = absurd (cc)
-replaced-done s t i b edit (Ok d) v k at is h =
+-- a state in which one buffer was edited
+pub record IsEditOf (s t : StateValue) (i : ℕ) (edit : ContentValue → Result ContentValue Refused) : Type 0 where
+  pub buffer : BufferValue
+  pub content : ContentValue
+  pub at : slice_get s.buffers i ≡ Some buffer
+  pub gives : edit buffer.content ≡ Ok content
+  pub is : record s { buffers = slice_set s.buffers i (holding buffer content); windows = t.windows } ≡ t
+
+-- what goes on where a buffer was edited: windows may become others
+abbrev Follows : StateValue → (Result StateValue Refused → Result StateValue Refused) → List NumberedWindow → Type 0
+Follows s next ws =
+    ((e : Refused) → next (Err e) ≡ Err e)
+    × ((bs : List BufferValue) → next (Ok (record s { buffers = bs })) ≡ Ok (record s { buffers = bs; windows = ws }))
+
+replaced-is : (s t : StateValue) (i : ℕ) (b : BufferValue) (edit : ContentValue → Result ContentValue Refused) (next : Result StateValue Refused → Result StateValue Refused) (ws : List NumberedWindow)
+    → Follows s next ws → (r : Result ContentValue Refused) → slice_get s.buffers i ≡ Some b → edit b.content ≡ r → next (replaced s i b r) ≡ Ok t → IsEditOf s t i edit × (t.windows ≡ ws)
+replaced-is s t i b edit next ws on (Err e) at is h = let refused : ◌≡◌ {A = Result StateValue Refused} (Err e) (Ok t) = sym (on.0 e) ∙ h in absurd (cc)
+replaced-is s t i b edit next ws on (Ok d) at is h =
     let bs = slice_set s.buffers i (holding b d) in
-    let same : record s { buffers = bs } ≡ t = cc (h) in
-    let kept = k b.content d (v.buffers.contents i b at) is in
-    subst IsValid same (with_parts s bs s.objects s.windows v (buffers-replaced s.objects s.buffers i b d v.buffers at kept.0) v.objects v.closed
-    (windows-replaced s.buffers i b d s.tree s.windows s.selected at kept.1 v.windows))
+    let made : ◌≡◌ {A = Result StateValue Refused} (Ok (record s { buffers = bs; windows = ws })) (Ok t) = sym (on.1 bs) ∙ h in
+    let same : record s { buffers = bs; windows = ws } ≡ t = cc (made) in
+    let windows : t.windows ≡ ws = sym (ap (λ (x : StateValue). x.windows) same) in
+    (record { buffer = b; content = d; at = at; gives = is; is = ap (λ (vs : List NumberedWindow). record s { buffers = bs; windows = vs }) windows ∙ same }, windows)
 
-pub moving-done : (s t : StateValue) (i : ℕ) (b : BufferValue) (how : Move) (edit : ContentValue → Result ContentValue Refused) (r : Result ContentValue Refused) → IsValid s
-    → Keeps s.objects (place_after how) edit → slice_get s.buffers i ≡ Some b → edit b.content ≡ r → moving i how (replaced s i b r) ≡ Ok t → IsValid t
-moving-done s t i b how edit (Err e) v k at is h = absurd (cc)
-moving-done s t i b how edit (Ok d) v k at is h =
+pub edited-is : (s t : StateValue) (name : List ℕ) (edit : ContentValue → Result ContentValue Refused) → edited s name edit ≡ Ok t
+    → IsEditOf s t (number_of name s.buffers) edit × (t.windows ≡ s.windows)
+edited-is s t name edit h =
+    let b = found-value NoBuffer (slice_get s.buffers (number_of name s.buffers)) _ t h in
+    replaced-is s t (number_of name s.buffers) b.0 edit (λ r. r) s.windows (λ e. refl, λ bs. refl) (edit b.0.content) b.1 refl b.2
+
+pub moving-is : (s t : StateValue) (i : ℕ) (b : BufferValue) (how : Move) (edit : ContentValue → Result ContentValue Refused) (r : Result ContentValue Refused) → slice_get s.buffers i ≡ Some b
+    → edit b.content ≡ r → moving i how (replaced s i b r) ≡ Ok t → IsEditOf s t i edit × (t.windows ≡ map (moved_in i how) s.windows)
+moving-is s t i b how edit r at is h = replaced-is s t i b edit (moving i how) (map (moved_in i how) s.windows) (λ e. refl, λ bs. refl) r at is h
+
+pub edited_moving-is : (s t : StateValue) (name : List ℕ) (how : Move) (edit : ContentValue → Result ContentValue Refused) → edited_moving s name how edit ≡ Ok t
+    → IsEditOf s t (number_of name s.buffers) edit × (t.windows ≡ map (moved_in (number_of name s.buffers) how) s.windows)
+edited_moving-is s t name how edit h =
+    let b = found-value NoBuffer (slice_get s.buffers (number_of name s.buffers)) _ t h in
+    moving-is s t (number_of name s.buffers) b.0 how edit (edit b.0.content) b.1 refl b.2
+
+-- such a state is valid where what the buffer holds and the windows are
+edit-valid : (s t : StateValue) (i : ℕ) (edit : ContentValue → Result ContentValue Refused) (f : ℕ → ℕ) (ws : List NumberedWindow) → IsValid s → Keeps s.objects f edit
+    → (e : IsEditOf s t i edit × (t.windows ≡ ws))
+    → (((p : ℕ) → IsAccessible e.0.buffer.content.text p → IsAccessible e.0.content.text (f p)) → AreWindows (slice_set s.buffers i (holding e.0.buffer e.0.content)) s.tree ws s.selected) → IsValid t
+edit-valid s t i edit f ws v k e windows =
+    let b = e.0.buffer in
+    let d = e.0.content in
     let bs = slice_set s.buffers i (holding b d) in
-    let ws = map (moved_in i how) s.windows in
-    let same : record s { buffers = bs; windows = ws } ≡ t = cc (h) in
-    let kept = k b.content d (v.buffers.contents i b at) is in
-    subst IsValid same (with_parts s bs s.objects ws v (buffers-replaced s.objects s.buffers i b d v.buffers at kept.0) v.objects v.closed
-    (windows-moved s.buffers i b d how s.tree s.windows s.selected at kept.1 v.windows))
-
-replaced-found : (s t : StateValue) (i : ℕ) (o : Option BufferValue) (edit : ContentValue → Result ContentValue Refused) → IsValid s → Keeps s.objects (λ p. p) edit
-    → slice_get s.buffers i ≡ o → with_found NoBuffer o (λ b. replaced s i b (edit b.content)) ≡ Ok t → IsValid t
-replaced-found s t i None edit v k at h = absurd (cc)
-replaced-found s t i (Some b) edit v k at h = replaced-done s t i b edit (edit b.content) v k at refl h
-
-moving-found : (s t : StateValue) (i : ℕ) (o : Option BufferValue) (how : Move) (edit : ContentValue → Result ContentValue Refused) → IsValid s → Keeps s.objects (place_after how) edit
-    → slice_get s.buffers i ≡ o → with_found NoBuffer o (λ b. moving i how (replaced s i b (edit b.content))) ≡ Ok t → IsValid t
-moving-found s t i None how edit v k at h = absurd (cc)
-moving-found s t i (Some b) how edit v k at h = moving-done s t i b how edit (edit b.content) v k at refl h
+    let kept = k b.content d (v.buffers.contents i b e.0.at) e.0.gives in
+    subst IsValid e.0.is (with_parts s bs s.objects t.windows v (buffers-replaced s.objects s.buffers i b d v.buffers e.0.at kept.0) v.objects v.closed
+    (subst (λ (vs : List NumberedWindow). AreWindows bs s.tree vs s.selected) (sym e.1) (windows kept.1)))
 
 pub edited-valid : (s t : StateValue) (name : List ℕ) (edit : ContentValue → Result ContentValue Refused) → IsValid s → Keeps s.objects (λ p. p) edit → edited s name edit ≡ Ok t → IsValid t
-edited-valid s t name edit v k h = replaced-found s t (number_of name s.buffers) (slice_get s.buffers (number_of name s.buffers)) edit v k refl h
+edited-valid s t name edit v k h =
+    let i = number_of name s.buffers in
+    let e = edited-is s t name edit h in
+    edit-valid s t i edit (λ p. p) s.windows v k e (λ kept. windows-replaced s.buffers i e.0.buffer e.0.content s.tree s.windows s.selected e.0.at kept v.windows)
+
+pub moving-valid : (s t : StateValue) (i : ℕ) (how : Move) (edit : ContentValue → Result ContentValue Refused) → IsValid s → Keeps s.objects (place_after how) edit
+    → IsEditOf s t i edit × (t.windows ≡ map (moved_in i how) s.windows) → IsValid t
+moving-valid s t i how edit v k e =
+    edit-valid s t i edit (place_after how) (map (moved_in i how) s.windows) v k e
+    (λ kept. windows-moved s.buffers i e.0.buffer e.0.content how s.tree s.windows s.selected e.0.at kept v.windows)
 
 pub edited_moving-valid : (s t : StateValue) (name : List ℕ) (how : Move) (edit : ContentValue → Result ContentValue Refused) → IsValid s → Keeps s.objects (place_after how) edit
     → edited_moving s name how edit ≡ Ok t → IsValid t
-edited_moving-valid s t name how edit v k h = moving-found s t (number_of name s.buffers) (slice_get s.buffers (number_of name s.buffers)) how edit v k refl h
+edited_moving-valid s t name how edit v k h = moving-valid s t (number_of name s.buffers) how edit v k (edited_moving-is s t name how edit h)
 
 -- ---- what each edit means
 
 pub insertion-means : (pos : ℕ) (new : List ℕ) (c d : ContentValue) → insertion pos new c ≡ Ok d
     → IsAccessible c.text pos × (length c.text.text + length new ≤ most_characters) × (grown c pos new ≡ d)
 insertion-means pos new c d h =
-    let made = grown c pos new in
-    let outer = if-ok (is_accessible c.text pos) (if has_room c.text new then Ok made else Err TextTooLarge) OutOfRange d h in
-    let inner = if-ok (has_room c.text new) (Ok made) TextTooLarge d outer.1 in
-    let same : made ≡ d = cc (inner.1) in
-    (is_accessible-means c.text pos outer.0, leb-true (length c.text.text + length new) most_characters inner.0, same)
+    let m = both-ok (is_accessible c.text pos) (has_room c.text new) (grown c pos new) TextTooLarge OutOfRange d h in
+    (is_accessible-means c.text pos m.0, leb-true (length c.text.text + length new) most_characters m.1, m.2)
 
 pub insertion-keeps : (texts : TextLaws) (made : MadeLaws) (o : ObjectLists) (pos : ℕ) (new : List ℕ) → AreCodes new → Keeps o (place_after (Inserted pos (length new))) (insertion pos new)
 insertion-keeps texts made o pos new codes c d v h =
@@ -135,10 +165,8 @@ insertion-keeps texts made o pos new codes c d v h =
 
 pub deletion-means : (from to : ℕ) (c d : ContentValue) → deletion from to c ≡ Ok d → IsAccessibleRange c.text from to × (shrunk c from to ≡ d)
 deletion-means from to c d h =
-    let made = shrunk c from to in
-    let parts = if-ok (is_accessible_range c.text from to) (Ok made) OutOfRange d h in
-    let same : made ≡ d = cc (parts.1) in
-    (is_accessible_range-means c.text from to parts.0, same)
+    let m = made-ok (is_accessible_range c.text from to) (shrunk c from to) OutOfRange d h in
+    (is_accessible_range-means c.text from to m.0, m.1)
 
 pub deletion-keeps : (texts : TextLaws) (made : MadeLaws) (o : ObjectLists) (from to : ℕ) → Keeps o (place_after (Deleted from to)) (deletion from to)
 deletion-keeps texts made o from to c d v h =
@@ -157,10 +185,8 @@ brought from to p h = (omega arith, omega arith)
 
 pub narrowing-means : (from to : ℕ) (c d : ContentValue) → narrowing from to c ≡ Ok d → IsRangeOfAll c.text from to × (record c { text = record { text = c.text.text; begin = from; end = to } } ≡ d)
 narrowing-means from to c d h =
-    let made : ContentValue = record c { text = record { text = c.text.text; begin = from; end = to } } in
-    let parts = if-ok (is_range_of_all c.text from to) (Ok made) OutOfRange d h in
-    let same : made ≡ d = cc (parts.1) in
-    (is_range_of_all-means c.text from to parts.0, same)
+    let m = made-ok (is_range_of_all c.text from to) (record c { text = record { text = c.text.text; begin = from; end = to } }) OutOfRange d h in
+    (is_range_of_all-means c.text from to m.0, m.1)
 
 pub narrowing-keeps : (texts : TextLaws) (o : ObjectLists) (from to : ℕ) → Keeps o (place_after (Narrowed from to)) (narrowing from to)
 narrowing-keeps texts o from to c d v h =
@@ -182,44 +208,66 @@ widening-keeps texts o c d v h =
     )
 
 -- an edit that leaves the text
-pub text-kept : (o : ObjectLists) (c made d : ContentValue) → ◌≡◌ {A = Result ContentValue Refused} (Ok made) (Ok d) → made.text ≡ c.text → IsContent o made
+pub text-kept : (o : ObjectLists) (c made d : ContentValue) → made ≡ d → made.text ≡ c.text → IsContent o made
     → IsContent o d × ((p : ℕ) → IsAccessible c.text p → IsAccessible d.text p)
-text-kept o c made d h text v =
-    let same : made ≡ d = cc (h) in
-    (subst (IsContent o) same v, λ p a. subst (λ (x : TextValue). IsAccessible x p) (sym text ∙ ap (λ (x : ContentValue). x.text) same) a)
+text-kept o c made d same text v = (subst (IsContent o) same v, λ p a. subst (λ (x : TextValue). IsAccessible x p) (sym text ∙ ap (λ (x : ContentValue). x.text) same) a)
+
+pub putting-means : (o : ObjectLists) (from to : ℕ) (kind : Kind) (value : Option ℕ) (c d : ContentValue) → property_putting o from to kind value c ≡ Ok d
+    → IsAccessibleRange c.text from to × (is_value_made o kind value ≡ true) × (with_property c from to kind value ≡ d)
+putting-means o from to kind value c d h =
+    let m = both-ok (is_accessible_range c.text from to) (is_value_made o kind value) (with_property c from to kind value) NoObject OutOfRange d h in
+    (is_accessible_range-means c.text from to m.0, m.1, m.2)
 
 pub put-keeps : (made : MadeLaws) (o : ObjectLists) (from to : ℕ) (kind : Kind) (value : Option ℕ) → is_text_kind kind ≡ true → Keeps o (λ p. p) (property_putting o from to kind value)
 put-keeps made o from to kind value is c d v h =
-    let new = with_property c from to kind value in
-    let outer = if-ok (is_accessible_range c.text from to) (if is_value_made o kind value then Ok new else Err NoObject) OutOfRange d h in
-    let inner = if-ok (is_value_made o kind value) (Ok new) NoObject d outer.1 in
-    text-kept o c new d inner.1 refl (put-valid made o c from to kind value v is (is_accessible_range-means c.text from to outer.0) inner.0)
+    let m = putting-means o from to kind value c d h in
+    text-kept o c (with_property c from to kind value) d m.2 refl (put-valid made o c from to kind value v is m.0 m.1)
 
-pub making-keeps : (made : MadeLaws) (o : ObjectLists) (from to : ℕ) (priority : ℤ) (front rear : Bool) → Keeps o (λ p. p) (overlay_making from to priority front rear)
-making-keeps made o from to priority front rear c d v h =
+pub making-means : (from to : ℕ) (priority : ℤ) (front rear : Bool) (c d : ContentValue) → overlay_making from to priority front rear c ≡ Ok d
+    → (is_range_of_all c.text from to ≡ true) × (nat_le most_overlays (length c.overlays) ≡ false) × (with_overlays c (c.overlays ++ Some (new_overlay from to priority front rear) ∷ []) ≡ d)
+making-means from to priority front rear c d h =
     let new = with_overlays c (c.overlays ++ Some (new_overlay from to priority front rear) ∷ []) in
     let all = nat_le most_overlays (length c.overlays) in
     let outer = if-ok (is_range_of_all c.text from to) (if all then Err TooManyOverlays else Ok new) OutOfRange d h in
     let inner = if-not all (Ok new) TooManyOverlays d outer.1 in
-    text-kept o c new d inner.1 refl (made-valid made o c from to priority front rear v outer.0 (is_range_of_all-means c.text from to outer.0) inner.0)
+    (outer.0, inner.0, cc (inner.1))
+
+pub making-keeps : (made : MadeLaws) (o : ObjectLists) (from to : ℕ) (priority : ℤ) (front rear : Bool) → Keeps o (λ p. p) (overlay_making from to priority front rear)
+making-keeps made o from to priority front rear c d v h =
+    let m = making-means from to priority front rear c d h in
+    text-kept o c (with_overlays c (c.overlays ++ Some (new_overlay from to priority front rear) ∷ [])) d m.2 refl
+    (made-valid made o c from to priority front rear v m.0 (is_range_of_all-means c.text from to m.0) m.1)
+
+-- an edit of an overlay, which lives
+abbrev pub OfOverlay : ℕ → Bool → List (Option Overlay) → ContentValue → ContentValue → Type 0
+OfOverlay number test overlays c d = ((overlay : Overlay) × (overlay_at c.overlays number ≡ Some overlay)) × (test ≡ true) × (with_overlays c overlays ≡ d)
+
+overlay-means : (number : ℕ) (test : Bool) (overlays : List (Option Overlay)) (e : Refused) (c d : ContentValue)
+    → (if is_some (overlay_at c.overlays number) then (if test then Ok (with_overlays c overlays) else Err e) else Err NoOverlay) ≡ Ok d → OfOverlay number test overlays c d
+overlay-means number test overlays e c d h =
+    let m = both-ok (is_some (overlay_at c.overlays number)) test (with_overlays c overlays) e NoOverlay d h in
+    (some-of (overlay_at c.overlays number) m.0, m.1, m.2)
+
+pub moving-means : (number from to : ℕ) (c d : ContentValue) → overlay_moving number from to c ≡ Ok d → OfOverlay number (is_range_of_all c.text from to) (overlays.moved c.overlays number from to) c d
+moving-means number from to c d h = overlay-means number (is_range_of_all c.text from to) (overlays.moved c.overlays number from to) OutOfRange c d h
 
 pub moving-keeps : (made : MadeLaws) (o : ObjectLists) (number from to : ℕ) → Keeps o (λ p. p) (overlay_moving number from to)
 moving-keeps made o number from to c d v h =
-    let new = with_overlays c (overlays.moved c.overlays number from to) in
-    let in_range = is_range_of_all c.text from to in
-    let outer = if-ok (is_some (overlay_at c.overlays number)) (if in_range then Ok new else Err OutOfRange) NoOverlay d h in
-    let inner = if-ok in_range (Ok new) OutOfRange d outer.1 in
-    text-kept o c new d inner.1 refl (moved-valid made o c number from to v inner.0)
+    let m = moving-means number from to c d h in
+    text-kept o c (with_overlays c (overlays.moved c.overlays number from to)) d m.2 refl (moved-valid made o c number from to v m.1)
+
+pub dropping-means : (number : ℕ) (c d : ContentValue) → overlay_dropping number c ≡ Ok d → OfOverlay number true (overlays.dropped c.overlays number) c d
+dropping-means number c d h = overlay-means number true (overlays.dropped c.overlays number) NoOverlay c d h
 
 pub dropping-keeps : (made : MadeLaws) (o : ObjectLists) (number : ℕ) → Keeps o (λ p. p) (overlay_dropping number)
 dropping-keeps made o number c d v h =
-    let new = with_overlays c (overlays.dropped c.overlays number) in
-    let outer = if-ok (is_some (overlay_at c.overlays number)) (Ok new) NoOverlay d h in
-    text-kept o c new d outer.1 refl (dropped-valid made o c number v)
+    text-kept o c (with_overlays c (overlays.dropped c.overlays number)) d (dropping-means number c d h).2 refl (dropped-valid made o c number v)
+
+pub giving-means : (o : ObjectLists) (number : ℕ) (kind : Kind) (value : Option ℕ) (c d : ContentValue) → overlay_putting o number kind value c ≡ Ok d
+    → OfOverlay number (is_value_made o kind value) (overlays.given c.overlays number kind value) c d
+giving-means o number kind value c d h = overlay-means number (is_value_made o kind value) (overlays.given c.overlays number kind value) NoObject c d h
 
 pub giving-keeps : (made : MadeLaws) (o : ObjectLists) (number : ℕ) (kind : Kind) (value : Option ℕ) → Keeps o (λ p. p) (overlay_putting o number kind value)
 giving-keeps made o number kind value c d v h =
-    let new = with_overlays c (overlays.given c.overlays number kind value) in
-    let outer = if-ok (is_some (overlay_at c.overlays number)) (if is_value_made o kind value then Ok new else Err NoObject) NoOverlay d h in
-    let inner = if-ok (is_value_made o kind value) (Ok new) NoObject d outer.1 in
-    text-kept o c new d inner.1 refl (given-valid made o c number kind value v inner.0)
+    let m = giving-means o number kind value c d h in
+    text-kept o c (with_overlays c (overlays.given c.overlays number kind value)) d m.2 refl (given-valid made o c number kind value v m.1)

@@ -4,13 +4,15 @@ use Rattle.std.proofs.lemmas.Bool.{cases_lt}
 use Rattle.std.proofs.lemmas.List.{get_or_past}
 use Rattle.std.specs.FinMap as finite
 use Rattle.rd_text.specs.Texts.{TextValue, inserted, deleted}
+use Rattle.rd_base.specs.Settings.{SettingValues}
 use Rattle.rd_overlays.specs.declared.overlay.Kind.{Kind}
+use Rattle.rd_overlays.specs.declared.overlay.Overlay.{Overlay}
 use Rattle.rd_overlays.specs.Overlays.{place_of, slot_grown, slot_shrunk}
 use Rattle.rd_margins.specs.Marks.{MarkValues}
 use Rattle.rd_props.specs.Buffers as props
 use Rattle.rd_props.specs.Edits.{opened, closed, put_on}
 use Rattle.rd_props.specs.declared.state.BufferState.{BufferState}
-use Rattle.rd_state.specs.States.{listed, table, values_on, value_in, new_content, seen}
+use Rattle.rd_state.specs.States.{ContentValue, listed, table, values_on, value_in, new_content, seen}
 use Rattle.rd_state.specs.Held.{content_of}
 use Rattle.rd_state.specs.Valid.{IsWithin}
 use Rattle.rd_state.specs.Edits.{marked_modified, grown, shrunk}
@@ -106,37 +108,40 @@ new-content b m e f = λ i. record {
   marks = f i;
 }
 
--- what is left after a text was put in
+-- a change of values that goes by the values alone
+abbrev pub GoesByValues : ((ℕ → ℕ → Option ℕ) → ℕ → ℕ → Option ℕ) → Type 0
+GoesByValues change = (f g : ℕ → ℕ → Option ℕ) → AreAlike f g → AreAlike (change f) (change g)
+
+-- what is left after an edit
+changed-content : (b c : BufferState) (m : MarkValues) (text : TextValue) (change : (ℕ → ℕ → Option ℕ) → ℕ → ℕ → Option ℕ) (overlays : List (Option Overlay)) (settings : SettingValues)
+    → IsWithin (props.meaning b) → GoesByValues change → c.text ≡ text → AreAlike (props.values_of c.spans) (change (props.values_of b.spans)) → c.overlays ≡ overlays → c.settings ≡ settings
+    → ◌≡◌ {A = ContentValue}
+        (record { text = text; properties = values_on text (change (value_in (values_on b.text (props.values_of b.spans)))); overlays = overlays; settings = settings; marks = m }) (content_of c m)
+changed-content b c m text change overlays settings within by same values is set =
+    let f = value_in (values_on b.text (props.values_of b.spans)) in
+    let alike : AreAlike (props.values_of c.spans) (change f) = λ kind p. values kind p ∙ sym (by f (props.values_of b.spans) (values-kept b within) kind p) in
+    let lists = values-alike text c.text (change f) (props.values_of c.spans) same alike in
+    λ i. record { text = sym same i; properties = lists i; overlays = sym is i; settings = sym set i; marks = m }
+
+-- after a text was put in
 pub grown-content : (b c : BufferState) (m : MarkValues) (pos : ℕ) (new : List ℕ) → IsWithin (props.meaning b) → c.text ≡ inserted b.text pos new
     → AreAlike (props.values_of c.spans) (opened (props.values_of b.spans) pos (length new))
     → c.overlays ≡ map (slot_grown pos (length new)) b.overlays → c.settings ≡ marked_modified (nat_lt 0 (length new)) b.settings
     → grown (content_of b m) pos new ≡ content_of c m
 grown-content b c m pos new within same values overlays settings =
-    let f = value_in (values_on b.text (props.values_of b.spans)) in
-    let alike : AreAlike (props.values_of c.spans) (opened f pos (length new))
-    = λ kind p. values kind p ∙ sym (opened-alike f (props.values_of b.spans) pos (length new) (values-kept b within) kind p) in
-    let lists = values-alike (inserted b.text pos new) c.text (opened f pos (length new)) (props.values_of c.spans) same alike in
-    λ i. record { text = sym same i; properties = lists i; overlays = sym overlays i; settings = sym settings i; marks = m }
+    changed-content b c m (inserted b.text pos new) (λ f. opened f pos (length new)) _ _ within (λ f g. opened-alike f g pos (length new)) same values overlays settings
 
--- what is left after a range was taken away
+-- after a range was taken away
 pub shrunk-content : (b c : BufferState) (m : MarkValues) (from to : ℕ) → IsWithin (props.meaning b) → c.text ≡ deleted b.text from to
     → AreAlike (props.values_of c.spans) (closed (props.values_of b.spans) from to)
     → c.overlays ≡ map (slot_shrunk from to) b.overlays → c.settings ≡ marked_modified (nat_lt from to) b.settings
     → shrunk (content_of b m) from to ≡ content_of c m
 shrunk-content b c m from to within same values overlays settings =
-    let f = value_in (values_on b.text (props.values_of b.spans)) in
-    let alike : AreAlike (props.values_of c.spans) (closed f from to)
-    = λ kind p. values kind p ∙ sym (closed-alike f (props.values_of b.spans) from to (values-kept b within) kind p) in
-    let lists = values-alike (deleted b.text from to) c.text (closed f from to) (props.values_of c.spans) same alike in
-    λ i. record { text = sym same i; properties = lists i; overlays = sym overlays i; settings = sym settings i; marks = m }
+    changed-content b c m (deleted b.text from to) (λ f. closed f from to) _ _ within (λ f g. closed-alike f g from to) same values overlays settings
 
--- what is left after a property was put on a range
+-- after a property was put on a range
 pub put-content : (b : BufferState) (spans : List (List (Option ℕ))) (m : MarkValues) (kind : Kind) (from to : ℕ) (value : Option ℕ) → IsWithin (props.meaning b)
     → AreAlike (props.values_of spans) (put_on (props.values_of b.spans) kind from to value)
     → record (content_of b m) { properties = values_on b.text (put_on (value_in (values_on b.text (props.values_of b.spans))) kind from to value) } ≡ content_of (record b { spans = spans }) m
 put-content b spans m kind from to value within values =
-    let f = value_in (values_on b.text (props.values_of b.spans)) in
-    let alike : AreAlike (props.values_of spans) (put_on f kind from to value)
-    = λ k p. values k p ∙ sym (put_on-alike f (props.values_of b.spans) kind from to value (values-kept b within) k p) in
-    let lists = values-alike b.text b.text (put_on f kind from to value) (props.values_of spans) refl alike in
-    λ i. record { text = b.text; properties = lists i; overlays = b.overlays; settings = b.settings; marks = m }
+    changed-content b (record b { spans = spans }) m b.text (λ f. put_on f kind from to value) b.overlays b.settings within (λ f g. put_on-alike f g kind from to value) refl values refl refl

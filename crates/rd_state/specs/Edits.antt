@@ -7,6 +7,7 @@ use Rattle.rd_overlays.specs.declared.overlay.Kind.{Kind}
 use Rattle.rd_overlays.specs.declared.overlay.Kind.TheVariants.{Face, Display, Invisible, LinePrefix, WrapPrefix, Before, After}
 use Rattle.rd_overlays.specs.Overlays.{overlay_at, new_overlay, moved, dropped, given, slot_grown, slot_shrunk}
 use Rattle.rd_objects.specs.Things.{ObjectLists}
+use Rattle.rd_props.specs.Buffers as props
 use Rattle.rd_props.specs.Edits.{opened, closed, put_on}
 use Rattle.rd_margins.specs.Marks as marks
 use Rattle.rd_script.specs.declared.setting.Setting.{Setting}
@@ -61,26 +62,36 @@ is_setting_made objects setting = true
 abbrev pub marked_modified : Bool → SettingValues → SettingValues
 marked_modified changed s = record s { modified = changed || s.modified }
 
+-- what a buffer holds where this is seen of it
+abbrev pub with_seen : ContentValue → props.BufferValue → ContentValue
+with_seen c b = record c { text = b.text; properties = values_on b.text b.properties; overlays = b.overlays; settings = b.settings }
+
 -- a buffer with a text put in before a position: the new characters have no properties, and what stands behind them moves
-abbrev pub grown : ContentValue → ℕ → List ℕ → ContentValue
-grown c pos new = record c {
+abbrev pub seen_grown : ContentValue → ℕ → List ℕ → props.BufferValue
+seen_grown c pos new = record {
   text = inserted c.text pos new;
-  properties = values_on (inserted c.text pos new) (opened (value_in c.properties) pos (length new));
+  properties = opened (value_in c.properties) pos (length new);
   overlays = map (slot_grown pos (length new)) c.overlays;
   settings = marked_modified (nat_lt 0 (length new)) c.settings;
 }
+
+abbrev pub grown : ContentValue → ℕ → List ℕ → ContentValue
+grown c pos new = with_seen c (seen_grown c pos new)
 
 abbrev pub insertion : ℕ → List ℕ → ContentValue → Result ContentValue Refused
 insertion pos new c = if is_accessible c.text pos then (if has_room c.text new then Ok (grown c pos new) else Err TextTooLarge) else Err OutOfRange
 
 -- a buffer with a range taken away
-abbrev pub shrunk : ContentValue → ℕ → ℕ → ContentValue
-shrunk c from to = record c {
+abbrev pub seen_shrunk : ContentValue → ℕ → ℕ → props.BufferValue
+seen_shrunk c from to = record {
   text = deleted c.text from to;
-  properties = values_on (deleted c.text from to) (closed (value_in c.properties) from to);
+  properties = closed (value_in c.properties) from to;
   overlays = map (slot_shrunk from to) c.overlays;
   settings = marked_modified (nat_lt from to) c.settings;
 }
+
+abbrev pub shrunk : ContentValue → ℕ → ℕ → ContentValue
+shrunk c from to = with_seen c (seen_shrunk c from to)
 
 abbrev pub deletion : ℕ → ℕ → ContentValue → Result ContentValue Refused
 deletion from to c = if is_accessible_range c.text from to then Ok (shrunk c from to) else Err OutOfRange

@@ -1,26 +1,22 @@
 //! Strings, display specs, faces and display tables, made as ops say them, with the refusals of each in order.
-ghost use Rattle.std.specs.Prelude.{◌≡◌, All, IfOk, map};
-ghost use Rattle.std.specs.List.{list_all};
-ghost use Rattle.rd_objects.specs.Things.{is_made, is_inside};
+ghost use Rattle.std.specs.Prelude.{◌≡◌, if◌then◌else◌, min};
+ghost use Rattle.rd_objects.specs.Things.{string_fault, string_added};
 ghost use Rattle.rd_script.specs.Forms.{IsSpecInForm};
-ghost use Rattle.rd_state.specs.Held.{IsSmallRun};
 ghost use Rattle.rd_objects.specs.Sound.{AreObjects};
 ghost use Rattle.rd_state.specs.Answers.{Answers};
-ghost use Rattle.rd_state.specs.Making.{run_of, string_making, spec_making, face_making, table_making};
+ghost use Rattle.rd_state.specs.Held.{narrowed};
+ghost use Rattle.rd_state.specs.Making.{unless_fault, string_making, spec_making, face_making, table_making};
 
 use crate::made::narrow;
 use crate::refused::Refused;
-use rd_base::limits::{STRING_CHARACTERS, STRINGS};
-use rd_base::{Ch, Face, ListOf, Memory};
-use rd_objects::{Objects, Run, RunKind, Spec, Table};
+use rd_base::limits::STRINGS;
+use rd_base::{Ch, Face, mapped};
+use rd_objects::{Objects, Run, Spec, Table};
 use rd_script::{OpRun, OpSpec};
 use std::alloc::Global;
 
 /// How many strings there can be, and display specs.
 const MOST: u64 = STRINGS as u64;
-
-/// How many characters a string can have.
-const LONGEST: usize = STRING_CHARACTERS as usize;
 
 /// Makes a string with runs of faces and display specs.
 pub(crate) fn add_string(
@@ -32,62 +28,41 @@ pub(crate) fn add_string(
     requires { AreObjects objects.old }
     ensures { Answers result (string_making objects.old text.now runs.now) objects.old objects.new }
 {
-    if !are_made(objects, runs) {
-        return Err(Refused::NoObject);
-    }
-    if !are_inside(runs, text.len()) {
-        return Err(Refused::OutOfRange);
-    }
-    if LONGEST < text.len() {
-        return Err(Refused::ObjectTooLong);
-    }
-    let narrow = narrowed(alloc, runs)?;
-    objects.add_string(text, narrow.as_slice())?;
+    let size = text.len();
+    let runs = mapped(alloc, runs, |run| narrowed(size, *run))?;
+    add_runs(objects, text, runs.as_slice())
+}
+
+/// The same with runs of 32 bits.
+fn add_runs(objects: &mut Objects, text: &[Ch], runs: &[Run]) -> Result<(), Refused>
+    ensures { Answers result (unless_fault (string_fault objects.old text.now runs.now) (string_added objects.old text.now runs.now)) objects.old objects.new }
+{
+    objects.add_string(text, runs)?;
     Ok(())
 }
 
-/// Whether the objects that runs name were made.
-fn are_made(objects: &Objects, runs: &[OpRun]) -> bool
-    requires { AreObjects objects.now }
-    ensures { result ≡ list_all (λ run. is_made objects.now (run_of run)) runs.now }
+/// A run in 32 bits. One that does not lie in a string of this length lies in none, and one of an object that was not made is of none.
+fn narrowed(size: usize, run: OpRun) -> Run
+    ensures { result ≡ narrowed size run }
 {
-    runs.iter().all(|run| is_run_made(objects, *run))
-}
-
-/// Whether the object that a run names was made.
-fn is_run_made(objects: &Objects, run: OpRun) -> bool
-    requires { AreObjects objects.now }
-    ensures { result ≡ is_made objects.now (run_of run) }
-{
-    match run.kind {
-        RunKind::Face => objects.face(narrow(run.value)).is_some(),
-        RunKind::Display => objects.spec(narrow(run.value)).is_some(),
+    let inside = run.from <= run.to && run.to <= size as u64;
+    Run {
+        from: if_inside(inside, run.from, 1),
+        to: if_inside(inside, run.to, 0),
+        kind: run.kind,
+        value: narrow(run.value),
     }
 }
 
-/// Whether runs lie in a string of this length.
-fn are_inside(runs: &[OpRun], size: usize) -> bool
-    ensures { result ≡ list_all (λ run. is_inside size (run_of run)) runs.now }
+/// A place of a run that lies in its string, in 32 bits, or another where it does not.
+fn if_inside(inside: bool, place: u64, other: u32) -> u32
+    ensures { result ≡ (if inside then min place 4294967295 else other) }
 {
-    runs.iter()
-        .all(|run| run.from <= run.to && run.to <= size as u64)
-}
-
-/// Runs whose numbers have 32 bits.
-fn narrowed(alloc: Global, runs: &[OpRun]) -> Result<ListOf<Run>, Memory>
-    requires { All IsSmallRun runs.now }
-    ensures { IfOk result (λ list. list ≡ map run_of runs.now) }
-{
-    let mut list = ListOf::new(alloc);
-    for run in runs {
-        list.push(Run {
-            from: run.from as u32,
-            to: run.to as u32,
-            kind: run.kind,
-            value: run.value as u32,
-        })?;
+    if inside {
+        place.min(u32::MAX as u64) as u32
+    } else {
+        other
     }
-    Ok(list)
 }
 
 /// Makes a display spec.

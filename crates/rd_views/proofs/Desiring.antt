@@ -17,10 +17,10 @@ use Rattle.rd_window.specs.declared.again.Laying.{Laying}
 use Rattle.rd_window.specs.declared.layout.Layout.{Layout}
 use Rattle.rd_layout.specs.Redisplays.{AreLaidOut, IsLaidOutBy, allowance_by, allowances}
 use Rattle.rd_layout.specs.Sessions.{SessionValue, layout_of}
-use Rattle.rd_layout.specs.Windows.{place_of, places, views_at, views_by, wanted_of, window_shape, window_source}
+use Rattle.rd_layout.specs.Windows.{views_at, views_by, wanted_of, window_shape, window_source}
 use Rattle.rd_layout.proofs.Known.{Last}
 use Rattle.rd_state.proofs.ByNumber.{under-there}
-use Rattle.rd_layout.proofs.Placed.{number-of, placed-here, placed-there}
+use Rattle.rd_layout.proofs.Placed.{placed-here, placed-there}
 use Rattle.rd_views.specs.Layings.{AreDesired, AreOnce, IsDesiredAt, IsDesiredBy, layout_in, layout_taken, layouts_taken, no_layout, shown_by, views_taken, window_in}
 use Rattle.rd_views.specs.declared.desired.LaidWindow.{LaidWindow}
 use Rattle.rd_views.proofs.Placing.{AreApart}
@@ -134,9 +134,3 @@ module _ (v : SessionValue) where
   once = each-desired (λ ps xs es. AreApart ps → AreOnce es) (λ apart. tt) (λ p x e ps xs es own rest more apart.
       let same = number-by p (window_of p.number v.state.windows) x e own in
       (ap (λ (n : ℕ). layout_of n es) same ∙ gone p.number ps xs es rest apart.0, more apart.1))
-
--- ---- a window is found by its number
-
-pub found-here : (s : StateValue) (n : ℕ) (o : Option Placed) → o ≡ place_of n s → IfSome o (λ p. place_of p.number s ≡ Some p)
-found-here s n None is = tt
-found-here s n (Some p) is = ap (λ (k : ℕ). place_of k s) (number-of n (places s) p (sym is)) ∙ sym is

@@ -2,11 +2,9 @@ mod Answering
 mod Desiring
 mod Finding
 mod Kept
-mod Living
 mod Passing
 mod Placing
 mod Premises
 mod Settled
 mod Showing
 mod Taking
-mod Telling

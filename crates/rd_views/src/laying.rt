@@ -17,7 +17,7 @@ use rd_frame::body_height;
 use rd_layout::sessions_stay_known;
 use rd_start::Wanted;
 use rd_state::{State, WindowState, windows_are_leaves};
-use rd_tree::{Placed, windows_tile_their_rectangle};
+use rd_tree::Placed;
 use rd_window::{Laying, lay_out_again};
 use std::sync::ledger::Ledger;
 
@@ -29,11 +29,7 @@ impl Views {
         ensures stands { IfSome result (λ place. StandsIn place (frame_of self.now.state.tree)) }
         ensures few { IsSome result → i < WINDOWS }
     {
-        windows_tile_their_rectangle();
-        let tree = self.state.tree();
-        tree.trees_are_valid();
-        let number = tree.leaf(i)?;
-        tree.placed(number)
+        self.state.tree().placed_leaf(i)
     }
 
     /// Lays out the window in a place over its last layout. The steps that it takes, also where memory is wanting, are at most the

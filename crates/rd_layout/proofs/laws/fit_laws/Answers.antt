@@ -6,7 +6,6 @@ pub returns : goal.returns
 returns c = record {
   views = c.view_laws.ensures;
   found = c.windows_are_leaves.ensures.found;
-  leaf = c.windows_are_leaves.ensures.placed;
   whole = c.rows_of_buffers_are_whole.ensures.all;
   margin = c.margins_are_whole.ensures;
   mode_width = c.mode_lines_are_whole.ensures.width;

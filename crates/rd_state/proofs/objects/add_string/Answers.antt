@@ -1,21 +1,16 @@
-use Rattle.std.proofs.Common.{refl, sym, ◌∙◌, arith}
-use Rattle.rd_state.proofs.Faults.{string-no_object, string-outside, string-long}
+use Rattle.std.proofs.Common.{List, length, ap, rules, subst, sym, ◌∙◌}
+use Rattle.rd_objects.specs.Things.{string_added, string_fault}
+use Rattle.rd_objects.specs.declared.run.Run.{Run}
+use Rattle.rd_state.specs.Answers.{Answers}
+use Rattle.rd_state.specs.Held.{narrowed}
+use Rattle.rd_state.specs.Making.{unless_fault}
+use Rattle.rd_state.proofs.Faults.{string-narrowed}
 use Rattle.rd_state.proofs.objects.add_string.Goals as goal
 
-pub returns-then-not-are_made : goal.returns-then-not-are_made
-returns-then-not-are_made c = (
-  refl,
-  λ n. string-no_object c.args.objects.now c.args.text.now c.args.runs.now (sym c.are_made.ensures ∙ c.if-not-are_made.true),
-)
-
-pub returns-then-not-are_inside : goal.returns-then-not-are_inside
-returns-then-not-are_inside c = (
-  refl,
-  λ n. string-outside c.args.objects.now c.args.text.now c.args.runs.now (sym c.are_made.ensures ∙ c.if-not-are_made.false) (sym c.are_inside.ensures ∙ c.if-not-are_inside.true),
-)
-
-pub returns-then-text-gt-LONGEST : goal.returns-then-text-gt-LONGEST
-returns-then-text-gt-LONGEST c = (
-  refl,
-  λ n. string-long c.args.objects.now c.args.text.now c.args.runs.now (sym c.are_made.ensures ∙ c.if-not-are_made.false) (sym c.are_inside.ensures ∙ c.if-not-are_inside.false) (omega arith),
-)
+pub returns : goal.returns
+returns c =
+    let o = c.args.objects.now in
+    let text = c.args.text.now in
+    let runs = c.as_slice.ensures ∙ c.in_ok-runs.ensures (narrowed (length text)) (λ x y told. search rules) in
+    subst (λ said. Answers c.add_runs.result said o c.add_runs.new.objects)
+    (ap (λ (rs : List Run). unless_fault (string_fault o text rs) (string_added o text rs)) runs ∙ sym (string-narrowed o c.requires text c.args.runs.now)) c.add_runs.ensures

@@ -5,7 +5,7 @@ use Rattle.rd_state.specs.States.{StateValue, seen}
 use Rattle.rd_state.specs.Windows.{shown_content, window_of}
 use Rattle.rd_layout.specs.Sessions.{SessionValue, layout_of}
 use Rattle.rd_layout.specs.Windows.{wanted_of, window_shape, window_source}
-use Rattle.rd_views.proofs.Living.{placed-lives}
+use Rattle.rd_state.proofs.Leaves.{placed-window}
 use Rattle.rd_views.proofs.Premises.{LookLaws, allowed-steps, anchor-wanted, is-source, kept-right, laid-result, point-wanted, source-is, stands-unchanged}
 use Rattle.rd_views.proofs.views.Views.lay_out_window.Given as given
 use Rattle.rd_views.proofs.views.Views.lay_out_window.Goals as goal
@@ -41,7 +41,7 @@ pub unreachable-requires : goal.unreachable-requires
 unreachable-requires g c =
     let v = c.args.self.now in
     let n = c.args.place.number in
-    let there = placed-lives c.windows_are_leaves.ensures.placed v.state n c.args.place c.views_are_known.ensures.state c.requires.found in
+    let there = placed-window v.state n c.args.place c.views_are_known.ensures.state c.requires.found in
     none-some there.0 (c.in_default.ensures ∙ (ap (λ (x : SessionValue). window_of n x.state.windows) c.self.view_is ∙ there.1))
 
 pub look_at-requires : goal.look_at-requires
