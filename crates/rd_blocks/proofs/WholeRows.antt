@@ -1,5 +1,5 @@
 -- The rows of a buffer's blocks are whole and coloured.
-use Rattle.std.proofs.Common.{ℕ, ◌+◌, ◌≤◌, List, [], ◌∷◌, Option, None, Some, All, refl, arith}
+use Rattle.std.proofs.Common.{ℕ, ◌≤◌, List, [], ◌∷◌, Option, None, Some, All, refl, arith}
 use Rattle.std.proofs.lemmas.List.Elements.{All-nil, All-cons, All-map}
 use Rattle.rd_base.specs.Cells.{HasColours, IsColoured}
 use Rattle.rd_base.specs.Elements.{AreSound}
