@@ -1,14 +1,15 @@
 //! The dump of a screen and of the windows on it.
-ghost use Rattle.std.specs.Prelude.{◌≡◌, ◌≤◌, OnErr, take};
+ghost use Rattle.std.specs.Prelude.{◌≤◌, OnErr};
 ghost use Rattle.rd_base.specs.Glyphs.{glyph_bytes};
 ghost use Rattle.rd_io.specs.Devices.{Rose, Writes};
-ghost use Rattle.rd_dump.specs.Dumps.{dump_text, windows_text, window_line, place_text, cursor_line, rows_text, row_line, line_text, cells_text, cell_text};
+ghost use Rattle.rd_dump.specs.Dumps.{dump_text, windows_text, window_line, place_text, cursor_line, rows_text, row_line, cells_text, cell_text};
 ghost use Rattle.rd_dump.specs.Prints.{Prints};
 
-use crate::print::{Token, print_bytes, print_character, print_each, print_tokens};
+use crate::at_once::{Printed, print_at_once};
+use crate::print::{Token, print_character, print_each, print_tokens};
 use crate::runs::print_runs;
 use rd_base::{Anchor, Cell, Glyph, Pos};
-use rd_io::{Failed, Piece, Sink};
+use rd_io::{Failed, Sink};
 use rd_term::Screen;
 use rd_tree::Rect;
 
@@ -45,28 +46,20 @@ pub fn print_dump<K: Sink>(
 {
     print_windows(sink, windows)?;
     print_rows(sink, screen)?;
-    print_line(sink, &DumpLine::Cursor(screen.cursor()))
+    print_at_once(sink, &DumpLine::Cursor(screen.cursor()))
 }
 
-/// Writes a line, in one piece where a piece has room for it.
-fn print_line<K: Sink>(sink: &mut K, line: &DumpLine) -> Result<(), Failed>
-    ensures { Prints (K.written sink.old) (K.written sink.new) (K.faults sink.old) (K.faults sink.new) (line_text line.now) result }
-{
-    let mut piece = Piece::new();
-    match print_line_tokens(&mut piece, line) {
-        Ok(()) => print_bytes(sink, piece.bytes()),
-        Err(_full) => print_line_tokens(sink, line),
-    }
-}
+impl Printed for DumpLine<'_> {
+    ghost use Rattle.rd_dump.specs.Dumps.{line_text};
 
-/// Writes the tokens of a line.
-fn print_line_tokens<K: Sink>(sink: &mut K, line: &DumpLine) -> Result<(), Failed>
-    ensures { Prints (K.written sink.old) (K.written sink.new) (K.faults sink.old) (K.faults sink.new) (line_text line.now) result }
-{
-    match line {
-        DumpLine::Window(facts) => print_window_tokens(sink, facts),
-        DumpLine::Row(row, cells) => print_row_tokens(sink, *row, cells),
-        DumpLine::Cursor(place) => print_cursor_tokens(sink, *place),
+    ghost text = { line_text };
+
+    fn print<K: Sink>(&self, sink: &mut K) -> Result<(), Failed> {
+        match self {
+            DumpLine::Window(facts) => print_window_tokens(sink, facts),
+            DumpLine::Row(row, cells) => print_row_tokens(sink, *row, cells),
+            DumpLine::Cursor(place) => print_cursor_tokens(sink, *place),
+        }
     }
 }
 
@@ -81,7 +74,7 @@ fn print_windows<K: Sink>(sink: &mut K, windows: &[WindowFacts]) -> Result<(), F
 fn print_window<K: Sink>(sink: &mut K, facts: &WindowFacts) -> Result<(), Failed>
     ensures { Prints (K.written sink.old) (K.written sink.new) (K.faults sink.old) (K.faults sink.new) (window_line facts.now) result }
 {
-    print_line(sink, &DumpLine::Window(facts))
+    print_at_once(sink, &DumpLine::Window(facts))
 }
 
 /// Writes the tokens of a window's line.
@@ -142,7 +135,7 @@ fn print_rows<K: Sink>(sink: &mut K, screen: &Screen) -> Result<(), Failed>
     ensures { Prints (K.written sink.old) (K.written sink.new) (K.faults sink.old) (K.faults sink.new) (rows_text 0 screen.now.rows) result }
 {
     for row in 0..screen.height() {
-        print_line(sink, &DumpLine::Row(row, screen.row(row)))?;
+        print_at_once(sink, &DumpLine::Row(row, screen.row(row)))?;
     }
     Ok(())
 }
@@ -188,13 +181,5 @@ fn print_glyph<K: Sink>(sink: &mut K, glyph: &Glyph) -> Result<(), Failed>
     ensures { Prints (K.written sink.old) (K.written sink.new) (K.faults sink.old) (K.faults sink.new) (glyph_bytes glyph.now) result }
 {
     print_character(sink, &glyph.base)?;
-    print_each(sink, marks_of(glyph), print_character)
-}
-
-/// The marks that count.
-fn marks_of(glyph: &Glyph) -> &[u32]
-    ensures { result.now ≡ take glyph.now.count glyph.now.marks }
-{
-    let count = (glyph.count as usize).min(6);
-    &glyph.marks[..count]
+    print_each(sink, glyph.joining(), print_character)
 }

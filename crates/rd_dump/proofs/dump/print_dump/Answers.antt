@@ -10,4 +10,4 @@ returns-in_err-print_rows-clause-bytes g c =
 
 pub returns-clause-bytes : goal.returns-clause-bytes
 returns-clause-bytes g c =
-    writes-of _ _ _ _ _ _ (prints-then _ _ _ _ _ _ _ _ _ _ (prints-then _ _ _ _ _ _ _ _ _ _ c.in_ok-print_windows.ensures c.in_ok-print_rows.ensures) (prints-as _ _ _ _ _ _ _ (ap cursor_line c.cursor.ensures) c.print_line.ensures))
+    writes-of _ _ _ _ _ _ (prints-then _ _ _ _ _ _ _ _ _ _ (prints-then _ _ _ _ _ _ _ _ _ _ c.in_ok-print_windows.ensures c.in_ok-print_rows.ensures) (prints-as _ _ _ _ _ _ _ (ap cursor_line c.cursor.ensures) c.print_at_once.ensures))
