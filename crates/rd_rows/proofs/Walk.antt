@@ -1,5 +1,5 @@
 -- What holds while a row is made, and what follows when it ends.
-use Rattle.std.proofs.Common.{◌≡◌, ℕ, zero, suc, ◌+◌, ◌-◌, ◌^◌, ◌<◌, ◌≤◌, ◌&&◌, not, Bool, true, false, if◌then◌else◌, IsTrue, List, [], ◌∷◌, ◌++◌, length, drop, Option, None, Some, Result, Ok, Err, IfOk, refl, ap, sym, ◌∙◌, subst, arith, length-append, append_assoc}
+use Rattle.std.proofs.Common.{◌≡◌, ℕ, zero, suc, ◌+◌, ◌-◌, ◌^◌, ◌<◌, ◌≤◌, not, Bool, true, false, if◌then◌else◌, IsTrue, List, [], ◌∷◌, ◌++◌, length, drop, Option, None, Some, Result, Ok, Err, IfOk, refl, ap, sym, ◌∙◌, subst, arith, length-append, append_assoc}
 use Rattle.std.proofs.Math.Bool.{and-true, and-false, or-false, or-true}
 use Rattle.std.proofs.lemmas.Bool.{and_parts, or_parts}
 use Rattle.std.proofs.lemmas.List.{append-nil}
@@ -18,7 +18,7 @@ use Rattle.rd_rows.specs.declared.making.MadeRow.{MadeRow}
 use Rattle.rd_rows.specs.declared.spot.Placed.{Placed}
 use Rattle.rd_rows.specs.declared.spot.Spot.{Spot}
 use Rattle.rd_rows.specs.Copies.{RowValues}
-use Rattle.rd_rows.specs.Cuts.{has_break, up_to_break, ends_some, room_for, RowCut, is_wrapped, cut_row}
+use Rattle.rd_rows.specs.Cuts.{has_break, up_to_break, ends_some, room_for, RowCut, cut_of, cut_row}
 use Rattle.rd_rows.specs.Leads.{HasLeads}
 use Rattle.rd_rows.specs.Left.{MakerValues, IsLine, lead_of, rows_behind}
 use Rattle.rd_rows.specs.Makers.{IsNoted, IsMaking, IsFilling, Leaves, Ends, Cuts, standing, reached, can_wrap, is_empty, has_room, room_behind, kept_of, row_standing}
@@ -183,14 +183,6 @@ ended-cells m n k es fs gs f g e shape here w more same too placed =
     rw too (cells-room m.cutting.shape (lead_of m) (start_of m) (w.xs ++ e ∷ []) g.draft (filled (lead_of m) (start_of m) w.xs w.filling).draft lead.stand sound)
 
 -- the row that was made is the next of the line
-
--- how a row with these elements for which there is room is cut
-abbrev pub cut_of : ShapeValues → List Element → RowCut
-cut_of shape row = record {
-  elements = if is_wrapped shape row then up_to_break row else row;
-  ended = ends_some row;
-  marked = not (ends_some row) && not (is_wrapped shape row);
-}
 
 lead-same : (c : Cutting) (b : Bool) → (if not b then c.wrap else c.first) ≡ (if b then c.first else c.wrap)
 lead-same c true = refl

@@ -54,12 +54,14 @@ pub record RowCut : Type 0 where
 abbrev pub is_wrapped : ShapeValues → List Element → Bool
 is_wrapped shape es = is_word shape.wrap && has_break es && not (ends_some es)
 
+-- how a row that has room for these elements is cut
+abbrev pub cut_of : ShapeValues → List Element → RowCut
+cut_of shape row = record {
+  elements = if is_wrapped shape row then up_to_break row else row;
+  ended = ends_some row;
+  marked = not (ends_some row) && not (is_wrapped shape row);
+}
+
 -- how the row that begins at a spot is cut
 abbrev pub cut_row : ShapeValues → Spot → List Element → RowCut
-cut_row shape spot es =
-    let row = room_for shape spot es in
-    record {
-      elements = if is_wrapped shape row then up_to_break row else row;
-      ended = ends_some row;
-      marked = not (ends_some row) && not (is_wrapped shape row);
-    }
+cut_row shape spot es = cut_of shape (room_for shape spot es)
