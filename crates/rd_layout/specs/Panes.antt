@@ -87,10 +87,14 @@ mode_line files facts width (Some format) = cells_of_pieces files facts width (p
 
 -- ---- all of it
 
+-- what a window of so many columns shows in its rectangle of a buffer that holds this and has these facts, where this is its view
+abbrev pub pane_with : Data → ObjectLists → ContentValue → FactValues → WindowState → ℕ → WindowView → PaneValues
+pane_with files objects content facts w width v = record {
+  rows = map (glyph_row (margin_of files objects content (widths_of w))) v.rows;
+  border = border_cell (border_slot objects content);
+  mode_line = mode_line files facts width w.format;
+}
+
 -- what a window shows in its rectangle, where this is its view
 abbrev pub pane_of : Data → StateValue → WindowState → Placed → WindowView → PaneValues
-pane_of files s w place v = record {
-  rows = map (glyph_row (margin_of files s.objects (shown_content s w) (widths_of w))) v.rows;
-  border = border_cell (border_slot s.objects (shown_content s w));
-  mode_line = mode_line files (facts_of (shown_buffer s w) v) place.rect.width w.format;
-}
+pane_of files s w place v = pane_with files s.objects (shown_content s w) (facts_of (shown_buffer s w) v) w place.rect.width v

@@ -1,9 +1,8 @@
 -- What the windows of a frame show, as it is handed on to be painted.
-use Rattle.std.specs.Prelude.{◌≡◌, ℕ, Some, List, [], map, All, slice_get}
+use Rattle.std.specs.Prelude.{◌≡◌, ℕ, Some, List, [], All, slice_get}
 use Rattle.rd_ucd.specs.Data.{Data}
 use Rattle.rd_ucd.specs.declared.spans.Span.{Span}
-use Rattle.rd_frame.specs.Held.{glyph_row}
-use Rattle.rd_frame.specs.Panes.{PaneValues, border_cell}
+use Rattle.rd_frame.specs.Panes.{PaneValues}
 use Rattle.rd_matrix.specs.Entries.{EntryMeaning}
 use Rattle.rd_objects.specs.Things.{ObjectLists}
 use Rattle.rd_state.specs.States.{BufferValue, StateValue}
@@ -12,7 +11,7 @@ use Rattle.rd_state.specs.declared.window.WindowState.{WindowState}
 use Rattle.rd_text.specs.Texts.{IsAccessible, TextValue}
 use Rattle.rd_tree.specs.declared.placed.Placed.{Placed}
 use Rattle.rd_window.specs.Views.{WindowView}
-use Rattle.rd_layout.specs.Panes.{border_slot, facts_of, margin_of, mode_line, widths_of}
+use Rattle.rd_layout.specs.Panes.{facts_of, pane_with}
 use Rattle.rd_layout.specs.Windows.{place_of, places, views_in}
 
 -- by data files with these classes the windows of a state show this, in leaf order
@@ -30,11 +29,7 @@ painted_of b = record b { content = record b.content { properties = [] } }
 
 -- what a window of so many columns shows in its rectangle, where it shows this buffer and this is its view
 abbrev pub pane_in : Data → ObjectLists → BufferValue → WindowState → ℕ → WindowView → PaneValues
-pane_in files objects b w width v = record {
-  rows = map (glyph_row (margin_of files objects b.content (widths_of w))) v.rows;
-  border = border_cell (border_slot objects b.content);
-  mode_line = mode_line files (facts_of b v) width w.format;
-}
+pane_in files objects b w width v = pane_with files objects b.content (facts_of b v) w width v
 
 -- the positions of a view are accessible in a text: its start, its point, and the starts of the blocks that it has rows of
 pub record IsViewOf (text : TextValue) (v : WindowView) : Type 0 where

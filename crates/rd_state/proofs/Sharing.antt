@@ -1,6 +1,6 @@
 -- What the ops leave that change how the windows share the frame.
 use Rattle.std.proofs.Common.{◌≡◌, ℕ, ◌+◌, ◌-◌, ◌<◌, ◌≤◌, ◌==◌, Bool, true, false, inl, inr, is_some, if◌then◌else◌, nat_le, min, pos, Option, None, Some, Result, Ok, Err, List, [], ◌∷◌, ◌++◌, length, set, get_or, ap, subst, sym, refl, ◌∙◌, arith}
-use Rattle.std.proofs.lemmas.Bool.{cases_lt, and_left, and_right, cond-false, cond-true, eq-eqb, ne_eqb}
+use Rattle.std.proofs.lemmas.Bool.{cases_lt, and_left, and_right}
 use Rattle.std.proofs.lemmas.Bool.Decides.{nat_tests}
 use Rattle.std.specs.List.{remove}
 use Rattle.std.specs.Prelude.{IsErr, IfErr, option_map}
@@ -74,12 +74,10 @@ removes-window s t n i e d ws heir same there said is chosen_is =
     ∙ (ap (λ xs. Ok (record t { tree = d; windows = xs; selected = if t.selected == n then first_leaf (sibling n t.tree.windows) else t.selected })) (sym there.removed ∙ sym is)
     ∙ ap (λ k. Ok (record t { tree = d; windows = ws; selected = k })) (sym chosen_is)))
 
-pub heir-chosen : (old n e heir : ℕ) (ws : Windows) → e ≡ n → heir ≡ first_leaf (sibling e ws) → old ≡ e → heir ≡ (if old == n then first_leaf (sibling n ws) else old)
-heir-chosen old n e heir ws number is same =
-    is ∙ (ap (λ k. first_leaf (sibling k ws)) number ∙ sym (cond-true (old == n) (first_leaf (sibling n ws)) old (eq-eqb old n (same ∙ number))))
-
-pub heir-passed : (old n e : ℕ) (ws : Windows) → e ≡ n → (old ≡ e → ⊥) → old ≡ (if old == n then first_leaf (sibling n ws) else old)
-heir-passed old n e ws number other = sym (cond-false (old == n) (first_leaf (sibling n ws)) old (ne_eqb old n (λ p. other (p ∙ sym number))))
+pub heir-selected : (old n e heir selected : ℕ) (ws : Windows) → e ≡ n → heir ≡ first_leaf (sibling e ws) → selected ≡ (if old == e then heir else old)
+    → selected ≡ (if old == n then first_leaf (sibling n ws) else old)
+heir-selected old n e heir selected ws number is chosen =
+    chosen ∙ (ap (λ h. if old == e then h else old) is ∙ ap (λ k. if old == k then first_leaf (sibling k ws) else old) number)
 
 -- ---- a window that changes with the tree
 

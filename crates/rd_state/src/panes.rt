@@ -1,5 +1,5 @@
 //! The ops that change how the windows share the frame, as methods of `StateParts`: splits, removals, mode lines and margins.
-ghost use Rattle.std.specs.Prelude.{◌≢◌};
+ghost use Rattle.std.specs.Prelude.{◌≡◌, ◌≢◌, ◌==◌, if◌then◌else◌};
 ghost use Rattle.rd_script.specs.declared.op.Op.TheVariants.{Split, Remove, ModeLine, Margin};
 ghost use Rattle.rd_script.specs.Forms.{IsInForm};
 ghost use Rattle.rd_state.specs.Answers.{Applies};
@@ -45,9 +45,7 @@ impl StateParts {
         let number = self.windows[i].0;
         let heir = self.tree.remove(number)?;
         self.windows.remove(i);
-        if self.selected == number {
-            self.selected = heir;
-        }
+        self.selected = selected_without(self.selected, number, heir);
         Ok(Effect::Nothing)
     }
 
@@ -97,4 +95,11 @@ fn check_format(format: &Option<ListOf<Ch>>) -> Result<(), Refused>
         Some(format) => Ok(check(format.as_slice())?),
         None => Ok(()),
     }
+}
+
+/// The window that is selected when one was taken away: its heir where it was that one itself.
+fn selected_without(selected: u32, removed: u32, heir: u32) -> u32
+    ensures { result ≡ (if selected == removed then heir else selected) }
+{
+    if selected == removed { heir } else { selected }
 }

@@ -9,7 +9,7 @@ use Rattle.rd_state.specs.States.{StateValue}
 use Rattle.rd_state.specs.Effects.{effect_of}
 use Rattle.rd_state.specs.Steps.{refused_tree, step}
 use Rattle.rd_state.proofs.Finding.{found-in}
-use Rattle.rd_state.proofs.Sharing.{refuses, tree-refuses, asked, removes-window, heir-chosen, heir-passed}
+use Rattle.rd_state.proofs.Sharing.{refuses, tree-refuses, asked, removes-window, heir-selected}
 use Rattle.rd_tree.proofs.Free.{remove-free}
 use Rattle.rd_state.proofs.Free.{tree-free}
 use Rattle.rd_state.proofs.parts.StateParts.remove.Goals as goal
@@ -30,27 +30,15 @@ returns-in_err-heir-clause-applies c =
     (tree-refuses c.args.self.now t n c.in_ok-i.i c.index.result.now (λ x. remove_tree x.tree n) after c.in_err-heir.field-0.0 c.self.view_is there
     (asked (λ k. remove_tree t.tree k) n c.in_ok-i.i t.windows c.index.result.now _ there c.in_err-heir.ensures.1))
 
-pub returns-then-self-number-clause-applies : goal.returns-then-self-number-clause-applies
+pub returns-clause-applies : goal.returns-clause-applies
 unfolding step effect_of
-returns-then-self-number-clause-applies c =
+returns-clause-applies c =
     let t = the_view c.self.inside in
     let there = found-in t c.as_slice.result.now c.args.window c.in_ok-i.i c.index.result.now c.as_slice.ensures.value c.in_ok-i.ensures.place c.in_ok-i.ensures.inside c.index.ensures in
     let n = c.args.window in (
-      removes-window c.args.self.now t n c.in_ok-i.i c.index.result.now c.remove.new.self c.remove-2.new.self.items c.in_ok-heir.heir c.self.view_is there
+      removes-window c.args.self.now t n c.in_ok-i.i c.index.result.now c.remove.new.self c.remove-2.new.self.items c.selected_without.result c.self.view_is there
           (asked (λ k. remove_tree t.tree k) n c.in_ok-i.i t.windows c.index.result.now _ there c.in_ok-heir.ensures.0) c.remove-2.ensures.items
-          (heir-chosen t.selected n c.index.result.now.0 c.in_ok-heir.heir t.tree.windows there.number c.in_ok-heir.ensures.1 c.if-self-number.true),
-      refl,
-    )
-
-pub returns-else-self-number-clause-applies : goal.returns-else-self-number-clause-applies
-unfolding step effect_of
-returns-else-self-number-clause-applies c =
-    let t = the_view c.self.inside in
-    let there = found-in t c.as_slice.result.now c.args.window c.in_ok-i.i c.index.result.now c.as_slice.ensures.value c.in_ok-i.ensures.place c.in_ok-i.ensures.inside c.index.ensures in
-    let n = c.args.window in (
-      removes-window c.args.self.now t n c.in_ok-i.i c.index.result.now c.remove.new.self c.remove-2.new.self.items t.selected c.self.view_is there
-          (asked (λ k. remove_tree t.tree k) n c.in_ok-i.i t.windows c.index.result.now _ there c.in_ok-heir.ensures.0) c.remove-2.ensures.items
-          (heir-passed t.selected n c.index.result.now.0 t.tree.windows there.number c.if-self-number.false),
+          (heir-selected t.selected n c.index.result.now.0 c.in_ok-heir.heir c.selected_without.result t.tree.windows there.number c.in_ok-heir.ensures.1 c.selected_without.ensures),
       refl,
     )
 
