@@ -191,8 +191,8 @@ open-nothing a b pos n g none p =
 pub length-none : (b : List ValueRun) → Rises 0 b → size_of b ≡ 0 → length b ≡ 0
 length-none b h e = omega (arith, few-runs 0 b h)
 
-pub size-none : (b : List ValueRun) → Rises 0 b → length b ≡ 0 → size_of b ≡ 0
-size-none b h e = ap size_of (nil_from_length b e)
+pub size-none : (b : List ValueRun) → length b ≡ 0 → size_of b ≡ 0
+size-none b e = ap size_of (nil_from_length b e)
 
 pub values_of_both-none : (a b : List ValueRun) → b ≡ [] → values_of_both a b ≡ values_of a
 values_of_both-none a b e = ap (values_of_both a) e ∙ append-nil (values_of a)

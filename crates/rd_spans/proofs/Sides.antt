@@ -72,14 +72,6 @@ size-top [] r e k = absurd (cc)
 size-top (q ∷ []) r e k = let s : q ≡ r = cc in ap (λ (x : ValueRun). x.end) s
 size-top (q ∷ (s ∷ rs)) r e k = size-top (s ∷ rs) r e q.end
 
-pub size-none : (rs : List ValueRun) → top rs ≡ None → rs ≡ []
-size-none [] e = refl
-size-none (q ∷ []) e = absurd (cc)
-size-none (q ∷ (s ∷ rs)) e = absurd (none-there (s ∷ rs) s rs refl e) where
-  none-there : (xs : List ValueRun) (y : ValueRun) (ys : List ValueRun) → xs ≡ y ∷ ys → top xs ≡ None → ⊥
-  none-there xs y [] e n = let t : top (y ∷ []) ≡ None = rw e at n in cc
-  none-there xs y (z ∷ zs) e n = none-there (z ∷ zs) z zs refl (rw e at n)
-
 -- the value of a place
 
 pub value_in-values : (k : ℕ) (rs : List ValueRun) (p : ℕ) → Rises k rs → k ≤ p → value_at (values_from k rs) (p - k) ≡ value_in rs p

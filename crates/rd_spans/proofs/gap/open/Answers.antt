@@ -48,6 +48,6 @@ pub returns-else-not-is_empty-clause-values : goal.returns-else-not-is_empty-cla
 returns-else-not-is_empty-clause-values c =
     let m = c.move_to.ensures.moved in
     let b = c.move_to.new.back in
-    let none = size-none b.items m.at.back_rises (is-empty b.items b.len b.ok.0 (sym c.is_empty.ensures ∙ c.if-not-is_empty.false)) in
+    let none = size-none b.items (is-empty b.items b.len b.ok.0 (sym c.is_empty.ensures ∙ c.if-not-is_empty.false)) in
     λ p.
     open-nothing c.move_to.new.front.items b.items c.args.pos c.args.n m.at none p ∙ ap (λ (xs : List (Option ℕ)). opened_at xs c.args.pos c.args.n p) m.same

@@ -14,7 +14,7 @@ returns-then-ends_there-clause-values c =
     let ends = rw c.deref.ensures.value at c.ends_there.ensures.yes in
     let there = ends c.if-ends_there.true in
     let nothing = nil_from_length d there.1 in
-    let none = size-none d c.cut.ensures.cut.rises there.1 in
+    let none = size-none d there.1 in
     λ p.
     ap (λ (xs : List (Option ℕ)). value_at xs p) (values_of_both-none c.trim.new.runs.items d nothing)
     ∙ (c.trim.ensures.values p
