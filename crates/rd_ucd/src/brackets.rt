@@ -58,10 +58,7 @@ impl Brackets {
     pub fn bracket(&self, code: u32) -> Option<Bracket>
         ensures { result ≡ bracket_in self.now code }
     {
-        match entry_at(self.entries.as_slice(), code) {
-            Some(entry) => Some(entry.bracket),
-            None => None,
-        }
+        entry_at(self.entries.as_slice(), code).map(|entry| entry.bracket)
     }
 }
 

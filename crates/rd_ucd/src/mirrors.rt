@@ -50,10 +50,7 @@ impl Mirrors {
     pub fn mirror(&self, code: u32) -> Option<u32>
         ensures { result ≡ mirror_in self.now code }
     {
-        match entry_at(self.pairs.as_slice(), code) {
-            Some(pair) => Some(pair.mirror),
-            None => None,
-        }
+        entry_at(self.pairs.as_slice(), code).map(|pair| pair.mirror)
     }
 }
 
