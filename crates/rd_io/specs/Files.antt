@@ -2,14 +2,13 @@
 use Rattle.std.specs.Prelude.{◌≡◌, ℕ, ◌+◌, ◌<◌, ◌≤◌, Bool, true, false, List, ◌++◌, length, Option, IfSome, Result, Ok, Err}
 use Rattle.rd_base.specs.declared.limits.TheConstants.{FILE_BYTES}
 use Rattle.rd_io.specs.declared.file.FileFault.{FileFault}
-use Rattle.rd_io.specs.declared.file.FileFault.TheVariants.{Failed, TooLarge, Memory}
+use Rattle.rd_io.specs.declared.file.FileFault.TheVariants.{TooLarge}
 
 -- bytes are added, or there would be too many
-abbrev pub PutsBytes : Result Unit FileFault → List ℕ → List ℕ → List ℕ → Type 0
-PutsBytes (Ok _) old new piece = (new ≡ old ++ piece) × (length new ≤ FILE_BYTES)
-PutsBytes (Err TooLarge) old new piece = FILE_BYTES < length old + length piece
-PutsBytes (Err Memory) old new piece = Unit {0}
-PutsBytes (Err Failed) old new piece = ⊥
+abbrev pub PutsWithin : {E : Type 0} → Result Bool E → List ℕ → List ℕ → List ℕ → ℕ → Type 0
+PutsWithin (Ok true) old new piece most = (new ≡ old ++ piece) × (length new ≤ most)
+PutsWithin (Ok false) old new piece most = most < length old + length piece
+PutsWithin (Err fault) old new piece most = Unit {0}
 
 -- these bytes are a front of the file, where its bytes are known
 abbrev pub IsFront : List ℕ → Option (List ℕ) → Type 0

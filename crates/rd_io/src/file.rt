@@ -1,8 +1,9 @@
 //! The reading of whole files.
 ghost use Rattle.std.specs.Prelude.{◌≡◌, ◌≤◌, ◌<◌, ℕ, List, IfOk, IfSome, IsErrOf, length};
 ghost use Rattle.rd_io.specs.Devices.{Rose};
-ghost use Rattle.rd_io.specs.Files.{FetchesMore, PutsBytes};
+ghost use Rattle.rd_io.specs.Files.{FetchesMore};
 
+use crate::copy::put_within;
 use crate::traits::Files;
 use rd_base::limits::FILE_BYTES;
 use std::alloc::{AllocError, Global};
@@ -85,17 +86,8 @@ fn fetch_more<F: Files>(
     if n == 0 {
         return Ok(false);
     }
-    put(bytes, room.split_at(n).0)?;
-    Ok(true)
-}
-
-/// Adds bytes to those of a file, if it is not too large then.
-fn put(bytes: &mut Vec<u8>, piece: &[u8]) -> Result<(), FileFault>
-    ensures { PutsBytes result bytes.old.items bytes.new.items piece.now }
-{
-    if bytes.len() > LARGEST || piece.len() > LARGEST - bytes.len() {
+    if !put_within(bytes, room.split_at(n).0, LARGEST)? {
         return Err(FileFault::TooLarge);
     }
-    bytes.extend_from_slice(piece)?;
-    Ok(())
+    Ok(true)
 }

@@ -7,6 +7,7 @@ ghost use Rattle.rd_io.specs.Lines.{Answers, lines_of, text_of_lines, IsUnbroken
 ghost use Rattle.rd_io.specs.Pieces.{BreaksAt, IsLeft, PutsPiece, TakesPiece, Gathers};
 
 use crate::chunk::Chunk;
+use crate::copy::put_within;
 use crate::traits::Source;
 use rd_base::Memory;
 use rd_base::limits::{LINE_BYTES, LINES};
@@ -197,13 +198,11 @@ fn take_piece(line: &mut Vec<u8>, bytes: &[u8], given: u32) -> Result<Option<usi
 fn put_piece(line: &mut Vec<u8>, piece: &[u8]) -> Result<(), LineFault>
     ensures { PutsPiece result line.old.items line.new.items piece.now }
 {
-    if line.len() > LONGEST || piece.len() > LONGEST - line.len() {
-        return Err(LineFault::TooLong);
+    match put_within(line, piece, LONGEST) {
+        Ok(true) => Ok(()),
+        Ok(false) => Err(LineFault::TooLong),
+        Err(_) => Err(LineFault::Memory),
     }
-    if line.extend_from_slice(piece).is_err() {
-        return Err(LineFault::Memory);
-    }
-    Ok(())
 }
 
 /// The place of the first newline, counted from 0.

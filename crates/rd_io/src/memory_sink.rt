@@ -12,7 +12,6 @@ pub struct MemSink {
     room: Vec<u8>,
     taken: usize,
     calls: Calls,
-    faults: u64,
     pub ghost within: { taken ≤ length room.items },
 }
 
@@ -26,22 +25,17 @@ impl MemSink {
             room: Vec::from_elem(alloc, 0, bytes as usize)?,
             taken: 0,
             calls: Calls::new(Vec::new(alloc)),
-            faults: 0,
         })
     }
 
     /// The same sink with the numbers of the calls that are to fail, counted from 1 and from here on.
-    pub fn failing(self, calls: Vec<u64>) -> MemSink
+    pub fn failing(mut self, calls: Vec<u64>) -> MemSink
         ensures written { ⟦<MemSink as Sink>⟧.written result ≡ ⟦<MemSink as Sink>⟧.written self }
         ensures faults { ⟦<MemSink as Sink>⟧.faults result ≡ ⟦<MemSink as Sink>⟧.faults self }
-        ensures calls { result.calls ≡ record { made = 0; failing = calls } }
+        ensures calls { result.calls ≡ record { made = 0; failing = calls; faults = self.calls.faults } }
     {
-        MemSink {
-            room: self.room,
-            taken: self.taken,
-            calls: Calls::new(calls),
-            faults: self.faults,
-        }
+        self.calls.fail_at(calls);
+        self
     }
 
     /// The bytes that were written.
@@ -57,12 +51,12 @@ impl Sink for MemSink {
 
     ghost written = { λ s. Some (take s.taken s.room.items) };
 
-    ghost faults = { λ s. s.faults };
+    ghost faults = { λ s. s.calls.faults };
 
     fn write(&mut self, piece: &[u8]) -> Result<usize, Failed> {
         let left = self.room.len() - self.taken;
         if self.calls.next_fails() || left == 0 && !piece.is_empty() {
-            return Err(failure(&mut self.faults));
+            return Err(failure(&mut self.calls.faults));
         }
         let n = left.min(piece.len());
         self.room[self.taken..self.taken + n].copy_from_slice(&piece[..n]);

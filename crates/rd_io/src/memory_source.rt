@@ -11,7 +11,6 @@ pub struct MemSource {
     bytes: Vec<u8>,
     at: usize,
     calls: Calls,
-    faults: u64,
     pub ghost within: { at ≤ length bytes.items },
 }
 
@@ -25,22 +24,17 @@ impl MemSource {
             bytes,
             at: 0,
             calls: Calls::new(none),
-            faults: 0,
         }
     }
 
     /// The same source with the numbers of the calls that are to fail, counted from 1 and from here on.
-    pub fn failing(self, calls: Vec<u64>) -> MemSource
+    pub fn failing(mut self, calls: Vec<u64>) -> MemSource
         ensures left { ⟦<MemSource as Source>⟧.left result ≡ ⟦<MemSource as Source>⟧.left self }
         ensures faults { ⟦<MemSource as Source>⟧.faults result ≡ ⟦<MemSource as Source>⟧.faults self }
-        ensures calls { result.calls ≡ record { made = 0; failing = calls } }
+        ensures calls { result.calls ≡ record { made = 0; failing = calls; faults = self.calls.faults } }
     {
-        MemSource {
-            bytes: self.bytes,
-            at: self.at,
-            calls: Calls::new(calls),
-            faults: self.faults,
-        }
+        self.calls.fail_at(calls);
+        self
     }
 }
 
@@ -49,11 +43,11 @@ impl Source for MemSource {
 
     ghost left = { λ s. Some (drop s.at s.bytes.items) };
 
-    ghost faults = { λ s. s.faults };
+    ghost faults = { λ s. s.calls.faults };
 
     fn read(&mut self, buf: &mut [u8]) -> Result<usize, Failed> {
         if self.calls.next_fails() {
-            return Err(failure(&mut self.faults));
+            return Err(failure(&mut self.calls.faults));
         }
         let n = copy_front(buf, &self.bytes[self.at..]);
         self.at += n;

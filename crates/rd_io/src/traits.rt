@@ -5,6 +5,7 @@ ghost use Rattle.std.specs.Io.KnownBytes.{ReadConsumes, WriteAppends};
 ghost use Rattle.rd_base.specs.Chars.{encoded};
 ghost use Rattle.rd_io.specs.Devices.{Rose, Fetches, Writes};
 
+use rd_base::encode;
 use thiserror::Error;
 
 /// A device failed. Its count of faults has risen, unless it stood at its last value.
@@ -100,8 +101,5 @@ pub fn write_character<K: Sink>(sink: &mut K, code: u32) -> Result<(), Failed>
     ensures never_falls { K.faults sink.old ≤ K.faults sink.new }
     ensures failed { OnErr result (Rose (K.faults sink.old) (K.faults sink.new)) }
 {
-    match char::from_u32(code) {
-        Some(c) => write_whole(sink, c.encode_utf8(&mut [0; 4]).as_bytes()),
-        None => Ok(()),
-    }
+    write_whole(sink, encode(code, &mut [0; 4]))
 }
