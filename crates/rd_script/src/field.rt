@@ -4,7 +4,7 @@ ghost use Rattle.std.specs.Str.{chars};
 ghost use Rattle.serde_json.specs.Find.{get_member, as_str};
 ghost use Rattle.serde_json.specs.View.{view, members_view};
 ghost use Rattle.rd_script.specs.declared.fault.OpFault.TheVariants as faults;
-ghost use Rattle.rd_script.specs.Fields.{whole, word, present, required, required_of, optional, or_bad, asked_too, IsRead, IsReadAs, IsTaken};
+ghost use Rattle.rd_script.specs.Fields.{whole, word, present, required, required_of, optional, defaulted, or_bad, asked_too, IsRead, IsReadAs, IsTaken};
 
 use crate::asked::Asked;
 use crate::fault::OpFault;
@@ -37,9 +37,22 @@ pub fn optional<F: Form>(
     ensures { IsTaken result (optional key.now (F.kind form.now)) asked.old asked.new }
 {
     match present(asked, key)? {
-        Some(value) => some(alloc, key, form.read(alloc, value)?),
+        Some(value) => Ok(Some(good(alloc, key, form.read(alloc, value)?)?)),
         None => Ok(None),
     }
+}
+
+/// What a member says that may be absent or null, which is the default then.
+pub fn defaulted<F: Form>(
+    alloc: Global,
+    asked: &mut Asked,
+    key: &'static str,
+    form: &F,
+    default: F::Said,
+) -> Result<F::Said, OpFault>
+    ensures { IsTaken result (defaulted default key.now (F.kind form.now)) asked.old asked.new }
+{
+    Ok(optional(alloc, asked, key, form)?.unwrap_or(default))
 }
 
 /// What a word stands for that is asked for.
@@ -89,16 +102,6 @@ fn present<'a>(asked: &mut Asked<'a>, key: &'static str) -> Result<Option<&'a Va
     match asked.ask(key)? {
         Some(value) if !value.is_null() => Ok(Some(value)),
         _ => Ok(None),
-    }
-}
-
-/// What was found of the value of a member that may be absent, or that it is bad.
-pub fn some<T: Drop>(alloc: Global, key: &str, found: Option<T>) -> Result<Option<T>, OpFault>
-    ensures { IsRead result (or_bad key.now (option_map Some found)) }
-{
-    match found {
-        Some(value) => Ok(Some(value)),
-        None => bad(alloc, key),
     }
 }
 

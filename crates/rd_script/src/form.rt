@@ -1,5 +1,5 @@
 //! Forms of values: what a value says, where it is of a form.
-ghost use Rattle.std.specs.Prelude.{◌≡◌};
+ghost use Rattle.std.specs.Prelude.{◌≡◌, ◌≤◌, IfSome};
 ghost use Rattle.serde_json.specs.View.{view};
 ghost use Rattle.rd_script.specs.Fields.{within, signed};
 
@@ -55,7 +55,7 @@ impl Form for Within {
     ghost kind = { λ s. within s.least s.greatest };
 
     fn read(&self, _alloc: Global, value: &Value) -> Result<Option<u32>, Memory> {
-        Ok(number_within(value, self.least, self.greatest))
+        Ok(small_within(value, self.least, self.greatest))
     }
 }
 
@@ -94,13 +94,21 @@ impl Form for Flag {
 }
 
 /// A value's number, where it is a whole one of a range.
-pub fn number_within(value: &Value, least: u32, greatest: u32) -> Option<u32>
-    ensures { result ≡ within least greatest (view value.now) }
+pub fn number_within(value: &Value, least: u64, greatest: u64) -> Option<u64>
+    ensures value { result ≡ within least greatest (view value.now) }
+    ensures bound { IfSome result (λ n. n ≤ greatest) }
 {
     match value.as_u64() {
-        Some(n) if least as u64 <= n && n <= greatest as u64 => Some(n as u32),
+        Some(n) if least <= n && n <= greatest => Some(n),
         _ => None,
     }
+}
+
+/// The same of a range of 32 bits.
+pub fn small_within(value: &Value, least: u32, greatest: u32) -> Option<u32>
+    ensures { result ≡ within least greatest (view value.now) }
+{
+    Some(number_within(value, least as u64, greatest as u64)? as u32)
 }
 
 /// A value's number, where it is a whole one of at most this size, below 0 or above.

@@ -3,7 +3,7 @@ ghost use Rattle.std.specs.Prelude.{◌≡◌, IfOk};
 ghost use Rattle.serde_json.specs.View.{items_view};
 ghost use Rattle.rd_script.specs.Fields.{each_item};
 
-use crate::form::{Form, number_within};
+use crate::form::{Form, small_within};
 use rd_base::{ListOf, Memory};
 use serde_json::Value;
 use std::alloc::Global;
@@ -66,7 +66,7 @@ impl Form for RawByte {
     ghost kind = { λ _. within 128 255 };
 
     fn read(&self, _alloc: Global, value: &Value) -> Result<Option<u8>, Memory> {
-        match number_within(value, 128, 255) {
+        match small_within(value, 128, 255) {
             Some(byte) => Ok(Some(byte as u8)),
             None => Ok(None),
         }

@@ -4,7 +4,7 @@ ghost use Rattle.serde_json.specs.View.{view, items_view};
 ghost use Rattle.rd_script.specs.Fields.{whole, within, word, pair_of, two_items_of, four_items_of};
 ghost use Rattle.rd_script.specs.Objects.{run_of, run_kinds, entry_of, glyph_text};
 
-use crate::form::{Form, number_within};
+use crate::form::{Form, small_within};
 use crate::object::{OpEntry, OpRun};
 use crate::text_form::GlyphText;
 use crate::word::Named;
@@ -80,7 +80,7 @@ fn entry_of(alloc: Global, items: &[Value]) -> Result<Option<OpEntry>, Memory>
     if items.len() != 2 {
         return Ok(None);
     }
-    let code = number_within(&items[0], 0, 1_114_111);
+    let code = small_within(&items[0], 0, 1_114_111);
     let text = GlyphText.read(alloc, &items[1])?;
     Ok(entry_parts(code, text))
 }

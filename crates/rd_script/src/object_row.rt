@@ -9,7 +9,7 @@ ghost use Rattle.rd_script.specs.declared.name.ObjectOp.TheVariants as objects;
 
 use crate::asked::Asked;
 use crate::fault::OpFault;
-use crate::field::{named, number, optional, required};
+use crate::field::{defaulted, named, number, optional, required};
 use crate::form::{Flag, Form, Within};
 use crate::item::AtMost;
 use crate::name::ObjectOp;
@@ -72,10 +72,7 @@ fn some_items<F: Form + Drop>(
 ) -> Result<ListOf<F::Said>, OpFault>
     ensures { IsTaken result (defaulted [] key.now (list_of most (F.kind of))) asked.old asked.new }
 {
-    match optional(alloc, asked, key, &AtMost { most, of })? {
-        Some(items) => Ok(items),
-        None => Ok(ListOf::new(alloc)),
-    }
+    defaulted(alloc, asked, key, &AtMost { most, of }, ListOf::new(alloc))
 }
 
 /// What a display spec is, and then its string or its columns.
@@ -119,10 +116,7 @@ fn face(alloc: Global, asked: &mut Asked) -> Result<Face, OpFault>
 fn flag(alloc: Global, asked: &mut Asked, key: &'static str) -> Result<bool, OpFault>
     ensures { IsTaken result (defaulted false key.now as_bool) asked.old asked.new }
 {
-    match optional(alloc, asked, key, &Flag)? {
-        Some(flag) => Ok(flag),
-        None => Ok(false),
-    }
+    defaulted(alloc, asked, key, &Flag, false)
 }
 
 /// A colour, and none, which is 8, where the member is absent or null.

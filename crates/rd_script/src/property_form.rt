@@ -1,10 +1,8 @@
 //! The form of a property's value.
 ghost use Rattle.std.specs.Prelude.{◌≡◌};
-ghost use Rattle.serde_json.specs.View.{view};
-ghost use Rattle.rd_script.specs.Fields.{within};
 ghost use Rattle.rd_script.specs.Properties.{greatest_value};
 
-use crate::form::Form;
+use crate::form::{Form, number_within};
 use rd_base::Memory;
 use rd_base::limits::ATOMS;
 use rd_overlays::Kind;
@@ -26,17 +24,7 @@ impl Form for Property {
     ghost kind = { λ s. within 0 (greatest_value s.kind) };
 
     fn read(&self, _alloc: Global, value: &Value) -> Result<Option<u64>, Memory> {
-        Ok(property_of(self.kind, value))
-    }
-}
-
-/// The property of a kind that a value says.
-fn property_of(kind: Kind, value: &Value) -> Option<u64>
-    ensures { result ≡ within 0 (greatest_value kind) (view value.now) }
-{
-    match value.as_u64() {
-        Some(n) if n <= greatest_value(kind) => Some(n),
-        _ => None,
+        Ok(number_within(value, 0, greatest_value(self.kind)))
     }
 }
 

@@ -8,7 +8,7 @@ ghost use Rattle.rd_script.specs.declared.name.PropertyOp.TheVariants as propert
 
 use crate::asked::Asked;
 use crate::fault::OpFault;
-use crate::field::{bad, named, number, optional};
+use crate::field::{bad, defaulted, named, number, optional};
 use crate::form::{Flag, Signed, Whole};
 use crate::name::PropertyOp;
 use crate::op::Op;
@@ -102,9 +102,9 @@ fn read_overlay(alloc: Global, asked: &mut Asked) -> Result<Op, OpFault>
 fn read_manner(alloc: Global, asked: &mut Asked) -> Result<(i32, (bool, bool)), OpFault>
     ensures { IsTaken result overlay_manner asked.old asked.new }
 {
-    let priority = optional(alloc, asked, "priority", &Signed { most: PRIORITY })?.unwrap_or(0);
-    let front = optional(alloc, asked, "front", &Flag)?.unwrap_or(false);
-    let rear = optional(alloc, asked, "rear", &Flag)?.unwrap_or(false);
+    let priority = defaulted(alloc, asked, "priority", &Signed { most: PRIORITY }, 0)?;
+    let front = defaulted(alloc, asked, "front", &Flag, false)?;
+    let rear = defaulted(alloc, asked, "rear", &Flag, false)?;
     Ok((priority, (front, rear)))
 }
 

@@ -9,7 +9,7 @@ ghost use Rattle.rd_script.specs.Settings.{setting, value_of};
 use crate::asked::Asked;
 use crate::fault::OpFault;
 use crate::field::{named, optional, required};
-use crate::form::{Flag, Form, Whole, Within, number_within};
+use crate::form::{Flag, Form, Whole, Within, small_within};
 use crate::item::AtMost;
 use crate::setting::{Setting, SettingName};
 use rd_base::limits::{ATOMS, INVISIBLE_ATOMS, TAB_COLUMNS};
@@ -114,7 +114,7 @@ fn pair_of(items: &[Value]) -> Option<(u32, bool)>
     ensures { result ≡ two_items_of (within 0 ATOMS) as_bool (items_view items.now) }
 {
     match items {
-        [atom, flag] => Some((number_within(atom, 0, ATOMS)?, flag.as_bool()?)),
+        [atom, flag] => Some((small_within(atom, 0, ATOMS)?, flag.as_bool()?)),
         _ => None,
     }
 }
