@@ -81,27 +81,20 @@ absent-none : (ss : List Seq) → Absent None ss
 absent-none [] = record { others = refl; indexes = refl; ends = λ e. refl }
 absent-none (s ∷ ss) = absent-cons None s ss refl (absent-none ss)
 
-absent-before : (cs : List Class) (ls : List ℕ) (ks : List Link) (bs : List Bool) (b i p : ℕ) → p < i
+absent-from : (cs : List Class) (ls : List ℕ) (ks : List Link) (bs : List Bool) (b i p : ℕ) → ((j : ℕ) → p ≡ i + j → get_or bs j false ≡ false)
     → Absent (Some p) (gathered b i cs ls ks bs)
-absent-before [] ls ks bs b i p h = record { others = refl; indexes = refl; ends = λ e. refl }
-absent-before (c ∷ cs) [] ks bs b i p h = record { others = refl; indexes = refl; ends = λ e. refl }
-absent-before (c ∷ cs) (l ∷ ls) [] bs b i p h = record { others = refl; indexes = refl; ends = λ e. refl }
-absent-before (c ∷ cs) (l ∷ ls) (k ∷ ks) [] b i p h = record { others = refl; indexes = refl; ends = λ e. refl }
-absent-before (c ∷ cs) (l ∷ ls) (k ∷ ks) (true ∷ bs) b i p h =
-    absent-cons (Some p) (chained b i l k ks) _ (ne_eqb p i (λ e. omega arith)) (absent-before cs ls ks bs (if is_removed c then b else l) (i + 1) p (omega arith))
-absent-before (c ∷ cs) (l ∷ ls) (k ∷ ks) (false ∷ bs) b i p h = absent-before cs ls ks bs (if is_removed c then b else l) (i + 1) p (omega arith)
+absent-from [] ls ks bs b i p h = record { others = refl; indexes = refl; ends = λ e. refl }
+absent-from (c ∷ cs) [] ks bs b i p h = record { others = refl; indexes = refl; ends = λ e. refl }
+absent-from (c ∷ cs) (l ∷ ls) [] bs b i p h = record { others = refl; indexes = refl; ends = λ e. refl }
+absent-from (c ∷ cs) (l ∷ ls) (k ∷ ks) [] b i p h = record { others = refl; indexes = refl; ends = λ e. refl }
+absent-from (c ∷ cs) (l ∷ ls) (k ∷ ks) (true ∷ bs) b i p h =
+    absent-cons (Some p) (chained b i l k ks) _ (ne_eqb p i (λ e. let f : true ≡ false = h 0 (omega (arith, e)) in absurd cc))
+    (absent-from cs ls ks bs (if is_removed c then b else l) (i + 1) p (λ j e. h (suc j) (omega (arith, e))))
+absent-from (c ∷ cs) (l ∷ ls) (k ∷ ks) (false ∷ bs) b i p h = absent-from cs ls ks bs (if is_removed c then b else l) (i + 1) p (λ j e. h (suc j) (omega (arith, e)))
 
 absent-at : (cs : List Class) (ls : List ℕ) (ks : List Link) (bs : List Bool) (b i j p : ℕ) → p ≡ i + j → get_or bs j false ≡ false
     → Absent (Some p) (gathered b i cs ls ks bs)
-absent-at [] ls ks bs b i j p at h = record { others = refl; indexes = refl; ends = λ e. refl }
-absent-at (c ∷ cs) [] ks bs b i j p at h = record { others = refl; indexes = refl; ends = λ e. refl }
-absent-at (c ∷ cs) (l ∷ ls) [] bs b i j p at h = record { others = refl; indexes = refl; ends = λ e. refl }
-absent-at (c ∷ cs) (l ∷ ls) (k ∷ ks) [] b i j p at h = record { others = refl; indexes = refl; ends = λ e. refl }
-absent-at (c ∷ cs) (l ∷ ls) (k ∷ ks) (true ∷ bs) b i zero p at h = cc
-absent-at (c ∷ cs) (l ∷ ls) (k ∷ ks) (false ∷ bs) b i zero p at h = absent-before cs ls ks bs (if is_removed c then b else l) (i + 1) p (omega arith)
-absent-at (c ∷ cs) (l ∷ ls) (k ∷ ks) (true ∷ bs) b i (suc j) p at h =
-    absent-cons (Some p) (chained b i l k ks) _ (ne_eqb p i (λ e. omega arith)) (absent-at cs ls ks bs (if is_removed c then b else l) (i + 1) j p (omega arith) h)
-absent-at (c ∷ cs) (l ∷ ls) (k ∷ ks) (false ∷ bs) b i (suc j) p at h = absent-at cs ls ks bs (if is_removed c then b else l) (i + 1) j p (omega arith) h
+absent-at cs ls ks bs b i j p at h = absent-from cs ls ks bs b i p (λ k e. let same : k ≡ j = omega (arith, at, e) in ap (λ n. get_or bs n false) same ∙ h)
 
 -- one sequence begins there, and from then on goes on from elsewhere
 record Present (b i p : ℕ) (cs : List Class) (ls : List ℕ) (ks : List Link) (bs after : List Bool) : Type 0 where
