@@ -2,3 +2,4 @@ mod Below
 pub mod HeldLemmas
 pub mod Counting
 pub mod EachRow
+pub mod Passing

@@ -3,6 +3,7 @@ use Rattle.std.proofs.Common.{◌≡◌, ℕ, ◌+◌, ◌-◌, ◌^◌, ◌<◌
 use Rattle.std.proofs.lemmas.List.{append-nil, length-map}
 use Rattle.std.specs.List.{list_any, position_or_len, range_with_len}
 use Rattle.rd_matrix.proofs.Counting.{all-append, any-range, length-numbered}
+use Rattle.rd_matrix.proofs.Passing.{first-inside}
 use Rattle.rd_matrix.specs.Blocks.{HoldsPosition, IsWithin, StandFrom, end_from, first_start}
 use Rattle.rd_matrix.specs.Entries.{all_rows, entries_of, numbered}
 use Rattle.rd_matrix.specs.Sources.{IsSource, SourceValues}
@@ -17,7 +18,7 @@ use Rattle.rd_start.specs.declared.strip.Strip.{Strip}
 use Rattle.rd_start.specs.declared.strip.Sweep.{Sweep}
 use Rattle.rd_start.proofs.Blocks.{Fit, anchor-skips, any-block, any-fit, fit-back, fit-front, row-below, some-row}
 use Rattle.rd_start.proofs.Costs.{costs-piece}
-use Rattle.rd_start.proofs.Lists.{first-among, first-behind, first-inside, split}
+use Rattle.rd_start.proofs.Lists.{first-among, first-behind, split}
 use Rattle.rd_start.proofs.Reaching.{paid-same, strip-same}
 use Rattle.rd_start.proofs.Rows.{whole-fit}
 use Rattle.rd_start.proofs.Tests.{above-range, in-range}

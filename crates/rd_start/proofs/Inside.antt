@@ -5,6 +5,7 @@ use Rattle.std.proofs.lemmas.Option.{same_Some}
 use Rattle.std.specs.List.{find}
 use Rattle.std.specs.Option.{unwrap_or}
 use Rattle.rd_matrix.proofs.HeldLemmas.{end-any}
+use Rattle.rd_matrix.proofs.Passing.{first-inside}
 use Rattle.rd_matrix.specs.Blocks.{IsWithin, end_from, first_start}
 use Rattle.rd_matrix.specs.Entries.{all_rows}
 use Rattle.rd_matrix.specs.Sources.{IsSource, SourceValues, rows_at}
@@ -15,7 +16,6 @@ use Rattle.rd_start.specs.Strips.{rows_in}
 use Rattle.rd_start.specs.declared.strip.Sweep.{Sweep}
 use Rattle.rd_start.specs.declared.wanted.Wanted.{Wanted}
 use Rattle.rd_start.proofs.Blocks.{any-fit}
-use Rattle.rd_start.proofs.Lists.{first-inside}
 use Rattle.rd_start.proofs.Rows.{whole-fit}
 use Rattle.rd_start.proofs.Tests.{in-range}
 

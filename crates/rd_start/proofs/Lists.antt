@@ -1,13 +1,15 @@
 -- Places in joined lists, and searches there.
-use Rattle.std.proofs.Common.{◌≡◌, ℕ, zero, suc, ◌+◌, ◌-◌, ◌<◌, ◌≤◌, inl, inr, Bool, true, false, cond, ◌||◌, not, leb, ltb, List, [], ◌∷◌, ◌++◌, length, map, take, drop, get_or, Option, None, Some, refl, sym, ap, ap₂, ◌∙◌, arith, zero-add}
+use Rattle.std.proofs.Common.{◌≡◌, ℕ, zero, suc, ◌+◌, ◌-◌, ◌<◌, ◌≤◌, inl, inr, Bool, true, false, cond, not, eqb, leb, ltb, List, [], ◌∷◌, ◌++◌, length, map, take, drop, get_or, Option, None, Some, refl, sym, ap, ap₂, ◌∙◌, arith, zero-add}
 use Rattle.std.proofs.Math.Nat.{add-suc, add-zero}
 use Rattle.std.proofs.Math.Numerals.{add-one}
 use Rattle.std.proofs.lemmas.Bool.{cases_Bool, le-ltb, leb-true, lt-ltb, or_parts}
 use Rattle.std.specs.List.{find, list_any, position, position_or_len, slice_get, count_by}
 use Rattle.std.proofs.lemmas.List.{length-map, length-take-le, take-append-drop, take_all}
-use Rattle.std.proofs.lemmas.List.Folds.{find-append}
+use Rattle.std.proofs.lemmas.Bool.Decides.{nat_tests}
+use Rattle.std.proofs.lemmas.List.Folds.{find-append, prefix_len-append}
 use Rattle.std.specs.Option.{option_or}
 use Rattle.rd_base.proofs.Lists.{drop-read}
+use Rattle.rd_matrix.proofs.Passing.{first-inside}
 use Rattle.rd_start.specs.Starts.{around, both_at}
 
 -- a list round the element at a place
@@ -37,6 +39,9 @@ ends (y ∷ z ∷ xs) x p e =
     let rest = ends (z ∷ xs) x (omega arith) (sym (ap (slice_get (y ∷ z ∷ xs)) same) ∙ e) in
     record { front = y ∷ rest.front; whole = ap (λ zs. y ∷ zs) rest.whole }
 
+lt-eqb : (m n : ℕ) → m < n → eqb m n ≡ false
+lt-eqb m n less = grind (arith, nat_tests)
+
 -- the first element that passes, behind elements that don't, and among elements of which one does
 pub first-behind : {X : Type 0} (p : X → Bool) (xs ys : List X) → list_any p xs ≡ false → position_or_len p (xs ++ ys) ≡ length xs + position_or_len p ys
 first-behind p [] ys none = sym (zero-add (position_or_len p ys))
@@ -47,26 +52,9 @@ first-behind p (x ∷ xs) ys none =
     rw here (omega arith)
 
 pub first-among : {X : Type 0} (p : X → Bool) (xs ys : List X) → list_any p xs ≡ true → position_or_len p (xs ++ ys) ≡ position_or_len p xs
-first-among p [] ys some = absurd cc
-first-among p (x ∷ xs) ys some =
-    elim (cases_Bool (p x)) [
-      | inl here ↦ rw here refl
-      | inr here ↦
-          let later : list_any p xs ≡ true = sym (ap (λ b. b || list_any p xs) here) ∙ some in
-          let rest = first-among p xs ys later in
-          rw here (omega arith)
-    ]
-
-pub first-inside : {X : Type 0} (p : X → Bool) (xs : List X) → list_any p xs ≡ true → position_or_len p xs < length xs
-first-inside p [] some = absurd cc
-first-inside p (x ∷ xs) some =
-    elim (cases_Bool (p x)) [
-      | inl here ↦ rw here (omega arith)
-      | inr here ↦
-          let later : list_any p xs ≡ true = sym (ap (λ b. b || list_any p xs) here) ∙ some in
-          let rest = first-inside p xs later in
-          rw here (omega arith)
-    ]
+first-among p xs ys some =
+    let within = lt-eqb (position_or_len p xs) (length xs) (first-inside p xs some) in
+    prefix_len-append (λ x. not (p x)) xs ys ∙ ap (λ b. cond b (length xs + position_or_len p ys) (position_or_len p xs)) within
 
 first-none : {X : Type 0} (p : X → Bool) (xs : List X) → list_any p xs ≡ false → position_or_len p xs ≡ length xs
 first-none p [] none = refl

@@ -5,6 +5,7 @@ use Rattle.std.proofs.lemmas.List.{length-append, length-map}
 use Rattle.std.specs.List.{list_any, position, position_or_len, slice_get}
 use Rattle.rd_matrix.proofs.Counting.{all-append}
 use Rattle.rd_matrix.proofs.HeldLemmas.{end-any}
+use Rattle.rd_matrix.proofs.Passing.{first-inside}
 use Rattle.rd_matrix.specs.Blocks.{end_from, first_start}
 use Rattle.rd_matrix.specs.Entries.{EntryMeaning, all_rows}
 use Rattle.rd_matrix.specs.Sources.{SourceValues, IsSource}
@@ -18,7 +19,7 @@ use Rattle.rd_start.specs.declared.strip.Strip.{Strip}
 use Rattle.rd_start.specs.declared.strip.Sweep.{Sweep}
 use Rattle.rd_start.proofs.Blocks.{Fit, any-fit, end-append, fit, fit-back, fit-front}
 use Rattle.rd_start.proofs.Tests.{above-range, below-range, in-range}
-use Rattle.rd_start.proofs.Lists.{first-among, first-behind, first-inside, position-mapped, position-none, position-some}
+use Rattle.rd_start.proofs.Lists.{first-among, first-behind, position-mapped, position-none, position-some}
 
 pub whole-rows : (m : SourceValues) (sweep : Sweep) (bs before after : List Block) → m.blocks ≡ before ++ (bs ++ after)
     → all_rows (rows_in m sweep) m.blocks ≡ all_rows (rows_in m sweep) before ++ (all_rows (rows_in m sweep) bs ++ all_rows (rows_in m sweep) after)

@@ -1,13 +1,14 @@
 -- Where the item that covers a point begins, among all rows of a source and in a view.
-use Rattle.std.proofs.Common.{◌≡◌, ℕ, zero, suc, ◌+◌, ◌-◌, ◌<◌, ◌≤◌, inl, inr, Bool, true, false, cond, ◌||◌, ◌&&◌, leb, ltb, List, [], ◌∷◌, length, take, drop, slice_get, option_map, Option, None, Some, refl, sym, ap, ◌∙◌, subst, arith, zero-add}
+use Rattle.std.proofs.Common.{◌≡◌, ℕ, zero, suc, ◌+◌, ◌-◌, ◌<◌, ◌≤◌, inl, inr, true, false, cond, ◌||◌, ◌&&◌, leb, ltb, List, [], ◌∷◌, length, take, drop, slice_get, option_map, Option, None, Some, refl, sym, ap, ◌∙◌, subst, arith}
 use Rattle.std.proofs.Math.Bool.{or-true}
 use Rattle.std.proofs.lemmas.Bool.{cases_Bool, cases_lt}
 use Rattle.std.proofs.lemmas.List.Folds.{list_any-append}
 use Rattle.std.proofs.lemmas.Option.{slice_get_within}
 use Rattle.std.proofs.lemmas.Map.Keys.{any_passes_from_place}
-use Rattle.std.specs.List.{count_by, list_any, position_or_len}
-use Rattle.rd_base.proofs.Lists.{count-append}
+use Rattle.std.specs.List.{count_by, list_any}
+use Rattle.rd_base.proofs.Lists.{count-append, count-cons}
 use Rattle.rd_matrix.proofs.HeldLemmas.{end-any}
+use Rattle.rd_matrix.proofs.Passing.{at-position, one-position, some-counted}
 use Rattle.rd_matrix.specs.Blocks.{IsAmong, IsWithin, StandFrom, end_from, first_start}
 use Rattle.rd_matrix.specs.Columns.{column_in, covers, shown_column}
 use Rattle.rd_matrix.specs.Cursors.{column_shown, cursor_in, or_below}
@@ -23,49 +24,6 @@ use Rattle.rd_start.proofs.Tests.{above-range, below-range, in-range, range-part
 use Rattle.rd_start.specs.Chosen.{begins_item, places_of, row_of}
 use Rattle.rd_start.specs.declared.wanted.Wanted.{Wanted}
 use Rattle.rd_window.proofs.Ends.{in-view}
-
--- ---- counts
-
-count-first : {X : Type 0} (p : X → Bool) (x : X) (xs : List X) (b : Bool) → p x ≡ b → count_by p (x ∷ xs) ≡ cond b 1 0 + count_by p xs
-count-first p x xs b here = count-append p (x ∷ []) xs ∙ (ap (λ n. n + count_by p xs) (zero-add (cond (p x) 1 0)) ∙ ap (λ t. cond t 1 0 + count_by p xs) here)
-
-some-counted : {X : Type 0} (p : X → Bool) (xs : List X) → list_any p xs ≡ true → 1 ≤ count_by p xs
-some-counted p [] some = absurd cc
-some-counted p (x ∷ xs) some =
-    elim (cases_Bool (p x)) [
-      | inl here ↦ let count = count-first p x xs true here in omega (arith, count)
-      | inr here ↦
-          let later : list_any p xs ≡ true = sym (ap (λ b. b || list_any p xs) here) ∙ some in
-          let rest = some-counted p xs later in
-          let count = count-first p x xs false here in
-          omega (arith, rest, count)
-    ]
-
--- where at most one element passes, its place is that of the first
-one-position : {X : Type 0} (p : X → Bool) (xs : List X) (k : ℕ) (x : X) → count_by p xs ≤ 1 → slice_get xs k ≡ Some x → p x ≡ true → position_or_len p xs ≡ k
-one-position p [] k x one at here = absurd cc
-one-position p (y ∷ xs) zero x one at here = let same : y ≡ x = cc in let first : p y ≡ true = ap p same ∙ here in rw first refl
-one-position p (y ∷ xs) (suc k) x one at here =
-    let some = some-counted p xs (any_passes_from_place p xs k x at here) in
-    elim (cases_Bool (p y)) [
-      | inl first ↦ let count = count-first p y xs true first in absurd (omega (arith, count, some, one))
-      | inr other ↦
-          let count = count-first p y xs false other in
-          let rest = one-position p xs k x (omega (arith, count, one)) at here in
-          rw other (omega (arith, rest))
-    ]
-
-at-position : {X : Type 0} (p : X → Bool) (xs : List X) → list_any p xs ≡ true → (x : X) × (slice_get xs (position_or_len p xs) ≡ Some x) × (p x ≡ true)
-at-position p [] some = absurd cc
-at-position p (y ∷ xs) some =
-    elim (cases_Bool (p y)) as (λ _. (x : _) × (slice_get (y ∷ xs) (position_or_len p (y ∷ xs)) ≡ Some x) × (p x ≡ true)) [
-      | inl here ↦ let place : position_or_len p (y ∷ xs) ≡ 0 = rw here refl in (y, ap (slice_get (y ∷ xs)) place, here)
-      | inr other ↦
-          let later : list_any p xs ≡ true = sym (ap (λ b. b || list_any p xs) other) ∙ some in
-          let rest = at-position p xs later in
-          let place : position_or_len p (y ∷ xs) ≡ suc (position_or_len p xs) = rw other (omega arith) in
-          (rest.0, ap (slice_get (y ∷ xs)) place ∙ rest.1, rest.2)
-    ]
 
 -- ---- which rows have the beginning
 
@@ -113,10 +71,10 @@ rows-counted point start number (r ∷ rows) =
     elim (cases_Bool (list_any (covers start point) r.begins)) [
       | inl here ↦
           let some = some-counted (covers start point) r.begins here in
-          let count : count_by (begins_item point) (e ∷ behind) ≡ 1 + count_by (begins_item point) behind = count-first (begins_item point) e behind true here in
+          let count : count_by (begins_item point) (e ∷ behind) ≡ 1 + count_by (begins_item point) behind = count-cons (begins_item point) e behind ∙ ap (λ t. cond t 1 0 + count_by (begins_item point) behind) here in
           omega (arith, rest, sum, some, count)
       | inr here ↦
-          let count : count_by (begins_item point) (e ∷ behind) ≡ 0 + count_by (begins_item point) behind = count-first (begins_item point) e behind false here in
+          let count : count_by (begins_item point) (e ∷ behind) ≡ 0 + count_by (begins_item point) behind = count-cons (begins_item point) e behind ∙ ap (λ t. cond t 1 0 + count_by (begins_item point) behind) here in
           omega (arith, rest, sum, count)
     ]
 

@@ -1,0 +1,52 @@
+-- Elements of a list that pass a test: where the first of them stands, and how many there are.
+use Rattle.std.proofs.Common.{◌≡◌, ℕ, zero, suc, ◌+◌, ◌<◌, ◌≤◌, inl, inr, Bool, true, cond, ◌||◌, List, [], ◌∷◌, length, Some, refl, sym, ap, ◌∙◌, arith}
+use Rattle.std.specs.List.{count_by, find, list_any, position_or_len, slice_get}
+use Rattle.std.proofs.lemmas.Bool.{cases_Bool}
+use Rattle.std.proofs.lemmas.List.Folds.{find_at}
+use Rattle.std.proofs.lemmas.Option.{slice_get_within}
+use Rattle.rd_base.proofs.Lists.{count-cons}
+
+-- where some element passes, the first that does stands at its place
+pub at-position : {X : Type 0} (p : X → Bool) (xs : List X) → list_any p xs ≡ true → (x : X) × (slice_get xs (position_or_len p xs) ≡ Some x) × (p x ≡ true)
+at-position p [] some = absurd cc
+at-position p (y ∷ xs) some =
+    elim (cases_Bool (p y)) as (λ _. (x : _) × (slice_get (y ∷ xs) (position_or_len p (y ∷ xs)) ≡ Some x) × (p x ≡ true)) [
+      | inl here ↦ let place : position_or_len p (y ∷ xs) ≡ 0 = rw here refl in (y, ap (slice_get (y ∷ xs)) place, here)
+      | inr other ↦
+          let later : list_any p xs ≡ true = sym (ap (λ b. b || list_any p xs) other) ∙ some in
+          let rest = at-position p xs later in
+          let place : position_or_len p (y ∷ xs) ≡ suc (position_or_len p xs) = rw other (omega arith) in
+          (rest.0, ap (slice_get (y ∷ xs)) place ∙ rest.1, rest.2)
+    ]
+
+pub first-inside : {X : Type 0} (p : X → Bool) (xs : List X) → list_any p xs ≡ true → position_or_len p xs < length xs
+first-inside p xs some = let first = at-position p xs some in slice_get_within xs (position_or_len p xs) first.0 first.1
+
+-- an element that passes is counted
+pub place-counted : {X : Type 0} (p : X → Bool) (xs : List X) (k : ℕ) (x : X) → slice_get xs k ≡ Some x → p x ≡ true → 1 ≤ count_by p xs
+place-counted p [] k x there passes = absurd cc
+place-counted p (y ∷ xs) zero x there passes =
+    let same : y ≡ x = cc in
+    let count = count-cons p y xs ∙ ap (λ t. cond t 1 0 + count_by p xs) (ap p same ∙ passes) in
+    omega (arith, count)
+place-counted p (y ∷ xs) (suc k) x there passes = let rest = place-counted p xs k x there passes in let count = count-cons p y xs in omega (arith, count, rest)
+
+pub some-counted : {X : Type 0} (p : X → Bool) (xs : List X) → list_any p xs ≡ true → 1 ≤ count_by p xs
+some-counted p xs some = let first = at-position p xs some in place-counted p xs (position_or_len p xs) first.0 first.1 first.2
+
+-- where at most one passes, its place is that of the first, and it is the one that is found
+pub one-position : {X : Type 0} (p : X → Bool) (xs : List X) (k : ℕ) (x : X) → count_by p xs ≤ 1 → slice_get xs k ≡ Some x → p x ≡ true → position_or_len p xs ≡ k
+one-position p [] k x one there passes = absurd cc
+one-position p (y ∷ xs) zero x one there passes = let same : y ≡ x = cc in let first : p y ≡ true = ap p same ∙ passes in rw first refl
+one-position p (y ∷ xs) (suc k) x one there passes =
+    let some = place-counted p xs k x there passes in
+    elim (cases_Bool (p y)) [
+      | inl first ↦ let count = count-cons p y xs ∙ ap (λ t. cond t 1 0 + count_by p xs) first in absurd (omega (arith, count, some, one))
+      | inr other ↦
+          let count = count-cons p y xs ∙ ap (λ t. cond t 1 0 + count_by p xs) other in
+          let rest = one-position p xs k x (omega (arith, count, one)) there passes in
+          rw other (omega (arith, rest))
+    ]
+
+pub found-one : {X : Type 0} (p : X → Bool) (xs : List X) (k : ℕ) (x : X) → count_by p xs ≤ 1 → slice_get xs k ≡ Some x → p x ≡ true → find p xs ≡ Some x
+found-one p xs k x one there passes = find_at p xs ∙ (ap (slice_get xs) (one-position p xs k x one there passes) ∙ there)
