@@ -146,12 +146,7 @@ fn place_of(laid: &VecDeque<LaidBlock>, block: &Block, shape: Shape) -> Option<u
     ensures within { IfSome result (λ place. place < length laid.now.items) }
     ensures there { IfSome result (λ place. (other : LaidBlock) → is_of block.now shape (slice_index_or laid.now.items place other) ≡ true) }
 {
-    for place in 0..laid.len() {
-        if laid[place].is_of(block, shape) {
-            return Some(place);
-        }
-    }
-    None
+    laid.iter().position(|other| other.is_of(block, shape))
 }
 
 /// Copies of rows.

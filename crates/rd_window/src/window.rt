@@ -29,19 +29,6 @@ pub struct InView {
     pub bottom: bool,
 }
 
-impl InView {
-    ghost use Rattle.std.specs.Prelude.{◌≡◌};
-    ghost use Rattle.rd_matrix.specs.Cursors.{cursor_in};
-    ghost use Rattle.rd_matrix.specs.Entries.{shown_entries};
-
-    /// The row and the column, from 0, of point in the window's text, where one of the rows in view has it.
-    pub fn cursor(&self) -> Option<(u32, u32)>
-        ensures { result ≡ cursor_in self.now.chosen.point (shown_entries self.now.matrix) }
-    {
-        self.matrix.cursor(self.chosen.point)
-    }
-}
-
 /// Lays a window out over a source: chooses its start and its point, and takes the rows in view.
 ///
 /// `old` has rows of an older layout at this shape, since which so much changed: the older rows of each block that keeps them are those
