@@ -61,13 +61,14 @@ from-one spans i j values next within at =
     let here : drop j spans ≡ get_or spans j values ∷ drop (j + 1) spans = drop_more spans j values (omega arith) in
     ap (λ (x : List (Option ℕ)). x ∷ drop i spans) at ∙ (ap (λ (k : ℕ). get_or spans j values ∷ drop k spans) next ∙ sym here)
 
+carried : (P : List (List (Option ℕ)) → ℕ → Type 0) (xs ys : List (List (Option ℕ))) (x y : ℕ) → xs ≡ ys → y ≡ x → P xs x → P ys y
+carried P xs ys x y lists numbers h = subst (λ zs. P zs y) lists (subst (P xs) (sym numbers) h)
+
 pub from-back : (spans : List (List (Option ℕ))) (i j end pos stop new : ℕ) (values : List (Option ℕ)) (o : Option ℕ) → end < 4294967296 → i ≡ j + 1 → i ≤ length spans
     → values ≡ get_or spans j values → IsNextChange values pos o → IsFirstChange (drop i spans) end pos stop → new ≡ sooner stop o
     → IsFirstChange (drop j spans) end pos new
 from-back spans i j end pos stop new values o small next within at change first is =
-    let P : List (List (Option ℕ)) → Type 0 = λ xs. IsFirstChange xs end pos new in
-    let Q : ℕ → Type 0 = λ x. IsFirstChange (values ∷ drop i spans) end pos x in
-    subst P (from-one spans i j values next within at) (subst Q (sym is) (one-more values (drop i spans) end pos stop o small first change))
+    carried (λ xs x. IsFirstChange xs end pos x) _ _ _ new (from-one spans i j values next within at) is (one-more values (drop i spans) end pos stop o small first change)
 
 -- ---- back to the first place with a position's values
 
@@ -92,9 +93,7 @@ pub same-back : (spans : List (List (Option ℕ))) (i j begin pos stop new first
     → values ≡ get_or spans j values → IsFirstAlike values pos first → IsFirstSame (drop i spans) begin pos stop → new ≡ max stop first
     → IsFirstSame (drop j spans) begin pos new
 same-back spans i j begin pos stop new first values next within at alike so-far is =
-    let P : List (List (Option ℕ)) → Type 0 = λ xs. IsFirstSame xs begin pos new in
-    let Q : ℕ → Type 0 = λ x. IsFirstSame (values ∷ drop i spans) begin pos x in
-    subst P (from-one spans i j values next within at) (subst Q (sym is) (one-same values (drop i spans) begin pos stop first so-far alike))
+    carried (λ xs x. IsFirstSame xs begin pos x) _ _ _ new (from-one spans i j values next within at) is (one-same values (drop i spans) begin pos stop first so-far alike)
 
 pub last-stop : (s : BufferValue) (spans : List (List (Option ℕ))) (pos edge stop : ℕ) → IsLastEdge s.overlays s.text.begin pos edge
     → IsFirstSame spans edge pos stop → IsLastStop (record s { properties = values_of spans }) pos stop
