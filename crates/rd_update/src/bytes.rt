@@ -9,7 +9,7 @@ ghost use Rattle.rd_update.specs.Updates.{move as move_bytes, renditions, parame
 
 use crate::span::{Columns, interval, used};
 use itoa::Buffer;
-use rd_base::{Cell, Face, Glyph, ListOf, Memory};
+use rd_base::{Cell, Face, Glyph, ListOf, Memory, encode};
 use rd_term::numbers_of_face;
 
 /// Adds a move of the cursor to a row and a column, from 0.
@@ -114,8 +114,7 @@ fn push_glyph(bytes: &mut ListOf<u8>, glyph: &Glyph) -> Result<(), Memory>
     ensures { OnOk result (bytes.new ≡ bytes.old ++ glyph_bytes glyph.now) }
 {
     push_code(bytes, glyph.base)?;
-    let count = (glyph.count as usize).min(glyph.marks.len());
-    push_codes(bytes, &glyph.marks[..count])
+    push_codes(bytes, glyph.joining())
 }
 
 /// Adds characters.
@@ -132,13 +131,8 @@ fn push_codes(bytes: &mut ListOf<u8>, codes: &[u32]) -> Result<(), Memory>
 fn push_code(bytes: &mut ListOf<u8>, code: u32) -> Result<(), Memory>
     ensures { OnOk result (bytes.new ≡ bytes.old ++ encoded code) }
 {
-    match char::from_u32(code) {
-        Some(c) => {
-            let mut buffer = [0; 4];
-            bytes.extend_from_slice(c.encode_utf8(&mut buffer).as_bytes())
-        }
-        None => Ok(()),
-    }
+    let mut room = [0; 4];
+    bytes.extend_from_slice(encode(code, &mut room))
 }
 
 /// Adds what makes a pen of one face one of another.

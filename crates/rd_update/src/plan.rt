@@ -65,7 +65,7 @@ impl Plan {
         requires target { IsSound target.now }
         ensures { IfOk result (λ plan. plan ≡ planned (shown current.entry) target.now) }
     {
-        let blank = blank_cells(alloc, target.width())?;
+        let blank = ListOf::filled(alloc, target.width() as usize, Cell::Blank(Face::PLAIN))?;
         let mut bytes = opening(alloc, current)?;
         let mut parts = ListOf::new(alloc);
         push_parts(
@@ -160,15 +160,6 @@ fn opening(alloc: Global, current: Option<&Screen>) -> Result<ListOf<u8>, Memory
         None => ListOf::from_slice(alloc, b"\x1b[0m\x1b[2J"),
         Some(_screen) => Ok(ListOf::new(alloc)),
     }
-}
-
-/// The cells of a blank row.
-fn blank_cells(alloc: Global, width: u32) -> Result<ListOf<Cell>, Memory>
-    ensures { IfOk result (λ cells. cells ≡ blank_row width) }
-{
-    let mut cells = ListOf::new(alloc);
-    cells.resize(width as usize, Cell::Blank(Face::PLAIN))?;
-    Ok(cells)
 }
 
 /// The cells of a row of a sound screen, which their words tell apart.
