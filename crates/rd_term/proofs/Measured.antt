@@ -12,13 +12,16 @@ use Rattle.rd_base.specs.declared.cell.Glyph.{Glyph}
 use Rattle.rd_term.specs.Terminals.{feed_bytes, show}
 use Rattle.rd_term.proofs.Encoded.{Rows, standing, encoded_fed}
 
--- a character that has columns is no escape
-pub no-escape : (code w : ℕ) → columns_of code ≡ Some w → (code == 27) ≡ false
-unfolding char_width
-no-escape code w e = elim (cases_eq code 27) [
-  | inl same ↦ absurd (let none : Option ℕ = None in let h : none ≡ Some w = ap columns_of (sym same) ∙ e in cc)
+-- a character that has columns is none that has not
+pub no-control : (code w control : ℕ) → columns_of control ≡ None → columns_of code ≡ Some w → (code == control) ≡ false
+no-control code w control without e = elim (cases_eq code control) [
+  | inl same ↦ absurd (let none : Option ℕ = None in let h : none ≡ Some w = sym without ∙ (ap columns_of (sym same) ∙ e) in cc)
   | inr other ↦ grind (arith, nat_tests)
 ]
+
+escape-columns : columns_of 27 ≡ None
+unfolding char_width
+escape-columns = refl
 
 pub space-columns : columns_of 32 ≡ Some 1
 unfolding char_width
@@ -41,5 +44,5 @@ pub shown_fed : (region : Option (ℕ × ℕ)) (rows : Rows) (cursor : Option (�
     → is_scalar code ≡ true → columns_of code ≡ Some w
     → feed_bytes (standing region rows cursor wait pen latest) (encode_utf8 code) ≡ show code (Some w) (standing region rows cursor wait pen latest)
 shown_fed region rows cursor wait pen latest code w s e =
-    encoded_fed region rows cursor wait pen latest code s (no-escape code w e)
+    encoded_fed region rows cursor wait pen latest code s (no-control code w 27 escape-columns e)
     ∙ ap (λ c. show code c (standing region rows cursor wait pen latest)) e
