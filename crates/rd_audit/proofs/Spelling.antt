@@ -3,7 +3,7 @@ use Rattle.std.proofs.Common.{◌≡◌, ◌==◌, ℕ, zero, suc, ◌+◌, ◌-
 use Rattle.std.specs.Char.{encode_utf8}
 use Rattle.std.specs.List.{flat_map}
 use Rattle.std.specs.Str.{all_scalars, encode_utf8_all, chars}
-use Rattle.std.proofs.lemmas.Bool.{cases_lt, cases_eq, cond-true}
+use Rattle.std.proofs.lemmas.Bool.{cases_lt, cond-true}
 use Rattle.std.proofs.lemmas.Bool.Decides.{nat_tests}
 use Rattle.std.proofs.lemmas.Str.{chars-encodes, is_utf8-from_IsUtf8}
 use Rattle.std.proofs.Math.Seq.{set-append_seam, get_or-drop}
@@ -16,7 +16,7 @@ use Rattle.rd_base.specs.Glyphs.{IsMeasured, IsGood, IsRowAfter, glyph_bytes}
 use Rattle.rd_base.specs.declared.cell.Glyph.{Glyph}
 use Rattle.rd_base.specs.declared.cell.Cell.{Cell}
 use Rattle.rd_base.specs.declared.cell.Cell.TheVariants.{Blank, First, Rest}
-use Rattle.rd_term.proofs.Measured.{space-columns, base-columns, mark-columns}
+use Rattle.rd_term.proofs.Measured.{space-columns, base-columns, mark-columns, no-control}
 use Rattle.rd_dump.specs.Dumps.{cells_text}
 use Rattle.rd_audit.specs.Runs.{with_face}
 use Rattle.rd_audit.specs.Texts.{cells_of, taken, cells_from, text_cells}
@@ -65,12 +65,9 @@ all-scalar : (codes : List ℕ) → AreShown codes → all_scalars codes ≡ tru
 all-scalar [] h = refl
 all-scalar (code ∷ codes) h = let one = h.0.0 in let more = all-scalar codes h.1 in grind (arith, nat_tests)
 
-no-newline : (code width : ℕ) → columns_of code ≡ Some width → (code == 10) ≡ false
+newline-columns : columns_of 10 ≡ None
 unfolding char_width
-no-newline code width e = elim (cases_eq code 10) [
-  | inl same ↦ absurd (let none : Option ℕ = None in let h : none ≡ Some width = ap columns_of (sym same) ∙ e in cc)
-  | inr other ↦ grind (arith, nat_tests)
-]
+newline-columns = refl
 
 -- the bytes of a character but a newline hold none
 encode-lacks : (code : ℕ) → (code == 10) ≡ false → lacks 10 (encode_utf8 code) ≡ true
@@ -101,7 +98,7 @@ encode-lacks code other = elim (cases_lt code 128) [
 encodes-lack : (codes : List ℕ) → AreShown codes → lacks 10 (encode_utf8_all codes) ≡ true
 encodes-lack [] h = refl
 encodes-lack (code ∷ codes) h =
-    lacks-append 10 (encode_utf8 code) (encode_utf8_all codes) (encode-lacks code (no-newline code h.0.1.0 h.0.1.1)) (encodes-lack codes h.1)
+    lacks-append 10 (encode_utf8 code) (encode_utf8_all codes) (encode-lacks code (no-control code h.0.1.0 10 newline-columns h.0.1.1)) (encodes-lack codes h.1)
 
 -- ---- the characters of a row
 
