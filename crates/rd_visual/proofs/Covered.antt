@@ -6,6 +6,7 @@ use Rattle.std.proofs.lemmas.Bool.{and_parts, cases_lt}
 use Rattle.std.proofs.lemmas.Bool.Decides.{nat_tests}
 use Rattle.std.proofs.lemmas.List.Elements.{All-head, All-tail}
 use Rattle.rd_base.proofs.Lists.{count-append, count-cons}
+use Rattle.rd_matrix.proofs.Passing.{found-one, place-counted}
 use Rattle.rd_matrix.specs.Blocks.{IsAmong, StandFrom, first_start}
 use Rattle.rd_matrix.specs.Columns.{covers, shown_column}
 use Rattle.rd_matrix.specs.Cursors.{column_shown, cursor_in, or_below}
@@ -18,7 +19,7 @@ use Rattle.rd_rows.specs.Rows.{RowMeaning}
 use Rattle.rd_rows.specs.Shapes.{ShapeValues, IsShape}
 use Rattle.rd_rows.specs.declared.begin.Begin.{Begin}
 use Rattle.rd_visual.specs.Hits.{AreInPositions, AreRowsAt, Fits, begins_at, covers_some, hit_in, item_at, item_of_cell, least_at, reading_column}
-use Rattle.rd_visual.proofs.Items.{counted, found-one, found-none, item-again, item-alone, item-column, item-member}
+use Rattle.rd_visual.proofs.Items.{found-none, item-again, item-alone, item-column, item-member}
 
 -- how many items of these rows cover a position
 abbrev pub count_at : ℕ → List EntryMeaning → ℕ
@@ -134,7 +135,7 @@ cursor-there point zero (x ∷ xs) e k b few there place covered =
     let column : column_shown point e ≡ Some (shown_column e.row b.column) = rw found refl in
     ap (λ o. or_below o (cursor_in point xs)) (ap (column_shown point) same ∙ column)
 cursor-there point (suc r) (x ∷ xs) e k b few there place covered =
-    let some = counted (covers e.start point) e.row.begins k b place covered in
+    let some = place-counted (covers e.start point) e.row.begins k b place covered in
     let row = counted-row point r xs e there in
     let none : count_by (covers x.start point) x.row.begins ≡ 0 = omega (arith, few, some, row) in
     let rest : count_at point xs ≤ 1 = omega (arith, few) in

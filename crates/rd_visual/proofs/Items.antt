@@ -4,6 +4,7 @@ use Rattle.std.specs.Prelude.{count_by, find, slice_get}
 use Rattle.std.proofs.lemmas.Bool.{and_parts}
 use Rattle.std.proofs.lemmas.Bool.Decides.{nat_tests}
 use Rattle.rd_base.proofs.Lists.{count-cons}
+use Rattle.rd_matrix.proofs.Passing.{place-counted}
 use Rattle.rd_rows.specs.declared.begin.Begin.{Begin}
 use Rattle.rd_visual.specs.Hits.{covers_some, reaches, nearer, item_at, begins_at}
 
@@ -99,29 +100,12 @@ item-again column (x ∷ xs) b found = again-cases column x xs b _ _ refl refl (
 
 -- counts
 
-pub counted : (p : Begin → Bool) (bs : List Begin) (k : ℕ) (b : Begin) → slice_get bs k ≡ Some b → p b ≡ true → 1 ≤ count_by p bs
-counted p [] k b there passes = absurd cc
-counted p (x ∷ xs) zero b there passes =
-    let same : x ≡ b = cc in
-    let here : p x ≡ true = ap p same ∙ passes in
-    let e : count_by p (x ∷ xs) ≡ 1 + count_by p xs = count-cons p x xs ∙ rw here refl in
-    omega (arith, e)
-counted p (x ∷ xs) (suc k) b there passes = let rest = counted p xs k b there passes in let e = count-cons p x xs in omega (arith, e, rest)
-
-pub none-before : (p : Begin → Bool) (x : Begin) (xs : List Begin) (q : Bool) → p x ≡ q → count_by p (x ∷ xs) ≤ 1 → 1 ≤ count_by p xs → q ≡ false
+none-before : (p : Begin → Bool) (x : Begin) (xs : List Begin) (q : Bool) → p x ≡ q → count_by p (x ∷ xs) ≤ 1 → 1 ≤ count_by p xs → q ≡ false
 none-before p x xs false here few some = refl
 none-before p x xs true here few some = let e : count_by p (x ∷ xs) ≡ 1 + count_by p xs = count-cons p x xs ∙ rw here refl in absurd (omega (arith, e, few, some))
 
 fewer : (p : Begin → Bool) (x : Begin) (xs : List Begin) → count_by p (x ∷ xs) ≤ 1 → count_by p xs ≤ 1
 fewer p x xs few = let e = count-cons p x xs in omega (arith, e, few)
-
--- of several that pass, none but one, the first is found
-pub found-one : (p : Begin → Bool) (bs : List Begin) (k : ℕ) (b : Begin) → count_by p bs ≤ 1 → slice_get bs k ≡ Some b → p b ≡ true → find p bs ≡ Some b
-found-one p [] k b few there passes = absurd cc
-found-one p (x ∷ xs) zero b few there passes = let same : x ≡ b = cc in let here : p x ≡ true = ap p same ∙ passes in rw here there
-found-one p (x ∷ xs) (suc k) b few there passes =
-    let out = none-before p x xs _ refl few (counted p xs k b there passes) in
-    rw out (found-one p xs k b (fewer p x xs few) there passes)
 
 not-first : (p : Begin → Bool) (x : Begin) (xs : List Begin) (q : Bool) → p x ≡ q → count_by p (x ∷ xs) ≡ 0 → q ≡ false
 not-first p x xs false here none = refl
@@ -154,5 +138,5 @@ item-alone column (x ∷ xs) zero b there some same few =
 item-alone column (x ∷ xs) (suc k) b there some same few =
     let equal : nat_eq b.column column ≡ true = grind (arith, nat_tests) in
     let passes : begins_at column b ≡ true = rw (some, equal) refl in
-    let out = none-before (begins_at column) x xs _ refl few (counted (begins_at column) xs k b there passes) in
+    let out = none-before (begins_at column) x xs _ refl few (place-counted (begins_at column) xs k b there passes) in
     ap (nearer (cond (reaches column x) (Some x) None)) (item-alone column xs k b there some same (fewer (begins_at column) x xs few)) ∙ pass-behind column x b _ refl out same
