@@ -2,7 +2,8 @@
 use Rattle.std.proofs.Common.{◌≡◌, ℕ, ◌+◌, inl, inr, Bool, true, false, List, [], ◌++◌, Option, None, Some, is_some, if◌then◌else◌, OnErr, Result, Ok, Err, refl, sym, ap, ◌∙◌, subst}
 use Rattle.std.specs.Io.KnownBytes.{Appends}
 use Rattle.std.proofs.KnownBytes.{Appends-nil}
-use Rattle.rd_io.specs.Devices.{AppendsFront, Rose, Writes}
+use Rattle.rd_dump.specs.Prints.{Prints}
+use Rattle.rd_io.specs.Devices.{AppendsFront, Rose}
 use Rattle.rd_io.specs.declared.traits.Failed.{Failed}
 use Rattle.rd_layout.specs.Copies.{redisplayed as redisplayed_session, without_copies}
 use Rattle.rd_layout.specs.Facts.{facts_of}
@@ -80,40 +81,40 @@ told-same law dumps generated number rows old new stop same count =
 pub sent-acts : (law : CopyLaw) (answer : Result Unit Failed) (result : Result Unit Halt) (dumps : Bool) (generated : Option ℕ) (lines shown seen : ℕ) (old new : SessionValue) (stop : Option ℕ) (rows : ℕ)
     (s0 s1 r0 r1 : Option (List ℕ)) (m0 m1 n0 n1 : ℕ) → IsTold answer result → without_copies new ≡ redisplayed_session old stop → new.files ≡ old.files → rows ≡ (update_of old stop).rows
     → Appends s0 s1 (update_of old stop).bytes → seen ≡ (if (update_of old stop).done then shown + 1 else shown)
-    → Writes r0 r1 (sent_lines dumps generated (update_of old stop).done (lines + 1) rows new) answer → OnErr answer (Rose n0 n1) → OnErr answer (generated ≡ None)
+    → Prints r0 r1 n0 n1 (sent_lines dumps generated (update_of old stop).done (lines + 1) rows new) answer → OnErr answer (generated ≡ None)
     → Acts result (λ starved. if starved then unshown (stand dumps generated lines shown old) else redisplayed (stand dumps generated lines shown old) stop) (stand dumps generated (lines + 1) seen new)
     (sunk s0 s1 m0 m1) (sunk r0 r1 n0 n1)
-sent-acts law (Ok x) result dumps generated lines shown seen old new stop rows s0 s1 r0 r1 m0 m1 n0 n1 told same files count sent counts writes rose read =
+sent-acts law (Ok x) result dumps generated lines shown seen old new stop rows s0 s1 r0 r1 m0 m1 n0 n1 told same files count sent counts prints read =
     let place = stand dumps generated lines shown old in
     let next = stand dumps generated (lines + 1) seen new in
     let now : next ≡ (redisplayed place stop).now =
     λ i. record { mode = record { files = files i; dumps = dumps; generated = generated }; session = same i; lines = lines + 1; shown = counts i } in
     subst (λ (r : Result Unit Halt). Acts r (λ starved. if starved then unshown place else redisplayed place stop) next (sunk s0 s1 m0 m1) (sunk r0 r1 n0 n1)) (sym told)
-    (false, refl, now, sent, subst (Appends r0 r1) (told-same law dumps generated (lines + 1) rows old new stop same count) writes.whole)
-sent-acts law (Err x) result dumps generated lines shown seen old new stop rows s0 s1 r0 r1 m0 m1 n0 n1 told same files count sent counts writes rose read =
+    (false, refl, now, sent, subst (Appends r0 r1) (told-same law dumps generated (lines + 1) rows old new stop same count) prints.whole)
+sent-acts law (Err x) result dumps generated lines shown seen old new stop rows s0 s1 r0 r1 m0 m1 n0 n1 told same files count sent counts prints read =
     let place = stand dumps generated lines shown old in
     let next = stand dumps generated (lines + 1) seen new in
-    let front = subst (AppendsFront r0 r1) (told-same law dumps generated (lines + 1) rows old new stop same count) writes.front in
+    let front = subst (AppendsFront r0 r1) (told-same law dumps generated (lines + 1) rows old new stop same count) prints.front in
     subst (λ (r : Result Unit Halt). Acts r (λ starved. if starved then unshown place else redisplayed place stop) next (sunk s0 s1 m0 m1) (sunk r0 r1 n0 n1)) (sym told)
-    (false, is-sent (update_of old stop), sent, record { rose = rose; front = front }, inl read)
+    (false, is-sent (update_of old stop), sent, record { rose = prints.failed; front = front }, inl read)
 
 -- it found no memory
 pub starved-acts : (answer : Result Unit Failed) (result : Result Unit Halt) (dumps : Bool) (generated : Option ℕ) (lines shown : ℕ) (old new : SessionValue) (stop : Option ℕ)
     (s0 s1 r0 r1 : Option (List ℕ)) (m0 m1 n0 n1 : ℕ) → IsTold answer result → new ≡ record old { current = None } → Appends s0 s1 []
-    → Writes r0 r1 (no_memory_line (lines + 1)) answer → OnErr answer (Rose n0 n1)
+    → Prints r0 r1 n0 n1 (no_memory_line (lines + 1)) answer
     → Acts result (λ starved. if starved then unshown (stand dumps generated lines shown old) else redisplayed (stand dumps generated lines shown old) stop) (stand dumps generated (lines + 1) shown new)
     (sunk s0 s1 m0 m1) (sunk r0 r1 n0 n1)
-starved-acts (Ok x) result dumps generated lines shown old new stop s0 s1 r0 r1 m0 m1 n0 n1 told becomes sent writes rose =
+starved-acts (Ok x) result dumps generated lines shown old new stop s0 s1 r0 r1 m0 m1 n0 n1 told becomes sent prints =
     let place = stand dumps generated lines shown old in
     let next = stand dumps generated (lines + 1) shown new in
     let now : next ≡ (unshown place).now = ap (stand dumps generated (lines + 1) shown) becomes in
     subst (λ (r : Result Unit Halt). Acts r (λ starved. if starved then unshown place else redisplayed place stop) next (sunk s0 s1 m0 m1) (sunk r0 r1 n0 n1)) (sym told)
-    (true, refl, now, sent, writes.whole)
-starved-acts (Err x) result dumps generated lines shown old new stop s0 s1 r0 r1 m0 m1 n0 n1 told becomes sent writes rose =
+    (true, refl, now, sent, prints.whole)
+starved-acts (Err x) result dumps generated lines shown old new stop s0 s1 r0 r1 m0 m1 n0 n1 told becomes sent prints =
     let place = stand dumps generated lines shown old in
     let next = stand dumps generated (lines + 1) shown new in
     subst (λ (r : Result Unit Halt). Acts r (λ starved. if starved then unshown place else redisplayed place stop) next (sunk s0 s1 m0 m1) (sunk r0 r1 n0 n1)) (sym told)
-    (true, is-sent (update_of old stop), sent, record { rose = rose; front = writes.front }, inr refl)
+    (true, is-sent (update_of old stop), sent, record { rose = prints.failed; front = prints.front }, inr refl)
 
 -- the screen broke
 pub broke-acts : (dumps : Bool) (generated : Option ℕ) (lines shown : ℕ) (next : Standing) (old : SessionValue) (stop : Option ℕ) (s0 s1 r : Option (List ℕ)) (m0 m1 n : ℕ)

@@ -16,7 +16,7 @@ use Rattle.rd_player.specs.Acts.{ComesTo, Finishes, SpentBy, Tells, summary_of}
 use Rattle.rd_player.specs.Played.{Completes, HasReadFault, Played, Spent}
 use Rattle.rd_player.specs.declared.halt.Ending.{Ending}
 use Rattle.rd_player.specs.declared.halt.Ending.TheVariants as endings
-use Rattle.rd_player.proofs.Telling.{broke-after}
+use Rattle.rd_player.proofs.Running.{broke-after}
 
 later : {m n o : ℕ} → Rose m n → n ≤ o → Rose m o
 later (inl p) q = inl (omega arith)

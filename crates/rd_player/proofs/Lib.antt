@@ -6,4 +6,3 @@ mod Opening
 mod Reading
 mod Running
 mod Taking
-mod Telling

@@ -1,11 +1,12 @@
 -- A run, one line after another, against what was read and written.
-use Rattle.std.proofs.Common.{◌≡◌, ℕ, ◌+◌, ◌≤◌, inl, Bool, true, false, List, [], ◌∷◌, ◌++◌, length, Option, None, Some, is_some, if◌then◌else◌, Result, Ok, Err, refl, sym, ap, ◌∙◌, subst, append-nil, arith}
+use Rattle.std.proofs.Common.{◌≡◌, ℕ, ◌+◌, ◌≤◌, inl, Bool, true, false, List, [], ◌∷◌, ◌++◌, length, take, Option, None, Some, is_some, if◌then◌else◌, Result, Ok, Err, refl, sym, ap, ◌∙◌, subst, append-nil, arith}
 use Rattle.std.specs.Io.KnownBytes.{Appends}
 use Rattle.std.proofs.KnownBytes.{Appends-nil, Appends-trans}
 use Rattle.std.proofs.lemmas.List.{length_push}
 use Rattle.rd_script.specs.Reading.{reading}
 use Rattle.rd_script.specs.declared.fault.OpFault.{OpFault}
 use Rattle.rd_script.specs.declared.op.Op.{Op}
+use Rattle.rd_io.proofs.Bytes.{rose-after}
 use Rattle.rd_run.specs.Ends.{Drawn, drawn, Sunk, sunk, Took, Broke, AreScript, IsTaken, allowed_in, lines_in, IsBad, IsInHand}
 use Rattle.rd_run.specs.Given.{Given, IsMode}
 use Rattle.rd_run.specs.Runs.{Mode, Input, Standing, Effect, World, opened, run, after, effect, effect_of_reading, effect_by, asked, is_blank, is_sent, input_of}
@@ -15,7 +16,15 @@ use Rattle.rd_player.specs.Acts.{Acts, ComesTo, IsToldOf, Places, SpentBy, halte
 use Rattle.rd_player.specs.declared.halt.Halt.{Halt}
 use Rattle.rd_player.specs.declared.halt.Halt.TheVariants as halts
 use Rattle.rd_player.specs.declared.halt.Ending.{Ending}
-use Rattle.rd_player.proofs.Telling.{broke-after}
+
+-- ---- what broke
+
+-- what broke behind bytes that were written
+pub broke-after : (a b c : Option (List ℕ)) (m n o : ℕ) (bytes more : List ℕ) → Appends a b bytes → m ≤ n → Broke (sunk b c n o) [] more → Broke (sunk a c m o) bytes more
+broke-after a b c m n o bytes more p q h = record {
+  rose = rose-after m n o q h.rose;
+  front = (h.front.0, h.front.1, Appends-trans a b c bytes (take h.front.0 more) p h.front.2);
+}
 
 -- ---- each line
 

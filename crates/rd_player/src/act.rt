@@ -1,7 +1,7 @@
 //! `Playing`, a run in progress, and `Playing::line`, which does what one line says: it reads an op, applies it, or redisplays and
 //! writes the lines of the report.
 ghost use Rattle.std.specs.Prelude.{◌≡◌, ℕ, ◌≤◌, ◌<◌, ◌++◌, [], false, None, List, IfOk, OnErr, Option, if◌then◌else◌, is_some, unwrap_or};
-ghost use Rattle.rd_io.specs.Devices.{Rose, Writes};
+ghost use Rattle.rd_dump.specs.Prints.{Prints};
 ghost use Rattle.rd_layout.specs.Copies.{without_copies};
 ghost use Rattle.rd_layout.specs.Facts.{facts_of};
 ghost use Rattle.rd_layout.specs.Sessions.{length_of, session_step};
@@ -19,13 +19,14 @@ use crate::report::{tell_no_memory, tell_rows};
 use crate::windows::Windows;
 use rd_base::limits::LINES;
 use rd_base::{Anchor, Memory, Steps};
+use rd_dump::print_dump;
 use rd_files::DataFiles;
 use rd_io::{Failed, Sink};
 use rd_layout::{
     Outcome, copies_change_no_allowance, copies_change_no_op, sent_redisplays_are_determined,
 };
 use rd_run::ScriptFault;
-use rd_script::{Op, OpFault, print_dump, read_op};
+use rd_script::{Op, OpFault, read_op};
 use rd_session::Session;
 use rd_state::Refused;
 use std::alloc::Global;
@@ -174,10 +175,8 @@ impl Playing {
     /// Writes that the redisplay of the last line was shown, with its dump where that is asked for; of a generated script it writes
     /// nothing.
     fn tell_shown<R: Sink>(&mut self, report: &mut R, rows: u32) -> Result<(), Failed>
-        ensures bytes { Writes (R.written report.old) (R.written report.new) (if is_some self.old.generated then []
+        ensures printed { Prints (R.written report.old) (R.written report.new) (R.faults report.old) (R.faults report.new) (if is_some self.old.generated then []
             else shown_line self.old.lines rows ++ dump_lines self.old.dumps self.old.session.current (facts_of self.old.session)) result }
-        ensures never_falls { R.faults report.old ≤ R.faults report.new }
-        ensures failed { OnErr result (Rose (R.faults report.old) (R.faults report.new)) }
         ensures read { OnErr result (self.old.generated ≡ None) }
         ensures same { standing self.new ≡ standing self.old }
     {
@@ -196,14 +195,12 @@ impl Playing {
 
     /// Writes that the redisplay of the last line was stopped; of a generated script it writes nothing.
     fn tell_stopped<R: Sink>(&self, report: &mut R, rows: u32) -> Result<(), Failed>
-        ensures bytes { Writes (R.written report.old) (R.written report.new) (if is_some self.now.generated then [] else stopped_line self.now.lines rows) result }
-        ensures never_falls { R.faults report.old ≤ R.faults report.new }
-        ensures failed { OnErr result (Rose (R.faults report.old) (R.faults report.new)) }
+        ensures printed { Prints (R.written report.old) (R.written report.new) (R.faults report.old) (R.faults report.new) (if is_some self.now.generated then [] else stopped_line self.now.lines rows) result }
         ensures read { OnErr result (self.now.generated ≡ None) }
     {
         match self.generated {
             Some(_) => Ok(()),
-            None => tell_rows(report, self.lines, b": stopped ", rows),
+            None => tell_rows(report, self.lines, ": stopped ", rows),
         }
     }
 
@@ -249,12 +246,10 @@ fn tell_redisplay<R: Sink>(
     number: u32,
     rows: u32,
 ) -> Result<(), Failed>
-    ensures bytes { Writes (R.written report.old) (R.written report.new)
+    ensures { Prints (R.written report.old) (R.written report.new) (R.faults report.old) (R.faults report.new)
         (shown_line number rows ++ dump_lines dumps session.now.current (facts_of session.now)) result }
-    ensures never_falls { R.faults report.old ≤ R.faults report.new }
-    ensures failed { OnErr result (Rose (R.faults report.old) (R.faults report.new)) }
 {
-    tell_rows(report, number, b": shown ", rows)?;
+    tell_rows(report, number, ": shown ", rows)?;
     tell_dump(report, session, windows, dumps)
 }
 
@@ -266,9 +261,7 @@ fn tell_dump<R: Sink>(
     windows: &mut Windows,
     dumps: bool,
 ) -> Result<(), Failed>
-    ensures bytes { Writes (R.written report.old) (R.written report.new) (dump_lines dumps session.now.current (facts_of session.now)) result }
-    ensures never_falls { R.faults report.old ≤ R.faults report.new }
-    ensures failed { OnErr result (Rose (R.faults report.old) (R.faults report.new)) }
+    ensures { Prints (R.written report.old) (R.written report.new) (R.faults report.old) (R.faults report.new) (dump_lines dumps session.now.current (facts_of session.now)) result }
 {
     if !dumps {
         return Ok(());

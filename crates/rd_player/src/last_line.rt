@@ -1,14 +1,14 @@
-//! The last line of a report, put piece by piece: `done`, the place and the kind of a fault, or the name of a fault that has no place.
-ghost use Rattle.std.specs.Prelude.{ℕ, ◌≤◌, ◌++◌, OnErr, option_map, codes};
-ghost use Rattle.rd_io.specs.Devices.{Rose, Writes};
+//! The last line of a report: `done`, the place and the kind of a fault, or the name of a fault that has no place.
+ghost use Rattle.std.specs.Prelude.{ℕ, ◌++◌, option_map, codes};
+ghost use Rattle.rd_base.specs.Chars.{encoded};
+ghost use Rattle.rd_dump.specs.Prints.{Prints};
 ghost use Rattle.rd_run.specs.Reports.{key_part, last_line, located, part_of, refused_part};
 
 use crate::names::{data_kind, file_word, kind_of, op_key};
-use crate::writing::{put, put_text};
-use itoa::Buffer;
 use rd_base::Ch;
+use rd_dump::{Printed, Token, print_bytes, print_character, print_each, print_tokens};
 use rd_files::{DataFile, DataKind};
-use rd_io::{Failed, Sink, write_whole};
+use rd_io::{Failed, Sink};
 use rd_run::{ScriptFault, Status};
 use rd_state::Refused;
 
@@ -16,120 +16,130 @@ use rd_state::Refused;
 const USAGE: &[u8] =
     b"usage: redisplay --data FILE --mirror FILE [--brackets FILE] [--generate N] [--dump]\n";
 
-/// Writes how the run ended, behind so many lines of the script.
-pub fn put_last<K: Sink>(sink: &mut K, status: &Status, lines: u32) -> Result<(), Failed>
-    ensures bytes { Writes (K.written sink.old) (K.written sink.new) (last_line status.now lines) result }
-    ensures never_falls { K.faults sink.old ≤ K.faults sink.new }
-    ensures failed { OnErr result (Rose (K.faults sink.old) (K.faults sink.new)) }
-{
-    match status {
-        Status::Done => put_done(sink, lines),
-        Status::Usage => write_whole(sink, USAGE),
-        Status::BadData(file, number, kind) => put_bad_data(sink, *file, *number, *kind),
-        Status::BadScript(number, fault) => put_bad(sink, *number, fault),
-        Status::ReadFault => write_whole(sink, b"read fault\n"),
-        Status::WriteFault => write_whole(sink, b"write fault\n"),
-        Status::NoMemory => write_whole(sink, b"no memory\n"),
+/// The last line of a run that ended with a status, behind so many lines of the script.
+#[derive(Clone, Copy)]
+pub struct LastLine<'a>(pub &'a Status, pub u32);
+
+impl Printed for LastLine<'_> {
+    ghost use Rattle.rd_run.specs.Reports.{last_line};
+
+    ghost text = { λ last. last_line last.0.now last.1 };
+
+    fn print<K: Sink>(&self, sink: &mut K) -> Result<(), Failed> {
+        match self.0 {
+            Status::Done => print_done(sink, self.1),
+            Status::Usage => print_bytes(sink, USAGE),
+            Status::BadData(file, number, kind) => print_bad_data(sink, *file, *number, *kind),
+            Status::BadScript(number, fault) => print_bad(sink, *number, fault),
+            Status::ReadFault => print_bytes(sink, b"read fault\n"),
+            Status::WriteFault => print_bytes(sink, b"write fault\n"),
+            Status::NoMemory => print_bytes(sink, b"no memory\n"),
+        }
     }
 }
 
+/// Writes how many lines were run.
+fn print_done<K: Sink>(sink: &mut K, lines: u32) -> Result<(), Failed>
+    ensures { Prints (K.written sink.old) (K.written sink.new) (K.faults sink.old) (K.faults sink.new) (last_line Status.Done lines) result }
+{
+    print_tokens(
+        sink,
+        &[
+            Token::Text("done "),
+            Token::Number(lines as u64),
+            Token::Text(" lines\n"),
+        ],
+    )
+}
+
+/// Writes that a data file is bad.
+fn print_bad_data<K: Sink>(
+    sink: &mut K,
+    file: DataFile,
+    number: u32,
+    kind: DataKind,
+) -> Result<(), Failed>
+    ensures { (lines : ℕ) → Prints (K.written sink.old) (K.written sink.new) (K.faults sink.old) (K.faults sink.new) (last_line (Status.BadData file number kind) lines) result }
+{
+    print_located(sink, file_word(file), number, data_kind(kind))?;
+    print_bytes(sink, b"\n")
+}
+
+/// Writes that a line of the script is bad.
+fn print_bad<K: Sink>(sink: &mut K, number: u32, fault: &ScriptFault) -> Result<(), Failed>
+    ensures { (lines : ℕ) → Prints (K.written sink.old) (K.written sink.new) (K.faults sink.old) (K.faults sink.new) (last_line (Status.BadScript number fault.now) lines) result }
+{
+    print_located(sink, "script", number, kind_of(fault))?;
+    print_end(sink, fault)
+}
+
+/// Writes where a fault stands, and its kind.
+fn print_located<'t, K: Sink>(
+    sink: &mut K,
+    word: &'t str,
+    number: u32,
+    kind: &'t str,
+) -> Result<(), Failed>
+    ensures { Prints (K.written sink.old) (K.written sink.new) (K.faults sink.old) (K.faults sink.new) (located word.now number kind.now) result }
+{
+    let tokens = [
+        Token::Text(word),
+        Token::Text(":"),
+        Token::Number(number as u64),
+        Token::Text(": "),
+        Token::Text(kind),
+    ];
+    print_tokens(sink, &tokens)
+}
+
+/// Writes what stands behind the kind of a fault, and the newline.
+fn print_end<K: Sink>(sink: &mut K, fault: &ScriptFault) -> Result<(), Failed>
+    ensures { Prints (K.written sink.old) (K.written sink.new) (K.faults sink.old) (K.faults sink.new) (part_of fault.now ++ codes "\n") result }
+{
+    print_part(sink, fault)?;
+    print_bytes(sink, b"\n")
+}
+
 /// Writes what stands behind the kind of a fault: the key of a field or the column of a bad format, behind a space.
-fn put_part<K: Sink>(sink: &mut K, fault: &ScriptFault) -> Result<(), Failed>
-    ensures bytes { Writes (K.written sink.old) (K.written sink.new) (part_of fault.now) result }
-    ensures never_falls { K.faults sink.old ≤ K.faults sink.new }
-    ensures failed { OnErr result (Rose (K.faults sink.old) (K.faults sink.new)) }
+fn print_part<K: Sink>(sink: &mut K, fault: &ScriptFault) -> Result<(), Failed>
+    ensures { Prints (K.written sink.old) (K.written sink.new) (K.faults sink.old) (K.faults sink.new) (part_of fault.now) result }
 {
     match fault {
-        ScriptFault::Op(fault) => put_key(sink, op_key(fault)),
-        ScriptFault::Refused(refused) => put_column(sink, *refused),
+        ScriptFault::Op(fault) => print_key(sink, op_key(fault)),
+        ScriptFault::Refused(refused) => print_column(sink, *refused),
         ScriptFault::TooLong => Ok(()),
         ScriptFault::TooMany => Ok(()),
     }
 }
 
 /// Writes the column of a bad format behind a space.
-fn put_column<K: Sink>(sink: &mut K, refused: Refused) -> Result<(), Failed>
-    ensures bytes { Writes (K.written sink.old) (K.written sink.new) (refused_part refused) result }
-    ensures never_falls { K.faults sink.old ≤ K.faults sink.new }
-    ensures failed { OnErr result (Rose (K.faults sink.old) (K.faults sink.new)) }
+fn print_column<K: Sink>(sink: &mut K, refused: Refused) -> Result<(), Failed>
+    ensures { Prints (K.written sink.old) (K.written sink.new) (K.faults sink.old) (K.faults sink.new) (refused_part refused) result }
 {
     match refused {
         Refused::BadFormat(column) => {
-            let mut buffer = Buffer::new();
-            put(sink, &[b" ", buffer.format(column).as_bytes()])
+            print_tokens(sink, &[Token::Text(" "), Token::Number(column as u64)])
         }
         _ => Ok(()),
     }
 }
 
 /// Writes the key of a field behind a space, where there is one.
-fn put_key<K: Sink>(sink: &mut K, key: Option<&[Ch]>) -> Result<(), Failed>
-    ensures bytes { Writes (K.written sink.old) (K.written sink.new) (key_part (option_map (λ key. key.now) key.entry)) result }
-    ensures never_falls { K.faults sink.old ≤ K.faults sink.new }
-    ensures failed { OnErr result (Rose (K.faults sink.old) (K.faults sink.new)) }
+fn print_key<K: Sink>(sink: &mut K, key: Option<&[Ch]>) -> Result<(), Failed>
+    ensures { Prints (K.written sink.old) (K.written sink.new) (K.faults sink.old) (K.faults sink.new) (key_part (option_map (λ key. key.now) key.entry)) result }
 {
     match key {
         Some(key) => {
-            write_whole(sink, b" ")?;
-            put_text(sink, key)
+            print_bytes(sink, b" ")?;
+            print_each(sink, key, print_ch)
         }
         None => Ok(()),
     }
 }
 
-/// Writes where a fault stands, and its kind.
-fn put_located<K: Sink>(sink: &mut K, word: &[u8], number: u32, kind: &[u8]) -> Result<(), Failed>
-    ensures bytes { Writes (K.written sink.old) (K.written sink.new) (located word.now number kind.now) result }
-    ensures never_falls { K.faults sink.old ≤ K.faults sink.new }
-    ensures failed { OnErr result (Rose (K.faults sink.old) (K.faults sink.new)) }
+/// Writes a character in UTF-8.
+fn print_ch<K: Sink>(sink: &mut K, ch: &Ch) -> Result<(), Failed>
+    ensures { Prints (K.written sink.old) (K.written sink.new) (K.faults sink.old) (K.faults sink.new) (encoded ch.now) result }
 {
-    let mut buffer = Buffer::new();
-    let number = buffer.format(number).as_bytes();
-    put(sink, &[word, b":", number, b": ", kind])
-}
-
-/// Writes that a line of the script is bad.
-fn put_bad<K: Sink>(sink: &mut K, number: u32, fault: &ScriptFault) -> Result<(), Failed>
-    ensures bytes { (lines : ℕ) → Writes (K.written sink.old) (K.written sink.new) (last_line (Status.BadScript number fault.now) lines) result }
-    ensures never_falls { K.faults sink.old ≤ K.faults sink.new }
-    ensures failed { OnErr result (Rose (K.faults sink.old) (K.faults sink.new)) }
-{
-    put_located(sink, b"script", number, kind_of(fault))?;
-    put_end(sink, fault)
-}
-
-/// Writes what stands behind the kind of a fault, and the newline.
-fn put_end<K: Sink>(sink: &mut K, fault: &ScriptFault) -> Result<(), Failed>
-    ensures bytes { Writes (K.written sink.old) (K.written sink.new) (part_of fault.now ++ codes "\n") result }
-    ensures never_falls { K.faults sink.old ≤ K.faults sink.new }
-    ensures failed { OnErr result (Rose (K.faults sink.old) (K.faults sink.new)) }
-{
-    put_part(sink, fault)?;
-    write_whole(sink, b"\n")
-}
-
-/// Writes that a data file is bad.
-fn put_bad_data<K: Sink>(
-    sink: &mut K,
-    file: DataFile,
-    number: u32,
-    kind: DataKind,
-) -> Result<(), Failed>
-    ensures bytes { (lines : ℕ) → Writes (K.written sink.old) (K.written sink.new) (last_line (Status.BadData file number kind) lines) result }
-    ensures never_falls { K.faults sink.old ≤ K.faults sink.new }
-    ensures failed { OnErr result (Rose (K.faults sink.old) (K.faults sink.new)) }
-{
-    put_located(sink, file_word(file), number, data_kind(kind))?;
-    write_whole(sink, b"\n")
-}
-
-/// Writes how many lines were run.
-fn put_done<K: Sink>(sink: &mut K, lines: u32) -> Result<(), Failed>
-    ensures bytes { Writes (K.written sink.old) (K.written sink.new) (last_line Status.Done lines) result }
-    ensures never_falls { K.faults sink.old ≤ K.faults sink.new }
-    ensures failed { OnErr result (Rose (K.faults sink.old) (K.faults sink.new)) }
-{
-    let mut buffer = Buffer::new();
-    let lines = buffer.format(lines).as_bytes();
-    put(sink, &[b"done ", lines, b" lines\n"])
+    print_character(sink, &ch.code())
 }

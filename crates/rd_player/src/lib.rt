@@ -15,6 +15,5 @@ mod report;
 mod run;
 mod top;
 mod windows;
-mod writing;
 
 pub use top::{play, tell_status};

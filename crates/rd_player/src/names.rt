@@ -10,89 +10,89 @@ use rd_state::Refused;
 use rd_ucd::UcdFault;
 
 /// The name of a fault's kind.
-pub fn kind_of(fault: &ScriptFault) -> &'static [u8]
+pub fn kind_of(fault: &ScriptFault) -> &'static str
     ensures { result.now ≡ kind_of fault.now }
 {
     match fault {
-        ScriptFault::TooLong => b"TooLong",
-        ScriptFault::TooMany => b"TooMany",
+        ScriptFault::TooLong => "TooLong",
+        ScriptFault::TooMany => "TooMany",
         ScriptFault::Op(fault) => op_kind(fault),
         ScriptFault::Refused(refused) => refused_kind(*refused),
     }
 }
 
 /// The name of the kind of a line that is no op.
-fn op_kind(fault: &OpFault) -> &'static [u8]
+fn op_kind(fault: &OpFault) -> &'static str
     ensures { result.now ≡ op_kind fault.now }
 {
     match fault {
-        OpFault::NotJson => b"NotJson",
-        OpFault::NotObject => b"NotObject",
-        OpFault::NoSuchOp => b"NoSuchOp",
-        OpFault::Missing(_) => b"Missing",
-        OpFault::BadField(_) => b"BadField",
-        OpFault::Extra(_) => b"Extra",
-        OpFault::Memory => b"Memory",
+        OpFault::NotJson => "NotJson",
+        OpFault::NotObject => "NotObject",
+        OpFault::NoSuchOp => "NoSuchOp",
+        OpFault::Missing(_) => "Missing",
+        OpFault::BadField(_) => "BadField",
+        OpFault::Extra(_) => "Extra",
+        OpFault::Memory => "Memory",
     }
 }
 
 /// The name of a refusal.
-fn refused_kind(refused: Refused) -> &'static [u8]
+fn refused_kind(refused: Refused) -> &'static str
     ensures { result.now ≡ refused_kind refused }
 {
     match refused {
-        Refused::NoBuffer => b"NoBuffer",
-        Refused::NoWindow => b"NoWindow",
-        Refused::NoOverlay => b"NoOverlay",
-        Refused::NoObject => b"NoObject",
-        Refused::OutOfRange => b"OutOfRange",
-        Refused::NameTaken => b"NameTaken",
-        Refused::TextTooLarge => b"TextTooLarge",
-        Refused::ObjectTooLong => b"ObjectTooLong",
-        Refused::TooManyBuffers => b"TooManyBuffers",
-        Refused::TooManyWindows => b"TooManyWindows",
-        Refused::TooManyOverlays => b"TooManyOverlays",
-        Refused::TooManyObjects => b"TooManyObjects",
-        Refused::TooSmall => b"TooSmall",
-        Refused::LastWindow => b"LastWindow",
-        Refused::BadFormat(_) => b"BadFormat",
-        Refused::NotShown => b"NotShown",
-        Refused::Memory => b"Memory",
+        Refused::NoBuffer => "NoBuffer",
+        Refused::NoWindow => "NoWindow",
+        Refused::NoOverlay => "NoOverlay",
+        Refused::NoObject => "NoObject",
+        Refused::OutOfRange => "OutOfRange",
+        Refused::NameTaken => "NameTaken",
+        Refused::TextTooLarge => "TextTooLarge",
+        Refused::ObjectTooLong => "ObjectTooLong",
+        Refused::TooManyBuffers => "TooManyBuffers",
+        Refused::TooManyWindows => "TooManyWindows",
+        Refused::TooManyOverlays => "TooManyOverlays",
+        Refused::TooManyObjects => "TooManyObjects",
+        Refused::TooSmall => "TooSmall",
+        Refused::LastWindow => "LastWindow",
+        Refused::BadFormat(_) => "BadFormat",
+        Refused::NotShown => "NotShown",
+        Refused::Memory => "Memory",
     }
 }
 
 /// The name of a data file.
-pub fn file_word(file: DataFile) -> &'static [u8]
+pub fn file_word(file: DataFile) -> &'static str
     ensures { result.now ≡ file_word file }
 {
     match file {
-        DataFile::ClassFile => b"data",
-        DataFile::MirrorFile => b"mirror",
-        DataFile::BracketFile => b"brackets",
+        DataFile::ClassFile => "data",
+        DataFile::MirrorFile => "mirror",
+        DataFile::BracketFile => "brackets",
     }
 }
 
 /// The name of what is wrong with a data file.
-pub fn data_kind(kind: DataKind) -> &'static [u8]
+pub fn data_kind(kind: DataKind) -> &'static str
     ensures { result.now ≡ data_kind kind }
 {
     match kind {
-        DataKind::TooLarge => b"TooLarge",
+        DataKind::TooLarge => "TooLarge",
         DataKind::Bad(fault) => ucd_kind(fault),
     }
 }
 
 /// The name of the kind of a bad line of a data file.
-fn ucd_kind(fault: UcdFault) -> &'static [u8]
+fn ucd_kind(fault: UcdFault) -> &'static str
     ensures { result.now ≡ ucd_kind fault }
 {
     match fault {
-        UcdFault::BadLine(_) => b"BadLine",
-        UcdFault::BadCode(_) => b"BadCode",
-        UcdFault::BadClass(_) => b"BadClass",
-        UcdFault::NotAscending(_) => b"NotAscending",
-        UcdFault::BadRange(_) => b"BadRange",
-        UcdFault::Memory => b"Memory",
+        UcdFault::BadLine(_) => "BadLine",
+        UcdFault::BadCode(_) => "BadCode",
+        UcdFault::BadClass(_) => "BadClass",
+        UcdFault::NotAscending(_) => "NotAscending",
+        UcdFault::BadRange(_) => "BadRange",
+        UcdFault::Memory => "Memory",
     }
 }
 

@@ -16,9 +16,10 @@ ghost use Rattle.rd_words.specs.Words.{WordValues, values_of};
 
 use crate::act::Playing;
 use crate::halt::{Ending, Summary};
-use crate::report::{tell_last, tell_summary};
+use crate::last_line::LastLine;
 use crate::run::{run_generated, run_script};
 use rd_base::Steps;
+use rd_dump::print_at_once;
 use rd_files::{DataFault, DataFiles, read_data};
 use rd_io::{Files, Sink, Source};
 use rd_run::{
@@ -186,7 +187,7 @@ pub fn tell_status<R: Sink>(report: &mut R, status: Status, lines: u32) -> Statu
     ensures tells { Tells status (last_line status lines) result (sunk_by R.written R.faults report.old report.new) }
     ensures report { R.faults report.old ≤ R.faults report.new }
 {
-    match tell_last(report, &status, lines) {
+    match print_at_once(report, &LastLine(&status, lines)) {
         Ok(()) => status,
         Err(_) => Status::WriteFault,
     }
@@ -197,7 +198,7 @@ fn tell_sums<R: Sink>(report: &mut R, summary: Summary) -> Status
     ensures tells { Tells Status.Done (summary_of summary) result (sunk_by R.written R.faults report.old report.new) }
     ensures report { R.faults report.old ≤ R.faults report.new }
 {
-    match tell_summary(report, summary) {
+    match print_at_once(report, &summary) {
         Ok(()) => Status::Done,
         Err(_) => Status::WriteFault,
     }

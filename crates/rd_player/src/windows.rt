@@ -6,7 +6,7 @@ ghost use Rattle.rd_layout.specs.Facts.{facts_of};
 
 use rd_base::Memory;
 use rd_base::limits::WINDOWS;
-use rd_script::WindowFacts;
+use rd_dump::WindowFacts;
 use rd_session::Session;
 use std::alloc::Global;
 
