@@ -1,5 +1,6 @@
 -- What the steps of a run do, by what they answer.
-use Rattle.std.specs.Prelude.{◌≡◌, ℕ, ◌+◌, ◌≤◌, ◌⊎◌, Bool, true, false, List, [], ◌++◌, Option, None, Some, Result, Ok, Err}
+use Rattle.std.specs.Prelude.{◌≡◌, ℕ, ◌+◌, ◌<◌, ◌≤◌, ◌⊎◌, Bool, true, false, List, [], ◌++◌, Option, None, Some, Result, Ok, Err}
+use Rattle.rd_base.specs.declared.limits.TheConstants.{LINES}
 use Rattle.rd_files.specs.declared.fault.DataFault.{DataFault}
 use Rattle.rd_files.specs.declared.fault.DataFault.TheVariants as data_faults
 use Rattle.rd_io.specs.declared.lines.LineFault.{LineFault}
@@ -53,6 +54,11 @@ IsOpened (Ok r) files words = (mode_of r ≡ record { files = files; dumps = wor
 IsOpened (Err status) files words = status ≡ NoMemory
 
 -- ---- a line
+
+-- no more redisplays were shown than lines run, and there may be one more
+pub record CanGoOn (r : Playing) : Type 0 where
+  pub few : r.lines < LINES
+  pub counted : r.shown ≤ r.lines
 
 -- a report that failed ends the run
 abbrev pub IsTold : Result Unit Failed → Result Unit Halt → Type 0

@@ -1,13 +1,13 @@
 //! `Playing`, a run in progress, and `Playing::line`, which does what one line says: it reads an op, applies it, or redisplays and
 //! writes the lines of the report.
-ghost use Rattle.std.specs.Prelude.{◌≡◌, ℕ, ◌≤◌, ◌<◌, ◌++◌, [], false, None, List, IfOk, OnErr, Option, if◌then◌else◌, is_some, unwrap_or};
+ghost use Rattle.std.specs.Prelude.{◌≡◌, ℕ, ◌≤◌, ◌++◌, [], false, None, List, IfOk, OnErr, Option, if◌then◌else◌, is_some, unwrap_or};
 ghost use Rattle.rd_dump.specs.Prints.{Prints};
 ghost use Rattle.rd_layout.specs.Copies.{without_copies};
 ghost use Rattle.rd_layout.specs.Facts.{facts_of};
 ghost use Rattle.rd_layout.specs.Sessions.{length_of, session_step};
 ghost use Rattle.rd_state.specs.States.{main_name};
 ghost use Rattle.rd_state.specs.Windows.{selected_window};
-ghost use Rattle.rd_player.specs.Acts.{Acts, IsNew, IsTold, Places, mode_of, standing, summary_of};
+ghost use Rattle.rd_player.specs.Acts.{Acts, CanGoOn, IsNew, IsTold, Places, mode_of, standing, summary_of};
 ghost use Rattle.rd_player.specs.Devices.{sunk_by};
 ghost use Rattle.rd_run.specs.Ends.{summary, sunk};
 ghost use Rattle.rd_run.specs.Reports.{shown_line, stopped_line};
@@ -17,7 +17,6 @@ ghost use Rattle.rd_script.specs.Forms.{IsInForm};
 use crate::halt::{Halt, Summary};
 use crate::report::{tell_no_memory, tell_rows};
 use crate::windows::Windows;
-use rd_base::limits::LINES;
 use rd_base::{Anchor, Memory, Steps};
 use rd_dump::print_dump;
 use rd_files::DataFiles;
@@ -75,8 +74,7 @@ impl Playing {
         report: &mut R,
         steps: &mut Steps<L>,
     ) -> Result<(), Halt>
-        requires few { self.old.lines < LINES }
-        requires counted { self.old.shown ≤ self.old.lines }
+        requires run { CanGoOn self.old }
         ensures acts { Acts result (λ starved. effect (standing self.old) (input_of line.now starved)) (standing self.new)
             (sunk_by K.written K.faults screen.old screen.new) (sunk_by R.written R.faults report.old report.new) }
         ensures places { Places result (effect (standing self.old) (input_of line.now false)) steps.old steps.new }
@@ -103,8 +101,7 @@ impl Playing {
         report: &mut R,
         steps: &mut Steps<L>,
     ) -> Result<(), Halt>
-        requires few { self.old.lines < LINES }
-        requires counted { self.old.shown ≤ self.old.lines }
+        requires run { CanGoOn self.old }
         requires form { IsInForm op }
         ensures acts { Acts result (λ starved. effect_of_op starved (standing self.old) op) (standing self.new)
             (sunk_by K.written K.faults screen.old screen.new) (sunk_by R.written R.faults report.old report.new) }
@@ -121,8 +118,7 @@ impl Playing {
 
     /// Applies an op other than redisplay.
     fn apply(&mut self, op: Op) -> Result<(), Halt>
-        requires few { self.old.lines < LINES }
-        requires counted { self.old.shown ≤ self.old.lines }
+        requires run { CanGoOn self.old }
         requires form { IsInForm op }
         requires applied { asked op ≡ None }
         ensures acts { (sent told : Option (List ℕ)) (m n : ℕ) → Acts result (λ starved. stepped (standing self.old) op (session_step (without_copies self.old.session) op)) (standing self.new)
@@ -148,8 +144,7 @@ impl Playing {
         report: &mut R,
         steps: &mut Steps<L>,
     ) -> Result<(), Halt>
-        requires few { self.old.lines < LINES }
-        requires counted { self.old.shown ≤ self.old.lines }
+        requires run { CanGoOn self.old }
         ensures acts { Acts result (λ starved. if starved then unshown (standing self.old) else redisplayed (standing self.old) stop) (standing self.new)
             (sunk_by K.written K.faults screen.old screen.new) (sunk_by R.written R.faults report.old report.new) }
         ensures places { Places result (redisplayed (standing self.old) stop) steps.old steps.new }
