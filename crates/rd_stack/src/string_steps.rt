@@ -38,12 +38,7 @@ impl<'a> StringFrame<'a> {
         if self.end >= self.text.len() {
             return Ok(Step::Ends);
         }
-        let place = place_of(
-            self.around.replaced,
-            self.text,
-            self.around.under,
-            self.end,
-        );
+        let place = place_of(self.around.replaced, self.text, self.around.under, self.end);
         let end = element_of(Look::RowEnd, place.face, self.around.origin);
         *self = StringFrame::from_place(alloc, &self.around, self.text, self.end + 1)?;
         Ok(Step::Gives(end))

@@ -82,7 +82,7 @@ module _ (o : ObjectLists) (sound : AreObjects o) where
   string-narrowed text runs =
       by (string_fault o text (map run_of runs)) refl
       ∙ ap (λ (f : Option ObjectFault). unless_fault f (string_added o text (map (narrowed (length text)) runs)))
-        (λ i. if not (made i) then Some NoObject else (if not (inside i) then Some OutOfRange else (if nat_lt STRING_CHARACTERS (length text) then Some TooLong else (if nat_le STRINGS (length o.strings) then Some TooMany else None))))
+      (λ i. if not (made i) then Some NoObject else (if not (inside i) then Some OutOfRange else (if nat_lt STRING_CHARACTERS (length text) then Some TooLong else (if nat_le STRINGS (length o.strings) then Some TooMany else None))))
     where
       made-of : list_all (is_made o) (map run_of runs) ≡ list_all (λ run. is_made o (run_of run)) runs
       made-of = list_all-map (is_made o) run_of runs

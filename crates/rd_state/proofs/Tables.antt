@@ -116,7 +116,7 @@ GoesByValues change = (f g : ℕ → ℕ → Option ℕ) → AreAlike f g → Ar
 changed-content : (b c : BufferState) (m : MarkValues) (text : TextValue) (change : (ℕ → ℕ → Option ℕ) → ℕ → ℕ → Option ℕ) (overlays : List (Option Overlay)) (settings : SettingValues)
     → IsWithin (props.meaning b) → GoesByValues change → c.text ≡ text → AreAlike (props.values_of c.spans) (change (props.values_of b.spans)) → c.overlays ≡ overlays → c.settings ≡ settings
     → ◌≡◌ {A = ContentValue}
-        (record { text = text; properties = values_on text (change (value_in (values_on b.text (props.values_of b.spans)))); overlays = overlays; settings = settings; marks = m }) (content_of c m)
+    (record { text = text; properties = values_on text (change (value_in (values_on b.text (props.values_of b.spans)))); overlays = overlays; settings = settings; marks = m }) (content_of c m)
 changed-content b c m text change overlays settings within by same values is set =
     let f = value_in (values_on b.text (props.values_of b.spans)) in
     let alike : AreAlike (props.values_of c.spans) (change f) = λ kind p. values kind p ∙ sym (by f (props.values_of b.spans) (values-kept b within) kind p) in
