@@ -20,18 +20,18 @@ mod verdict;
 
 use crate::report::tell;
 use crate::verdict::Verdict;
-use rd_io::{Host, host_words};
+use rd_io::{HostFiles, StdSink, StdSource, host_words};
 use std::io;
 use std::process::ExitCode;
 
 fn main(rt: HostRuntime) -> io::Result<ExitCode> {
-    let mut report = Host::new(rt.stderr());
+    let mut report = StdSink::new(rt.stderr());
     let verdict = match host_words(&rt) {
         Ok(words) => audit::audit(
             rt.alloc(),
             words,
-            &mut Host::new(rt.stdin()),
-            &mut Host::new(&rt),
+            &mut StdSource::new(rt.stdin()),
+            &mut HostFiles::new(&rt),
             &mut report,
         ),
         Err(_starved) => match tell(&mut report, Verdict::NoMemory) {

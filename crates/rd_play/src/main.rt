@@ -8,7 +8,7 @@
 ghost use Rattle.std.specs.Prelude.{◌≡◌, ◌<◌};
 
 use rd_base::Steps;
-use rd_io::{Host, host_words};
+use rd_io::{HostFiles, StdSink, StdSource, host_words};
 use rd_player::{play, tell_status};
 use rd_run::Status;
 use std::io;
@@ -26,14 +26,14 @@ fn start<L: Ledger>(rt: &HostRuntime, blank: Blank) -> u8
     requires parts { blank.parts ≡ L.parts }
     requires some { 0 < L.parts }
 {
-    let mut report = Host::new(rt.stderr());
+    let mut report = StdSink::new(rt.stderr());
     let status = match host_words(rt) {
         Ok(words) => play(
             rt.alloc(),
             words,
-            &mut Host::new(rt.stdin()),
-            &mut Host::new(rt),
-            &mut Host::new(rt.stdout()),
+            &mut StdSource::new(rt.stdin()),
+            &mut HostFiles::new(rt),
+            &mut StdSink::new(rt.stdout()),
             &mut report,
             &mut Steps::<L>::new(blank),
         ),

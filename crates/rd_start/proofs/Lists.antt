@@ -1,14 +1,13 @@
 -- Places in joined lists, and searches there.
-use Rattle.std.proofs.Common.{◌≡◌, ℕ, zero, suc, ◌+◌, ◌-◌, ◌<◌, ◌≤◌, inl, inr, Bool, true, false, cond, not, eqb, leb, ltb, List, [], ◌∷◌, ◌++◌, length, map, take, drop, get_or, Option, None, Some, refl, sym, ap, ap₂, ◌∙◌, arith, zero-add}
+use Rattle.std.proofs.Common.{◌≡◌, ℕ, zero, suc, ◌+◌, ◌-◌, ◌<◌, ◌≤◌, inl, inr, Bool, true, false, cond, not, eqb, leb, ltb, List, [], ◌∷◌, ◌++◌, length, map, Option, None, Some, refl, sym, ap, ap₂, ◌∙◌, arith, zero-add}
 use Rattle.std.proofs.Math.Nat.{add-suc, add-zero}
 use Rattle.std.proofs.Math.Numerals.{add-one}
 use Rattle.std.proofs.lemmas.Bool.{cases_Bool, le-ltb, leb-true, lt-ltb, or_parts}
 use Rattle.std.specs.List.{find, list_any, position, position_or_len, slice_get, count_by}
-use Rattle.std.proofs.lemmas.List.{length-map, length-take-le, take-append-drop, take_all}
+use Rattle.std.proofs.lemmas.List.{length-map}
 use Rattle.std.proofs.lemmas.Bool.Decides.{nat_tests}
 use Rattle.std.proofs.lemmas.List.Folds.{find-append, prefix_len-append}
 use Rattle.std.specs.Option.{option_or}
-use Rattle.rd_base.proofs.Lists.{drop-read}
 use Rattle.rd_matrix.proofs.Passing.{first-inside}
 use Rattle.rd_start.specs.Starts.{around, both_at}
 
@@ -127,17 +126,3 @@ pub position-none : {X : Type 0} (p : X → Bool) (xs : List X) → list_any p x
 position-none p xs none =
     let place = first-none p xs none in
     ap (λ b. cond b (Some (position_or_len p xs)) None) (le-ltb (position_or_len p xs) (length xs) (omega (arith, place)))
-
--- the same where those before it don't
-pub position-here : {X : Type 0} (p : X → Bool) (xs : List X) (k : ℕ) (x : X) → list_any p (take k xs) ≡ false → k < length xs → x ≡ get_or xs k x → p x ≡ true → position p xs ≡ Some k
-position-here p xs k x none inside at here =
-    let more = drop-read xs k x inside at in
-    let whole = sym (take-append-drop k xs) ∙ ap (λ ys. take k xs ++ ys) more in
-    let first : position_or_len p (x ∷ drop (k + 1) xs) ≡ 0 = rw here refl in
-    let size = length-take-le k xs (omega arith) in
-    let place : position_or_len p xs ≡ k = ap (position_or_len p) whole ∙ (first-behind p (take k xs) (x ∷ drop (k + 1) xs) none ∙ omega (arith, first, size)) in
-    let t = lt-ltb (position_or_len p xs) (length xs) (omega (arith, place, inside)) in
-    ap (λ b. cond b (Some (position_or_len p xs)) None) t ∙ ap Some place
-
-pub position-past : {X : Type 0} (p : X → Bool) (xs : List X) (k : ℕ) → list_any p (take k xs) ≡ false → length xs ≤ k → position p xs ≡ None
-position-past p xs k none all = position-none p xs (ap (list_any p) (sym (take_all k xs all)) ∙ none)

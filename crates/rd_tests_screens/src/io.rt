@@ -1,8 +1,8 @@
 //! Sources, files, sinks and lines on plain cases, at their limits, and over the system's streams and files.
 use crate::claims::assert_of;
 use rd_io::{
-    Failed, FileFault, Files, Host, LineFault, Lines, MemFiles, MemSink, MemSource, Piece, Sink,
-    Source, read_file, write_whole,
+    Failed, FileFault, Files, HostFiles, LineFault, Lines, MemFiles, MemSink, MemSource, Piece,
+    Sink, Source, StdSink, StdSource, read_file, write_whole,
 };
 use std::alloc::Global;
 use std::fs;
@@ -248,16 +248,16 @@ fn files_are_read_whole(rt: HostRuntime) -> Result<(), Fail> {
 
 #[test]
 fn standard_streams(rt: HostRuntime) {
-    let mut source = Host::new(rt.stdin());
+    let mut source = StdSource::new(rt.stdin());
     assert!(rt; source.read(&mut []).is_ok());
-    let mut sink = Host::new(rt.stdout());
+    let mut sink = StdSink::new(rt.stdout());
     assert_eq!(rt; write_whole(&mut sink, b"written\n"), Ok(()));
 }
 
 #[test]
 fn a_file_of_the_system_is_read(rt: HostRuntime) -> Result<(), Fail> {
     fs::write(&rt, "three", "abc")?;
-    let mut files = Host::new(&rt);
+    let mut files = HostFiles::new(&rt);
     assert!(rt; holds(rt.alloc(), &mut files, "three", b"abc"));
     assert!(rt; read_file(rt.alloc(), &mut files, "none").is_err());
     Ok(())
