@@ -107,7 +107,7 @@ module _ (laws : SendLaws) (width height : ℕ) (target : Picture) (bands : List
 
   sized : (current : Option Picture) → Fits current → HaveOneSize current target × IfSome current (λ screen. IsScreen screen × IsSound screen)
   sized None fits = (tt, tt)
-  sized (Some screen) fits = (one-size width height screen target fits.0 size, is-screen width height screen wide tall fits.0, fits.1)
+  sized (Some screen) fits = (one-size width height screen target fits.0 size, (is-screen width height screen wide tall fits.0, fits.1))
 
   new-screen : (current : Option Picture) → Fits current → Fits (Some (shifted_update current target bands limit).screen)
   new-screen current fits = (
