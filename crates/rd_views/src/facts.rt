@@ -7,6 +7,7 @@ use crate::views::Views;
 use rd_base::Pos;
 use rd_dump::WindowFacts;
 use rd_layout::windows_are_placed;
+use rd_state::windows_are_leaves;
 use rd_window::Layout;
 
 impl Views {
@@ -18,6 +19,7 @@ impl Views {
         ensures few { IsSome result → i < WINDOWS }
     {
         self.state.states_are_valid();
+        windows_are_leaves();
         windows_are_placed();
         let place = self.place(i)?;
         let window = self.state.window(place.number)?;

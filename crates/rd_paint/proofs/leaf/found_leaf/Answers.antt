@@ -7,7 +7,7 @@ use Rattle.rd_paint.proofs.leaf.found_leaf.Goals as goal
 pub returns-in_err-place : goal.returns-in_err-place
 returns-in_err-place c =
     let s = c.args.state.now in
-    nothing c.from_residual-in_err-place.result _ _ c.from_residual-in_err-place.ensures (ended (places s) c.args.i (listed-of-tree s c.tree.result.now c.args.i _ c.tree.ensures c.in_err-place.ensures.place))
+    nothing c.from_residual.result _ _ c.from_residual.ensures (ended (places s) c.args.i (listed-of-tree s c.tree.result.now c.args.i _ c.tree.ensures c.in_err-place.ensures.place))
 
 pub returns-in_err-window : goal.returns-in_err-window
 returns-in_err-window c =
