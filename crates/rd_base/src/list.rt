@@ -1,5 +1,5 @@
 //! A list that contracts see as the list of its elements.
-ghost use Rattle.std.specs.Prelude.{◌≡◌, ◌==◌, ◌<◌, ◌≤◌, ◌+◌, ◌-◌, [], ◌∷◌, ◌++◌, length, OnOk, OnErr, IfOk, slice_get, slice_set, take, drop, replicate, map, option_to_list, Some, MatchOption};
+ghost use Rattle.std.specs.Prelude.{ℕ, ◌≡◌, ◌==◌, ◌<◌, ◌≤◌, ◌+◌, ◌-◌, [], ◌∷◌, ◌++◌, length, OnOk, OnErr, IfOk, slice_get, slice_set, take, drop, replicate, map, option_to_list, Some, MatchOption};
 ghost use Rattle.std.specs.Borrow.{Bor};
 
 use crate::memory::Memory;
@@ -190,7 +190,7 @@ pub fn mapped<S, T: Drop, F: Fn(&S) -> T>(
     items: &[S],
     make: F,
 ) -> Result<ListOf<T>, Memory>
-    requires { F.IsAlwaysCallable make }
+    requires { (i : ℕ) (x : Bor S) → slice_get items.now i ≡ Some x.now → F.pre make x }
     ensures { (made : S → T) → ((x : Bor S) (y : T) → F.post make x y → y ≡ made x.now) → IfOk result (λ list. list ≡ map made items.now) }
 {
     let mut list = ListOf::with_room(alloc, items.len())?;
