@@ -1,17 +1,16 @@
 //! Files that list codes with something each.
 ghost use Rattle.std.specs.Prelude.{◌≡◌, IfOk, ◌≤◌};
 ghost use Rattle.rd_ucd.specs.Lines.{fields_of};
-ghost use Rattle.rd_ucd.specs.Lookup.{AreAscending};
-ghost use Rattle.rd_ucd.specs.ListFile.{codes_of, trimmed_field, listed_in};
-ghost use Rattle.rd_ucd.specs.Results.{Answers};
+ghost use Rattle.rd_ucd.specs.ListFile.{codes_of, trimmed_field};
 
 use crate::codes::read_code;
 use crate::fault::UcdFault;
 use crate::lines::{LineReader, read_lines};
 use crate::pieces::{before_comment, field, trim, without_return};
-use crate::search::Keyed;
+use crate::search::{Keyed, entry_at};
 use rd_base::ListOf;
 use std::alloc::Global;
+use std::marker::Model;
 
 /// An entry of such a file, which is made of the fields of a line.
 pub trait Listed: Keyed + Copy {
@@ -29,12 +28,12 @@ pub trait Listed: Keyed + Copy {
 
 /// What was read so far: the entries, and one more than the code of the last of them.
 #[derive(Drop)]
-struct Listing<E> {
+struct ListingReader<E> {
     entries: ListOf<E>,
     least: u32,
 }
 
-impl<E: Listed> LineReader for Listing<E> {
+impl<E: Listed> LineReader for ListingReader<E> {
     ghost use Rattle.rd_ucd.specs.Lookup.{AreAscending};
     ghost use Rattle.rd_ucd.specs.ListFile.{AreBelow, listed_from};
     ghost use Rattle.rd_ucd.specs.Results.{behind};
@@ -61,17 +60,60 @@ impl<E: Listed> LineReader for Listing<E> {
     }
 }
 
-/// Reads a file of such lines. They end at byte 10, before which one byte 13 is dropped; the last may lack it. From `#` on a line
-/// is a comment, and a line of nothing but spaces and tabs before that is passed over. The codes ascend.
-pub fn read_listing<E: Listed>(alloc: Global, bytes: &[u8]) -> Result<ListOf<E>, UcdFault>
-    ensures listed { Answers result (listed_in E.key E.of_fields bytes.now) }
-    ensures ascending { IfOk result (λ entries. AreAscending E.key entries) }
-{
-    let empty = Listing {
-        entries: ListOf::new(alloc),
-        least: 0,
-    };
-    Ok(read_lines(empty, bytes)?.entries)
+/// The entries that a file gives. Contracts see them in ascending order of their codes.
+#[derive(Drop)]
+pub struct Listing<E: Keyed> {
+    entries: ListOf<E>,
+}
+
+impl<E: Keyed> Model for Listing<E> {
+    ghost use Rattle.std.specs.Prelude.{List};
+    ghost use Rattle.rd_ucd.specs.Lookup.{AreAscending};
+
+    ghost Value = { List E };
+
+    ghost view = { λ listing. listing.entries };
+
+    ghost invariant = { λ listing. AreAscending E.key listing.entries };
+}
+
+impl<E: Listed> Listing<E> {
+    ghost use Rattle.std.specs.Prelude.{◌≡◌, []};
+    ghost use Rattle.rd_ucd.specs.ListFile.{listed_in};
+    ghost use Rattle.rd_ucd.specs.Lookup.{entry_in};
+    ghost use Rattle.rd_ucd.specs.Results.{Answers};
+
+    /// No entry at all, as an empty file gives them. It takes no memory.
+    pub fn none(alloc: Global) -> Listing<E>
+        ensures { result ≡ [] }
+    {
+        Listing {
+            entries: ListOf::new(alloc),
+        }
+    }
+
+    /// Reads a file. Its lines end at byte 10, before which one byte 13 is dropped; the last may lack it. From `#` on a line is a
+    /// comment, and a line of nothing but spaces and tabs before that is passed over. Else it has as many fields as the form says, cut
+    /// by `;`, with spaces and tabs round them dropped, of which the first two are codes. The first codes ascend. Each fault comes
+    /// exactly at the first line that has one, with its number from 1, and in a line in the order of `UcdFault`. Want of memory may
+    /// come at any line. The cost is linear in the file, and so is the memory.
+    pub fn read(alloc: Global, bytes: &[u8]) -> Result<Listing<E>, UcdFault>
+        ensures { Answers result (listed_in E.key E.of_fields bytes.now) }
+    {
+        let empty = ListingReader {
+            entries: ListOf::new(alloc),
+            least: 0,
+        };
+        let entries = read_lines(empty, bytes)?.entries;
+        Ok(Listing { entries })
+    }
+
+    /// The entry that is listed under a code, if there is one. It costs the logarithm of their number.
+    pub(crate) fn entry(&self, code: u32) -> Option<E>
+        ensures { result ≡ entry_in E.key self.now code }
+    {
+        entry_at(self.entries.as_slice(), code)
+    }
 }
 
 /// The two codes that a line begins with.
