@@ -1,6 +1,6 @@
 //! Rules X1 to X8 of UAX 9, each a method of the state that the rules keep, a function, or an arm of the step that says which rule a
 //! class takes.
-ghost use Rattle.std.specs.Prelude.{◌≡◌, ◌<◌, ◌≤◌, ◌^◌, length};
+ghost use Rattle.std.specs.Prelude.{◌≡◌, ◌<◌, ◌≤◌, ◌^◌, ◌∷◌, length, if◌then◌else◌};
 ghost use Rattle.rd_explicit.specs.Explicit.{x1_start, top, odd_above, even_above, is_valid, embedded, isolated, x5c_first_strong_isolate, x6_level_and_override, x6a_pop_directional_isolate, x7_pop_directional_format, x8_paragraph_separator, x9_removed, after, given, Rises, IsReady, GoesOn};
 
 use crate::isolate::x5c_starts_right;
@@ -42,46 +42,46 @@ impl State {
         }
     }
 
-    /// Whether an entry at this level may be added (BD2, X2 to X5b).
-    fn is_valid(&self, level: u8) -> bool
-        ensures { result ≡ is_valid level self.now }
+    /// For X2 to X5c, adds an entry at a level above the last entry's, and says whether it did: not where the level is too deep (BD2), or
+    /// in what has overflowed.
+    fn push_valid(&mut self, level: u8, direction: Option<Class>, isolate: bool) -> bool
+        requires above { (top self.old.stack).level < level }
+        requires rises { Rises self.old.stack }
+        ensures valid { result ≡ is_valid level self.old }
+        ensures state { self.new ≡ (if is_valid level self.old then record self.old { stack = record { level = level; direction = direction; isolate = isolate } ∷ self.old.stack } else self.old) }
+        ensures rises { Rises self.new.stack }
     {
-        level <= 125 && self.overflow_isolates == 0 && self.overflow_embeddings == 0
+        if level > 125 || self.overflow_isolates > 0 || self.overflow_embeddings > 0 {
+            return false;
+        }
+        self.stack.push(DirectionalStatus {
+            level,
+            direction,
+            isolate,
+        });
+        true
     }
 
-    /// For X2 to X5, an embedding, or an override, at a level above the last entry's. Where it would be too deep, or in what has
-    /// overflowed, it overflows.
+    /// For X2 to X5, an embedding, or an override, at a level above the last entry's. What can't be added overflows.
     fn embed(&mut self, level: u8, direction: Option<Class>)
         requires above { (top self.old.stack).level < level }
         requires ready { IsReady 4294967294 self.old }
         ensures state { self.new ≡ embedded level direction self.old }
         ensures leaves { GoesOn self.old self.new }
     {
-        if self.is_valid(level) {
-            self.stack.push(DirectionalStatus {
-                level,
-                direction,
-                isolate: false,
-            });
-        } else if self.overflow_isolates == 0 {
+        if !self.push_valid(level, direction, false) && self.overflow_isolates == 0 {
             self.overflow_embeddings += 1;
         }
     }
 
-    /// For X5a to X5c, an isolate at a level above the last entry's. Where it would be too deep, or in what has overflowed, it
-    /// overflows.
+    /// For X5a to X5c, an isolate at a level above the last entry's. What can't be added overflows.
     fn isolate(&mut self, level: u8)
         requires above { (top self.old.stack).level < level }
         requires ready { IsReady 4294967294 self.old }
         ensures state { self.new ≡ isolated level self.old }
         ensures leaves { GoesOn self.old self.new }
     {
-        if self.is_valid(level) {
-            self.stack.push(DirectionalStatus {
-                level,
-                direction: None,
-                isolate: true,
-            });
+        if self.push_valid(level, None, true) {
             self.valid_isolates += 1;
         } else {
             self.overflow_isolates += 1;
