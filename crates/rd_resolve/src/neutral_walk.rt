@@ -5,14 +5,16 @@ ghost use Rattle.rd_resolve.specs.Neutral.{is_neutral, n1_side, n1_following, n1
 ghost use Rattle.rd_resolve.specs.Places.{types_at, levels_at, put_at};
 ghost use Rattle.rd_resolve.specs.Walks.{SideIs};
 
-use crate::walked::walked_character;
+use crate::walk::{WalkRules, walk};
 use rd_base::{Class, Line, Seq};
 
-/// What N1 knows at a character: the direction before it, and, within a run of neutrals, the one behind the run.
+/// What N1 knows at a character: the direction before it, within a run of neutrals the one behind the run, and the one at the
+/// sequence's end.
 #[derive(Clone, Copy)]
 pub struct Sides {
     pub before: Class,
     pub run: Option<Class>,
+    pub eos: Class,
 }
 
 /// Gives the neutrals of an isolating run sequence the types that rules N1 and N2 of UAX 9 make of theirs. The sequence's indexes
@@ -27,54 +29,45 @@ pub fn neutral(line: &mut Line, seq: &Seq)
     ensures levels { line.new.levels ≡ line.old.levels }
     ensures rest { KeepsClasses line.old line.new }
 {
-    let mut sides = Sides {
+    let sides = Sides {
         before: seq.sos,
         run: None,
+        eos: seq.eos,
     };
-    for k in 0..seq.indexes.len() {
-        let walked = walked_character(line, seq, k);
-        let index = walked.index;
-        let given = sides.step(
-            seq.eos,
-            walked.class,
-            walked.level,
-            walked.types,
-            walked.rest,
-        );
-        line.set_type(index, given);
-    }
+    walk(line, seq, sides);
 }
 
-impl Sides {
-    /// The type that N1 and N2 give the next character, with these indexes behind it.
-    fn step(&mut self, eos: Class, class: Class, level: u8, types: &[Class], rest: &[u32]) -> Class
-        requires within { All (λ i. i < length types.now) rest.now }
-        requires run { SideIs self.old.run eos (class ∷ types_at rest.now types.now) }
-        ensures first { n1 self.old.before eos (class ∷ types_at rest.now types.now)
-            ≡ (if is_neutral class then n1_surrounding_direction self.old.before (n1_following eos (types_at rest.now types.now)) class else class) ∷ n1 self.new.before eos (types_at rest.now types.now) }
-        ensures second { result ≡ n2_embedding_direction (if is_neutral class then n1_surrounding_direction self.old.before (n1_following eos (types_at rest.now types.now)) class else class) level }
-        ensures run { SideIs self.new.run eos (types_at rest.now types.now) }
-    {
+impl WalkRules for Sides {
+    ghost use Rattle.rd_resolve.specs.Neutral.{n1, n2};
+    ghost use Rattle.rd_resolve.specs.Walks.{SideIs};
+
+    ghost left = { λ sides types levels. n2 (n1 sides.before sides.eos types) levels };
+
+    ghost is_known = { λ sides types. SideIs sides.run sides.eos types };
+
+    fn step(&mut self, class: Class, level: u8, types: &[Class], rest: &[u32]) -> Class {
         if !is_neutral(class) {
             self.before = n1_side(class);
             self.run = None;
             return class;
         }
-        let after = self.n1_after(eos, types, rest);
+        let after = self.n1_after(types, rest);
         self.run = Some(after);
         let after_n1 = n1_surrounding_direction(self.before, after, class);
         n2_embedding_direction(after_n1, level)
     }
+}
 
+impl Sides {
     /// For N1, the direction behind the run of neutrals that a character belongs to. The run is looked through only where it begins.
-    fn n1_after(&self, eos: Class, types: &[Class], rest: &[u32]) -> Class
+    fn n1_after(&self, types: &[Class], rest: &[u32]) -> Class
         requires within { All (λ i. i < length types.now) rest.now }
-        requires run { SideIs self.now.run eos (types_at rest.now types.now) }
-        ensures { result ≡ n1_following eos (types_at rest.now types.now) }
+        requires run { SideIs self.now.run self.now.eos (types_at rest.now types.now) }
+        ensures { result ≡ n1_following self.now.eos (types_at rest.now types.now) }
     {
         match self.run {
             Some(after) => after,
-            None => n1_following(eos, types, rest),
+            None => n1_following(self.eos, types, rest),
         }
     }
 }

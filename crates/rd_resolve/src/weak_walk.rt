@@ -6,7 +6,7 @@ ghost use Rattle.rd_resolve.specs.Places.{types_at, put_at};
 ghost use Rattle.rd_resolve.specs.Weak.{w1_nonspacing_marks, strong_after, w2_european_numbers_after_arabic, w3_arabic_letters, w4_separators, first_type, is_en, w5_terminators, w6_remaining_separators, w7_latin_numbers, weak_types, w1, w2, w3};
 ghost use Rattle.rd_resolve.specs.Walks.{weak_left, w5_run_ends, w5_run_of, RunIs};
 
-use crate::walked::walked_character;
+use crate::walk::{WalkRules, walk};
 use rd_base::{Class, Line, Seq};
 
 /// What the rules know of the characters before one. Each field begins with the first rule that reads it.
@@ -37,7 +37,7 @@ pub fn weak(line: &mut Line, seq: &Seq)
     ensures levels { line.new.levels ≡ line.old.levels }
     ensures rest { KeepsClasses line.old line.new }
 {
-    let mut before = Before {
+    let before = Before {
         w1_before: seq.sos,
         w2_strong: seq.sos,
         w4_before: Class::ON,
@@ -45,22 +45,17 @@ pub fn weak(line: &mut Line, seq: &Seq)
         w5_run: None,
         w7_strong: seq.sos,
     };
-    for k in 0..seq.indexes.len() {
-        let walked = walked_character(line, seq, k);
-        let index = walked.index;
-        let given = before.step(walked.class, walked.types, walked.rest);
-        line.set_type(index, given);
-    }
+    walk(line, seq, before);
 }
 
-impl Before {
-    /// The type that W1 to W7 give the next character, with these indexes behind it.
-    fn step(&mut self, class: Class, types: &[Class], rest: &[u32]) -> Class
-        requires within { All (λ i. i < length types.now) rest.now }
-        requires run { RunIs self.old.w5_run self.old (class ∷ types_at rest.now types.now) }
-        ensures left { weak_left self.old (class ∷ types_at rest.now types.now) ≡ result ∷ weak_left self.new (types_at rest.now types.now) }
-        ensures run { RunIs self.new.w5_run self.new (types_at rest.now types.now) }
-    {
+impl WalkRules for Before {
+    ghost use Rattle.rd_resolve.specs.Walks.{weak_left, RunIs};
+
+    ghost left = { λ before types levels. weak_left before types };
+
+    ghost is_known = { λ before types. RunIs before.w5_run before types };
+
+    fn step(&mut self, class: Class, _level: u8, types: &[Class], rest: &[u32]) -> Class {
         let after_w1 = w1_nonspacing_marks(self.w1_before, class);
         let strong = strong_after(self.w2_strong, after_w1);
         let after_w2 = w2_european_numbers_after_arabic(self.w2_strong, after_w1);
@@ -79,7 +74,9 @@ impl Before {
         self.w7_strong = strong_after(self.w7_strong, after_w6);
         given
     }
+}
 
+impl Before {
     /// For W5, whether EN comes behind the run of ET that a character of this type after W4 belongs to. The run is looked through
     /// only where it begins; None for another character.
     fn w5_run_ends(&self, class: Class, types: &[Class], rest: &[u32]) -> Option<bool>

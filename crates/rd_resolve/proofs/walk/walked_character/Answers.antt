@@ -1,6 +1,6 @@
 use Rattle.std.proofs.Common.{arith}
 use Rattle.rd_resolve.proofs.Places.{types-left, read-within}
-use Rattle.rd_resolve.proofs.walked.walked_character.Goals as goal
+use Rattle.rd_resolve.proofs.walk.walked_character.Goals as goal
 
 pub at-requires : goal.at-requires
 at-requires c = omega (arith, read-within c.args.seq.now.indexes c.args.k c.at-index.result c.at-index.ensures _ c.requires.within, c.args.line.now.same_types)

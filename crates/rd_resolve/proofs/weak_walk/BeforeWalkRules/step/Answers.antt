@@ -3,8 +3,8 @@ use Rattle.rd_resolve.specs.Places.{types_at}
 use Rattle.rd_resolve.specs.Weak.{strong_after, w2_european_numbers_after_arabic, w3_arabic_letters, w4_separators, first_type, is_en, w5_terminators, w6_remaining_separators, w7_latin_numbers, w1, w2, w3}
 use Rattle.rd_resolve.specs.Walks.{w5_run_ends, w5_run_of}
 use Rattle.rd_resolve.proofs.WeakSteps.{w1_type, strong_type, w3_type, w4_type, w5_type, weak-step, w5-run-known, w5-run-is, w1_type-et, w3_type-et, strong_type-et, assembled}
-use Rattle.rd_resolve.proofs.weak_walk.Before.step.Goals as goal
-use Rattle.rd_resolve.proofs.weak_walk.Before.step.Goals.{After-w4_separators-after_w4, After-w5_run_ends-run}
+use Rattle.rd_resolve.proofs.weak_walk.BeforeWalkRules.step.Goals as goal
+use Rattle.rd_resolve.proofs.weak_walk.BeforeWalkRules.step.Goals.{After-w4_separators-after_w4, After-w5_run_ends-run}
 
 -- the types that the first four rules give
 known : (c : goal.After-w4_separators-after_w4) → let b = c.args.self.now in let cs = types_at c.args.rest.now c.args.types.now in
@@ -33,7 +33,7 @@ w5_run_ends-run-requires-clause-run c =
     let b = c.args.self.now in
     let cs = types_at c.args.rest.now c.args.types.now in
     let (after_w1, strong, after_w3, after_w4) = known (goal.at.w5_run_ends-run-requires-clause-run c).After-w4_separators-after_w4 in
-    λ e. w5-run-known b.w5_run b c.args.class cs c.requires.run (sym after_w4 ∙ e)
+    λ e. w5-run-known b.w5_run b c.args.class cs c.requires.known (sym after_w4 ∙ e)
 
 pub returns-clause-left : goal.returns-clause-left
 returns-clause-left c =
@@ -43,15 +43,15 @@ returns-clause-left c =
     let after_w5 : c.w5_terminators-after_w5.result ≡ w5_type b c.args.class cs =
     c.w5_terminators-after_w5.ensures ∙ ap₂ (λ r n. w5_terminators r n) (c.w5_beside.ensures ∙ ap (λ r. b.w5_number || unwrap_or r false) (run (goal.at.returns-clause-left c).After-w5_run_ends-run after_w4)) after_w4 in
     let after_w6 : c.w6_remaining_separators-after_w6.result ≡ w6_remaining_separators (w5_type b c.args.class cs) = c.w6_remaining_separators-after_w6.ensures ∙ ap w6_remaining_separators after_w5 in
-    assembled _ _ _ _ _ _ _ _ _ _ _ _ cs _ (weak-step b c.args.class cs c.w5_run_ends-run.result)
+    λ levels. assembled _ _ _ _ _ _ _ _ _ _ _ _ cs _ (weak-step b c.args.class cs c.w5_run_ends-run.result)
     (c.w7_latin_numbers-given.ensures ∙ ap (w7_latin_numbers b.w7_strong) after_w6)
     (c.strong_after-self.ensures ∙ ap (strong_after b.w7_strong) after_w6)
     (c.is_en-self.ensures ∙ ap is_en after_w5) after_w3 strong after_w1
 
-pub returns-clause-run : goal.returns-clause-run
-returns-clause-run c =
+pub returns-clause-known : goal.returns-clause-known
+returns-clause-known c =
     let b = c.args.self.now in
     let cs = types_at c.args.rest.now c.args.types.now in
-    let (after_w1, strong, after_w3, after_w4) = known (goal.at.returns-clause-run c).After-w4_separators-after_w4 in
-    w5-run-is c.w5_run_ends-run.result (w4_type b c.args.class cs) (w5_run_ends b.w2_strong cs) _ cs (run (goal.at.returns-clause-run c).After-w5_run_ends-run after_w4)
+    let (after_w1, strong, after_w3, after_w4) = known (goal.at.returns-clause-known c).After-w4_separators-after_w4 in
+    w5-run-is c.w5_run_ends-run.result (w4_type b c.args.class cs) (w5_run_ends b.w2_strong cs) _ cs (run (goal.at.returns-clause-known c).After-w5_run_ends-run after_w4)
     (λ e. (after_w1 ∙ w1_type-et b c.args.class cs e, after_w3 ∙ w3_type-et b c.args.class cs e, ap (λ s. w5_run_ends s cs) (sym (strong ∙ strong_type-et b c.args.class cs e))))
