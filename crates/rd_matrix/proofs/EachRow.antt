@@ -1,13 +1,15 @@
 -- What holds of each row of each block holds of all rows of the blocks.
-use Rattle.std.proofs.Common.{◌≡◌, ℕ, suc, ◌+◌, List, [], ◌∷◌, All, Some, refl, subst, arith}
+use Rattle.std.proofs.Common.{◌≡◌, ℕ, zero, suc, ◌+◌, List, [], ◌∷◌, All, Some, refl, subst, arith}
 use Rattle.std.specs.Prelude.{slice_get}
 use Rattle.std.specs.List.{AllByRecursion}
 use Rattle.std.proofs.lemmas.List.Elements.{All-from_recursion}
-use Rattle.rd_base.proofs.Lists.{all-at, each-append}
+use Rattle.rd_base.proofs.Lists.{all-at, all-back, all-front, each-append}
 use Rattle.rd_matrix.specs.Blocks.{IsAmong}
 use Rattle.rd_matrix.specs.Entries.{EntryMeaning, all_rows, entries_of, numbered}
+use Rattle.rd_matrix.specs.Sources.{begins_of}
 use Rattle.rd_matrix.specs.declared.block.Block.{Block}
 use Rattle.rd_rows.specs.Rows.{RowMeaning}
+use Rattle.rd_rows.specs.declared.begin.Begin.{Begin}
 
 numbered-each : (P : EntryMeaning → Type 0) (start number : ℕ) (rows : List RowMeaning)
     → ((j k : ℕ) (r : RowMeaning) → k ≡ number + j → slice_get rows j ≡ Some r → P (record { start = start; number = k; row = r })) → AllByRecursion P (numbered start number rows)
@@ -29,3 +31,15 @@ entries-each P rows (b ∷ bs) own =
 pub rows-each : (P : RowMeaning → Type 0) (rows : Block → List RowMeaning) (bs : List Block) → ((b : Block) → All P (rows b)) → All (λ (e : EntryMeaning). P e.row) (all_rows rows bs)
 rows-each P rows bs own =
     All-from_recursion (λ (e : EntryMeaning). P e.row) (all_rows rows bs) (entries-each (λ (e : EntryMeaning). P e.row) rows bs (λ b k r among found. all-at P (rows b) k r (own b) found))
+
+begins-at : (P : Begin → Type 0) (rows : List RowMeaning) (k : ℕ) (r : RowMeaning) → All P (begins_of rows) → slice_get rows k ≡ Some r → All P r.begins
+begins-at P [] k r all found = absurd cc
+begins-at P (s ∷ rows) zero r all found = let same : s ≡ r = cc in subst (λ (x : RowMeaning). All P x.begins) same (all-front P s.begins (begins_of rows) all)
+begins-at P (s ∷ rows) (suc k) r all found = begins-at P rows k r (all-back P s.begins (begins_of rows) all) found
+
+-- of the items that begin in the row, by the start of its block
+pub begins-each : (P : ℕ → Begin → Type 0) (rows : Block → List RowMeaning) (bs : List Block) → ((b : Block) → IsAmong bs b → All (P b.start) (begins_of (rows b)))
+    → All (λ (e : EntryMeaning). All (P e.start) e.row.begins) (all_rows rows bs)
+begins-each P rows bs own =
+    All-from_recursion (λ (e : EntryMeaning). All (P e.start) e.row.begins) (all_rows rows bs)
+    (entries-each (λ (e : EntryMeaning). All (P e.start) e.row.begins) rows bs (λ b k r among found. begins-at (P b.start) (rows b) k r (own b among) found))
