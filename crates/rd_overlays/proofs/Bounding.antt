@@ -1,9 +1,10 @@
 -- Bounds that move with their overlays, and what lies outside them.
-use Rattle.std.proofs.Common.{◌≡◌, ℕ, zero, suc, ◌+◌, ◌-◌, ◌*◌, ◌/◌, ◌<◌, ◌≤◌, min, Bool, true, false, if◌then◌else◌, List, [], ◌∷◌, ◌++◌, length, map, get_or, Option, None, Some, refl, sym, ap, subst, ◌∙◌, arith, length-append}
+use Rattle.std.proofs.Common.{◌≡◌, ℕ, zero, suc, ◌+◌, ◌-◌, ◌*◌, ◌/◌, ◌<◌, ◌≤◌, min, Bool, true, false, if◌then◌else◌, List, [], ◌∷◌, ◌++◌, length, map, get_or, Option, None, Some, inl, inr, refl, sym, ap, subst, ◌∙◌, arith, length-append}
 use Rattle.std.specs.Prelude.{slice_get, slice_set, nat_lt}
 use Rattle.std.specs.List.{All, range_with_len}
 use Rattle.std.specs.List.Sorted.{IsPermutation}
 use Rattle.std.specs.Option.{unwrap_or}
+use Rattle.std.proofs.lemmas.Bool.{cases_lt}
 use Rattle.std.proofs.lemmas.Bool.Decides.{nat_tests}
 use Rattle.std.proofs.lemmas.List.{length-map}
 use Rattle.std.proofs.lemmas.List.Elements.{All-from_get_or}
@@ -138,18 +139,12 @@ away-above pos b None h p = tt
 away-above pos b (Some o) h p = λ m. above-high m pos o b h p
 
 -- what stands in the block of a place lies within its bounds
-pub block-holds : (slots : List (Option Overlay)) (order more : List ℕ) (bounds : List Bounds) (block k number : ℕ) (b : Bounds) → IsBounded slots order bounds
-    → slice_get bounds block ≡ Some b → block * 256 ≤ k → k < block * 256 + 256 → k < length order → slice_get (order ++ more) k ≡ Some number
-    → SlotHolds b (overlay_at slots number)
-block-holds slots order more bounds block k number b h at low high inside here =
-    let same : k / 256 ≡ block = omega arith in
-    h.holds k number b (sym (get-first order more k inside) ∙ here) (ap (λ (q : ℕ). slice_get bounds q) same ∙ at)
-
 pub passed-holds : (slots : List (Option Overlay)) (order : List ℕ) (bounds : List Bounds) (size block k number : ℕ) (b : Bounds) → IsBounded slots order bounds
     → slice_get bounds block ≡ Some b → block * 256 ≤ k → k < block * 256 + 256 → k < length order → slice_get (passed order size) k ≡ Some number
     → SlotHolds b (overlay_at slots number)
 passed-holds slots order bounds size block k number b h at low high inside here =
-    block-holds slots order (range_with_len (length order) (size - length order)) bounds block k number b h at low high inside here
+    let same : k / 256 ≡ block = omega arith in
+    h.holds k number b (sym (get-first order (range_with_len (length order) (size - length order)) k inside) ∙ here) (ap (slice_get bounds) same ∙ at)
 
 -- the bounds still hold what they held where some are wider
 pub wider : (old new : List Bounds) (place k : ℕ) (slot other : Option Overlay) (c : Bounds) → IsWidened old new place slot
@@ -166,35 +161,27 @@ abbrev pub HoldsFrom : List ℕ → List Bounds → ℕ → Option Overlay → �
 HoldsFrom order bounds number slot place =
     (k : ℕ) (c : Bounds) → place ≤ k → slice_get order k ≡ Some number → slice_get bounds (k / 256) ≡ Some c → SlotHolds c slot
 
-widened-by : (order : List ℕ) (now new : List Bounds) (number : ℕ) (slot : Option Overlay) (place k : ℕ) (c : Bounds) (t : Bool) → nat_lt k place ≡ t
-    → IsWidened now new (place - 1) slot → HoldsFrom order now number slot place → place - 1 ≤ k → slice_get order k ≡ Some number
-    → slice_get new (k / 256) ≡ Some c → SlotHolds c slot
-widened-by order now new number slot place k c true e w h p there at =
-    let q : k < place = grind (arith, nat_tests) in
-    let same : k ≡ place - 1 = omega (arith, p, q) in
-    w.holds c (ap (λ (j : ℕ). slice_get new (j / 256)) (sym same) ∙ at)
-widened-by order now new number slot place k c false e w h p there at =
-    let q : place ≤ k = grind (arith, nat_tests) in
-    wider now new (place - 1) (k / 256) slot slot c w (λ b at_now. h k b q there at_now) at
+-- what holds at the place before holds from there on
+from_before : (order : List ℕ) (bounds : List Bounds) (number : ℕ) (slot : Option Overlay) (place : ℕ)
+    → ((c : Bounds) → slice_get order (place - 1) ≡ Some number → slice_get bounds ((place - 1) / 256) ≡ Some c → SlotHolds c slot)
+    → HoldsFrom order bounds number slot place → HoldsFrom order bounds number slot (place - 1)
+from_before order bounds number slot place here h = λ k c p there at. elim (cases_lt k place) [
+  | inl q ↦
+      let same : k ≡ place - 1 = omega (arith, p, q) in
+      here c (ap (slice_get order) (sym same) ∙ there) (ap (λ (j : ℕ). slice_get bounds (j / 256)) (sym same) ∙ at)
+  | inr q ↦ h k c q there at
+]
 
 pub widened-step : (order : List ℕ) (now new : List Bounds) (number : ℕ) (slot : Option Overlay) (place : ℕ)
     → IsWidened now new (place - 1) slot → HoldsFrom order now number slot place → HoldsFrom order new number slot (place - 1)
-widened-step order now new number slot place w h = λ k c p there at. widened-by order now new number slot place k c (nat_lt k place) refl w h p there at
-
-other-by : (order : List ℕ) (bounds : List Bounds) (number : ℕ) (slot : Option Overlay) (place k : ℕ) (c : Bounds) (t : Bool) → nat_lt k place ≡ t
-    → (get_or order (place - 1) 0 ≡ number → ⊥) → HoldsFrom order bounds number slot place → place - 1 ≤ k → slice_get order k ≡ Some number
-    → slice_get bounds (k / 256) ≡ Some c → SlotHolds c slot
-other-by order bounds number slot place k c true e other h p there at =
-    let q : k < place = grind (arith, nat_tests) in
-    let same : k ≡ place - 1 = omega (arith, p, q) in
-    absurd (other (ap (λ (j : ℕ). get_or order j 0) (sym same) ∙ get_or_from_slice_get order k number 0 there))
-other-by order bounds number slot place k c false e other h p there at =
-    let q : place ≤ k = grind (arith, nat_tests) in
-    h k c q there at
+widened-step order now new number slot place w h =
+    from_before order new number slot place (λ c there at. w.holds c at)
+    (λ k c q there at. wider now new (place - 1) (k / 256) slot slot c w (λ b at_now. h k b q there at_now) at)
 
 pub other-step : (order : List ℕ) (bounds : List Bounds) (number : ℕ) (slot : Option Overlay) (place : ℕ)
     → (get_or order (place - 1) 0 ≡ number → ⊥) → HoldsFrom order bounds number slot place → HoldsFrom order bounds number slot (place - 1)
-other-step order bounds number slot place other h = λ k c p there at. other-by order bounds number slot place k c (nat_lt k place) refl other h p there at
+other-step order bounds number slot place other h =
+    from_before order bounds number slot place (λ c there at. absurd (other (get_or_from_slice_get order (place - 1) number 0 there))) h
 
 set-holds : (slots : List (Option Overlay)) (number : ℕ) (slot : Option Overlay) (k : ℕ) (b : Bounds) → (k ≡ number → SlotHolds b slot)
     → SlotHolds b (overlay_at slots k) → SlotHolds b (overlay_at (slice_set slots number slot) k)

@@ -1,75 +1,17 @@
 -- What a listing holds, and in which order.
-use Rattle.std.proofs.Common.{◌≡◌, ℕ, zero, suc, ◌+◌, ◌-◌, ◌<◌, ◌≤◌, Bool, true, false, if◌then◌else◌, List, [], ◌∷◌, length, slice_index_or, Option, None, Some, refl, sym, ap, subst, ◌∙◌, arith, true≢false}
-use Rattle.std.specs.Prelude.{slice_index, ⊤, pos}
-use Rattle.std.specs.List.{Contains}
+use Rattle.std.proofs.Common.{◌≡◌, ℕ, zero, suc, ◌+◌, ◌-◌, ◌<◌, Bool, true, false, if◌then◌else◌, List, [], ◌∷◌, length, slice_index_or, Option, None, Some, refl, sym, ap, subst, ◌∙◌, arith, true≢false}
+use Rattle.std.specs.Prelude.{slice_index, pos}
+use Rattle.std.specs.List.{AllByRecursion, Contains}
 use Rattle.std.specs.Option.{is_none}
 use Rattle.std.proofs.lemmas.List.{get_or-map, length-map}
+use Rattle.std.proofs.lemmas.List.Elements.{All-from_recursion}
 use Rattle.std.proofs.lemmas.Option.{same_Some}
 use Rattle.rd_overlays.specs.declared.overlay.Overlay.{Overlay}
 use Rattle.rd_overlays.specs.declared.listing.Rank.{Rank}
 use Rattle.rd_overlays.specs.Overlays.{overlay_at, precedes, placed, with_slot, ranked_from, number_of_rank, numbers_of}
 use Rattle.rd_overlays.specs.Listings.{Passes, HoldsExactly, Ascends, rank_of}
-use Rattle.rd_overlays.proofs.Sorting.{AllAfter, Rises}
-use Rattle.rd_overlays.proofs.Listed.{weak, ranked-rises}
-
-abbrev Each : (Rank → Type 0) → List Rank → Type 0
-Each P [] = ⊤
-Each P (r ∷ rs) = P r × Each P rs
-
-each-weaken : (P Q : Rank → Type 0) (rs : List Rank) → ((r : Rank) → P r → Q r) → Each P rs → Each Q rs
-each-weaken P Q [] f h = tt
-each-weaken P Q (r ∷ rs) f h = (f r h.0, each-weaken P Q rs f h.1)
-
-each-by : (P : Rank → Type 0) (r s : Rank) (ss more : List Rank) (b : Bool) → P r → Each P (s ∷ ss) → Each P more → Each P (if b then s ∷ more else r ∷ s ∷ ss)
-each-by P r s ss more true p h rest = (h.0, rest)
-each-by P r s ss more false p h rest = (p, h)
-
-each-placed : (P : Rank → Type 0) (r : Rank) (rs : List Rank) → P r → Each P rs → Each P (placed r rs)
-each-placed P r [] p h = (p, tt)
-each-placed P r (s ∷ ss) p h = each-by P r s ss (placed r ss) (precedes s r) p h (each-placed P r ss p h.1)
-
--- the overlay of a rank stands at its number, counted from the given one, passes the test and has its priority
-record Stands (test : Overlay → Bool) (n : ℕ) (slots : List (Option Overlay)) (r : Rank) : Type 0 where
-  overlay : Overlay
-  from : n ≤ r.number
-  at : overlay_at slots (r.number - n) ≡ Some overlay
-  passes : test overlay ≡ true
-  priority : r.priority ≡ overlay.priority
-
-later : (test : Overlay → Bool) (n : ℕ) (slot : Option Overlay) (slots : List (Option Overlay)) (r : Rank) → Stands test (suc n) slots r → Stands test n (slot ∷ slots) r
-later test n slot slots r s =
-    let from = s.from in
-    let e : r.number - n ≡ suc (r.number - suc n) = omega arith in
-    record {
-      overlay = s.overlay;
-      from = omega arith;
-      at = ap (overlay_at (slot ∷ slots)) e ∙ s.at;
-      passes = s.passes;
-      priority = s.priority;
-    }
-
-here : (test : Overlay → Bool) (n : ℕ) (o : Overlay) (slots : List (Option Overlay)) → test o ≡ true → Stands test n (Some o ∷ slots) (rank_of n o)
-here test n o slots p =
-    let e : n - n ≡ 0 = omega arith in
-    record {
-      overlay = o;
-      from = omega arith;
-      at = ap (overlay_at (Some o ∷ slots)) e;
-      passes = p;
-      priority = refl;
-    }
-
-slot-each : (P : Rank → Type 0) (r : Rank) (rs : List Rank) (b : Bool) → (b ≡ true → P r) → Each P rs → Each P (if b then placed r rs else rs)
-slot-each P r rs true p h = each-placed P r rs (p refl) h
-slot-each P r rs false p h = h
-
-ranked-stand : (test : Overlay → Bool) (n : ℕ) (slots : List (Option Overlay)) → Each (Stands test n slots) (ranked_from test n slots)
-ranked-stand test n [] = tt
-ranked-stand test n (None ∷ slots) =
-    each-weaken (Stands test (suc n) slots) (Stands test n (None ∷ slots)) (ranked_from test (suc n) slots) (later test n None slots) (ranked-stand test (suc n) slots)
-ranked-stand test n (Some o ∷ slots) =
-    slot-each (Stands test n (Some o ∷ slots)) (rank_of n o) (ranked_from test (suc n) slots) (test o) (here test n o slots)
-    (each-weaken (Stands test (suc n) slots) (Stands test n (Some o ∷ slots)) (ranked_from test (suc n) slots) (later test n (Some o) slots) (ranked-stand test (suc n) slots))
+use Rattle.rd_overlays.proofs.Sorting.{Rises}
+use Rattle.rd_overlays.proofs.Listed.{weak, Stands, ranked-stand, ranked-rises}
 
 -- some element
 abbrev Some_one : (Rank → Type 0) → List Rank → Type 0
@@ -133,10 +75,8 @@ complete test n (suc j) (slot ∷ slots) o at passes =
     let same : suc n + j ≡ n + suc j = omega arith in
     behind test n slot rs (n + suc j) (one-weaken (IsNumbered (suc n + j)) (IsNumbered (n + suc j)) rs (λ r e. e ∙ same) (complete test (suc n) j slots o at passes))
 
-each-at : (P : Rank → Type 0) (rs : List Rank) (i : ℕ) (d : Rank) → i < length rs → Each P rs → P (slice_index_or rs i d)
-each-at P [] i d inside h = absurd (omega (arith, inside))
-each-at P (r ∷ rs) zero d inside h = h.0
-each-at P (r ∷ rs) (suc i) d inside h = each-at P rs i d (omega (arith, inside)) h.1
+each-at : (P : Rank → Type 0) (rs : List Rank) (i : ℕ) (d : Rank) → i < length rs → AllByRecursion P rs → P (slice_index_or rs i d)
+each-at P rs i d inside h = All-from_recursion P rs h i d inside
 
 stands-passes : (test : Overlay → Bool) (slots : List (Option Overlay)) (r : Rank) (number : ℕ) → r.number ≡ number → Stands test 0 slots r
     → Passes test (overlay_at slots number)
@@ -170,15 +110,10 @@ to-listing test slots number (Some o) at passes = listed test slots number (comp
 pub exact : (test : Overlay → Bool) (slots : List (Option Overlay)) → HoldsExactly test slots (numbers_of test slots)
 exact test slots = λ number. (from-listing test slots number, to-listing test slots number (overlay_at slots number) refl)
 
-after-at : (r : Rank) (rs : List Rank) (j : ℕ) (d : Rank) → j < length rs → AllAfter precedes weak r rs → precedes r (slice_index_or rs j d) ≡ true
-after-at r [] j d inside h = absurd (omega (arith, inside))
-after-at r (s ∷ ss) zero d inside h = h.0
-after-at r (s ∷ ss) (suc j) d inside h = after-at r ss j d (omega (arith, inside)) h.1
-
 rises-at : (rs : List Rank) (i j : ℕ) (d : Rank) → i < j → j < length rs → Rises precedes weak rs → precedes (slice_index_or rs i d) (slice_index_or rs j d) ≡ true
 rises-at [] i j d p inside h = absurd (omega (arith, inside))
 rises-at (r ∷ rs) i zero d p inside h = absurd (omega (arith, p))
-rises-at (r ∷ rs) zero (suc j) d p inside h = after-at r rs j d (omega (arith, inside)) h.0
+rises-at (r ∷ rs) zero (suc j) d p inside h = each-at (λ s. precedes r s ≡ true) rs j d (omega (arith, inside)) h.0
 rises-at (r ∷ rs) (suc i) (suc j) d p inside h = rises-at rs i j d (omega (arith, p)) (omega (arith, inside)) h.1
 
 same_rank : (r : Rank) (n : ℕ) (o : Overlay) → n ≡ r.number → r.priority ≡ o.priority → rank_of n o ≡ r

@@ -1,7 +1,7 @@
 -- What was found, once it is sorted, is the listing; and what a listing holds.
-use Rattle.std.proofs.Common.{◌≡◌, ℕ, suc, ◌<◌, ◌≤◌, Bool, true, false, not, ◌&&◌, if◌then◌else◌, List, [], ◌∷◌, ◌++◌, length, drop, replicate, ◌+◌, Option, None, Some, refl, sym, ap, ◌∙◌, arith, append-nil, length-append, true≢false}
-use Rattle.std.specs.Prelude.{⊤, nat_lt}
-use Rattle.std.specs.List.{filter, sum_by, range_with_len}
+use Rattle.std.proofs.Common.{◌≡◌, ℕ, suc, ◌<◌, ◌≤◌, Bool, true, false, not, ◌&&◌, if◌then◌else◌, List, [], ◌∷◌, ◌++◌, length, drop, replicate, ◌+◌, ◌-◌, Option, None, Some, refl, sym, ap, ◌∙◌, arith, append-nil, length-append, true≢false}
+use Rattle.std.specs.Prelude.{nat_lt}
+use Rattle.std.specs.List.{AllByRecursion, filter, sum_by, range_with_len}
 use Rattle.std.specs.List.Sorted.{ties, IsSortedBy, IsPermutation}
 use Rattle.std.specs.Ordering.{is_lt, ordering_then, ordering_reverse, int_cmp, nat_cmp}
 use Rattle.std.specs.declared.cmp.Ordering.{Ordering}
@@ -16,11 +16,11 @@ use Rattle.std.proofs.lemmas.List.Sorted.{ranks_by, sum_by-IsPermutation}
 use Rattle.std.proofs.lemmas.List.Sums.{sum_by-cons}
 use Rattle.rd_overlays.specs.declared.overlay.Overlay.{Overlay}
 use Rattle.rd_overlays.specs.declared.listing.Rank.{Rank}
-use Rattle.rd_overlays.specs.Overlays.{live, overlay_at, precedes, placed, ranked_from}
+use Rattle.rd_overlays.specs.Overlays.{live, overlay_at, precedes, placed, with_slot, ranked_from}
 use Rattle.rd_overlays.specs.Listings.{rank_of, rank_at, found_from, found_in}
 use Rattle.rd_overlays.specs.Bounds.{passed}
 use Rattle.rd_overlays.proofs.Passing.{drop-cons, passed-whole}
-use Rattle.rd_overlays.proofs.Sorting.{AllAfter, Rises, rises-never_falls, sorted-never_falls, unique}
+use Rattle.rd_overlays.proofs.Sorting.{each-weaker, AllAfter, Rises, rises-never_falls, sorted-never_falls, unique}
 
 order : IsTotalOrder (λ (a b : Rank). ordering_then (int_cmp a.priority b.priority) (nat_cmp a.number b.number))
 order = then_total (on_total (λ (r : Rank). r.priority) int_cmp_total) (on_total (λ (r : Rank). r.number) nat_cmp_total)
@@ -38,55 +38,77 @@ apart r s p e =
     ap (λ (c : Ordering). is_lt (ordering_then c (nat_cmp r.number s.number))) (int_cmp_total.antisymm r.priority s.priority)
     ∙ by_number (int_cmp s.priority r.priority) r.number s.number p e
 
+-- what each rank has, one more included where it is placed
+each-by : (P : Rank → Type 0) (r s : Rank) (ss more : List Rank) (b : Bool) → P r → AllByRecursion P (s ∷ ss) → AllByRecursion P more
+    → AllByRecursion P (if b then s ∷ more else r ∷ s ∷ ss)
+each-by P r s ss more true p h rest = (h.0, rest)
+each-by P r s ss more false p h rest = (p, h)
+
+each-placed : (P : Rank → Type 0) (r : Rank) (rs : List Rank) → P r → AllByRecursion P rs → AllByRecursion P (placed r rs)
+each-placed P r [] p h = (p, tt)
+each-placed P r (s ∷ ss) p h = each-by P r s ss (placed r ss) (precedes s r) p h (each-placed P r ss p h.1)
+
+each-slot : (P : Rank → Type 0) (r : Rank) (rs : List Rank) (b : Bool) → (b ≡ true → P r) → AllByRecursion P rs → AllByRecursion P (if b then placed r rs else rs)
+each-slot P r rs true p h = each-placed P r rs (p refl) h
+each-slot P r rs false p h = h
+
+-- the overlay of a rank stands at its number, counted from the given one, passes the test and has its priority
+pub record Stands (test : Overlay → Bool) (n : ℕ) (slots : List (Option Overlay)) (r : Rank) : Type 0 where
+  pub overlay : Overlay
+  pub from : n ≤ r.number
+  pub at : overlay_at slots (r.number - n) ≡ Some overlay
+  pub passes : test overlay ≡ true
+  pub priority : r.priority ≡ overlay.priority
+
+later : (test : Overlay → Bool) (n : ℕ) (slot : Option Overlay) (slots : List (Option Overlay)) (r : Rank) → Stands test (suc n) slots r → Stands test n (slot ∷ slots) r
+later test n slot slots r s =
+    let from = s.from in
+    let e : r.number - n ≡ suc (r.number - suc n) = omega arith in
+    record {
+      overlay = s.overlay;
+      from = omega arith;
+      at = ap (overlay_at (slot ∷ slots)) e ∙ s.at;
+      passes = s.passes;
+      priority = s.priority;
+    }
+
+here : (test : Overlay → Bool) (n : ℕ) (o : Overlay) (slots : List (Option Overlay)) → test o ≡ true → Stands test n (Some o ∷ slots) (rank_of n o)
+here test n o slots p =
+    let e : n - n ≡ 0 = omega arith in
+    record {
+      overlay = o;
+      from = omega arith;
+      at = ap (overlay_at (Some o ∷ slots)) e;
+      passes = p;
+      priority = refl;
+    }
+
+pub ranked-stand : (test : Overlay → Bool) (n : ℕ) (slots : List (Option Overlay)) → AllByRecursion (Stands test n slots) (ranked_from test n slots)
+ranked-stand test n [] = tt
+ranked-stand test n (slot ∷ slots) =
+    with-slot slot (each-weaker (Stands test (suc n) slots) (Stands test n (slot ∷ slots)) (later test n slot slots) (ranked_from test (suc n) slots) (ranked-stand test (suc n) slots)) where
+      with-slot : (slot : Option Overlay) → AllByRecursion (Stands test n (slot ∷ slots)) (ranked_from test (suc n) slots) → AllByRecursion (Stands test n (slot ∷ slots)) (with_slot test n slot (ranked_from test (suc n) slots))
+      with-slot None rest = rest
+      with-slot (Some o) rest = each-slot (Stands test n (Some o ∷ slots)) (rank_of n o) (ranked_from test (suc n) slots) (test o) (here test n o slots) rest
+
 -- each number is as great as this one or greater
 abbrev NumbersFrom : ℕ → List Rank → Type 0
-NumbersFrom n [] = ⊤
-NumbersFrom n (r ∷ rs) = (n ≤ r.number) × NumbersFrom n rs
-
-numbers-weaken : (n m : ℕ) (rs : List Rank) → n ≤ m → NumbersFrom m rs → NumbersFrom n rs
-numbers-weaken n m [] p h = tt
-numbers-weaken n m (r ∷ rs) p h = (omega (arith, p, h.0), numbers-weaken n m rs p h.1)
-
-numbers-by : (n : ℕ) (r s : Rank) (ss more : List Rank) (b : Bool) → n ≤ r.number → NumbersFrom n (s ∷ ss) → NumbersFrom n more
-    → NumbersFrom n (if b then s ∷ more else r ∷ s ∷ ss)
-numbers-by n r s ss more true p h rest = (h.0, rest)
-numbers-by n r s ss more false p h rest = (p, h)
-
-placed-numbers : (n : ℕ) (r : Rank) (rs : List Rank) → n ≤ r.number → NumbersFrom n rs → NumbersFrom n (placed r rs)
-placed-numbers n r [] p h = (p, tt)
-placed-numbers n r (s ∷ ss) p h = numbers-by n r s ss (placed r ss) (precedes s r) p h (placed-numbers n r ss p h.1)
-
-slot-numbers : (test : Overlay → Bool) (n : ℕ) (o : Overlay) (rs : List Rank) (b : Bool) → NumbersFrom (suc n) rs
-    → NumbersFrom n (if b then placed (rank_of n o) rs else rs)
-slot-numbers test n o rs true h = placed-numbers n (rank_of n o) rs (omega arith) (numbers-weaken n (suc n) rs (omega arith) h)
-slot-numbers test n o rs false h = numbers-weaken n (suc n) rs (omega arith) h
+NumbersFrom n = AllByRecursion (λ r. n ≤ r.number)
 
 ranked-numbers : (test : Overlay → Bool) (n : ℕ) (slots : List (Option Overlay)) → NumbersFrom n (ranked_from test n slots)
-ranked-numbers test n [] = tt
-ranked-numbers test n (None ∷ slots) = numbers-weaken n (suc n) (ranked_from test (suc n) slots) (omega arith) (ranked-numbers test (suc n) slots)
-ranked-numbers test n (Some o ∷ slots) = slot-numbers test n o (ranked_from test (suc n) slots) (test o) (ranked-numbers test (suc n) slots)
+ranked-numbers test n slots = each-weaker (Stands test n slots) (λ r. n ≤ r.number) (λ r s. s.from) (ranked_from test n slots) (ranked-stand test n slots)
 
 -- the order is kept when one more is placed
-after-by : (s r t : Rank) (ts more : List Rank) (b : Bool) → precedes s r ≡ true → AllAfter precedes weak s (t ∷ ts) → AllAfter precedes weak s more
-    → AllAfter precedes weak s (if b then t ∷ more else r ∷ t ∷ ts)
-after-by s r t ts more true p h rest = (h.0, rest)
-after-by s r t ts more false p h rest = (p, h)
-
-placed-after : (s r : Rank) (rs : List Rank) → precedes s r ≡ true → AllAfter precedes weak s rs → AllAfter precedes weak s (placed r rs)
-placed-after s r [] p h = (p, tt)
-placed-after s r (t ∷ ts) p h = after-by s r t ts (placed r ts) (precedes t r) p h (placed-after s r ts p h.1)
-
 chain-by : (r s t : Rank) (b : Bool) → precedes r t ≡ b → precedes r s ≡ true → precedes s t ≡ true → precedes r t ≡ true
 chain-by r s t true e p q = e
 chain-by r s t false e p q = absurd (true≢false (sym p ∙ weak.chain r t s e (weak.one_way s t q)))
 
 after-all : (r s : Rank) (ts : List Rank) → precedes r s ≡ true → AllAfter precedes weak s ts → AllAfter precedes weak r ts
-after-all r s [] p h = tt
-after-all r s (t ∷ ts) p h = (chain-by r s t (precedes r t) refl p h.0, after-all r s ts p h.1)
+after-all r s ts p h = each-weaker (λ t. precedes s t ≡ true) (λ t. precedes r t ≡ true) (λ t q. chain-by r s t (precedes r t) refl p q) ts h
 
 rises-by : (r s : Rank) (ss : List Rank) (b : Bool) → precedes s r ≡ b → NumbersFrom (suc r.number) (s ∷ ss) → Rises precedes weak (s ∷ ss)
     → Rises precedes weak (placed r ss) → Rises precedes weak (if b then s ∷ placed r ss else r ∷ s ∷ ss)
-rises-by r s ss true e h up rest = (placed-after s r ss e up.0, rest)
+rises-by r s ss true e h up rest = (each-placed (λ t. precedes s t ≡ true) r ss e up.0, rest)
 rises-by r s ss false e h up rest =
     let first : precedes r s ≡ true = apart r s (omega (arith, h.0)) e in
     ((first, after-all r s ss first up.0), up)

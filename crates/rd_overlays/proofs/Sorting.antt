@@ -11,6 +11,10 @@ abbrev Pairwise : {X : Type 0} → (X → X → Type 0) → List X → Type 0
 Pairwise R [] = ⊤
 Pairwise R (x ∷ xs) = AllByRecursion (R x) xs × Pairwise R xs
 
+pub each-weaker : {X : Type 0} (P Q : X → Type 0) → ((x : X) → P x → Q x) → (xs : List X) → AllByRecursion P xs → AllByRecursion Q xs
+each-weaker P Q f [] h = tt
+each-weaker P Q f (x ∷ xs) h = (f x h.0, each-weaker P Q f xs h.1)
+
 module _ {X : Type 0} (lt : X → X → Bool) (o : IsStrictWeakOrder lt) where
   -- x comes before each element
   abbrev pub AllAfter : X → List X → Type 0
@@ -27,16 +31,14 @@ module _ {X : Type 0} (lt : X → X → Bool) (o : IsStrictWeakOrder lt) where
   NeverFalls = Pairwise (λ x y. lt y x ≡ false)
 
   before-all : (x : X) (ys : List X) → AllAfter x ys → NoneBefore x ys
-  before-all x [] a = tt
-  before-all x (y ∷ ys) a = (o.one_way x y a.0, before-all x ys a.1)
+  before-all x ys a = each-weaker (λ y. lt x y ≡ true) (λ y. lt y x ≡ false) (o.one_way x) ys a
 
   pub rises-never_falls : (xs : List X) → Rises xs → NeverFalls xs
   rises-never_falls [] r = tt
   rises-never_falls (x ∷ xs) r = (before-all x xs r.0, rises-never_falls xs r.1)
 
   on-before : (x y : X) (zs : List X) → lt y x ≡ false → NoneBefore y zs → NoneBefore x zs
-  on-before x y [] p n = tt
-  on-before x y (z ∷ zs) p n = (o.chain z y x n.0 p, on-before x y zs p n.1)
+  on-before x y zs p n = each-weaker (λ z. lt z y ≡ false) (λ z. lt z x ≡ false) (λ z q. o.chain z y x q p) zs n
 
   none-before : (x : X) (xs : List X) → IsSortedBy lt (x ∷ xs) → NeverFalls xs → NoneBefore x xs
   none-before x [] s f = tt
