@@ -49,3 +49,10 @@ pub record IsCopied (old new : List ℕ) (src dest n : ℕ) : Type 0 where
   pub copied : CopiedTo old new src dest n
   pub below : SameBelow old new dest
   pub from : SameFrom old new (dest + n)
+
+-- the gap was moved to an index of the text
+pub record IsGapMoved (old new : GapText) (at : ℕ) : Type 0 where
+  pub right : IsGapText new
+  pub text : text_of new ≡ text_of old
+  pub front : new.front ≡ at
+  pub places : length new.codes.items ≡ length old.codes.items

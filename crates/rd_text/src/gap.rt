@@ -2,7 +2,7 @@
 ghost use Rattle.std.specs.Prelude.{◌≡◌, ℕ, ◌+◌, ◌-◌, ◌*◌, ◌<◌, ◌≤◌, ◌++◌, IsTrue, OnOk, OnErr, [], length, take, drop, slice_index};
 ghost use Rattle.rd_base.specs.Chars.{is_code};
 ghost use Rattle.rd_text.specs.Texts.{most_characters};
-ghost use Rattle.rd_text.specs.Gaps.{text_of, IsGapText, IsCopied, IsRecounted};
+ghost use Rattle.rd_text.specs.Gaps.{text_of, IsGapText, IsGapMoved, IsCopied, IsRecounted};
 
 use crate::stretch::Stretch;
 use rd_base::limits::TEXT_CHARACTERS;
@@ -136,10 +136,7 @@ impl GapText {
     fn move_gap(&mut self, at: usize)
         requires right { IsGapText self.old }
         requires place { at ≤ length (text_of self.old) }
-        ensures right { IsGapText self.new }
-        ensures text { text_of self.new ≡ text_of self.old }
-        ensures front { self.new.front ≡ at }
-        ensures places { length self.new.codes.items ≡ length self.old.codes.items }
+        ensures { IsGapMoved self.old self.new at }
     {
         if at < self.front {
             self.move_left(at);
@@ -172,10 +169,7 @@ impl GapText {
     fn move_left(&mut self, at: usize)
         requires right { IsGapText self.old }
         requires place { at < self.old.front }
-        ensures right { IsGapText self.new }
-        ensures text { text_of self.new ≡ text_of self.old }
-        ensures front { self.new.front ≡ at }
-        ensures places { length self.new.codes.items ≡ length self.old.codes.items }
+        ensures { IsGapMoved self.old self.new at }
     {
         let back = self.back - (self.front - at);
         let last = self.back.div_ceil(STRETCH).min(self.codes.len() / STRETCH);
@@ -189,10 +183,7 @@ impl GapText {
         requires right { IsGapText self.old }
         requires place { at ≤ length (text_of self.old) }
         requires behind { self.old.front ≤ at }
-        ensures right { IsGapText self.new }
-        ensures text { text_of self.new ≡ text_of self.old }
-        ensures front { self.new.front ≡ at }
-        ensures places { length self.new.codes.items ≡ length self.old.codes.items }
+        ensures { IsGapMoved self.old self.new at }
     {
         let back = self.back + (at - self.front);
         self.copy(
