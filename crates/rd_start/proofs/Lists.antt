@@ -1,10 +1,11 @@
--- Places in joined lists, and searches there.
+-- Places in joined lists, searches there, and what holds of all of one.
 use Rattle.std.proofs.Common.{◌≡◌, ℕ, zero, suc, ◌+◌, ◌-◌, ◌<◌, ◌≤◌, inl, inr, Bool, true, false, cond, not, eqb, leb, ltb, List, [], ◌∷◌, ◌++◌, length, map, Option, None, Some, refl, sym, ap, ap₂, ◌∙◌, arith, zero-add}
 use Rattle.std.proofs.Math.Nat.{add-suc, add-zero}
 use Rattle.std.proofs.Math.Numerals.{add-one}
 use Rattle.std.proofs.lemmas.Bool.{cases_Bool, le-ltb, leb-true, lt-ltb, or_parts}
-use Rattle.std.specs.List.{find, list_any, position, position_or_len, slice_get, count_by}
-use Rattle.std.proofs.lemmas.List.{length-map}
+use Rattle.std.specs.List.{All, AllByRecursion, find, flat_map, fold, list_any, position, position_or_len, slice_get, count_by}
+use Rattle.std.proofs.lemmas.List.{append-nil, length-map}
+use Rattle.std.proofs.lemmas.List.Elements.{All-append, All-nil, All-tail}
 use Rattle.std.proofs.lemmas.Bool.Decides.{nat_tests}
 use Rattle.std.proofs.lemmas.List.Folds.{find-append, prefix_len-append}
 use Rattle.std.specs.Option.{option_or}
@@ -38,6 +39,16 @@ ends (y ∷ z ∷ xs) x p e =
     let rest = ends (z ∷ xs) x (omega arith) (sym (ap (slice_get (y ∷ z ∷ xs)) same) ∙ e) in
     record { front = y ∷ rest.front; whole = ap (λ zs. y ∷ zs) rest.whole }
 
+-- what holds of all that each element gives
+pub all-flat : {X Y : Type 0} (P : Y → Type 0) (f : X → List Y) (xs : List X) → All (λ (x : X). All P (f x)) xs → All P (flat_map f xs)
+all-flat P f [] all = All-nil P
+all-flat {X} P f (x ∷ xs) all = All-append P (f x) (flat_map f xs) (all zero x (omega arith)) (all-flat P f xs (All-tail (λ (y : X). All P (f y)) x xs all))
+
+-- what a joining of two keeps a list that is folded by it keeps
+pub fold-keeps : {X : Type 0} (P : X → Type 0) (f : X → X → X) → ((x y : X) → P x → P y → P (f x y)) → (x : X) (xs : List X) → P x → AllByRecursion P xs → P (fold f x xs)
+fold-keeps P f keeps x [] here all = here
+fold-keeps P f keeps x (y ∷ xs) here all = fold-keeps P f keeps (f x y) xs (keeps x y here all.0) all.1
+
 lt-eqb : (m n : ℕ) → m < n → eqb m n ≡ false
 lt-eqb m n less = grind (arith, nat_tests)
 
@@ -56,12 +67,7 @@ first-among p xs ys some =
     prefix_len-append (λ x. not (p x)) xs ys ∙ ap (λ b. cond b (length xs + position_or_len p ys) (position_or_len p xs)) within
 
 first-none : {X : Type 0} (p : X → Bool) (xs : List X) → list_any p xs ≡ false → position_or_len p xs ≡ length xs
-first-none p [] none = refl
-first-none p (x ∷ xs) none =
-    let both = or_parts (p x) (list_any p xs) none in
-    let here = both.0 in
-    let rest = first-none p xs both.1 in
-    rw here (omega arith)
+first-none p xs none = ap (position_or_len p) (sym (append-nil xs)) ∙ (first-behind p xs [] none ∙ add-zero (length xs))
 
 first-mapped : {X Y : Type 0} (p : Y → Bool) (f : X → Y) (xs : List X) → position_or_len p (map f xs) ≡ position_or_len (λ x. p (f x)) xs
 first-mapped p f [] = refl

@@ -2,11 +2,13 @@
 use Rattle.std.proofs.Common.{◌≡◌, ℕ, ◌+◌, ◌<◌, ◌≤◌, ◌⊎◌, inl, inr, true, false, leb, ltb, List, [], ◌∷◌, ◌++◌, length, map, Option, None, Some, refl, ap, subst, ◌∙◌, arith}
 use Rattle.std.proofs.lemmas.Bool.{cases_Bool, leb-false, leb-true, ltb-false, ltb-true}
 use Rattle.std.proofs.lemmas.List.{length-append, length-map}
+use Rattle.std.proofs.lemmas.Option.{slice_get_within}
 use Rattle.std.specs.List.{list_any, position, position_or_len, slice_get}
+use Rattle.rd_base.proofs.Lists.{get-first, get-second}
 use Rattle.rd_matrix.proofs.Counting.{all-append}
 use Rattle.rd_matrix.proofs.HeldLemmas.{end-any}
 use Rattle.rd_matrix.proofs.Passing.{first-inside}
-use Rattle.rd_matrix.specs.Blocks.{end_from, first_start}
+use Rattle.rd_matrix.specs.Blocks.{IsAmong, end_from, first_start}
 use Rattle.rd_matrix.specs.Entries.{EntryMeaning, all_rows}
 use Rattle.rd_matrix.specs.Sources.{SourceValues, IsSource}
 use Rattle.rd_matrix.specs.declared.block.Block.{Block}
@@ -73,6 +75,15 @@ all-inside m s h =
     let from = z.from in
     let total = z.total in
     omega arith
+
+-- a strip's blocks are blocks of its source
+pub strip-among : (m : SourceValues) (sweep : Sweep) (bs : List Block) (ls : List StripRow) (at : ℕ) (b : Block) → IsStripOf m sweep bs ls at → IsAmong bs b → IsAmong m.blocks b
+strip-among m sweep bs ls at b h among =
+    let k = length h.before + among.0 in (
+      k,
+      ap (λ (ys : List Block). slice_get ys k) h.pieces
+          ∙ (get-second h.before (bs ++ h.after) k among.0 refl ∙ (get-first bs h.after among.0 (slice_get_within bs among.0 b among.1) ∙ among.1)),
+    )
 
 abbrev pub find_point : List StripRow → Option ℕ
 find_point ls = position (λ (r : StripRow). r.has_point) ls
