@@ -8,7 +8,7 @@ use crate::index::Index;
 use crate::overlay::{Meeting, Overlay, meets, overlay_at};
 use crate::store::Store;
 use rd_base::limits::OVERLAYS;
-use rd_base::{ListOf, Memory, Pos};
+use rd_base::{ListOf, Memory, Pos, mapped};
 use std::alloc::Global;
 
 /// An overlay's number, with the priority that decides first.
@@ -68,11 +68,7 @@ fn found(
 fn numbers(alloc: Global, ranks: &[Rank]) -> Result<ListOf<u32>, Memory>
     ensures { IfOk result (λ list. list ≡ map number_of_rank ranks.now) }
 {
-    let mut list = ListOf::new(alloc);
-    for rank in ranks {
-        list.push(rank.number)?;
-    }
-    Ok(list)
+    mapped(alloc, ranks, |rank| rank.number)
 }
 
 /// The numbers of the overlays that stand so to a position, in increasing order of priority and number.
