@@ -1,7 +1,8 @@
 -- Changes that are joined with none and with all.
-use Rattle.std.proofs.Common.{◌≡◌, ℕ, zero, suc, ◌+◌, ◌-◌, ◌^◌, ◌<◌, ◌≤◌, min, max, nat_le, inl, inr, Bool, true, false, cond, ltb, ◌&&◌, ◌||◌, if◌then◌else◌, List, ℤ, pos, negsuc, ◌+ℤ◌, ◌-ℤ◌, refl, sym, ap, ◌∙◌, arith}
+use Rattle.std.proofs.Common.{◌≡◌, ℕ, zero, suc, ◌+◌, ◌-◌, ◌^◌, ◌<◌, ◌≤◌, min, max, nat_le, Bool, true, false, cond, ltb, ◌&&◌, ◌||◌, if◌then◌else◌, List, ℤ, pos, negsuc, ◌+ℤ◌, ◌-ℤ◌, refl, sym, ap, ◌∙◌, arith}
+use Rattle.std.proofs.Math.Bool.{or-false}
 use Rattle.std.proofs.Math.IntN.{+ℤ_idl, +ℤ_idr}
-use Rattle.std.proofs.lemmas.Bool.{and_from, and_left, and_parts, cases_Bool, le-leb, leb-true, lt-leb, or_from, or_right, true≢false}
+use Rattle.std.proofs.lemmas.Bool.{and_from, and_left, and_parts, le-leb, leb-true, lt-leb, or_from, or_right, true≢false}
 use Rattle.rd_matrix.specs.Blocks.{IsAmong, first_start}
 use Rattle.rd_matrix.specs.Sources.{SourceValues, IsSource}
 use Rattle.rd_matrix.specs.declared.block.Block.{Block}
@@ -18,37 +19,26 @@ pub all-last : (c : Change) → join c all ≡ all
 all-last c =
     ap (λ (t : Bool). if t then all else change_of (min c.head all.head) (max (moved all.added c.tail) all.tail) (c.added +ℤ all.added)) (or_right (is_all c) (is_all all) refl)
 
--- the parts of a change make that change
-made : (c : Change) (head tail : ℕ) (added : ℤ) → IsChange c → head ≡ c.head → tail ≡ c.tail → added ≡ c.added → change_of head tail added ≡ c
-made c head tail added is h t a =
+-- the parts of a change make that change, and where it is all they need not
+joined : (c : Change) (t : Bool) (head tail : ℕ) (added : ℤ) → IsChange c → t ≡ is_all c → head ≡ c.head → tail ≡ c.tail → added ≡ c.added → (if t then all else change_of head tail added) ≡ c
+joined c true head tail added is t h l a = sym (all-is c (sym t))
+joined c false head tail added is t h l a =
     ap (λ n. change_of n tail added) h
-    ∙ (ap (λ n. change_of c.head n added) t
+    ∙ (ap (λ n. change_of c.head n added) l
     ∙ (ap (λ n. change_of c.head c.tail n) a
     ∙ ap (λ (b : Bool). if b then record { head = c.head; tail = c.tail; added = c.added } else all) (and_from (nat_le c.tail 4294967295) (is_small c.added) (le-leb c.tail 4294967295 is.tail) is.added)))
 
 pub none-last : (c : Change) → IsChange c → join c none ≡ c
 none-last c is =
-    let joined : ℕ → ℕ → ℤ → Bool → Change = λ head tail added t. if t then all else change_of head tail added in
     let head : min c.head 4294967295 ≡ c.head = let h = is.head in omega (arith, h) in
     let tail : max (c.tail + 0) 0 ≡ c.tail = omega arith in
-    elim (cases_Bool (is_all c)) as (λ _. join c none ≡ c) [
-      | inl whole ↦ ap (λ (t : Bool). joined (min c.head 4294967295) (max (c.tail + 0) 0) (c.added +ℤ pos 0) (t || is_all none)) whole ∙ sym (all-is c whole)
-      | inr part ↦
-          ap (λ (t : Bool). joined (min c.head 4294967295) (max (c.tail + 0) 0) (c.added +ℤ pos 0) (t || is_all none)) part
-          ∙ made c (min c.head 4294967295) (max (c.tail + 0) 0) (c.added +ℤ pos 0) is head tail (+ℤ_idr c.added)
-    ]
+    joined c (is_all c || is_all none) (min c.head 4294967295) (max (c.tail + 0) 0) (c.added +ℤ pos 0) is (or-false (is_all c)) head tail (+ℤ_idr c.added)
 
 pub none-first : (c : Change) → IsChange c → moved c.added 0 ≤ c.tail → join none c ≡ c
 none-first c is low =
-    let joined : ℕ → ℕ → ℤ → Bool → Change = λ head tail added t. if t then all else change_of head tail added in
     let head : min 4294967295 c.head ≡ c.head = let h = is.head in omega (arith, h) in
     let tail : max (moved c.added 0) c.tail ≡ c.tail = omega (arith, low) in
-    elim (cases_Bool (is_all c)) as (λ _. join none c ≡ c) [
-      | inl whole ↦ ap (joined (min 4294967295 c.head) (max (moved c.added 0) c.tail) (pos 0 +ℤ c.added)) whole ∙ sym (all-is c whole)
-      | inr part ↦
-          ap (joined (min 4294967295 c.head) (max (moved c.added 0) c.tail) (pos 0 +ℤ c.added)) part
-          ∙ made c (min 4294967295 c.head) (max (moved c.added 0) c.tail) (pos 0 +ℤ c.added) is head tail (+ℤ_idl c.added)
-    ]
+    joined c (is_all none || is_all c) (min 4294967295 c.head) (max (moved c.added 0) c.tail) (pos 0 +ℤ c.added) is refl head tail (+ℤ_idl c.added)
 
 -- an edit adds no more than what stands before its tail
 
