@@ -1,8 +1,8 @@
 -- One place more of a sequence (BD16), and a sequence without pairs.
-use Rattle.std.proofs.Common.{◌≡◌, ℕ, suc, ◌+◌, ◌-◌, ◌<◌, ◌==◌, Bool, true, false, List, [], ◌∷◌, ◌++◌, length, get_or, slice_get, drop, Option, None, Some, All, refl, sym, ap, subst, ◌∙◌, append_assoc, arith}
+use Rattle.std.proofs.Common.{◌≡◌, ℕ, suc, ◌+◌, ◌-◌, ◌<◌, ◌==◌, Bool, true, false, List, [], ◌∷◌, length, get_or, slice_get, drop, Option, None, Some, All, refl, sym, ap, subst, ◌∙◌, arith}
 use Rattle.std.specs.Prelude.{if◌then◌else◌, replicate, unwrap_or, IfSome}
 use Rattle.std.proofs.lemmas.Bool.Decides.{nat_tests}
-use Rattle.std.proofs.lemmas.List.{drop_more, set-get_or, get_or-replicate, length-replicate}
+use Rattle.std.proofs.lemmas.List.{set-get_or, get_or-replicate, length-replicate}
 use Rattle.std.proofs.lemmas.Option.{get_or_from_slice_get}
 use Rattle.rd_base.proofs.Lists.{drop-at}
 use Rattle.rd_base.specs.declared.class.Class.{Class}
@@ -46,15 +46,6 @@ pub none-inside : (n m : ℕ) → All (λ (closing : Option ℕ). IfSome closing
 none-inside n m = λ k d inside.
     let less : k < n = omega (arith, length-replicate {A = Option ℕ}) in
     subst (λ (o : Option ℕ). IfSome o (λ place. place < m)) (sym (get_or-replicate n k None d less)) tt
-
--- a type more of a sequence
-pub types-next : (is : List ℕ) (ts : List Class) (k : ℕ) (c : Class) (out more whole : List Class) → k < length is → slice_get ts (get_or is k 0) ≡ Some c → more ≡ out ++ c ∷ []
-    → out ++ types_at (drop k is) ts ≡ whole → more ++ types_at (drop (k + 1) is) ts ≡ whole
-types-next is ts k c out more whole within here given is_whole =
-    let rest = types_at (drop (k + 1) is) ts in
-    ap (λ l. l ++ rest) given ∙ append_assoc out (c ∷ []) rest
-    ∙ ap (λ t. out ++ t ∷ rest) (sym (get_or_from_slice_get ts (get_or is k 0) c L here))
-    ∙ sym (ap (λ js. out ++ types_at js ts) (drop_more is k 0 within)) ∙ is_whole
 
 put-same : (is : List ℕ) (ts : List Class) → put_at is (types_at is ts) ts ≡ ts
 put-same [] ts = refl

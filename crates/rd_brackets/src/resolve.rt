@@ -8,7 +8,7 @@ ghost use Rattle.rd_brackets.specs.Matchings.{ArePairsBefore};
 
 use crate::matching::{Pair, bd16_pairs_of};
 use crate::sides::{n0_take_pairs, side_taken};
-use rd_base::{Class, Line, ListOf, Memory, Seq};
+use rd_base::{Class, Line, ListOf, Memory, Seq, mapped};
 use rd_ucd::Brackets;
 use std::alloc::Global;
 
@@ -78,11 +78,9 @@ fn types_at(alloc: Global, line: &Line, seq: &Seq) -> Result<ListOf<Class>, Memo
     requires { All (λ i. i < length line.now.classes) seq.now.indexes }
     ensures { IfOk result (λ types. types ≡ types_at seq.now.indexes line.now.types) }
 {
-    let mut types = ListOf::with_room(alloc, seq.indexes.len())?;
-    for i in seq.indexes.as_slice() {
-        types.push(line.types.at(*i as usize))?;
-    }
-    Ok(types)
+    mapped(alloc, seq.indexes.as_slice(), |i| {
+        line.types.at(*i as usize)
+    })
 }
 
 /// The end of N0: gives the characters of a sequence the types that they have after the pairs, and the marks behind brackets that took a

@@ -1,7 +1,7 @@
 //! Rules N1 and N2 of UAX 9 in one walk over an isolating run sequence. Each rule is a function here.
-ghost use Rattle.std.specs.Prelude.{◌≡◌, ◌<◌, ◌∷◌, length, All, AllPairs, if◌then◌else◌};
+ghost use Rattle.std.specs.Prelude.{◌≡◌, ◌<◌, length, All, AllPairs};
 ghost use Rattle.rd_base.specs.Lines.{KeepsClasses};
-ghost use Rattle.rd_resolve.specs.Neutral.{is_neutral, n1_side, n1_following, n1_surrounding_direction, n1, n2_embedding_direction, neutral_types};
+ghost use Rattle.rd_resolve.specs.Neutral.{is_neutral, n1_side, n1_following, n1_surrounding_direction, n2_embedding_direction, neutral_types};
 ghost use Rattle.rd_resolve.specs.Places.{types_at, levels_at, put_at};
 ghost use Rattle.rd_resolve.specs.Walks.{SideIs};
 
