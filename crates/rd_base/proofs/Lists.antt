@@ -1,8 +1,8 @@
 -- What holds of each element of a list, and what a list is from one of its places.
-use Rattle.std.proofs.Common.{◌≡◌, ℕ, zero, suc, ◌+◌, ◌<◌, ◌≤◌, Bool, List, [], ◌∷◌, ◌++◌, length, length-append, take, drop, get_or, None, Some, inl, inr, All, refl, sym, subst, ap, cond, ◌∙◌, arith, set}
+use Rattle.std.proofs.Common.{◌≡◌, ◌≢◌, ◌⊎◌, ℕ, zero, suc, ◌+◌, ◌<◌, ◌≤◌, Bool, List, [], ◌∷◌, ◌++◌, length, length-append, take, drop, get_or, None, Some, inl, inr, All, refl, sym, subst, ap, cond, ◌∙◌, arith, map, set}
 use Rattle.std.specs.Prelude.{slice_get}
 use Rattle.std.specs.List.{AllByRecursion, count_by, range_with_len}
-use Rattle.std.proofs.lemmas.List.{get_or_append_left, drop_more, drop_all, drop-set-lt, drop-drop}
+use Rattle.std.proofs.lemmas.List.{get_or_append_left, drop_more, drop_all, drop-set-lt, drop-drop, get_or-drop, map_more, take_more_set}
 use Rattle.std.proofs.lemmas.List.Sums.{sum_by-append, sum_by-cons}
 use Rattle.std.proofs.Math.Seq.{drop-append_seam}
 use Rattle.std.proofs.lemmas.List.Elements.{All-drop, All-cons, All-nil}
@@ -63,6 +63,40 @@ at-seam (x ∷ xs) y ys = at-seam xs y ys
 -- behind a place that is written all is as it was
 pub drop-next : {X : Type 0} (xs whole : List X) (i : ℕ) (x : X) → drop i xs ≡ drop i whole → drop (i + 1) (set xs i x) ≡ drop (i + 1) whole
 drop-next xs whole i x same = drop-set-lt (i + 1) xs i x (omega arith) ∙ sym (drop-drop 1 i xs) ∙ ap (drop 1) same ∙ drop-drop 1 i whole
+
+-- what stands at a place of a list after a write, and after one more
+pub get-set : {X : Type 0} (xs : List X) (i k : ℕ) (c b : X) → slice_get (set xs i c) k ≡ Some b
+    → ((k ≡ i) × (b ≡ c)) ⊎ ((k ≢ i) × (slice_get xs k ≡ Some b))
+get-set [] i k c b h = absurd (cc)
+get-set (x ∷ xs) zero zero c b h = inl (refl, cc)
+get-set (x ∷ xs) zero (suc k) c b h = inr (λ e. absurd (omega arith), h)
+get-set (x ∷ xs) (suc i) zero c b h = inr (λ e. absurd (omega arith), h)
+get-set (x ∷ xs) (suc i) (suc k) c b h = elim (get-set xs i k c b h) [
+  | inl p ↦ inl (ap suc p.0, p.1)
+  | inr p ↦ inr (λ e. p.0 (omega arith), p.1)
+]
+
+pub get-end : {X : Type 0} (xs : List X) (y : X) (k : ℕ) (b : X) → slice_get (xs ++ y ∷ []) k ≡ Some b → (slice_get xs k ≡ Some b) ⊎ ((k ≡ length xs) × (b ≡ y))
+get-end [] y zero b h = inr (refl, cc)
+get-end [] y (suc k) b h = absurd (cc)
+get-end (x ∷ xs) y zero b h = inl h
+get-end (x ∷ xs) y (suc k) b h = elim (get-end xs y k b h) [
+  | inl p ↦ inl p
+  | inr p ↦ inr (omega (arith, p.0), p.1)
+]
+
+-- an element in place of one of the same list, where those before it became others and those from it on did not
+pub one-becomes : {X : Type 0} (f : X → X) (xs whole : List X) (i : ℕ) (new d : X) → i < length xs → length xs ≡ length whole
+    → take i xs ≡ map f (take i whole) → drop i xs ≡ drop i whole → new ≡ f (get_or xs i d)
+    → (take (i + 1) (set xs i new) ≡ map f (take (i + 1) whole)) × (drop (i + 1) (set xs i new) ≡ drop (i + 1) whole)
+one-becomes f xs whole i new d lt same above below made =
+    let at : i + 0 ≡ i = omega arith in
+    let here : get_or xs i d ≡ get_or whole i d =
+    ap (λ k. get_or xs k d) (sym at) ∙ sym (get_or-drop i xs 0 d) ∙ ap (λ ys. get_or ys 0 d) below ∙ get_or-drop i whole 0 d ∙ ap (λ k. get_or whole k d) at in
+    let within : i < length whole = omega arith in
+    let front = take_more_set xs i new lt in
+    let mapped = map_more f whole i d within in
+    (cc, drop-next xs whole i new below)
 
 -- how many elements pass a test
 pub count-cons : {X : Type 0} (p : X → Bool) (x : X) (xs : List X) → count_by p (x ∷ xs) ≡ cond (p x) 1 0 + count_by p xs

@@ -1,7 +1,7 @@
 -- Cells in which each glyph stands whole, one behind the other, glyphs that have their columns, and the columns of elements.
-use Rattle.std.proofs.Common.{rules, tests, ◌≡◌, ℕ, zero, suc, ◌+◌, ◌-◌, ◌<◌, ◌≤◌, Bool, true, false, IsTrue, List, [], ◌∷◌, ◌++◌, replicate, Some, refl, arith}
+use Rattle.std.proofs.Common.{rules, tests, ◌≡◌, ℕ, zero, suc, ◌+◌, ◌-◌, ◌<◌, ◌≤◌, Bool, true, false, IsTrue, List, [], ◌∷◌, ◌++◌, replicate, Some, refl, arith, length, drop, get_or, ap₂, ◌∙◌}
 use Rattle.std.proofs.lemmas.Bool.Decides.{nat_tests}
-use Rattle.std.proofs.lemmas.List.{get_or-replicate}
+use Rattle.std.proofs.lemmas.List.{get_or-drop, get_or-replicate, length-drop}
 use Rattle.unicode_width.specs.Width.{char_width}
 use Rattle.rd_base.specs.Cells.{single}
 use Rattle.rd_base.specs.Chars.{is_scalar}
@@ -66,6 +66,18 @@ pub printable-measured : (base : ℕ) → 32 ≤ base → base < 127 → IsMeasu
 printable-measured base low high =
     let scalar : is_scalar base ≡ true = grind (arith, nat_tests) in
     single-measured base 1 (search (rules, tests)) (one-column base low high) (omega arith) (omega arith)
+
+-- behind those that count the marks are zeros
+zeros : (n : ℕ) (xs : List ℕ) → length xs ≡ n → ((k : ℕ) → k < n → get_or xs k 0 ≡ 0) → xs ≡ replicate n 0
+zeros zero [] e all = refl
+zeros zero (x ∷ xs) e all = absurd (omega (arith, e))
+zeros (suc n) [] e all = absurd (omega (arith, e))
+zeros (suc n) (x ∷ xs) e all = ap₂ (λ y ys. y ∷ ys) (all 0 (omega arith)) (zeros n xs (omega (arith, e)) (λ k lt. all (suc k) (omega (arith, lt))))
+
+pub spare-marks : (g : Glyph) → IsMeasured g → drop g.count g.marks ≡ replicate (6 - g.count) 0
+spare-marks g h =
+    let size : length (drop g.count g.marks) ≡ 6 - g.count = omega (arith, length-drop g.count g.marks, h.places) in
+    zeros (6 - g.count) (drop g.count g.marks) size (λ k lt. get_or-drop g.count g.marks k 0 ∙ h.rest (g.count + k) (omega arith) (omega (arith, lt, h.count)))
 
 -- ---- elements
 

@@ -17,7 +17,7 @@ use Rattle.rd_rows.specs.declared.spot.Placed.{Placed}
 use Rattle.rd_rows.specs.declared.spot.Spot.{Spot}
 use Rattle.rd_rows.specs.Mirrors.{mirror_image, leading_rests}
 use Rattle.rd_rows.specs.Placing.{glyph_in, line_start, next_row, columns_of}
-use Rattle.rd_rows.specs.Rows.{whole_cells, seen, seen_in, mark, front_mark, scrolled, filled, last_cell, from_edge, row_of, rows_within, rows_of, cutting_of}
+use Rattle.rd_rows.specs.Rows.{whole_cells, seen, seen_in, mark, front_mark, filled, last_cell, from_edge, row_of, rows_within, rows_of, cutting_of}
 use Rattle.rd_rows.specs.Shapes.{ShapeValues, room, truncates}
 use Rattle.rd_rows.proofs.Marks.{mark-coloured}
 use Rattle.rd_rows.proofs.Placings.{fitted-each, placed-each}
@@ -78,7 +78,7 @@ edge-coloured false cells h = h
 
 row-coloured : (c : Cutting) (used : ℕ) (continued : Bool) (ps : List Placed) → HaveColours ps → All IsColoured (row_of c used continued ps).cells
 row-coloured c used continued ps h =
-    let body : List Cell = scrolled c used ps in
+    let body : List Cell = front_mark c used ++ flat_map (seen_in c.shape) ps in
     let last : List Cell = last_cell c used continued ∷ [] in
     let cells = All-append IsColoured (front_mark c used) (flat_map (seen_in c.shape) ps) (front-coloured c used) (all-coloured _ _ ps h) in
     let rest = blanks-coloured (room c.shape - length body) plain plain-coloured in

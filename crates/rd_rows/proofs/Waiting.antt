@@ -17,8 +17,9 @@ use Rattle.rd_rows.specs.declared.spot.Spot.{Spot}
 use Rattle.rd_rows.specs.Cuts.{is_break, ends_some}
 use Rattle.rd_rows.specs.Copies.{RowValues}
 use Rattle.rd_rows.specs.Left.{MakerValues}
-use Rattle.rd_rows.specs.Makers.{IsMaking, IsDraft, IsNoted, IsFilling, Leaves, can_wrap, kept_of, finished_row}
+use Rattle.rd_rows.specs.Makers.{IsMaking, IsDraft, IsNoted, IsFilling, Leaves, can_wrap, kept_of}
 use Rattle.rd_rows.specs.Placing.{ends_row}
+use Rattle.rd_rows.specs.Rows.{finished_row}
 use Rattle.rd_rows.specs.Shapes.{ShapeValues, is_word}
 use Rattle.rd_rows.proofs.Fill.{noted-none, noted-behind}
 

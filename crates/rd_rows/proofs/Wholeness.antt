@@ -19,7 +19,7 @@ use Rattle.rd_rows.specs.declared.spot.Spot.{Spot}
 use Rattle.rd_rows.specs.Mirrors.{mirror_image, leading_rests}
 use Rattle.rd_rows.specs.Placing.{glyph_in, next_row, line_start, columns_of}
 use Rattle.rd_rows.specs.Prefixes.{FillsColumns, StandFrom}
-use Rattle.rd_rows.specs.Rows.{whole_cells, seen, seen_in, first_seen, front_mark, scrolled, filled, last_cell, from_edge, row_of, rows_within, rows_of, cutting_of}
+use Rattle.rd_rows.specs.Rows.{whole_cells, seen, seen_in, first_seen, front_mark, filled, last_cell, from_edge, row_of, rows_within, rows_of, cutting_of}
 use Rattle.rd_rows.specs.Shapes.{ShapeValues, room, truncates}
 use Rattle.rd_rows.specs.Whole.{IsWhole, AreWhole, IsMark, IsMeasuredPrefix, ArePlacedMeasured, IsMeasuredCutting}
 use Rattle.rd_rows.proofs.Fitting.{cutting-leads}
@@ -92,7 +92,7 @@ row-whole c used continued ps m stand measured =
     let r = room c.shape in
     let columns = m.columns in
     let some : 1 ≤ r = omega (arith, columns) in
-    let body : List Cell = scrolled c used ps in
+    let body : List Cell = front_mark c used ++ flat_map (seen_in c.shape) ps in
     let last : List Cell = last_cell c used continued ∷ [] in
     let front : IsRowAfter 0 (front_mark c used) = either (IsRowAfter 0) (nat_lt 0 c.shape.hscroll && nat_lt 0 used) _ _ (mark-whole c.truncation m.truncation) tt in
     let cells : IsRowAfter 0 body

@@ -1,10 +1,8 @@
 -- The inside of a maker of rows: a row that is being made, and a line that is being cut.
 use Rattle.std.specs.Prelude.{◌≡◌, ℕ, ◌+◌, ◌≤◌, Bool, true, false, ◌&&◌, ◌||◌, not, if◌then◌else◌, List, [], ◌∷◌, ◌++◌, length, flat_map, Option, None, Some}
 use Rattle.rd_base.specs.Elements.{AreSound}
-use Rattle.rd_base.specs.declared.cell.Cell.{Cell}
 use Rattle.rd_base.specs.declared.element.Element.{Element}
 use Rattle.rd_base.specs.declared.limits.TheConstants.{FRAME_COLUMNS}
-use Rattle.rd_rows.specs.declared.begin.Begin.{Begin}
 use Rattle.rd_rows.specs.declared.cutting.Cutting.{Cutting}
 use Rattle.rd_rows.specs.declared.draft.Draft.{Draft}
 use Rattle.rd_rows.specs.declared.draft.Break.{Break}
@@ -16,8 +14,8 @@ use Rattle.rd_rows.specs.Cuts.{has_break, up_to_break, ends_some, fitting, room_
 use Rattle.rd_rows.specs.Leads.{HasLeads}
 use Rattle.rd_rows.specs.Left.{MakerValues, IsLine, rows_behind}
 use Rattle.rd_rows.specs.Placing.{place_all, behind, behind_all, fits, next_line}
-use Rattle.rd_rows.specs.Rows.{RowMeaning, seen_in, front_mark, begin_of, filled, last_cell, from_edge}
-use Rattle.rd_rows.specs.Shapes.{ShapeValues, room, is_word}
+use Rattle.rd_rows.specs.Rows.{seen_in, begin_of, finished_row}
+use Rattle.rd_rows.specs.Shapes.{ShapeValues, is_word}
 
 -- an element was placed: its cells and its item come behind the others'
 pub record Grows (shape : ShapeValues) (p : Placed) (old new : Draft) : Type 0 where
@@ -25,15 +23,6 @@ pub record Grows (shape : ShapeValues) (p : Placed) (old new : Draft) : Type 0 w
   pub begins : new.begins ≡ old.begins ++ begin_of shape p
   pub spot : new.spot ≡ behind old.spot p
   pub placed : new.placed ≡ old.placed + 1
-
--- the row of these cells and items
-abbrev pub finished_row : Cutting → ℕ → List Cell → List Begin → Bool → Bool → RowMeaning
-finished_row c used cells begins continued ends_block = record {
-  cells = from_edge c.reversed (filled (room c.shape) (front_mark c used ++ cells) ++ last_cell c used continued ∷ []);
-  begins = begins;
-  reversed = c.reversed;
-  ends_block = ends_block;
-}
 
 -- what stands in a row: a prefix, and behind it from a spot on these elements of the line
 abbrev pub standing : ShapeValues → List Placed → Spot → List Element → List Placed

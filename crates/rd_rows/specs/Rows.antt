@@ -56,10 +56,6 @@ seen_in shape p = seen (first_seen shape) (shape.hscroll + room shape) p
 abbrev pub front_mark : Cutting → ℕ → List Cell
 front_mark c used = if nat_lt 0 c.shape.hscroll && nat_lt 0 used then mark c.truncation ∷ [] else []
 
--- the columns of the elements that are seen, and before them the truncation mark where the row is scrolled sideways
-abbrev pub scrolled : Cutting → ℕ → List Placed → List Cell
-scrolled c used ps = front_mark c used ++ flat_map (seen_in c.shape) ps
-
 -- what no element fills is blank and plain
 abbrev pub filled : ℕ → List Cell → List Cell
 filled width cells = cells ++ blanks (width - length cells) plain
@@ -86,14 +82,19 @@ begin_of shape p =
 abbrev pub from_edge : Bool → List Cell → List Cell
 from_edge reversed cells = if reversed then mirror_image cells else cells
 
--- the row of these elements, which take so many columns; continued where it ends with the mark of a row whose line goes on
-abbrev pub row_of : Cutting → ℕ → Bool → List Placed → RowMeaning
-row_of c used continued ps = record {
-  cells = from_edge c.reversed (filled (room c.shape) (scrolled c used ps) ++ last_cell c used continued ∷ []);
-  begins = flat_map (begin_of c.shape) ps;
+-- the row of these cells and items, which take so many columns: before them the truncation mark where the row is scrolled sideways;
+-- continued where it ends with the mark of a row whose line goes on
+abbrev pub finished_row : Cutting → ℕ → List Cell → List Begin → Bool → Bool → RowMeaning
+finished_row c used cells begins continued ends_block = record {
+  cells = from_edge c.reversed (filled (room c.shape) (front_mark c used ++ cells) ++ last_cell c used continued ∷ []);
+  begins = begins;
   reversed = c.reversed;
-  ends_block = has_line_end ps;
+  ends_block = ends_block;
 }
+
+-- the row of the elements that are seen and of their items
+abbrev pub row_of : Cutting → ℕ → Bool → List Placed → RowMeaning
+row_of c used continued ps = finished_row c used (flat_map (seen_in c.shape) ps) (flat_map (begin_of c.shape) ps) continued (has_line_end ps)
 
 abbrev pub laid : Cutting → ℕ → Bool → List Placed → LaidRow
 laid c used continued ps = record { row = row_of c used continued ps; weight = length ps }

@@ -6,8 +6,8 @@ ghost use Rattle.rd_rows.specs.declared.spot.Placed.{Placed};
 ghost use Rattle.rd_rows.specs.declared.spot.Spot.{Spot};
 ghost use Rattle.rd_rows.specs.Placing.{placed_at, glyph_in, next_row, columns_of};
 ghost use Rattle.rd_rows.specs.Shapes.{room};
-ghost use Rattle.rd_rows.specs.Rows.{whole_cells, seen_in, first_seen, front_mark, from_edge, mark, last_cell, begin_of};
-ghost use Rattle.rd_rows.specs.Makers.{Grows, IsDraft, IsBreak, IsNoted, kept_of, finished_row};
+ghost use Rattle.rd_rows.specs.Rows.{whole_cells, seen_in, first_seen, front_mark, from_edge, mark, last_cell, begin_of, finished_row};
+ghost use Rattle.rd_rows.specs.Makers.{Grows, IsDraft, IsBreak, IsNoted, kept_of};
 
 use crate::begin::Begin;
 use crate::cutting::Cutting;

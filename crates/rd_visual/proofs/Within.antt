@@ -28,7 +28,7 @@ use Rattle.rd_visual.specs.Hits.{AreRowsAt}
 use Rattle.rd_rows.specs.Laws.{seen_rows}
 use Rattle.rd_rows.specs.Mirrors.{leading_rests}
 use Rattle.rd_rows.specs.Placing.{glyph_in, next_row, next_line, place_all, behind_all, columns_of}
-use Rattle.rd_rows.specs.Rows.{LaidRow, RowMeaning, begin_of, filled, first_seen, from_edge, front_mark, laid, last_cell, mark, row_of, rows_of, rows_within, scrolled, seen, seen_in, whole_cells}
+use Rattle.rd_rows.specs.Rows.{LaidRow, RowMeaning, begin_of, filled, first_seen, from_edge, front_mark, laid, last_cell, mark, row_of, rows_of, rows_within, seen, seen_in, whole_cells}
 use Rattle.rd_rows.specs.Placing.{line_start}
 use Rattle.rd_rows.specs.Shapes.{IsShape, ShapeValues, room, truncates}
 use Rattle.rd_rows.specs.declared.begin.Begin.{Begin}
@@ -119,7 +119,7 @@ edge-size false cells none = refl
 
 row-wide : (c : Cutting) (used : ℕ) (continued : Bool) (ps : List Placed) → c.shape.width ≤ length (row_of c used continued ps).cells
 row-wide c used continued ps =
-    let cells = scrolled c used ps in
+    let cells = front_mark c used ++ flat_map (seen_in c.shape) ps in
     let fill = blanks (room c.shape - length cells) plain in
     let end = last_cell c used continued ∷ [] in
     let leads = leading-append (front_mark c used) (flat_map (seen_in c.shape) ps) (leading-front c used) (leading-all c.shape ps) in
