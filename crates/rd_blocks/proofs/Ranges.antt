@@ -15,12 +15,12 @@ use Rattle.rd_items.specs.declared.item.Item.{Item}
 use Rattle.rd_levels.proofs.Turns.{total_in, each-turn}
 use Rattle.rd_levels.specs.declared.turn.Turn.{Turn}
 use Rattle.rd_matrix.specs.Held.{in_range}
-use Rattle.rd_order.proofs.Once.{total, is_place, once-at-most}
+use Rattle.rd_order.proofs.Once.{is_place, once-at-most}
 use Rattle.rd_rows.specs.Laws.{ranges_of}
 use Rattle.rd_rows.specs.Placing.{is_item}
 use Rattle.rd_stack.specs.Lines.{item_elements_by, turn_elements, origin_of, item_elements, item_class, item_code, item_turns, line_of_items}
 use Rattle.rd_stack.proofs.EachElement.{item-each}
-use Rattle.rd_base.proofs.Lists.{all-at, count-cons}
+use Rattle.rd_base.proofs.Lists.{all-at, count-cons, total}
 use Rattle.rd_base.specs.Cells.{bit_of}
 use Rattle.rd_blocks.proofs.Gives.{ItemsGive}
 

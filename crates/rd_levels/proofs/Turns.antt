@@ -4,10 +4,11 @@ use Rattle.std.specs.Prelude.{◌==◌, count_by}
 use Rattle.std.specs.List.{range_with_len}
 use Rattle.std.proofs.lemmas.List.{length-map, length-replicate}
 use Rattle.std.proofs.lemmas.List.Sums.{sum_by-cons}
+use Rattle.rd_base.proofs.Lists.{total}
 use Rattle.rd_base.specs.declared.class.Class.{Class}
 use Rattle.rd_ucd.specs.declared.spans.BracketEntry.{BracketEntry}
 use Rattle.rd_order.specs.Order.{l2_visual_order}
-use Rattle.rd_order.proofs.Once.{total, total-order, is_place, once-at-most, once-at-least}
+use Rattle.rd_order.proofs.Once.{total-order, is_place, once-at-most, once-at-least}
 use Rattle.rd_order.proofs.Reversals.{l2_visual_order-length}
 use Rattle.rd_levels.specs.Turns.{levels_with, turn_of, turns_of}
 use Rattle.rd_levels.specs.declared.turn.Turn.{Turn}
@@ -15,8 +16,7 @@ use Rattle.rd_levels.proofs.Lengths.{line-length}
 
 -- the sum of a number for the place of each of these turns
 abbrev pub total_in : (ℕ → ℕ) → List Turn → ℕ
-total_in f [] = 0
-total_in f (t ∷ ts) = f t.index + total_in f ts
+total_in f ts = total (λ (t : Turn). f t.index) ts
 
 in-turns : (f : ℕ → ℕ) (levels is : List ℕ) → total_in f (map (turn_of levels) is) ≡ total f is
 in-turns f levels [] = refl

@@ -4,16 +4,8 @@ use Rattle.std.specs.Prelude.{slice_index}
 use Rattle.std.specs.List.{range_with_len}
 use Rattle.std.proofs.lemmas.Bool.{cond_both}
 use Rattle.std.proofs.lemmas.Bool.Decides.{nat_tests}
+use Rattle.rd_base.proofs.Lists.{total, total-append}
 use Rattle.rd_order.specs.Order.{l2_reversed, l2_reversed_down, highest, l2_visual_order}
-
--- the sum of a number for each of these places
-abbrev pub total : (ℕ → ℕ) → List ℕ → ℕ
-total f [] = 0
-total f (i ∷ is) = f i + total f is
-
-total-append : (f : ℕ → ℕ) (xs ys : List ℕ) → total f (xs ++ ys) ≡ total f xs + total f ys
-total-append f [] ys = omega arith
-total-append f (x ∷ xs) ys = let e = total-append f xs ys in omega (arith, e)
 
 total-l2_reversed : (f : ℕ → ℕ) (levels : List ℕ) (k : ℕ) (run is : List ℕ) → total f (l2_reversed levels k run is) ≡ total f run + total f is
 total-l2_reversed f levels k run [] = omega arith

@@ -56,40 +56,33 @@ run_of f n k q within h =
     let run : IsRun f n k s.0 e.0 = record { order = omega arith; within = e.2; high = high; before = s.3; after = e.4 } in
     (s.0, e.0, run, from, to)
 
--- two maximal runs around a place are one
-pub same_run : (f : ℕ → ℕ) (n k a b c d q : ℕ) → IsRun f n k a b → IsRun f n k c d → a ≤ q → q < b → c ≤ q → q < d → (a ≡ c) × (b ≡ d)
-same_run f n k a b c d q r s aq qb cq qd =
-    let starts : a ≡ c = elim (cases_lt a c) [
+-- a maximal run around a place goes no further than another
+run_within : (f : ℕ → ℕ) (n k a b c d q : ℕ) → IsRun f n k a b → IsRun f n k c d → a ≤ q → q < b → c ≤ q → q < d → (c ≤ a) × (b ≤ d)
+run_within f n k a b c d q r s aq qb cq qd =
+    let starts : c ≤ a = elim (cases_lt a c) [
       | inl less ↦
           let e : suc (c - 1) ≡ c = omega arith in
           let low = s.before (c - 1) e in
           let high = r.high (c - 1) (omega arith) (omega arith) in
           absurd (omega arith)
-      | inr more ↦ elim (cases_lt c a) [
-        | inl less ↦
-            let e : suc (a - 1) ≡ a = omega arith in
-            let low = r.before (a - 1) e in
-            let high = s.high (a - 1) (omega arith) (omega arith) in
-            absurd (omega arith)
-        | inr same ↦ omega arith
-      ]
+      | inr fine ↦ fine
     ] in
-    let ends : b ≡ d = elim (cases_lt b d) [
+    let ends : b ≤ d = elim (cases_lt d b) [
       | inl less ↦
-          let within = s.within in
-          let low = r.after (omega arith) in
-          let high = s.high b (omega arith) less in
+          let within = r.within in
+          let low = s.after (omega arith) in
+          let high = r.high d (omega arith) less in
           absurd (omega arith)
-      | inr more ↦ elim (cases_lt d b) [
-        | inl less ↦
-            let within = r.within in
-            let low = s.after (omega arith) in
-            let high = r.high d (omega arith) less in
-            absurd (omega arith)
-        | inr same ↦ omega arith
-      ]
+      | inr fine ↦ fine
     ] in
     (starts, ends)
+
+-- two maximal runs around a place are one
+pub same_run : (f : ℕ → ℕ) (n k a b c d q : ℕ) → IsRun f n k a b → IsRun f n k c d → a ≤ q → q < b → c ≤ q → q < d → (a ≡ c) × (b ≡ d)
+same_run f n k a b c d q r s aq qb cq qd =
+    let (c_low, b_low) = run_within f n k a b c d q r s aq qb cq qd in
+    let (a_low, d_low) = run_within f n k c d a b q s r cq qd aq qb in
+    (omega arith, omega arith)
 
 -- each place is moved somewhere
 pub moves_of : (f : ℕ → ℕ) (n k q : ℕ) → q < n → (r : ℕ) × Moves f n k q r

@@ -4,7 +4,7 @@ use Rattle.std.specs.Prelude.{count_by, slice_get}
 use Rattle.std.specs.List.{range_with_len}
 use Rattle.std.proofs.lemmas.Bool.Decides.{nat_tests}
 use Rattle.std.proofs.lemmas.List.{length-map}
-use Rattle.rd_base.proofs.Lists.{count-append}
+use Rattle.rd_base.proofs.Lists.{count-append, total}
 use Rattle.rd_props.specs.Seen.{Seen}
 use Rattle.rd_items.specs.Covers.{Tile}
 use Rattle.rd_items.specs.Items.{items_of}
@@ -12,7 +12,6 @@ use Rattle.rd_items.specs.Pieces.{Scene}
 use Rattle.rd_items.specs.declared.item.Item.{Item}
 use Rattle.rd_levels.specs.declared.turn.Turn.{Turn}
 use Rattle.rd_levels.proofs.Turns.{total_in, each-turn}
-use Rattle.rd_order.proofs.Once.{total}
 use Rattle.rd_stack.specs.Lines.{item_class, item_code, item_turns}
 use Rattle.rd_visual.specs.Motion.{range_by, ranges_in_turn, ranges_of}
 use Rattle.rd_visual.specs.Order.{StandBetween, range_of, ranges_in_order}
