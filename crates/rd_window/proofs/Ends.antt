@@ -1,9 +1,11 @@
 -- The first row of a source, and its last one.
-use Rattle.std.proofs.Common.{◌≡◌, ℕ, zero, suc, ◌+◌, ◌-◌, ◌<◌, true, false, not, ◌&&◌, ◌==◌, leb, List, [], ◌∷◌, ◌++◌, length, min, take, drop, slice_get, option_map, Option, Some, refl, sym, ap, ◌∙◌, subst, arith}
+use Rattle.std.proofs.Common.{◌≡◌, ℕ, zero, suc, ◌+◌, ◌-◌, ◌<◌, true, false, not, ◌==◌, leb, List, [], ◌∷◌, ◌++◌, length, min, take, drop, slice_get, option_map, Option, Some, refl, sym, ap, ◌∙◌, subst, arith}
 use Rattle.std.specs.Option.{is_none}
-use Rattle.std.proofs.lemmas.Bool.{and_parts, le-leb, lt-leb, ne_eqb}
+use Rattle.std.proofs.lemmas.Bool.{and_parts, eqb-true, le-leb, lt-leb, ne_eqb}
+use Rattle.std.proofs.lemmas.Bool.Decides.{nat_tests}
 use Rattle.std.proofs.lemmas.List.{append_assoc, length-append, length-drop, length-map, length-take}
-use Rattle.std.proofs.lemmas.Option.{slice_get-map}
+use Rattle.std.proofs.lemmas.Option.{slice_get-map, slice_get_within}
+use Rattle.rd_base.proofs.Choices.{opposite}
 use Rattle.rd_base.proofs.Lists.{get-first, get-second, get-take, get-drop, at-seam}
 use Rattle.rd_base.specs.declared.settings.Anchor.{Anchor}
 use Rattle.rd_matrix.proofs.Counting.{all-append, count-cons, length-numbered}
@@ -28,27 +30,18 @@ row-in start number zero (r ∷ rows) e h =
     ap (λ (x : EntryMeaning). Some x.row) same
 row-in start number (suc k) (r ∷ rows) e h = row-in start (number + 1) k rows e h
 
--- the row that ends a block is its last, and each other has one behind it
-last-of : (rows : List RowMeaning) (k : ℕ) (r : RowMeaning) → ends_last rows ≡ true → slice_get rows k ≡ Some r → r.ends_block ≡ true → suc k ≡ length rows
-last-of [] k r e at ends = absurd cc
-last-of (x ∷ []) zero r e at ends = refl
-last-of (x ∷ []) (suc k) r e at ends = absurd cc
-last-of (x ∷ y ∷ rows) zero r e at ends =
+-- the row that ends a block is its last, and no other
+last-is : (rows : List RowMeaning) (k : ℕ) (r : RowMeaning) → ends_last rows ≡ true → slice_get rows k ≡ Some r → (suc k == length rows) ≡ r.ends_block
+last-is [] k r e at = absurd cc
+last-is (x ∷ []) zero r e at = let same : x ≡ r = cc in sym e ∙ ap (λ (z : RowMeaning). z.ends_block) same
+last-is (x ∷ []) (suc k) r e at = absurd cc
+last-is (x ∷ y ∷ rows) zero r e at =
     let same : x ≡ r = cc in
-    let flag : x.ends_block ≡ true = ap (λ (z : RowMeaning). z.ends_block) same ∙ ends in
-    let no : ends_last (x ∷ y ∷ rows) ≡ false = ap (λ b. not b && ends_last (y ∷ rows)) flag in
-    absurd cc
-last-of (x ∷ y ∷ rows) (suc k) r e at ends = let rest = last-of (y ∷ rows) k r ((and_parts (not x.ends_block) (ends_last (y ∷ rows)) e).1) at ends in omega (arith, rest)
-
-before-last : (rows : List RowMeaning) (k : ℕ) (r : RowMeaning) → ends_last rows ≡ true → slice_get rows k ≡ Some r → r.ends_block ≡ false → suc k < length rows
-before-last [] k r e at goes = absurd cc
-before-last (x ∷ []) zero r e at goes =
-    let same : x ≡ r = cc in
-    let flag : x.ends_block ≡ false = ap (λ (z : RowMeaning). z.ends_block) same ∙ goes in
-    absurd cc
-before-last (x ∷ []) (suc k) r e at goes = absurd cc
-before-last (x ∷ y ∷ rows) zero r e at goes = omega arith
-before-last (x ∷ y ∷ rows) (suc k) r e at goes = let rest = before-last (y ∷ rows) k r ((and_parts (not x.ends_block) (ends_last (y ∷ rows)) e).1) at goes in omega (arith, rest)
+    ne_eqb 1 (length (x ∷ y ∷ rows)) (λ all. omega (arith, all))
+    ∙ (sym (opposite true x.ends_block (sym (and_parts (not x.ends_block) (ends_last (y ∷ rows)) e).0)) ∙ ap (λ (z : RowMeaning). z.ends_block) same)
+last-is (x ∷ y ∷ rows) (suc k) r e at =
+    let next : (suc (suc k) == length (x ∷ y ∷ rows)) ≡ (suc k == length (y ∷ rows)) = grind (arith, nat_tests) in
+    next ∙ last-is (y ∷ rows) k r (and_parts (not x.ends_block) (ends_last (y ∷ rows)) e).1 at
 
 -- ---- places in lists
 
@@ -68,16 +61,10 @@ module _ {m : SourceValues} {shape : ShapeValues} (source : IsSource m) (is : Is
   each-ends before after b pieces =
       (source.rows b shape (length before, ap (λ bs. slice_get bs (length before)) pieces ∙ at-seam before b after) is).ends
 
-  -- there is a row before a block that is not the first, and one behind a block that is not the last
-  row-before : (x : Block) (xs after : List Block) (b : Block) → m.blocks ≡ (x ∷ xs) ++ b ∷ after → 0 < length (all_rows rows_in (x ∷ xs))
-  row-before x xs after b pieces =
-      let some = some-row (rows_in x) (each-ends [] (xs ++ b ∷ after) x pieces) in
-      let count = count-cons rows_in x xs in
-      omega (arith, some, count)
-
-  row-behind : (before xs : List Block) (b x : Block) → m.blocks ≡ before ++ b ∷ x ∷ xs → 0 < length (all_rows rows_in (x ∷ xs))
-  row-behind before xs b x pieces =
-      let some = some-row (rows_in x) (each-ends (before ++ b ∷ []) xs x (pieces ∙ sym (append_assoc before (b ∷ []) (x ∷ xs)))) in
+  -- there is a row from each of the blocks on
+  some-rows : (before after xs : List Block) (x : Block) → m.blocks ≡ before ++ x ∷ after → 0 < length (all_rows rows_in (x ∷ xs))
+  some-rows before after xs x pieces =
+      let some = some-row (rows_in x) (each-ends before after x pieces) in
       let count = count-cons rows_in x xs in
       omega (arith, some, count)
 
@@ -95,7 +82,7 @@ module _ {m : SourceValues} {shape : ShapeValues} (source : IsSource m) (is : Is
       → length (all_rows rows_in before) ≡ place → is_none o ≡ (place == 0)
   first-by [] after b o place pieces at count = ap is_none at ∙ ap (λ n. n == 0) count
   first-by (x ∷ xs) after b o place pieces at count =
-      let some = row-before x xs after b pieces in
+      let some = some-rows [] (xs ++ b ∷ after) xs x pieces in
       let size = length-append (x ∷ xs) (b ∷ after) in
       ap is_none (at ∙ ap (λ bs. slice_get bs (length xs)) pieces) ∙ some-here ((x ∷ xs) ++ b ∷ after) (length xs) (omega (arith, size)) ∙ sym (ne_eqb place 0 (λ none. omega (arith, some, count, none)))
 
@@ -129,7 +116,7 @@ module _ {m : SourceValues} {shape : ShapeValues} (source : IsSource m) (is : Is
   last-by before [] b o k n pieces at count =
       ap is_none (at ∙ ap (λ bs. slice_get bs (length before + 1)) pieces ∙ behind-seam before b []) ∙ sym (le-leb n (suc k) (omega (arith, count)))
   last-by before (x ∷ xs) b o k n pieces at count =
-      let some = row-behind before xs b x pieces in
+      let some = some-rows (before ++ b ∷ []) xs xs x (pieces ∙ sym (append_assoc before (b ∷ []) (x ∷ xs))) in
       ap is_none (at ∙ ap (λ bs. slice_get bs (length before + 1)) pieces ∙ behind-seam before b (x ∷ xs)) ∙ sym (lt-leb n (suc k) (omega (arith, count, some)))
 
   -- a row that ends its block is the last of the source exactly where no block is behind it
@@ -137,7 +124,7 @@ module _ {m : SourceValues} {shape : ShapeValues} (source : IsSource m) (is : Is
       → ((j : ℕ) → slice_get m.blocks j ≡ Some block → o ≡ slice_get m.blocks (j + 1)) → e.row.ends_block ≡ true → is_none o ≡ leb (length (rows_at m shape)) (suc k)
   last-row k e block o at holds gives ends =
       let f = anchor-found rows_in m.blocks k (anchor_of e) (ap (option_map anchor_of) at) in
-      let last = last-of (rows_in f.block) e.number e.row (each-ends f.before f.after f.block f.pieces) (row-found k e f at) ends in
+      let last = eqb-true (suc e.number) (length (rows_in f.block)) (last-is (rows_in f.block) e.number e.row (each-ends f.before f.after f.block f.pieces) (row-found k e f at) ∙ ends) in
       let count = total k e f in
       let place = f.place in
       last-by f.before f.after f.block o k (length (rows_at m shape)) f.pieces (gives (length f.before) (at-block e.start e.number k f block holds)) (omega (arith, last, count, place))
@@ -146,7 +133,10 @@ module _ {m : SourceValues} {shape : ShapeValues} (source : IsSource m) (is : Is
   pub going-on : (k : ℕ) (e : EntryMeaning) → slice_get (rows_at m shape) k ≡ Some e → e.row.ends_block ≡ false → suc k < length (rows_at m shape)
   going-on k e at goes =
       let f = anchor-found rows_in m.blocks k (anchor_of e) (ap (option_map anchor_of) at) in
-      let more = before-last (rows_in f.block) e.number e.row (each-ends f.before f.after f.block f.pieces) (row-found k e f at) goes in
+      let found = row-found k e f at in
+      let within = slice_get_within (rows_in f.block) e.number e.row found in
+      let other = last-is (rows_in f.block) e.number e.row (each-ends f.before f.after f.block f.pieces) found ∙ goes in
+      let more : suc e.number < length (rows_in f.block) = grind (arith, nat_tests, within, other) in
       let count = total k e f in
       let place = f.place in
       omega (arith, more, count, place)

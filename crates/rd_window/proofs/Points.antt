@@ -1,11 +1,9 @@
 -- Where the item that covers a point begins, among all rows of a source and in a view.
-use Rattle.std.proofs.Common.{◌≡◌, ℕ, zero, suc, ◌+◌, ◌-◌, ◌<◌, ◌≤◌, inl, inr, true, false, cond, ◌||◌, ◌&&◌, leb, ltb, List, [], ◌∷◌, length, take, drop, slice_get, option_map, Option, None, Some, refl, sym, ap, ◌∙◌, subst, arith}
-use Rattle.std.proofs.Math.Bool.{or-true}
+use Rattle.std.proofs.Common.{◌≡◌, ℕ, zero, suc, ◌+◌, ◌-◌, ◌<◌, ◌≤◌, inl, inr, Bool, true, false, cond, ◌||◌, ◌&&◌, leb, ltb, List, [], ◌∷◌, length, take, drop, slice_get, option_map, is_some, Option, None, Some, refl, sym, ap, ◌∙◌, subst, arith}
 use Rattle.std.proofs.lemmas.Bool.{cases_Bool, cases_lt}
-use Rattle.std.proofs.lemmas.List.Folds.{list_any-append}
 use Rattle.std.proofs.lemmas.Option.{slice_get_within}
 use Rattle.std.proofs.lemmas.Map.Keys.{any_passes_from_place}
-use Rattle.std.specs.List.{count_by, list_any}
+use Rattle.std.specs.List.{count_by, find, list_any}
 use Rattle.rd_base.proofs.Lists.{count-append, count-cons}
 use Rattle.rd_matrix.proofs.HeldLemmas.{end-any}
 use Rattle.rd_matrix.proofs.Passing.{at-position, one-position, some-counted}
@@ -18,7 +16,7 @@ use Rattle.rd_matrix.specs.declared.block.Block.{Block}
 use Rattle.rd_rows.specs.Rows.{RowMeaning}
 use Rattle.rd_rows.specs.Shapes.{IsShape, ShapeValues}
 use Rattle.rd_rows.specs.declared.begin.Begin.{Begin}
-use Rattle.rd_start.proofs.Blocks.{any-block}
+use Rattle.rd_start.proofs.Blocks.{any-block, any-fit, fit}
 use Rattle.rd_start.proofs.Lists.{none-counted}
 use Rattle.rd_start.proofs.Tests.{above-range, below-range, in-range, range-parts}
 use Rattle.rd_start.specs.Chosen.{begins_item, places_of, row_of}
@@ -31,32 +29,9 @@ use Rattle.rd_window.proofs.Ends.{in-view}
 abbrev pub HaveRows : (Block → List RowMeaning) → List Block → Type 0
 HaveRows rows bs = (b : Block) → IsAmong bs b → AreRowsOf b.start b.end (rows b)
 
-rest-have : (rows : Block → List RowMeaning) (b : Block) (bs : List Block) → HaveRows rows (b ∷ bs) → HaveRows rows bs
-rest-have rows b bs each = λ c k. each c (suc k.0, k.1)
-
-any-later : (rows : Block → List RowMeaning) (from point : ℕ) (bs : List Block) → StandFrom from bs → HaveRows rows bs → point < from → list_any (begins_item point) (all_rows rows bs) ≡ false
-any-later rows from point [] stand each low = refl
-any-later rows from point (b ∷ bs) stand each low =
-    let starts = stand.0 in
-    let some = stand.1 in
-    let here = any-block point b.start b.end (rows b) (each b (0, refl)) ∙ below-range b.start b.end point (omega (arith, starts, low)) in
-    list_any-append (begins_item point) (entries_of rows b) (all_rows rows bs)
-    ∙ (ap (λ t. t || list_any (begins_item point) (all_rows rows bs)) here ∙ any-later rows b.end point bs stand.2 (rest-have rows b bs each) (omega (arith, starts, some, low)))
-
-any-here : (rows : Block → List RowMeaning) (from point : ℕ) (bs : List Block) → StandFrom from bs → HaveRows rows bs → from ≤ point → point < end_from from bs
-    → list_any (begins_item point) (all_rows rows bs) ≡ true
-any-here rows from point [] stand each low high = absurd (omega (arith, low, high))
-any-here rows from point (b ∷ bs) stand each low high =
-    let starts = stand.0 in
-    let whole = list_any-append (begins_item point) (entries_of rows b) (all_rows rows bs) in
-    elim (cases_lt point b.end) [
-      | inl inside ↦
-          let here = any-block point b.start b.end (rows b) (each b (0, refl)) ∙ in-range b.start b.end point (omega (arith, starts, low)) inside in
-          whole ∙ ap (λ t. t || list_any (begins_item point) (all_rows rows bs)) here
-      | inr later ↦
-          whole ∙ (ap (λ t. list_any (begins_item point) (entries_of rows b) || t) (any-here rows b.end point bs stand.2 (rest-have rows b bs each) later high)
-          ∙ or-true (list_any (begins_item point) (entries_of rows b)))
-    ]
+any-rows : (rows : Block → List RowMeaning) (from point : ℕ) (bs : List Block) → StandFrom from bs → HaveRows rows bs
+    → list_any (begins_item point) (all_rows rows bs) ≡ (leb from point && ltb point (end_from from bs))
+any-rows rows from point bs stand each = any-fit rows from point bs (fit rows from bs stand each)
 
 -- ---- one row of a source has the beginning
 
@@ -95,11 +70,11 @@ blocks-counted rows from point (b ∷ bs) stand each =
     let sum : count_by (begins_item point) (all_rows rows (b ∷ bs)) ≡ count_by (begins_item point) (entries_of rows b) + count_by (begins_item point) (all_rows rows bs) =
     count-append (begins_item point) (entries_of rows b) (all_rows rows bs) in
     let own = each b (0, refl) in
-    let others = rest-have rows b bs each in
+    let others : HaveRows rows bs = λ c k. each c (suc k.0, k.1) in
     elim (cases_lt point b.end) [
       | inl low ↦
           let here = block-counted point b.start b.end (rows b) own in
-          let none = none-counted (begins_item point) (all_rows rows bs) (any-later rows b.end point bs stand.2 others low) in
+          let none = none-counted (begins_item point) (all_rows rows bs) (any-rows rows b.end point bs stand.2 others ∙ below-range b.end (end_from b.end bs) point low) in
           omega (arith, sum, here, none)
       | inr high ↦
           let rest = blocks-counted rows b.end point bs stand.2 others in
@@ -109,33 +84,20 @@ blocks-counted rows from point (b ∷ bs) stand each =
 
 -- ---- the cursor of a list of rows
 
-column-some : (start point : ℕ) (bs : List Begin) (c : ℕ) → column_in start point bs ≡ Some c → list_any (covers start point) bs ≡ true
-column-some start point [] c e = absurd cc
-column-some start point (b ∷ bs) c e =
-    elim (cases_Bool (covers start point b)) [
-      | inl here ↦ ap (λ t. t || list_any (covers start point) bs) here
-      | inr other ↦
-          let rest : column_in start point (b ∷ bs) ≡ column_in start point bs = rw other refl in
-          ap (λ t. covers start point b || t) (column-some start point bs c (sym rest ∙ e)) ∙ or-true (covers start point b)
-    ]
+column-any : (start point : ℕ) (bs : List Begin) → list_any (covers start point) bs ≡ is_some (column_in start point bs)
+column-any start point [] = refl
+column-any start point (b ∷ bs) = by (covers start point b) (column-any start point bs) where
+  by : (t : Bool) → list_any (covers start point) bs ≡ is_some (column_in start point bs)
+      → (t || list_any (covers start point) bs) ≡ is_some (option_map (λ (x : Begin). x.column) (cond t (Some b) (find (covers start point) bs)))
+  by true behind = refl
+  by false behind = behind
 
-column-none : (start point : ℕ) (bs : List Begin) → column_in start point bs ≡ None → list_any (covers start point) bs ≡ false
-column-none start point [] e = refl
-column-none start point (b ∷ bs) e =
-    elim (cases_Bool (covers start point b)) [
-      | inl here ↦ let some : column_in start point (b ∷ bs) ≡ Some b.column = rw here refl in absurd cc
-      | inr other ↦
-          let rest : column_in start point (b ∷ bs) ≡ column_in start point bs = rw other refl in
-          ap (λ t. t || list_any (covers start point) bs) other ∙ column-none start point bs (sym rest ∙ e)
-    ]
-
-begins-some : (point : ℕ) (e : EntryMeaning) (o : Option ℕ) (c : ℕ) → column_in e.start point e.row.begins ≡ o → option_map (shown_column e.row) o ≡ Some c → begins_item point e ≡ true
-begins-some point e None c at h = absurd cc
-begins-some point e (Some k) c at h = column-some e.start point e.row.begins k at
-
-begins-none : (point : ℕ) (e : EntryMeaning) (o : Option ℕ) → column_in e.start point e.row.begins ≡ o → option_map (shown_column e.row) o ≡ None → begins_item point e ≡ false
-begins-none point e None at h = column-none e.start point e.row.begins at
-begins-none point e (Some k) at h = absurd cc
+-- a row has the beginning exactly where it is shown in a column
+begins-shown : (point : ℕ) (e : EntryMeaning) → begins_item point e ≡ is_some (column_shown point e)
+begins-shown point e = column-any e.start point e.row.begins ∙ by (column_in e.start point e.row.begins) where
+  by : (o : Option ℕ) → is_some o ≡ is_some (option_map (shown_column e.row) o)
+  by None = refl
+  by (Some k) = refl
 
 -- the row at a place has the beginning
 abbrev HasBeginning : ℕ → List EntryMeaning → ℕ → Type 0
@@ -146,7 +108,7 @@ cursor-by : (point : ℕ) (e : EntryMeaning) (es : List EntryMeaning) (here : Op
 cursor-by point e es (Some c) below place here later at =
     let same : (0, c) ≡ place = cc in
     let row : place.0 ≡ 0 = sym (ap (λ (p : ℕ × ℕ). p.0) same) in
-    (e, ap (slice_get (e ∷ es)) row, begins-some point e (column_in e.start point e.row.begins) c refl here)
+    (e, ap (slice_get (e ∷ es)) row, begins-shown point e ∙ ap is_some here)
 cursor-by point e es None None place here later at = absurd cc
 cursor-by point e es None (Some p) place here later at =
     let same : (p.0 + 1, p.1) ≡ place = cc in
@@ -167,7 +129,7 @@ cursor-none : (point : ℕ) (es : List EntryMeaning) → cursor_in point es ≡ 
 cursor-none point [] at = refl
 cursor-none point (e ∷ es) at =
     let both = neither-some (column_shown point e) (cursor_in point es) at in
-    let here = begins-none point e (column_in e.start point e.row.begins) refl both.0 in
+    let here = begins-shown point e ∙ ap is_some both.0 in
     ap (λ t. t || list_any (begins_item point) es) here ∙ cursor-none point es both.1
 
 -- ---- in a view
@@ -197,7 +159,7 @@ module _ {m : SourceValues} {shape : ShapeValues} (w : Wanted) (source : IsSourc
   some-begins within =
       let start = first_start m.blocks in
       let high = subst (λ n. w.point < n) (end-any 0 start m.blocks source.blocks.some) within.1 in
-      any-here (λ b. m.rows_of b shape) start w.point m.blocks source.blocks.stand have-rows within.0 high
+      any-rows (λ b. m.rows_of b shape) start w.point m.blocks source.blocks.stand have-rows ∙ in-range start (end_from start m.blocks) w.point within.0 high
 
   -- and where it does not
   pub point-hidden : (i height : ℕ) → IsWithin w.point m.blocks → cursor_in w.point (take height (drop i (rows_at m shape))) ≡ None

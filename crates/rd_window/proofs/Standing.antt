@@ -133,10 +133,10 @@ start-stays l m shape w r =
 rows-stay : (l : Layout) (m : SourceValues) (shape : ShapeValues) (w : Wanted) → Rests l m shape w → shown_entries l.matrix ≡ rows_in_view m shape w
 rows-stay l m shape w r = r.stands.rows ∙ rows-seen m shape w w.anchor l (same-shape l.shape shape r.current.shapes) r.current.height (sym (start-stays l m shape w r))
 
-pub top-stays : (l : Layout) (m : SourceValues) (shape : ShapeValues) (w : Wanted) → Rests l m shape w → l.top ≡ has_first_row m shape w
+top-stays : (l : Layout) (m : SourceValues) (shape : ShapeValues) (w : Wanted) → Rests l m shape w → l.top ≡ has_first_row m shape w
 top-stays l m shape w r = r.stands.top ∙ top-seen m shape w w.anchor l (same-shape l.shape shape r.current.shapes) r.current.height (sym (start-stays l m shape w r))
 
-pub bottom-stays : (l : Layout) (m : SourceValues) (shape : ShapeValues) (w : Wanted) → Rests l m shape w → l.bottom ≡ has_last_row m shape w
+bottom-stays : (l : Layout) (m : SourceValues) (shape : ShapeValues) (w : Wanted) → Rests l m shape w → l.bottom ≡ has_last_row m shape w
 bottom-stays l m shape w r = r.stands.bottom ∙ bottom-seen m shape w w.anchor l (same-shape l.shape shape r.current.shapes) r.current.height (sym (start-stays l m shape w r))
 
 -- it has a row

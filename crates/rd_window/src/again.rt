@@ -1,16 +1,13 @@
 //! The layout of a window over its last one.
-ghost use Rattle.std.specs.Prelude.{◌≡◌, ◌+◌, ◌<◌, ◌≤◌, [], None, Some, is_some, length, not, option_map, IfOk, IfSome};
+ghost use Rattle.std.specs.Prelude.{◌≡◌, ◌+◌, ◌≤◌, [], is_some, not, option_map, IfOk, IfSome};
 ghost use Rattle.rd_matrix.specs.Blocks.{IsWithin};
-ghost use Rattle.rd_matrix.specs.Entries.{shown_entries};
 ghost use Rattle.rd_matrix.specs.Sources.{IsSource};
-ghost use Rattle.rd_reuse.specs.Changes.{none};
 ghost use Rattle.rd_reuse.specs.Keeping.{AreRight};
-ghost use Rattle.rd_start.specs.Chosen.{anchor_at, chosen_of};
+ghost use Rattle.rd_start.specs.Chosen.{chosen_of};
 ghost use Rattle.rd_window.specs.Layouts.{IsLaidOut, StandsUnchanged, allowance, change_since, layout_after, older_rows, rests};
-ghost use Rattle.rd_window.specs.Views.{has_first_row, has_last_row};
 
 use crate::layout::Layout;
-use crate::window::{InView, lay_out};
+use crate::window::lay_out;
 use rd_base::{Memory, Steps};
 use rd_matrix::{BlockSource, Matrix};
 use rd_reuse::Change;
@@ -19,13 +16,11 @@ use rd_start::{Chosen, Wanted};
 use std::alloc::Global;
 use std::sync::ledger::Ledger;
 
-/// What laying a window out again gives: the start and the point that were chosen for it, whether its rows in view have the first row
-/// and the last one of its text, and its new layout, or None where that of its last redisplay stays.
+/// What laying a window out again gives: the start and the point that were chosen for it, and its new layout, or None where that of its
+/// last redisplay stays.
 #[derive(Drop)]
 pub struct Laying {
     pub chosen: Chosen,
-    pub top: bool,
-    pub bottom: bool,
     pub anew: Option<Layout>,
 }
 
@@ -51,40 +46,36 @@ pub fn lay_out_again<B: BlockSource + Drop, L: Ledger>(
     requires point { IsWithin wanted.point (B.meaning source).blocks }
     requires height { 1 ≤ wanted.height }
     ensures chosen { IfOk result (λ laying. laying.chosen ≡ chosen_of (B.meaning source) shape wanted) }
-    ensures top { IfOk result (λ laying. laying.top ≡ has_first_row (B.meaning source) shape wanted) }
-    ensures bottom { IfOk result (λ laying. laying.bottom ≡ has_last_row (B.meaning source) shape wanted) }
     ensures layout { IfOk result (λ laying. IfSome (layout_after (option_map (λ l. l.now) last.entry) laying.anew) (λ new. IsLaidOut (option_map (λ l. l.now) last.entry) (B.meaning source) shape wanted new)) }
     ensures anew { IfOk result (λ laying. is_some laying.anew ≡ not (rests (option_map (λ l. l.now) last.entry) (B.meaning source) shape wanted)) }
     ensures steps { steps.new ≤ steps.old + allowance (option_map (λ l. l.now) last.entry) (B.meaning source) shape wanted }
 {
     if let Some(layout) = last {
         if layout.rests(shape, wanted) {
-            return Ok(resting(layout, wanted));
+            return Ok(Laying {
+                chosen: layout.chosen(wanted),
+                anew: None,
+            });
         }
     }
     let none = Matrix::new(alloc)?;
     let older = older_rows(last, &none, shape);
     let change = change_since(last);
     let view = lay_out(alloc, source, older, change, wanted, shape, steps)?;
-    Ok(laid_out(view, wanted, shape))
-}
-
-/// What a window shows that rests on its last layout.
-fn resting(layout: &Layout, wanted: Wanted) -> Laying
-    requires { 0 < length layout.now.matrix }
-    ensures { result ≡ record {
-      chosen = record { anchor = anchor_at (shown_entries layout.now.matrix) 0; point = wanted.point };
-      top = layout.now.top;
-      bottom = layout.now.bottom;
-      anew = None;
-    } }
-{
-    Laying {
-        chosen: layout.chosen(wanted),
-        top: layout.top,
-        bottom: layout.bottom,
-        anew: None,
-    }
+    let layout = Layout {
+        matrix: view.matrix,
+        shape,
+        height: wanted.height,
+        margin: wanted.margin,
+        conservatively: wanted.conservatively,
+        top: view.top,
+        bottom: view.bottom,
+        change: Change::none(),
+    };
+    Ok(Laying {
+        chosen: view.chosen,
+        anew: Some(layout),
+    })
 }
 
 /// The rows of a last layout that can be kept at a shape, and else those of another matrix, which has none.
@@ -105,41 +96,5 @@ fn change_since(last: Option<&Layout>) -> Change
     match last {
         Some(layout) => layout.change,
         None => Change::all(),
-    }
-}
-
-/// What a window shows that was laid out at a shape.
-fn laid_out(view: InView, wanted: Wanted, shape: Shape) -> Laying
-    ensures { result ≡ record {
-      chosen = view.chosen;
-      top = view.top;
-      bottom = view.bottom;
-      anew = Some (record {
-        matrix = view.matrix;
-        shape = shape;
-        height = wanted.height;
-        margin = wanted.margin;
-        conservatively = wanted.conservatively;
-        top = view.top;
-        bottom = view.bottom;
-        change = none;
-      });
-    } }
-{
-    let layout = Layout {
-        matrix: view.matrix,
-        shape,
-        height: wanted.height,
-        margin: wanted.margin,
-        conservatively: wanted.conservatively,
-        top: view.top,
-        bottom: view.bottom,
-        change: Change::none(),
-    };
-    Laying {
-        chosen: view.chosen,
-        top: view.top,
-        bottom: view.bottom,
-        anew: Some(layout),
     }
 }

@@ -5,8 +5,7 @@
 //!
 //! What goes in: a source of blocks (for a buffer `rd_blocks::Blocks`), the layout of the window's last redisplay, if there was one, what
 //! the window wants of its start (`rd_start::Wanted`), and its shape. What comes out: a `Laying`, which is the window start and the point
-//! that were chosen, whether the rows in view have the text's first row and its last one, and the new layout, or none where the last one
-//! stays.
+//! that were chosen, and the new layout, or none where the last one stays.
 //!
 //! 1. `resting`: if nothing changed since the last layout, no start was set by command, the window has its old shape, height and ways of
 //!    scrolling, and point is in view as far from the edges as the scroll margin asks, then the cursor alone moves. No row is made or
