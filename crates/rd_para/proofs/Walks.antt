@@ -187,12 +187,13 @@ module _ (classes : List Span) (t : TextValue) (right : IsText t) where
         all_blank t right from (next_newline t from) at c_order c_within
         (λ k lo hi. blank_else (get_or t.text (k - 1) 0) (next_before t right from k at (omega arith) lo hi (omega arith)) (no_ink k (omega arith) (omega arith)))
 
-    stays : (n from p : ℕ) (level : ℕ) (inside : Bool) → t.end < from + n → start ≤ from → IsLineStart t from → from ≤ p → p ≤ next_newline t pos → (inside ≡ true) ⊎ (place < from)
-        → get_or (levels_of classes level inside (rows t from)) (p - from) 0 ≡ level
-    stays zero from p level inside room at line order p_high kind =
-        let e_high = (line_cut t pos right low high).within in
-        absurd (omega arith)
-    stays (suc n) from p level inside room at line order p_high kind =
+    -- a line has one level, where those behind it keep that
+    on_line : (from p last level : ℕ) (inside : Bool) → start ≤ from → IsLineStart t from → from ≤ p → p ≤ next_newline t pos
+        → ((lines : List (List ℕ)) → rows t from ≡ between t from (next_newline t from) ∷ lines → level_by classes last inside (between t from (next_newline t from)) lines ≡ level)
+        → (next_newline t from < p → IsLineStart t (next_newline t from + 1) → (not (is_separator (between t from (next_newline t from))) ≡ true) ⊎ (place < next_newline t from + 1)
+        → get_or (levels_of classes level (not (is_separator (between t from (next_newline t from)))) (rows t (next_newline t from + 1))) (p - (next_newline t from + 1)) 0 ≡ level)
+        → get_or (levels_of classes last inside (rows t from)) (p - from) 0 ≡ level
+    on_line from p last level inside at line order p_high one behind =
         let e_high = (line_cut t pos right low high).within in
         let first = begins.first in
         let to = next_newline t from in
@@ -201,15 +202,10 @@ module _ (classes : List Span) (t : TextValue) (right : IsText t) where
         let c_within = c.within in
         let size = between_size t right from to (omega arith) c_order c_within in
         let text = between t from to in
-        let one : (lines : List (List ℕ)) → level_by classes level inside text lines ≡ level = λ lines. elim kind [
-          | inl is ↦ ap (λ (b : Bool). if is_separator text || b then level else unwrap_or (decided classes (text ∷ lines)) 0) is
-              ∙ ap (λ (b : Bool). if b then level else unwrap_or (decided classes (text ∷ lines)) 0) (or_right (is_separator text) true refl)
-          | inr past ↦ ap (λ (b : Bool). if b || inside then level else unwrap_or (decided classes (text ∷ lines)) 0) (blank_behind from p (omega arith) order p_high past)
-        ] in
         elim (cases_lt to p) [
           | inr here ↦
               let some = some_line t from to c in
-              levels_here classes level inside text some.0 (rows t from) (p - from) some.1 (omega arith) ∙ one some.0
+              levels_here classes last inside text some.0 (rows t from) (p - from) some.1 (omega arith) ∙ one some.0 some.1
           | inl further ↦
               let more : to < t.end = omega arith in
               let place_is : p - from - (length text + 1) ≡ p - (to + 1) = omega arith in
@@ -219,11 +215,29 @@ module _ (classes : List Span) (t : TextValue) (right : IsText t) where
                 | inl blank ↦ inr (past_place from at line (omega arith) more blank)
                 | inr other ↦ inl (ap not other)
               ] in
-              levels_next classes level inside text (rows t (to + 1)) (rows t from) (p - from) (c.more more) (omega arith)
-              ∙ ap (λ (k : ℕ). get_or (levels_of classes (level_by classes level inside text (rows t (to + 1))) (not (is_separator text)) (rows t (to + 1))) k 0) place_is
-              ∙ ap (λ (v : ℕ). get_or (levels_of classes v (not (is_separator text)) (rows t (to + 1))) (p - (to + 1)) 0) (one (rows t (to + 1)))
-              ∙ stays n (to + 1) p level (not (is_separator text)) (omega arith) (omega arith) next_line (omega arith) p_high next_kind
+              levels_next classes last inside text (rows t (to + 1)) (rows t from) (p - from) (c.more more) (omega arith)
+              ∙ ap (λ (k : ℕ). get_or (levels_of classes (level_by classes last inside text (rows t (to + 1))) (not (is_separator text)) (rows t (to + 1))) k 0) place_is
+              ∙ ap (λ (v : ℕ). get_or (levels_of classes v (not (is_separator text)) (rows t (to + 1))) (p - (to + 1)) 0) (one (rows t (to + 1)) (c.more more))
+              ∙ behind further next_line next_kind
         ]
+
+    stays : (n from p : ℕ) (level : ℕ) (inside : Bool) → t.end < from + n → start ≤ from → IsLineStart t from → from ≤ p → p ≤ next_newline t pos → (inside ≡ true) ⊎ (place < from)
+        → get_or (levels_of classes level inside (rows t from)) (p - from) 0 ≡ level
+    stays zero from p level inside room at line order p_high kind =
+        let e_high = (line_cut t pos right low high).within in
+        absurd (omega arith)
+    stays (suc n) from p level inside room at line order p_high kind =
+        let e_high = (line_cut t pos right low high).within in
+        let first = begins.first in
+        let to = next_newline t from in
+        let c_order = (line_cut t from right (omega arith) (omega arith)).order in
+        let text = between t from to in
+        on_line from p level level inside at line order p_high (λ lines _. elim kind [
+          | inl is ↦ ap (λ (b : Bool). if is_separator text || b then level else unwrap_or (decided classes (text ∷ lines)) 0) is
+              ∙ ap (λ (b : Bool). if b then level else unwrap_or (decided classes (text ∷ lines)) 0) (or_right (is_separator text) true refl)
+          | inr past ↦ ap (λ (b : Bool). if b || inside then level else unwrap_or (decided classes (text ∷ lines)) 0) (blank_behind from p (omega arith) order p_high past)
+        ])
+        (λ more next next_kind. stays n (to + 1) p level (not (is_separator text)) (omega arith) (omega arith) next (omega arith) p_high next_kind)
 
     -- the line that begins the paragraph
     begins_line : IsLineStart t start
@@ -271,12 +285,9 @@ module _ (classes : List Span) (t : TextValue) (right : IsText t) where
         let to = next_newline t start in
         let c = line_cut t start right first (omega arith) in
         let c_order = c.order in
-        let c_within = c.within in
-        let size = between_size t right start to first c_order c_within in
         let text = between t start to in
-        let some = some_line t start to c in
         let whole : ℕ = unwrap_or (decided classes (rows t start)) 0 in
-        let one : (lines : List (List ℕ)) → rows t start ≡ text ∷ lines → level_by classes f.last false text lines ≡ whole = λ lines cut. elim (cases_Bool (is_separator text)) [
+        f.rest p at (omega arith) ∙ on_line start p f.last whole false (omega arith) begins_line at p_high (λ lines cut. elim (cases_Bool (is_separator text)) [
           | inr other ↦ ap (λ (b : Bool). if b || false then f.last else unwrap_or (decided classes (text ∷ lines)) 0) other
               ∙ ap (λ (ls : List (List ℕ)). unwrap_or (decided classes ls) 0) (sym cut)
           | inl blank ↦
@@ -284,24 +295,8 @@ module _ (classes : List Span) (t : TextValue) (right : IsText t) where
               ap (λ (b : Bool). if b || false then f.last else unwrap_or (decided classes (text ∷ lines)) 0) blank ∙ nothing
               ∙ sym (ap (λ (ls : List (List ℕ)). unwrap_or (decided classes ls) 0) cut
               ∙ ap (λ (b : Bool). unwrap_or (if b then None else option_or (line_level classes text) (decided classes lines)) 0) blank)
-        ] in
-        f.rest p at (omega arith) ∙ elim (cases_lt to p) [
-          | inr here ↦
-              levels_here classes f.last false text some.0 (rows t start) (p - start) some.1 (omega arith) ∙ one some.0 some.1
-          | inl further ↦
-              let more : to < t.end = omega arith in
-              let place_is : p - start - (length text + 1) ≡ p - (to + 1) = omega arith in
-              let next_line : IsLineStart t (to + 1)
-              = inr (omega arith, ap (λ (k : ℕ). is_newline (get_or t.text k 0)) (let e : to + 1 - 1 - 1 ≡ to - 1 = omega arith in e) ∙ next_at t right start first (omega arith) more) in
-              let next_kind : (not (is_separator text) ≡ true) ⊎ (place < to + 1) = elim (cases_Bool (is_separator text)) [
-                | inl blank ↦ inr (past_place start (omega arith) begins_line (omega arith) more blank)
-                | inr other ↦ inl (ap not other)
-              ] in
-              levels_next classes f.last false text (rows t (to + 1)) (rows t start) (p - start) (c.more more) (omega arith)
-              ∙ ap (λ (k : ℕ). get_or (levels_of classes (level_by classes f.last false text (rows t (to + 1))) (not (is_separator text)) (rows t (to + 1))) k 0) place_is
-              ∙ ap (λ (v : ℕ). get_or (levels_of classes v (not (is_separator text)) (rows t (to + 1))) (p - (to + 1)) 0) (one (rows t (to + 1)) (c.more more))
-              ∙ stays t.end (to + 1) p whole (not (is_separator text)) (omega arith) (omega arith) next_line (omega arith) p_high next_kind
-        ]
+        ])
+        (λ more next next_kind. stays t.end (to + 1) p whole (not (is_separator text)) (omega arith) (omega arith) next (omega arith) p_high next_kind)
 
 -- the end of a line is its own
 pub ends_itself : (t : TextValue) (right : IsText t) (pos : ℕ) → t.begin ≤ pos → pos ≤ t.end → next_newline t pos ≡ next_newline t (next_newline t pos)
