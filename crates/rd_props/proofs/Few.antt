@@ -3,6 +3,7 @@ use Rattle.std.proofs.Common.{◌≡◌, ℕ, zero, suc, ◌+◌, ◌*◌, ◌�
 use Rattle.std.specs.Option.{option_to_list}
 use Rattle.std.proofs.lemmas.Bool.Decides.{nat_tests}
 use Rattle.std.proofs.lemmas.List.{reverse-append}
+use Rattle.rd_base.proofs.Lists.{total, total-append}
 use Rattle.rd_overlays.specs.declared.overlay.Overlay.{Overlay}
 use Rattle.rd_overlays.specs.declared.overlay.Kind.TheVariants.{Before, After}
 use Rattle.rd_overlays.specs.Overlays.{overlay_at, starting, ending, precedes, placed, ranked_from, number_of_rank}
@@ -12,37 +13,28 @@ use Rattle.rd_props.specs.Strings.{is_empty, before_string, after_string, part_i
 use Rattle.rd_props.specs.declared.strings.StringPlace.{StringPlace}
 use Rattle.rd_props.specs.declared.strings.StringPlace.TheVariants.{Closing, Between, Opening}
 
--- what numbers weigh together
-abbrev weighed : (ℕ → ℕ) → List ℕ → ℕ
-weighed w [] = 0
-weighed w (n ∷ ns) = w n + weighed w ns
-
-weighed-append : (w : ℕ → ℕ) (xs ys : List ℕ) → weighed w (xs ++ ys) ≡ weighed w xs + weighed w ys
-weighed-append w [] ys = omega arith
-weighed-append w (x ∷ xs) ys = omega (arith, weighed-append w xs ys)
-
-weighed-reverse : (w : ℕ → ℕ) (xs : List ℕ) → weighed w (reverse xs) ≡ weighed w xs
-weighed-reverse w [] = refl
-weighed-reverse w (x ∷ xs) =
-    let turned : weighed w (reverse (x ∷ xs)) ≡ weighed w (reverse xs ++ x ∷ []) = ap (weighed w) (reverse-append (x ∷ []) xs) in
-    let sum = weighed-append w (reverse xs) (x ∷ []) in
-    let rest = weighed-reverse w xs in
+total-reverse : (w : ℕ → ℕ) (xs : List ℕ) → total w (reverse xs) ≡ total w xs
+total-reverse w [] = refl
+total-reverse w (x ∷ xs) =
+    let turned : total w (reverse (x ∷ xs)) ≡ total w (reverse xs ++ x ∷ []) = ap (total w) (reverse-append (x ∷ []) xs) in
+    let sum = total-append w (reverse xs) (x ∷ []) in
+    let rest = total-reverse w xs in
     omega (arith, turned, sum, rest)
 
 -- a number weighs the strings that a part of its overlay has
 abbrev weight : StringPlace → List (Option Overlay) → ℕ → ℕ
 weight part slots number = length (part_in part (overlay_at slots number))
 
-strings-weighed : (part : StringPlace) (slots : List (Option Overlay)) (ns : List ℕ) → length (strings_of part slots ns) ≡ weighed (weight part slots) ns
+strings-weighed : (part : StringPlace) (slots : List (Option Overlay)) (ns : List ℕ) → length (strings_of part slots ns) ≡ total (weight part slots) ns
 strings-weighed part slots [] = refl
 strings-weighed part slots (n ∷ ns) = omega (arith, length-append (part_in part (overlay_at slots n)) (strings_of part slots ns), strings-weighed part slots ns)
 
 -- a listing weighs what the overlays in it weigh
-placed-weighed : (w : ℕ → ℕ) (r : _) (rs : List _) → weighed w (map number_of_rank (placed r rs)) ≡ w r.number + weighed w (map number_of_rank rs)
+placed-weighed : (w : ℕ → ℕ) (r : _) (rs : List _) → total w (map number_of_rank (placed r rs)) ≡ w r.number + total w (map number_of_rank rs)
 placed-weighed w r [] = refl
 placed-weighed w r (x ∷ rs) = by-order (placed-weighed w r rs) (precedes x r) where
-  by-order : weighed w (map number_of_rank (placed r rs)) ≡ w r.number + weighed w (map number_of_rank rs) → (b : Bool)
-      → weighed w (map number_of_rank (if b then x ∷ placed r rs else r ∷ x ∷ rs)) ≡ w r.number + (w x.number + weighed w (map number_of_rank rs))
+  by-order : total w (map number_of_rank (placed r rs)) ≡ w r.number + total w (map number_of_rank rs) → (b : Bool)
+      → total w (map number_of_rank (if b then x ∷ placed r rs else r ∷ x ∷ rs)) ≡ w r.number + (w x.number + total w (map number_of_rank rs))
   by-order rest true = omega (arith, rest)
   by-order rest false = refl
 
@@ -55,12 +47,12 @@ abbrev all_weigh : (Overlay → Bool) → (ℕ → ℕ) → ℕ → List (Option
 all_weigh test w n [] = 0
 all_weigh test w n (slot ∷ slots) = slot_weighs test w n slot + all_weigh test w (suc n) slots
 
-listing-weighed : (test : Overlay → Bool) (w : ℕ → ℕ) (n : ℕ) (slots : List (Option Overlay)) → weighed w (map number_of_rank (ranked_from test n slots)) ≡ all_weigh test w n slots
+listing-weighed : (test : Overlay → Bool) (w : ℕ → ℕ) (n : ℕ) (slots : List (Option Overlay)) → total w (map number_of_rank (ranked_from test n slots)) ≡ all_weigh test w n slots
 listing-weighed test w n [] = refl
 listing-weighed test w n (None ∷ slots) = omega (arith, listing-weighed test w (suc n) slots)
 listing-weighed test w n (Some o ∷ slots) = by-test (listing-weighed test w (suc n) slots) (test o) where
-  by-test : weighed w (map number_of_rank (ranked_from test (suc n) slots)) ≡ all_weigh test w (suc n) slots → (b : Bool)
-      → weighed w (map number_of_rank (if b then placed (record { priority = o.priority; number = n }) (ranked_from test (suc n) slots) else ranked_from test (suc n) slots))
+  by-test : total w (map number_of_rank (ranked_from test (suc n) slots)) ≡ all_weigh test w (suc n) slots → (b : Bool)
+      → total w (map number_of_rank (if b then placed (record { priority = o.priority; number = n }) (ranked_from test (suc n) slots) else ranked_from test (suc n) slots))
       ≡ (if b then w n else 0) + all_weigh test w (suc n) slots
   by-test rest true =
       let more = placed-weighed w (record { priority = o.priority; number = n }) (ranked_from test (suc n) slots) in
@@ -145,7 +137,7 @@ strings-left s pos =
     let all : length (strings_at s pos) ≡ length closing + length between + length opening
     = length-append (closing ++ between) opening ∙ ap (λ n. n + length opening) (length-append closing between) in
     let a : length closing ≡ all_at to (weight Closing slots) pos 0 slots
-    = strings-weighed Closing slots (reverse (ending pos slots)) ∙ weighed-reverse (weight Closing slots) (ending pos slots) ∙ listing-weighed (λ o. o.to == pos) (weight Closing slots) 0 slots in
+    = strings-weighed Closing slots (reverse (ending pos slots)) ∙ total-reverse (weight Closing slots) (ending pos slots) ∙ listing-weighed (λ o. o.to == pos) (weight Closing slots) 0 slots in
     let b : length between ≡ all_at from (weight Between slots) pos 0 slots = strings-weighed Between slots (starting pos slots) ∙ listing-weighed (λ o. o.from == pos) (weight Between slots) 0 slots in
     let c : length opening ≡ all_at from (weight Opening slots) pos 0 slots = strings-weighed Opening slots (starting pos slots) ∙ listing-weighed (λ o. o.from == pos) (weight Opening slots) 0 slots in
     let here : left s pos ≡ all_from to (weight Closing slots) pos 0 slots + all_from from (weight Between slots) pos 0 slots + all_from from (weight Opening slots) pos 0 slots = refl in
