@@ -32,19 +32,23 @@ descend f n base m (suc j) p q low c =
     let e : suc j + m ≡ suc (j + m) = omega arith in
     descend f n base m j p q low (let below = subst C e c in unmoved f n base (j + m) p q (omega arith) below)
 
+-- the reversals above a level at q and those from it on are all of them
+all-reversals : (base m q : ℕ) (levels : List ℕ) → (0 < m → base + m ≤ get_or levels q 0) → q < length levels → (highest levels - base - m) + m ≡ highest levels - base
+all-reversals base m q levels high within =
+    let most = highest-bounds levels q within in
+    elim (cases_eq m 0) [
+      | inl none ↦ omega arith
+      | inr some ↦ let h = high (omega arith) in omega arith
+    ]
+
 -- the order at a place that what stands at q comes to
 pub shows : (base m p q : ℕ) (levels : List ℕ) → (0 < m → base + m ≤ get_or levels q 0) → get_or levels q 0 ≤ base + m → q < length levels
     → Comes (λ i. get_or levels i 0) (length levels) base m p q → slice_get (l2_visual_order base levels) p ≡ Some q
 shows base m p q levels high low within c =
     let f : ℕ → ℕ = λ i. get_or levels i 0 in
-    let most = highest-bounds levels q within in
     let total = highest levels - base in
-    let e : (total - m) + m ≡ total = elim (cases_eq m 0) [
-      | inl none ↦ omega arith
-      | inr some ↦ let h = high (omega arith) in omega arith
-    ] in
     let C : ℕ → Type 0 = λ k. Comes f (length levels) base k p q in
-    let whole = subst C e (climb f (length levels) base m (total - m) p q low c) in
+    let whole = subst C (all-reversals base m q levels high within) (climb f (length levels) base m (total - m) p q low c) in
     let p_within = Comes-source f (length levels) base m p q c within in
     let size = l2_visual_order-length base levels in
     slice_get-get_or (l2_visual_order base levels) p 0 (omega arith) ∙ ap Some (l2_visual_order-comes base levels p q p_within whole)
@@ -79,12 +83,8 @@ pub known : (base p q : ℕ) (levels : List ℕ) (m : ℕ) → get_or levels q 0
 known base p q levels m low high at =
     let f : ℕ → ℕ = λ i. get_or levels i 0 in
     let total = highest levels - base in
-    let most = highest-bounds levels q (gives-within base p q levels at).1 in
-    let e : total ≡ (total - m) + m = elim (cases_eq m 0) [
-      | inl none ↦ omega arith
-      | inr some ↦ let h = high (omega arith) in omega arith
-    ] in
     let D : ℕ → Type 0 = λ k. Comes f (length levels) base k p q in
+    let e = sym (all-reversals base m q levels high (gives-within base p q levels at).1) in
     descend f (length levels) base m (total - m) p q low (subst D e (placed base p q levels at).1)
 
 -- the neighbour in the same run stands at the next place
