@@ -1,4 +1,4 @@
--- The number of a bad line is at most one more than the bytes of its file.
+-- A fault that there is by the definitions has a line, whose number is at most one more than the bytes of its file.
 use Rattle.std.proofs.Common.{◌+◌, ◌<◌, ◌≤◌, ◌^◌, ℕ, suc, ◌==◌, Bool, true, false, List, [], ◌∷◌, length, Option, None, Some, Result, Ok, Err, arith}
 use Rattle.std.specs.Prelude.{if◌then◌else◌, nat_lt, slice_index_or}
 use Rattle.std.specs.List.{slice_split}
@@ -26,25 +26,29 @@ use Rattle.rd_ucd.specs.MirrorFile.{mirrors_of, pair_by, pair_of}
 use Rattle.rd_ucd.specs.BracketFile.{bracket_by, bracket_named, bracket_of, bracket_with, brackets_of}
 use Rattle.rd_files.specs.DataFiles.{line_of}
 
--- a fault has a line up to this one
-abbrev IsWithin : {T : Type 0} → ℕ → Result T UcdFault → Type 0
+-- the number of a line up to this one
+abbrev pub IsLine : ℕ → ℕ → Type 0
+IsLine most n = (1 ≤ n) × (n ≤ most)
+
+-- a fault has such a line
+abbrev pub IsWithin : {T : Type 0} → ℕ → Result T UcdFault → Type 0
 IsWithin most (Ok value) = Unit {0}
-IsWithin most (Err fault) = line_of fault ≤ most
+IsWithin most (Err fault) = IsLine most (line_of fault)
 
 -- each entry, too
 abbrev AreWithin : {T : Type 0} → ℕ → List (ℕ × Result T UcdFault) → Type 0
 AreWithin most [] = Unit {0}
-AreWithin most ((n, entry) ∷ entries) = (n ≤ most) × IsWithin most entry × AreWithin most entries
+AreWithin most ((n, entry) ∷ entries) = IsLine most n × IsWithin most entry × AreWithin most entries
 
 module _ {T : Type 0} (most : ℕ) where
-  entries-within : (passed_over : List ℕ → Bool) (entry : ℕ → List ℕ → Result T UcdFault) → ((n : ℕ) (line : List ℕ) → n ≤ most → IsWithin most (entry n line))
-      → (n : ℕ) (lines : List (List ℕ)) → n + length lines ≤ suc most → AreWithin most (entries_in passed_over entry (numbered n lines))
-  entries-within passed_over entry each n [] fits = tt
-  entries-within passed_over entry each n (line ∷ lines) fits =
-      go (passed_over line) (entries-within passed_over entry each (suc n) lines (omega arith))
+  entries-within : (passed_over : List ℕ → Bool) (entry : ℕ → List ℕ → Result T UcdFault) → ((n : ℕ) (line : List ℕ) → IsLine most n → IsWithin most (entry n line))
+      → (n : ℕ) (lines : List (List ℕ)) → 1 ≤ n → n + length lines ≤ suc most → AreWithin most (entries_in passed_over entry (numbered n lines))
+  entries-within passed_over entry each n [] some fits = tt
+  entries-within passed_over entry each n (line ∷ lines) some fits =
+      go (passed_over line) (entries-within passed_over entry each (suc n) lines (omega arith) (omega arith))
     where
-      low : n ≤ most
-      low = omega arith
+      low : IsLine most n
+      low = (some, omega arith)
 
       go : (b : Bool) → AreWithin most (entries_in passed_over entry (numbered (suc n) lines))
           → AreWithin most (if b then entries_in passed_over entry (numbered (suc n) lines) else (n, entry n line) ∷ entries_in passed_over entry (numbered (suc n) lines))
@@ -68,12 +72,12 @@ module _ {T : Type 0} (most : ℕ) where
 
 -- ---- class files
 
-coded-within : (most n : ℕ) (code : Option ℕ) (kind : EntryKind) (class : Option Class) → n ≤ most → IsWithin most (coded n code kind class)
+coded-within : (most n : ℕ) (code : Option ℕ) (kind : EntryKind) (class : Option Class) → IsLine most n → IsWithin most (coded n code kind class)
 coded-within most n None kind class h = h
 coded-within most n (Some code) kind None h = h
 coded-within most n (Some code) kind (Some class) h = tt
 
-entry-within : (most n : ℕ) (line : List ℕ) → n ≤ most → IsWithin most (entry_of n line)
+entry-within : (most n : ℕ) (line : List ℕ) → IsLine most n → IsWithin most (entry_of n line)
 entry-within most n line h = go (nat_lt 4 (length (fields_of (chomped line))))
   where
     fields : List (List ℕ)
@@ -86,9 +90,9 @@ entry-within most n line h = go (nat_lt 4 (length (fields_of (chomped line))))
 
 abbrev IsOpenWithin : ℕ → Option Opened → Type 0
 IsOpenWithin most None = Unit {0}
-IsOpenWithin most (Some o) = o.number ≤ most
+IsOpenWithin most (Some o) = IsLine most o.number
 
-opened-within : (most n : ℕ) (e : DataEntry) (kind : EntryKind) → n ≤ most → IsOpenWithin most (opened_by kind n e)
+opened-within : (most n : ℕ) (e : DataEntry) (kind : EntryKind) → IsLine most n → IsOpenWithin most (opened_by kind n e)
 opened-within most n e Alone h = tt
 opened-within most n e First h = h
 opened-within most n e Last h = tt
@@ -97,7 +101,7 @@ ended-within : (most : ℕ) (opened : Option Opened) → IsOpenWithin most opene
 ended-within most None h = tt
 ended-within most (Some o) h = h
 
-unless-within : (most n : ℕ) (low closed : Bool) (result : Result (List Span) UcdFault) → n ≤ most → IsWithin most result
+unless-within : (most n : ℕ) (low closed : Bool) (result : Result (List Span) UcdFault) → IsLine most n → IsWithin most result
     → IsWithin most (unless (if low then Some (ucd.NotAscending n) else (if closed then None else Some (ucd.BadRange n))) result)
 unless-within most n true closed result h rest = h
 unless-within most n false true result h rest = rest
@@ -114,26 +118,26 @@ spans-within most least opened ((n, Ok e) ∷ entries) h o =
 
 -- ---- mirror and bracket files
 
-both-within : (most n : ℕ) (code other : Option ℕ) → n ≤ most → IsWithin most (both n code other)
+both-within : (most n : ℕ) (code other : Option ℕ) → IsLine most n → IsWithin most (both n code other)
 both-within most n None other h = h
 both-within most n (Some code) None h = h
 both-within most n (Some code) (Some other) h = tt
 
-codes-within : (most count n : ℕ) (fields : List (List ℕ)) → n ≤ most → IsWithin most (codes_of count n fields)
+codes-within : (most count n : ℕ) (fields : List (List ℕ)) → IsLine most n → IsWithin most (codes_of count n fields)
 codes-within most count n fields h = go (length fields == count)
   where
     go : (b : Bool) → IsWithin most (if b then both n (code_of (trimmed_field fields 0)) (code_of (trimmed_field fields 1)) else Err (ucd.BadLine n))
     go true = both-within most n (code_of (trimmed_field fields 0)) (code_of (trimmed_field fields 1)) h
     go false = h
 
-pair-within : (most n : ℕ) (fields : List (List ℕ)) → n ≤ most → IsWithin most (pair_of n fields)
+pair-within : (most n : ℕ) (fields : List (List ℕ)) → IsLine most n → IsWithin most (pair_of n fields)
 pair-within most n fields h = go (codes_of 2 n fields) (codes-within most 2 n fields h)
   where
     go : (r : Result Codes UcdFault) → IsWithin most r → IsWithin most (pair_by r)
     go (Ok codes) h = tt
     go (Err fault) h = h
 
-bracket-within : (most n : ℕ) (fields : List (List ℕ)) → n ≤ most → IsWithin most (bracket_of n fields)
+bracket-within : (most n : ℕ) (fields : List (List ℕ)) → IsLine most n → IsWithin most (bracket_of n fields)
 bracket-within most n fields h = go (codes_of 3 n fields) (codes-within most 3 n fields h)
   where
     by : (code : ℕ) (bracket : Option Bracket) → IsWithin most (bracket_by n code bracket)
@@ -152,33 +156,30 @@ few_lines bytes =
     let newlines = count_by-le-length (λ (b : ℕ). b == 10) bytes in
     omega (arith, lines, newlines)
 
-classes-within : (bytes : List ℕ) → IsWithin (suc (length bytes)) (classes_of bytes)
+pub classes-within : (bytes : List ℕ) → IsWithin (suc (length bytes)) (classes_of bytes)
 classes-within bytes =
     spans-within (suc (length bytes)) 0 None _
-    (entries-within (suc (length bytes)) is_empty_line entry_of (entry-within (suc (length bytes))) 1 (slice_split (λ b. b == 10) bytes) (few_lines bytes)) tt
+    (entries-within (suc (length bytes)) is_empty_line entry_of (entry-within (suc (length bytes))) 1 (slice_split (λ b. b == 10) bytes) (omega arith) (few_lines bytes)) tt
 
 listed-within : {T : Type 0} (key : T → ℕ) (of_fields : ℕ → List (List ℕ) → Result T UcdFault) (bytes : List ℕ)
-    → ((most n : ℕ) (fields : List (List ℕ)) → n ≤ most → IsWithin most (of_fields n fields)) → IsWithin (suc (length bytes)) (listed_in key of_fields bytes)
+    → ((most n : ℕ) (fields : List (List ℕ)) → IsLine most n → IsWithin most (of_fields n fields)) → IsWithin (suc (length bytes)) (listed_in key of_fields bytes)
 listed-within key of_fields bytes each =
     ascending-within (suc (length bytes)) key 0 _
     (entries-within (suc (length bytes)) is_blank_line (λ n line. of_fields n (fields_of (counting line)))
-    (λ n line low. each (suc (length bytes)) n (fields_of (counting line)) low) 1 (slice_split (λ b. b == 10) bytes) (few_lines bytes))
+    (λ n line low. each (suc (length bytes)) n (fields_of (counting line)) low) 1 (slice_split (λ b. b == 10) bytes) (omega arith) (few_lines bytes))
+
+pub mirrors-within : (bytes : List ℕ) → IsWithin (suc (length bytes)) (mirrors_of bytes)
+mirrors-within bytes = listed-within (λ pair. pair.code) pair_of bytes pair-within
+
+pub brackets-within : (bytes : List ℕ) → IsWithin (suc (length bytes)) (brackets_of bytes)
+brackets-within bytes = listed-within (λ entry. entry.code) bracket_of bytes bracket-within
 
 -- the line of a fault that was answered fits
-fits : {T : Type 0} (right : Result T UcdFault) (bytes : List ℕ) (fault : UcdFault) → length bytes ≤ 8388608 → IsWithin (suc (length bytes)) right
+pub line-fits : {T : Type 0} (right : Result T UcdFault) (bytes : List ℕ) (fault : UcdFault) → length bytes ≤ 8388608 → IsWithin (suc (length bytes)) right
     → Answers (Err fault) right → line_of fault < 2 ^ 32
-fits right bytes ucd.Memory small within answer = omega arith
-fits right bytes (ucd.BadLine n) small within answer = let low : n ≤ suc (length bytes) = rw answer at within in omega arith
-fits right bytes (ucd.BadCode n) small within answer = let low : n ≤ suc (length bytes) = rw answer at within in omega arith
-fits right bytes (ucd.BadClass n) small within answer = let low : n ≤ suc (length bytes) = rw answer at within in omega arith
-fits right bytes (ucd.NotAscending n) small within answer = let low : n ≤ suc (length bytes) = rw answer at within in omega arith
-fits right bytes (ucd.BadRange n) small within answer = let low : n ≤ suc (length bytes) = rw answer at within in omega arith
-
-pub class_line-fits : (bytes : List ℕ) (fault : UcdFault) → length bytes ≤ 8388608 → Answers (Err fault) (classes_of bytes) → line_of fault < 2 ^ 32
-class_line-fits bytes fault small answer = fits (classes_of bytes) bytes fault small (classes-within bytes) answer
-
-pub mirror_line-fits : (bytes : List ℕ) (fault : UcdFault) → length bytes ≤ 8388608 → Answers (Err fault) (mirrors_of bytes) → line_of fault < 2 ^ 32
-mirror_line-fits bytes fault small answer = fits (mirrors_of bytes) bytes fault small (listed-within (λ pair. pair.code) pair_of bytes pair-within) answer
-
-pub bracket_line-fits : (bytes : List ℕ) (fault : UcdFault) → length bytes ≤ 8388608 → Answers (Err fault) (brackets_of bytes) → line_of fault < 2 ^ 32
-bracket_line-fits bytes fault small answer = fits (brackets_of bytes) bytes fault small (listed-within (λ entry. entry.code) bracket_of bytes bracket-within) answer
+line-fits right bytes ucd.Memory small within answer = omega arith
+line-fits right bytes (ucd.BadLine n) small within answer = let low : IsLine (suc (length bytes)) n = rw answer at within in omega (arith, low.1)
+line-fits right bytes (ucd.BadCode n) small within answer = let low : IsLine (suc (length bytes)) n = rw answer at within in omega (arith, low.1)
+line-fits right bytes (ucd.BadClass n) small within answer = let low : IsLine (suc (length bytes)) n = rw answer at within in omega (arith, low.1)
+line-fits right bytes (ucd.NotAscending n) small within answer = let low : IsLine (suc (length bytes)) n = rw answer at within in omega (arith, low.1)
+line-fits right bytes (ucd.BadRange n) small within answer = let low : IsLine (suc (length bytes)) n = rw answer at within in omega (arith, low.1)

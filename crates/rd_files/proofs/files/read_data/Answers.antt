@@ -3,15 +3,15 @@ use Rattle.std.proofs.lemmas.Result.{err_from_is_err_and}
 use Rattle.rd_ucd.specs.ClassFile.{classes_of}
 use Rattle.rd_ucd.specs.MirrorFile.{mirrors_of}
 use Rattle.rd_files.specs.DataFiles.{Gives, Named, mirrors_in}
-use Rattle.rd_files.proofs.Numbers.{class_line-fits, mirror_line-fits}
+use Rattle.rd_files.proofs.Numbers.{classes-within, line-fits, mirrors-within}
 use Rattle.rd_files.proofs.Orders.{stops_first, stops_second, stops_third}
 use Rattle.rd_files.proofs.files.read_data.Goals as goal
 
 pub read_judged-requires-clause-lines : goal.read_judged-requires-clause-lines
-read_judged-requires-clause-lines g c = λ bytes fault small judged. class_line-fits bytes.now fault small judged.1
+read_judged-requires-clause-lines g c = λ bytes fault small judged. line-fits (classes_of bytes.now) bytes.now fault small (classes-within bytes.now) judged.1
 
 pub read_judged-requires-2-clause-lines : goal.read_judged-requires-2-clause-lines
-read_judged-requires-2-clause-lines g c = λ bytes fault small judged. mirror_line-fits bytes.now fault small judged.1
+read_judged-requires-2-clause-lines g c = λ bytes fault small judged. line-fits (mirrors_of bytes.now) bytes.now fault small (mirrors-within bytes.now) judged.1
 
 pub returns-in_err-classes-clause-read : goal.returns-in_err-classes-clause-read
 returns-in_err-classes-clause-read g c =
