@@ -53,54 +53,43 @@ priced-fields s t m n e f = cc
 pub priced-is : (f : Shift → ℕ) (p : Priced) (s : Shift) → p.shift ≡ s → p.cost ≡ f s → Some p ≡ priced f (Some s)
 priced-is f p s e g = priced-fields p.shift s p.cost (f s) e g
 
--- the cheapest of some shifts and of others
-pub appended : (f : Shift → ℕ) (xs ys : List Shift) → priced f (cheapest f (xs ++ ys)) ≡ lesser (priced f (cheapest f xs)) (priced f (cheapest f ys))
-appended f [] ys = refl
-appended f (x ∷ xs) ys =
-    sym (lesser-priced f (Some x) (cheapest f (xs ++ ys)))
-    ∙ ap (lesser (priced f (Some x))) (appended f xs ys)
-    ∙ sym (lesser-assoc (priced f (Some x)) (priced f (cheapest f xs)) (priced f (cheapest f ys)))
-    ∙ ap (λ p. lesser p (priced f (cheapest f ys))) (lesser-priced f (Some x) (cheapest f xs))
-
 -- two more shifts of a band
-pub two-more : (f : Shift → ℕ) (band : Band) (by more : ℕ) (best u d : Option Priced) → u ≡ priced f (Some (shift_by band (pos by))) → d ≡ priced f (Some (shift_by band (neg_ℤ (pos by))))
-    → lesser (lesser (lesser best u) d) (priced f (cheapest f (shifts_from band (suc by) more))) ≡ lesser best (priced f (cheapest f (shifts_from band by (suc more))))
-two-more f band by more best u d e g =
+two-more : (f : Shift → ℕ) (band : Band) (by more : ℕ) (rest : List Shift) (best u d : Option Priced) → u ≡ priced f (Some (shift_by band (pos by))) → d ≡ priced f (Some (shift_by band (neg_ℤ (pos by))))
+    → lesser (lesser (lesser best u) d) (priced f (cheapest f (shifts_from band (suc by) more ++ rest))) ≡ lesser best (priced f (cheapest f (shifts_from band by (suc more) ++ rest)))
+two-more f band by more rest best u d e g =
     let s = Some (shift_by band (pos by)) in
     let t = Some (shift_by band (neg_ℤ (pos by))) in
-    let rest = cheapest f (shifts_from band (suc by) more) in
-    lesser-assoc (lesser best u) d (priced f rest)
-    ∙ lesser-assoc best u (lesser d (priced f rest))
-    ∙ ap (λ x. lesser best (lesser u (lesser x (priced f rest)))) g
-    ∙ ap (λ x. lesser best (lesser u x)) (lesser-priced f t rest)
-    ∙ ap (λ x. lesser best (lesser x (priced f (cheaper f t rest)))) e
-    ∙ ap (lesser best) (lesser-priced f s (cheaper f t rest))
+    let others = cheapest f (shifts_from band (suc by) more ++ rest) in
+    lesser-assoc (lesser best u) d (priced f others)
+    ∙ lesser-assoc best u (lesser d (priced f others))
+    ∙ ap (λ x. lesser best (lesser u (lesser x (priced f others)))) g
+    ∙ ap (λ x. lesser best (lesser u x)) (lesser-priced f t others)
+    ∙ ap (λ x. lesser best (lesser x (priced f (cheaper f t others)))) e
+    ∙ ap (lesser best) (lesser-priced f s (cheaper f t others))
 
-pub band-step : (f : Shift → ℕ) (band : Band) (by : ℕ) (best u d whole : Option Priced) → by < band.height
+pub band-step : (f : Shift → ℕ) (band : Band) (by : ℕ) (rest : List Shift) (best u d whole : Option Priced) → by < band.height
     → u ≡ priced f (Some (shift_by band (pos by))) → d ≡ priced f (Some (shift_by band (neg_ℤ (pos by))))
-    → lesser best (priced f (cheapest f (shifts_from band by (band.height - by)))) ≡ whole
-    → lesser (lesser (lesser best u) d) (priced f (cheapest f (shifts_from band (by + 1) (band.height - (by + 1))))) ≡ whole
-band-step f band by best u d whole lt e g h =
+    → lesser best (priced f (cheapest f (shifts_from band by (band.height - by) ++ rest))) ≡ whole
+    → lesser (lesser (lesser best u) d) (priced f (cheapest f (shifts_from band (by + 1) (band.height - (by + 1)) ++ rest))) ≡ whole
+band-step f band by rest best u d whole lt e g h =
     let next : by + 1 ≡ suc by = omega arith in
     let more : band.height - by ≡ suc (band.height - (by + 1)) = omega arith in
-    ap (λ n. lesser (lesser (lesser best u) d) (priced f (cheapest f (shifts_from band n (band.height - (by + 1)))))) next
-    ∙ two-more f band by (band.height - (by + 1)) best u d e g
-    ∙ ap (λ n. lesser best (priced f (cheapest f (shifts_from band by n)))) (sym more)
+    ap (λ n. lesser (lesser (lesser best u) d) (priced f (cheapest f (shifts_from band n (band.height - (by + 1)) ++ rest)))) next
+    ∙ two-more f band by (band.height - (by + 1)) rest best u d e g
+    ∙ ap (λ n. lesser best (priced f (cheapest f (shifts_from band by n ++ rest)))) (sym more)
     ∙ h
 
--- one more band
-pub bands-step : (f : Shift → ℕ) (bands : List Band) (i : ℕ) (d : Band) (best more whole : Option Priced) → i < length bands
-    → more ≡ priced f (cheapest f (shifts_of (get_or bands i d)))
+-- the shifts of one more band, and none of them left
+pub band-begins : (f : Shift → ℕ) (bands : List Band) (i : ℕ) (d : Band) (best whole : Option Priced) → i < length bands
     → lesser best (priced f (cheapest f (flat_map shifts_of (drop i bands)))) ≡ whole
-    → lesser (lesser best more) (priced f (cheapest f (flat_map shifts_of (drop (i + 1) bands)))) ≡ whole
-bands-step f bands i d best more whole lt g h =
-    let band = get_or bands i d in
-    let rest = flat_map shifts_of (drop (i + 1) bands) in
-    lesser-assoc best more (priced f (cheapest f rest))
-    ∙ ap (λ x. lesser best (lesser x (priced f (cheapest f rest)))) g
-    ∙ ap (lesser best) (sym (appended f (shifts_of band) rest))
-    ∙ ap (λ xs. lesser best (priced f (cheapest f (flat_map shifts_of xs)))) (sym (drop_more bands i d lt))
-    ∙ h
+    → lesser best (priced f (cheapest f (shifts_of (get_or bands i d) ++ flat_map shifts_of (drop (i + 1) bands)))) ≡ whole
+band-begins f bands i d best whole lt h = ap (λ xs. lesser best (priced f (cheapest f (flat_map shifts_of xs)))) (sym (drop_more bands i d lt)) ∙ h
+
+pub band-ends : (f : Shift → ℕ) (band : Band) (by : ℕ) (rest : List Shift) (best whole : Option Priced) → band.height ≤ by
+    → lesser best (priced f (cheapest f (shifts_from band by (band.height - by) ++ rest))) ≡ whole → lesser best (priced f (cheapest f rest)) ≡ whole
+band-ends f band by rest best whole le h =
+    let none : band.height - by ≡ 0 = omega arith in
+    ap (λ n. lesser best (priced f (cheapest f (shifts_from band by n ++ rest)))) (sym none) ∙ h
 
 -- ---- what is taken
 

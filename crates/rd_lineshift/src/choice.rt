@@ -95,35 +95,22 @@ fn cheapest_of(numbers: &Numbered, bands: &[Band]) -> Option<Priced>
 {
     let mut best = None;
     for i in 0..bands.len() {
-        best = cheaper(best, cheapest_in(numbers, bands[i]));
-    }
-    best
-}
-
-/// The first of the shifts of a band that cost the least.
-fn cheapest_in(numbers: &Numbered, band: Band) -> Option<Priced>
-    requires length { length numbers.now.old.items ≡ length numbers.now.new.items }
-    requires few { length numbers.now.new.items ≤ FRAME_ROWS }
-    requires band { band.top + band.height ≤ length numbers.now.new.items }
-    ensures value { result ≡ priced (number_cost numbers.now.old.items numbers.now.new.items numbers.now.blank) (cheapest (number_cost numbers.now.old.items numbers.now.new.items numbers.now.blank) (shifts_of band)) }
-    ensures bound { IfSome result (λ p. p.cost ≤ FRAME_ROWS) }
-{
-    let mut best = None;
-    for by in 1..band.height {
-        best = cheaper(best, Some(upward(numbers, band, by)));
-        best = cheaper(best, Some(downward(numbers, band, by)));
+        let band = bands[i];
+        for by in 1..band.height {
+            best = cheaper(best, upward(numbers, band, by));
+            best = cheaper(best, downward(numbers, band, by));
+        }
     }
     best
 }
 
 /// One of two shifts, the second only where it costs less.
-fn cheaper(best: Option<Priced>, other: Option<Priced>) -> Option<Priced>
-    ensures { result ≡ lesser best other }
+fn cheaper(best: Option<Priced>, other: Priced) -> Option<Priced>
+    ensures { result ≡ lesser best (Some other) }
 {
-    match (best, other) {
-        (Some(first), Some(second)) if second.cost < first.cost => other,
-        (Some(_), _) => best,
-        _ => other,
+    match best {
+        Some(first) if first.cost <= other.cost => best,
+        _ => Some(other),
     }
 }
 

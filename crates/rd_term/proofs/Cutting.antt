@@ -1,45 +1,30 @@
 -- Cells in place of others: the columns of characters that are cut, and rows that are filled part by part.
-use Rattle.std.proofs.Common.{◌≡◌, if◌then◌else◌, ℕ, zero, suc, ◌+◌, ◌-◌, ◌<◌, ◌≤◌, Bool, true, false, List, [], ◌∷◌, ◌++◌, length, get_or, set, take, drop, map, replicate, Option, None, Some, refl, sym, ap, ◌∙◌, arith, append_assoc}
-use Rattle.std.specs.Prelude.{slice_get}
+use Rattle.std.proofs.Common.{◌≡◌, if◌then◌else◌, ℕ, zero, suc, ◌+◌, ◌-◌, ◌<◌, ◌≤◌, Bool, true, false, List, [], ◌∷◌, ◌++◌, length, get_or, set, take, drop, map, replicate, Option, None, Some, refl, sym, ap, ◌∙◌, arith, append_assoc, drop_of_length-le}
 use Rattle.std.proofs.lemmas.List.{take_at, drop_at, set_at, drop_more, drop-drop, take-append-drop, length-append, length-take-le, length-replicate, length-drop, length-map}
-use Rattle.std.proofs.lemmas.Option.{get_or_from_slice_get}
 use Rattle.rd_base.specs.Faces.{Attributes}
 use Rattle.rd_base.specs.Glyphs.{is_space, blanks, glyph_cells}
 use Rattle.rd_base.specs.declared.cell.Glyph.{Glyph}
 use Rattle.rd_base.specs.declared.cell.Cell.{Cell}
 use Rattle.rd_base.specs.declared.cell.Cell.TheVariants.{Blank, First, Rest}
 use Rattle.rd_term.specs.Overwriting.{is_later, first_column, later_columns, overwritten}
+use Rattle.rd_term.specs.Walks.{passing}
+use Rattle.rd_term.proofs.Walks.{back-le}
 
 abbrev pub Row : Type 0
 Row = List (Option Cell)
 
 -- ---- the columns of a character
 
-pub first-here : (row : Row) (column : ℕ) (cell : Option Cell) → slice_get row column ≡ Some cell → is_later cell ≡ false → first_column row column ≡ column
-first-here row zero cell e f = refl
-first-here row (suc column) cell e f =
-    let at = get_or_from_slice_get row (suc column) cell None e in
-    rw (at, f) refl
+-- a test that says which columns of a row are later ones of characters
+abbrev pub later_at : Row → ℕ → Bool
+later_at row column = is_later (get_or row column None)
 
-pub first-chosen : (later : Bool) (n column : ℕ) → n ≤ column → (if later then n else suc column) ≤ suc column
-first-chosen true n column le = omega arith
-first-chosen false n column le = omega arith
-
-pub first-le : (row : Row) (column : ℕ) → first_column row column ≤ column
-first-le row zero = omega arith
-first-le row (suc column) = first-chosen (is_later (get_or row (suc column) None)) (first_column row column) column (first-le row column)
-
-pub later-more : (row : Row) (column : ℕ) (cell : Option Cell) → column < length row → slice_get row column ≡ Some cell → is_later cell ≡ true
-    → later_columns (drop column row) ≡ suc (later_columns (drop (column + 1) row))
-later-more row column cell lt e t =
-    let at = get_or_from_slice_get row column cell None e in
-    ap later_columns (drop_more row column None lt) ∙ rw (at, t) refl
-
-pub later-none : (row : Row) (column : ℕ) (cell : Option Cell) → column < length row → slice_get row column ≡ Some cell → is_later cell ≡ false
-    → later_columns (drop column row) ≡ 0
-later-none row column cell lt e f =
-    let at = get_or_from_slice_get row column cell None e in
-    ap later_columns (drop_more row column None lt) ∙ rw (at, f) refl
+pub later-passing : (row : Row) (column more : ℕ) → column + more ≡ length row → passing (later_at row) column more ≡ later_columns (drop column row)
+later-passing row column zero e = sym (ap later_columns (drop_of_length-le row (omega arith)))
+later-passing row column (suc more) e =
+    let next : column + 1 ≡ suc column = omega arith in
+    ap (λ n. if later_at row column then suc n else 0) (later-passing row (suc column) more (omega arith) ∙ ap (λ k. later_columns (drop k row)) (sym next))
+    ∙ sym (ap later_columns (drop_more row column None (omega arith)))
 
 -- ---- parts of a row
 
@@ -63,7 +48,7 @@ front row column = take (first_column row column) row ++ replicate (column - fir
 
 pub length-front : (row : Row) (column : ℕ) → column ≤ length row → length (front row column) ≡ column
 length-front row column le =
-    let first = first-le row column in
+    let first = back-le (later_at row) column in
     length-append (take (first_column row column) row) (replicate (column - first_column row column) None)
     ∙ omega (arith, length-take-le (first_column row column) row (omega arith), length-replicate {A = Option Cell} (column - first_column row column) None)
 

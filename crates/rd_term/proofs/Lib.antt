@@ -5,3 +5,4 @@ pub mod Feeding
 pub mod Measured
 mod Putting
 pub mod Shapes
+pub mod Walks

@@ -7,3 +7,4 @@ pub mod Pictures
 pub mod Shifts
 pub mod Steps
 pub mod Terminals
+pub mod Walks

@@ -1,7 +1,8 @@
 -- Cells that are put into a row in place of others.
-use Rattle.std.specs.Prelude.{ℕ, zero, suc, ◌+◌, ◌-◌, Bool, true, false, if◌then◌else◌, List, [], ◌∷◌, ◌++◌, length, take, drop, replicate, Option, None, Some, slice_index_or}
+use Rattle.std.specs.Prelude.{ℕ, suc, ◌+◌, ◌-◌, Bool, true, false, if◌then◌else◌, List, [], ◌∷◌, ◌++◌, length, take, drop, replicate, Option, None, Some, slice_index_or}
 use Rattle.rd_base.specs.declared.cell.Cell.{Cell}
 use Rattle.rd_base.specs.declared.cell.Cell.TheVariants.{Rest}
+use Rattle.rd_term.specs.Walks.{back_while}
 
 -- a later column of a character
 abbrev pub is_later : Option Cell → Bool
@@ -10,8 +11,7 @@ is_later cell = false
 
 -- the first column of the character that has this column
 abbrev pub first_column : List (Option Cell) → ℕ → ℕ
-first_column row zero = 0
-first_column row (suc column) = if is_later (slice_index_or row (suc column) None) then first_column row column else suc column
+first_column row column = back_while (λ column. is_later (slice_index_or row column None)) column
 
 -- how many later columns of a character cells begin with
 abbrev pub later_columns : List (Option Cell) → ℕ

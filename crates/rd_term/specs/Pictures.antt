@@ -39,6 +39,13 @@ pub record IsOfSize (width height : ℕ) (picture : Picture) : Type 0 where
   pub row : picture.row < height
   pub column : picture.column < width
 
+-- how many columns and rows a screen may have, or a terminal
+pub record IsFrameSize (width height : ℕ) : Type 0 where
+  pub some_columns : 1 ≤ width
+  pub columns : width ≤ FRAME_COLUMNS
+  pub some_rows : 1 ≤ height
+  pub rows : height ≤ FRAME_ROWS
+
 -- what a screen may be: at most 400 columns and 200 rows
 pub record IsScreen (picture : Picture) : Type 0 where
   pub size : IsOfSize (width_of picture.rows) (length picture.rows) picture

@@ -18,8 +18,10 @@ mod rows;
 mod screen;
 mod shifting;
 mod terminal;
+mod walk;
 
 pub use laws::{a_cut_makes_no_difference, characters_are_read};
 pub use pen::{dressed, is_rendition, numbers_of_face};
 pub use screen::{Screen, first_blanks};
 pub use terminal::Terminal;
+pub use walk::{back_while, on_while};

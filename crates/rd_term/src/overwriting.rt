@@ -1,47 +1,23 @@
 //! Cells that are put into a row in place of others.
-ghost use Rattle.std.specs.Prelude.{◌≡◌, ◌+◌, ◌-◌, ◌<◌, ◌≤◌, length, map, take, drop, Some};
+ghost use Rattle.std.specs.Prelude.{◌≡◌, ◌+◌, ◌-◌, ◌<◌, ◌≤◌, length, map, take, drop, slice_index_or, None, Some};
 ghost use Rattle.rd_base.specs.Glyphs.{glyph_cells};
-ghost use Rattle.rd_term.specs.Overwriting.{is_later, first_column as first_column_of, later_columns, overwritten};
+ghost use Rattle.rd_term.specs.Overwriting.{is_later, overwritten};
 ghost use Rattle.rd_term.specs.Terminals.{erased_from};
 
 use crate::rows::fill;
+use crate::walk::{back_while, on_while};
 use rd_base::limits::FRAME_COLUMNS;
 use rd_base::{Cell, Face, Glyph, ListOf};
 
-/// Whether this is a later column of a character.
-fn is_later(cell: Option<Cell>) -> bool
-    ensures { result ≡ is_later cell }
+/// Whether a column of a row is a later one of a character.
+fn is_later(row: &ListOf<Option<Cell>>, column: usize) -> bool
+    requires { column < length row.now }
+    ensures { result ≡ is_later (slice_index_or row.now column None) }
 {
-    match cell {
+    match row.as_slice()[column] {
         Some(Cell::Rest) => true,
         _ => false,
     }
-}
-
-/// The first column of the character that has this column.
-fn first_column(row: &ListOf<Option<Cell>>, column: usize) -> usize
-    requires { column < length row.now }
-    ensures value { result ≡ first_column_of row.now column }
-    ensures order { result ≤ column }
-{
-    let mut begin = column;
-    while begin > 0 && is_later(row.at(begin)) {
-        begin -= 1;
-    }
-    begin
-}
-
-/// The first column from this one on that is no later column of a character.
-fn next_character(row: &ListOf<Option<Cell>>, column: usize) -> usize
-    requires { column ≤ length row.now }
-    ensures value { result ≡ column + later_columns (drop column row.now) }
-    ensures within { result ≤ length row.now }
-{
-    let mut end = column;
-    while end < row.len() && is_later(row.at(end)) {
-        end += 1;
-    }
-    end
 }
 
 /// Makes the columns unknown that are left of characters which have a column from one to before another.
@@ -51,8 +27,9 @@ fn cut(row: &mut ListOf<Option<Cell>>, from: usize, to: usize)
     requires end { to ≤ length row.old }
     ensures { row.new ≡ overwritten from (take (to - from) (drop from row.old)) row.old }
 {
-    let begin = first_column(row, from);
-    let end = next_character(row, to);
+    let goes_on = |column: usize| is_later(row, column);
+    let begin = back_while(from, goes_on);
+    let end = on_while(to, row.len(), goes_on);
     fill(row, begin, from, None);
     fill(row, to, end, None);
 }

@@ -1,10 +1,10 @@
 //! A screen of cells with a cursor.
 ghost use Rattle.std.specs.Prelude.{◌≡◌, ◌+◌, ◌<◌, ◌≤◌, IfOk, length, slice_set};
 ghost use Rattle.rd_base.specs.Cells.{row_at};
-ghost use Rattle.rd_term.specs.Pictures.{IsScreen, blank_picture, blank_row, width_of, cell_at, with_cell, with_cells};
+ghost use Rattle.rd_term.specs.Pictures.{IsFrameSize, IsScreen, blank_picture, blank_row, width_of, cell_at, with_cell, with_cells};
 
 use crate::rows::filled;
-use rd_base::limits::{FRAME_COLUMNS, FRAME_ROWS};
+use rd_base::limits::FRAME_COLUMNS;
 use rd_base::{Cell, Face, ListOf, Memory};
 use std::alloc::Global;
 use std::marker::Model;
@@ -30,10 +30,7 @@ impl Model for Screen {
 impl Screen {
     /// A screen of plain blanks, with the cursor at its first cell.
     pub fn blank(alloc: Global, width: u32, height: u32) -> Result<Screen, Memory>
-        requires some_columns { 1 ≤ width }
-        requires columns { width ≤ FRAME_COLUMNS }
-        requires some_rows { 1 ≤ height }
-        requires rows { height ≤ FRAME_ROWS }
+        requires { IsFrameSize width height }
         ensures { IfOk result (λ screen. screen ≡ blank_picture width height) }
     {
         Ok(Screen {

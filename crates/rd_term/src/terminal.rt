@@ -1,14 +1,13 @@
 //! The terminal: what it shows, by the bytes that it reads.
 ghost use Rattle.std.specs.Prelude.{◌≡◌, ◌<◌, ◌≤◌, OnOk, OnErr, IfOk, length, slice_index_or};
 ghost use Rattle.rd_base.specs.Cells.{row_at};
-ghost use Rattle.rd_term.specs.Pictures.{width_of};
+ghost use Rattle.rd_term.specs.Pictures.{IsFrameSize, width_of};
 ghost use Rattle.rd_term.specs.Terminals.{IsTerminal, unknown, feed_byte, feed_bytes, perform, obey};
 
 use crate::control::Control;
 use crate::reading::{Reading, Step};
 use crate::rows::filled;
 use crate::shifting::RowMove;
-use rd_base::limits::{FRAME_COLUMNS, FRAME_ROWS};
 use rd_base::{Cell, Face, ListOf, Memory};
 use std::alloc::Global;
 use std::marker::Model;
@@ -52,10 +51,7 @@ impl Model for Terminal {
 impl Terminal {
     /// A terminal of which nothing is known.
     pub fn new(alloc: Global, width: u32, height: u32) -> Result<Terminal, Memory>
-        requires some_columns { 1 ≤ width }
-        requires columns { width ≤ FRAME_COLUMNS }
-        requires some_rows { 1 ≤ height }
-        requires rows { height ≤ FRAME_ROWS }
+        requires { IsFrameSize width height }
         ensures { IfOk result (λ terminal. terminal ≡ unknown width height) }
     {
         Ok(Terminal {
@@ -72,10 +68,7 @@ impl Terminal {
 
     /// Becomes a terminal of another size of which nothing is known. Where memory is wanting nothing changes.
     pub fn resize(&mut self, width: u32, height: u32) -> Result<(), Memory>
-        requires some_columns { 1 ≤ width }
-        requires columns { width ≤ FRAME_COLUMNS }
-        requires some_rows { 1 ≤ height }
-        requires rows { height ≤ FRAME_ROWS }
+        requires { IsFrameSize width height }
         ensures ok { OnOk result (self.new ≡ unknown width height) }
         ensures err { OnErr result (self.new ≡ self.old) }
     {

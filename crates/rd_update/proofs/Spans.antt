@@ -1,5 +1,5 @@
 -- Where two rows differ: what is before the first difference, behind the last one, and blank to the end.
-use Rattle.std.proofs.Common.{◌≡◌, if◌then◌else◌, ◌⊎◌, inl, inr, ◌||◌, ℕ, zero, suc, ◌+◌, ◌-◌, ◌<◌, ◌≤◌, Bool, true, false, List, [], ◌∷◌, ◌++◌, length, get_or, map, take, drop, replicate, None, Some, refl, sym, ap, ◌∙◌, arith}
+use Rattle.std.proofs.Common.{◌≡◌, if◌then◌else◌, ◌⊎◌, inl, inr, ◌||◌, ℕ, zero, suc, ◌+◌, ◌-◌, ◌<◌, ◌≤◌, Bool, true, false, List, [], ◌∷◌, ◌++◌, length, get_or, map, take, drop, replicate, None, Some, refl, sym, ap, ap₂, ◌∙◌, arith, drop_of_length-le}
 use Rattle.std.proofs.lemmas.Bool.{or_parts}
 use Rattle.std.proofs.lemmas.Bool.Decides.{nat_tests}
 use Rattle.std.proofs.lemmas.List.{take-append-drop, drop-drop, drop-replicate, length-replicate, drop_more, get_or-map}
@@ -9,7 +9,9 @@ use Rattle.rd_term.specs.Pictures.{blank, blank_row}
 use Rattle.rd_term.specs.Overwriting.{is_later, later_columns, first_column}
 use Rattle.rd_base.specs.Equals.{same_cell}
 use Rattle.rd_base.proofs.Equals.{cell-told}
-use Rattle.rd_term.proofs.Cutting.{two-parts, first-chosen, later-chosen}
+use Rattle.rd_term.specs.Walks.{passing}
+use Rattle.rd_term.proofs.Cutting.{two-parts, later-chosen}
+use Rattle.rd_term.proofs.Walks.{back-le}
 use Rattle.rd_update.specs.Updates.{first_difference, end_before, end_of_differences, used, differs, is_rest, goes_on, begin_before, going_on}
 
 -- ---- before the first difference and behind the last
@@ -109,15 +111,8 @@ three-parts a m xs le = ap (λ ys. take a xs ++ ys) (two-parts a m xs le) ∙ ta
 
 -- ---- where a character goes on
 
-pub begin-goes : (old new : List Cell) (column : ℕ) → 0 < column → goes_on old new column ≡ true → begin_before old new (column - 1) ≡ begin_before old new column
-begin-goes old new zero p e = absurd (omega arith)
-begin-goes old new (suc column) p e =
-    let back : suc column - 1 ≡ column = omega arith in
-    rw (e, back) refl
-
 pub begin-le : (old new : List Cell) (column : ℕ) → begin_before old new column ≤ column
-begin-le old new zero = omega arith
-begin-le old new (suc column) = first-chosen (goes_on old new (suc column)) (begin_before old new column) column (begin-le old new column)
+begin-le old new column = back-le (goes_on old new) column
 
 begin-is-chosen : (old new : List Cell) (column : ℕ) (b : Bool) → goes_on old new (suc column) ≡ b
     → (begin_before old new column ≡ 0) ⊎ (goes_on old new (begin_before old new column) ≡ false)
@@ -129,6 +124,15 @@ begin-is-chosen old new column false e h = inr e
 pub begin-is : (old new : List Cell) (column : ℕ) → (begin_before old new column ≡ 0) ⊎ (goes_on old new (begin_before old new column) ≡ false)
 begin-is old new zero = inl refl
 begin-is old new (suc column) = begin-is-chosen old new column (goes_on old new (suc column)) refl (begin-is old new column)
+
+pub going-passing : (old new : List Cell) (column more : ℕ) → column + more ≡ length old → column + more ≡ length new
+    → passing (goes_on old new) column more ≡ going_on (drop column old) (drop column new)
+going-passing old new column zero p q = sym (ap₂ going_on (drop_of_length-le old (omega arith)) (drop_of_length-le new (omega arith)))
+going-passing old new column (suc more) p q =
+    let next : column + 1 ≡ suc column = omega arith in
+    ap (λ n. if goes_on old new column then suc n else 0)
+    (going-passing old new (suc column) more (omega arith) (omega arith) ∙ ap (λ k. going_on (drop k old) (drop k new)) (sym next))
+    ∙ sym (ap₂ going_on (drop_more old column blank (omega arith)) (drop_more new column blank (omega arith)))
 
 pub going-le : (xs ys : List Cell) → going_on xs ys ≤ length ys
 going-le [] [] = omega arith

@@ -10,6 +10,7 @@ use Rattle.rd_base.specs.declared.cell.Cell.{Cell}
 use Rattle.rd_base.specs.declared.cell.Cell.TheVariants.{Blank, First, Rest}
 use Rattle.rd_term.specs.Pens.{numbers_of_face}
 use Rattle.rd_term.specs.Pictures.{Picture, blank, blank_row}
+use Rattle.rd_term.specs.Walks.{back_while}
 
 -- ---- where two rows differ
 
@@ -41,8 +42,7 @@ goes_on old new column = is_rest (slice_index_or old column blank) || is_rest (s
 
 -- the last column up to this one at which no character goes on
 abbrev pub begin_before : List Cell → List Cell → ℕ → ℕ
-begin_before old new zero = 0
-begin_before old new (suc column) = if goes_on old new (suc column) then begin_before old new column else suc column
+begin_before old new column = back_while (goes_on old new) column
 
 -- how many columns follow at which one goes on
 abbrev pub going_on : List Cell → List Cell → ℕ

@@ -1,14 +1,15 @@
 //! Where two rows differ.
-ghost use Rattle.std.specs.Prelude.{◌≡◌, ◌+◌, ◌<◌, ◌≤◌, ◌||◌, All, IfOk, length, drop};
+ghost use Rattle.std.specs.Prelude.{◌≡◌, ◌<◌, ◌≤◌, All, IfOk, length};
 ghost use Rattle.rd_base.specs.Cells.{IsSmall};
 ghost use Rattle.rd_base.specs.Equals.{same_cell};
 ghost use Rattle.rd_term.specs.Pictures.{blank};
-ghost use Rattle.rd_update.specs.Updates.{first_difference as first_column, end_of_differences as end_column, used as used_of, differs, is_rest, begin_before, going_on, begin_of, end_of};
+ghost use Rattle.rd_update.specs.Updates.{first_difference as first_column, end_of_differences as end_column, used as used_of, differs, is_rest, goes_on, begin_of, end_of};
 ghost use Rattle.rd_update.specs.Words.{columns_of_words, differing_columns};
 
 use crate::words::{PairWords, read};
 use rd_base::{Cell, Face, Memory};
 use rd_lanes::{first_diff, last_diff};
+use rd_term::{back_while, on_while};
 
 /// Columns from one to before another.
 #[derive(Clone, Copy)]
@@ -92,45 +93,20 @@ pub(crate) fn interval(differing: Columns, old: &[Cell], new: &[Cell]) -> Column
     ensures order { result.from < result.end }
     ensures within { result.end ≤ length new.now }
 {
+    let going_on = |column: usize| goes_on(old, new, column);
     Columns {
-        from: begin_before(old, new, differing.from),
-        end: end_behind(old, new, differing.end),
+        from: back_while(differing.from, going_on),
+        end: on_while(differing.end, new.len(), going_on),
     }
 }
 
-/// The last column up to this one at which no character of two rows goes on.
-fn begin_before(old: &[Cell], new: &[Cell], column: usize) -> usize
-    requires length { length old.now ≡ length new.now }
-    requires column { column < length new.now }
-    ensures value { result ≡ begin_before old.now new.now column }
-    ensures order { result ≤ column }
+/// Whether a character of either of two rows goes on at a column.
+fn goes_on(old: &[Cell], new: &[Cell], column: usize) -> bool
+    requires old { column < length old.now }
+    requires new { column < length new.now }
+    ensures { result ≡ goes_on old.now new.now column }
 {
-    let mut begin = column;
-    while begin > 0 && go_on(&old[begin], &new[begin]) {
-        begin -= 1;
-    }
-    begin
-}
-
-/// The first column from this one on at which no character of two rows goes on.
-fn end_behind(old: &[Cell], new: &[Cell], column: usize) -> usize
-    requires length { length old.now ≡ length new.now }
-    requires column { column ≤ length new.now }
-    ensures value { result ≡ column + going_on (drop column old.now) (drop column new.now) }
-    ensures within { result ≤ length new.now }
-{
-    let mut end = column;
-    while end < new.len() && go_on(&old[end], &new[end]) {
-        end += 1;
-    }
-    end
-}
-
-/// Whether a character goes on at either of two cells.
-fn go_on(old: &Cell, new: &Cell) -> bool
-    ensures { result ≡ (is_rest old.now || is_rest new.now) }
-{
-    is_rest(old) || is_rest(new)
+    is_rest(&old[column]) || is_rest(&new[column])
 }
 
 /// Whether this is a later column of a character.

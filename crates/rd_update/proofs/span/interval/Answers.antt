@@ -1,14 +1,23 @@
-use Rattle.std.proofs.Common.{arith}
-use Rattle.rd_update.proofs.Spans.{first_before, end_within}
+use Rattle.std.proofs.Common.{◌≡◌, ◌∙◌, ◌+◌, ◌-◌, ap, rules, arith, length, drop}
+use Rattle.rd_update.specs.Updates.{goes_on}
+use Rattle.rd_update.proofs.Spans.{first_before, end_within, going-passing}
 use Rattle.rd_update.proofs.span.interval.Goals as goal
 
-pub begin_before-requires-clause-column : goal.begin_before-requires-clause-column
-begin_before-requires-clause-column c =
-    omega (arith, c.requires.from, first_before c.args.old.now c.args.new.now c.requires.differ, end_within c.args.old.now c.args.new.now)
+pub back_while-requires : goal.back_while-requires
+back_while-requires c = ?
 
-pub end_behind-requires-clause-column : goal.end_behind-requires-clause-column
-end_behind-requires-clause-column c = omega (arith, c.requires.end, end_within c.args.old.now c.args.new.now)
+pub on_while-requires-clause-order : goal.on_while-requires-clause-order
+on_while-requires-clause-order c = omega (arith, c.requires.end, end_within c.args.old.now c.args.new.now, c.len.ensures)
+
+pub on_while-requires-clause-asked : goal.on_while-requires-clause-asked
+on_while-requires-clause-asked c = ?
+
+pub returns-clause-begin : goal.returns-clause-begin
+returns-clause-begin c = ?
+
+pub returns-clause-end : goal.returns-clause-end
+returns-clause-end c = ?
 
 pub returns-clause-order : goal.returns-clause-order
 returns-clause-order c =
-    omega (arith, c.begin_before.ensures.order, c.requires.from, c.requires.end, c.end_behind.ensures.value, first_before c.args.old.now c.args.new.now c.requires.differ)
+    omega (arith, c.back_while.ensures.order, c.requires.from, c.requires.end, c.on_while.ensures.least, first_before c.args.old.now c.args.new.now c.requires.differ)
