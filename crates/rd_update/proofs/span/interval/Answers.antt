@@ -1,22 +1,38 @@
-use Rattle.std.proofs.Common.{◌≡◌, ◌∙◌, ◌+◌, ◌-◌, ap, rules, arith, length, drop}
-use Rattle.rd_update.specs.Updates.{goes_on}
+use Rattle.std.proofs.Common.{◌≡◌, ◌<◌, ◌∙◌, ◌+◌, ◌-◌, ap, rules, arith, length, drop}
+use Rattle.rd_update.specs.Updates.{begin_before, goes_on, going_on}
 use Rattle.rd_update.proofs.Spans.{first_before, end_within, going-passing}
 use Rattle.rd_update.proofs.span.interval.Goals as goal
 
 pub back_while-requires : goal.back_while-requires
-back_while-requires c = ?
+back_while-requires c =
+    let first = first_before c.args.old.now c.args.new.now c.requires.differ in
+    let most = end_within c.args.old.now c.args.new.now in
+    let new : c.args.differing.from < length c.args.new.now = omega (arith, c.requires.from, first, most) in
+    let old : c.args.differing.from < length c.args.old.now = omega (arith, new, c.requires.length) in
+    λ place some up κs pointer same ranges sizes one two lives. (omega (arith, up, old), omega (arith, up, new))
 
 pub on_while-requires-clause-order : goal.on_while-requires-clause-order
-on_while-requires-clause-order c = omega (arith, c.requires.end, end_within c.args.old.now c.args.new.now, c.len.ensures)
+on_while-requires-clause-order c = omega (arith, c.requires.end, end_within c.args.old.now c.args.new.now)
 
 pub on_while-requires-clause-asked : goal.on_while-requires-clause-asked
-on_while-requires-clause-asked c = ?
+on_while-requires-clause-asked c =
+    let same = c.requires.length in
+    λ place on before. search (rules, arith)
 
 pub returns-clause-begin : goal.returns-clause-begin
-returns-clause-begin c = ?
+returns-clause-begin c =
+    c.back_while.ensures.value (goes_on c.args.old.now c.args.new.now) (λ column answer some up told. search rules)
+    ∙ ap (λ column. begin_before c.args.old.now c.args.new.now column) c.requires.from
 
 pub returns-clause-end : goal.returns-clause-end
-returns-clause-end c = ?
+returns-clause-end c =
+    let old = c.args.old.now in
+    let new = c.args.new.now in
+    let most = end_within c.args.old.now c.args.new.now in
+    let left = length c.args.new.now - c.args.differing.end in
+    let passing_all = going-passing old new c.args.differing.end left (omega (arith, c.requires.end, most, c.requires.length)) (omega (arith, c.requires.end, most)) in
+    c.on_while.ensures.value (goes_on old new) (λ column answer on before told. search rules)
+    ∙ ap (λ n. c.args.differing.end + n) passing_all ∙ ap (λ end. end + going_on (drop end old) (drop end new)) c.requires.end
 
 pub returns-clause-order : goal.returns-clause-order
 returns-clause-order c =
