@@ -19,7 +19,6 @@ pub fn hidden(alloc: Global, view: &View, pos: Pos) -> Result<Hidden, Memory>
     ensures { IfOk result (λ answer. answer ≡ hidden (meaning view.now.state.now) pos) }
 {
     let appearance = appearance_at(alloc, view, pos)?;
-    let state = view.state;
-    let settings = &state.settings;
+    let settings = view.settings();
     Ok(appearance.hidden(&settings.invisible))
 }

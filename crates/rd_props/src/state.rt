@@ -51,3 +51,13 @@ pub struct View<'a> {
     pub mirrors: &'a Mirrors,
     pub brackets: &'a Brackets,
 }
+
+impl<'a> View<'a> {
+    /// The settings of the buffer.
+    pub fn settings(&self) -> &'a Settings
+        ensures { result.now ≡ self.now.state.now.settings }
+    {
+        let state = self.state;
+        &state.settings
+    }
+}
