@@ -1,4 +1,4 @@
-use Rattle.std.proofs.Common.{◌∙◌, ◌+◌, ap, drop, Some, arith}
+use Rattle.std.proofs.Common.{◌∙◌, ◌+◌, ap, drop, get_or, Some, arith}
 use Rattle.std.specs.Prelude.{pos, neg_ℤ}
 use Rattle.std.specs.List.{flat_map}
 use Rattle.rd_lineshift.specs.Choices.{cheapest, shift_by, shifts_of}
@@ -7,17 +7,19 @@ use Rattle.rd_lineshift.specs.declared.band.Band.{Band}
 use Rattle.rd_lineshift.proofs.Pricing.{band-begins, band-ends, band-step, lesser-bound, priced-is}
 use Rattle.rd_lineshift.proofs.choice.cheapest_of.Goals as goal
 
+abbrev none : Band
+none = record { top = 0; height = 0 }
+
 pub loop-by-init : goal.loop-by-init
 loop-by-init c =
     let f = number_cost c.args.numbers.now.old.items c.args.numbers.now.new.items c.args.numbers.now.blank in
-    let none : Band = record { top = 0; height = 0 } in
     (band-begins f c.args.bands.now c.loop-i.i none c.loop-i.best (priced f (cheapest f (flat_map shifts_of c.args.bands.now))) c.loop-i-test.true c.loop-i.invariant.0, c.loop-i.invariant.1)
 
 pub loop-by-preserved : goal.loop-by-preserved
 loop-by-preserved c =
     let f = number_cost c.args.numbers.now.old.items c.args.numbers.now.new.items c.args.numbers.now.blank in
     let bands = c.args.bands.now in
-    let band = c.loop-by.band in
+    let band = get_or bands c.loop-i.i none in
     let by = c.loop-by.by in
     let best = c.loop-by.best in
     let up = c.upward.result in
@@ -34,4 +36,4 @@ loop-i-preserved c =
     let f = number_cost c.args.numbers.now.old.items c.args.numbers.now.new.items c.args.numbers.now.blank in
     let bands = c.args.bands.now in
     let whole = priced f (cheapest f (flat_map shifts_of bands)) in
-    (band-ends f c.loop-by.band c.loop-by.by (flat_map shifts_of (drop (c.loop-i.i + 1) bands)) c.loop-by.best whole (omega (arith, c.loop-by-test.false)) c.loop-by.invariant.0, c.loop-by.invariant.1)
+    (band-ends f (get_or bands c.loop-i.i none) c.loop-by.by (flat_map shifts_of (drop (c.loop-i.i + 1) bands)) c.loop-by.best whole (omega (arith, c.loop-by-test.false)) c.loop-by.invariant.0, c.loop-by.invariant.1)

@@ -1,4 +1,4 @@
-use Rattle.std.proofs.Common.{◌≡◌, ◌<◌, ◌∙◌, ◌+◌, ◌-◌, ap, rules, arith, length, drop}
+use Rattle.std.proofs.Common.{◌<◌, ◌∙◌, ◌+◌, ◌-◌, ap, rules, arith, length, drop}
 use Rattle.rd_update.specs.Updates.{begin_before, goes_on, going_on}
 use Rattle.rd_update.proofs.Spans.{first_before, end_within, going-passing}
 use Rattle.rd_update.proofs.span.interval.Goals as goal
