@@ -2,7 +2,7 @@
 ghost use Rattle.std.specs.Prelude.{All, ◌≡◌, ◌+◌, IfOk, length};
 ghost use Rattle.rd_base.specs.Cells.{IsColoured};
 ghost use Rattle.rd_base.specs.Glyphs.{IsRowAfter};
-ghost use Rattle.rd_margins.specs.Cells.{margin_cells, row_margin};
+ghost use Rattle.rd_margins.specs.Cells.{row_margin};
 
 use crate::lines::numbers;
 use rd_base::{Cell, Ch, Face, ListOf, Memory};
@@ -33,26 +33,12 @@ pub fn row_margin(
     ensures whole { IfOk result (λ cells. IsRowAfter 0 cells) }
     ensures coloured { IfOk result (λ cells. All IsColoured cells) }
 {
-    if row > 0 {
-        return margin(alloc, classes, widths, None, &[]);
-    }
-    margin(alloc, classes, widths, Some(line), text)
-}
-
-/// The cells of the margins beside a row that shows a line's number and a text.
-fn margin(
-    alloc: Global,
-    classes: &Classes,
-    widths: Widths,
-    line: Option<u32>,
-    text: &[Ch],
-) -> Result<ListOf<Cell>, Memory>
-    ensures value { IfOk result (λ cells. cells ≡ margin_cells classes.now widths line text.now) }
-    ensures columns { IfOk result (λ cells. length cells ≡ widths.numbers + widths.strings) }
-    ensures whole { IfOk result (λ cells. IsRowAfter 0 cells) }
-    ensures coloured { IfOk result (λ cells. All IsColoured cells) }
-{
     plain_lines_are_whole();
+    let (line, text): (Option<u32>, &[Ch]) = if row > 0 {
+        (None, &[])
+    } else {
+        (Some(line), text)
+    };
     let mut cells = numbers(alloc, line, widths.numbers)?;
     let string = plain_line(alloc, text, classes, Face::PLAIN, widths.strings)?;
     cells.extend_from_slice(string.as_slice())?;

@@ -5,7 +5,7 @@ use Rattle.rd_base.specs.Faces.{plain}
 use Rattle.rd_base.specs.Glyphs.{IsRowAfter}
 use Rattle.rd_base.proofs.Colours.{plain-coloured}
 use Rattle.rd_base.proofs.Rows.{behind-whole}
-use Rattle.rd_margins.proofs.rows.margin.Goals as goal
+use Rattle.rd_margins.proofs.rows.row_margin.Goals as goal
 
 pub returns-clause-whole : goal.returns-clause-whole
 returns-clause-whole c =
@@ -18,4 +18,4 @@ returns-clause-coloured c =
     subst (All IsColoured) (sym c.in_ok-extend_from_slice.ensures.ok)
     (All-append IsColoured c.in_ok-cells.cells c.as_slice.result.now c.in_ok-cells.ensures.coloured
     (subst (All IsColoured) (sym (c.as_slice.ensures ∙ c.in_ok-string.ensures.value))
-    (lines.coloured c.args.classes.now plain c.args.widths.strings c.args.text.now plain-coloured)))
+    (lines.coloured c.args.classes.now plain c.args.widths.strings c.if-row-gt0.line.1.now plain-coloured)))
