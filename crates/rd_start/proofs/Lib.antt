@@ -16,6 +16,6 @@ mod Inside
 mod Moving
 pub mod NearRows
 mod Places
-pub mod Positions
+mod Positions
 mod Pushing
 mod Reaching
