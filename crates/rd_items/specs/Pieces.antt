@@ -115,17 +115,7 @@ has_element role.Empty = false
 has_element j = true
 
 abbrev pub char_by : MarkRole → Class → Attributes → ℕ → ℕ → Piece
-char_by j class face c p = record {
-  class = inner_class class;
-  kind = Some (kind.Char c);
-  face = face;
-  overlay = false;
-  covers = has_element j;
-  at = p;
-  to = p + 1;
-  base = base_of j;
-  mark = mark_of j;
-}
+char_by j class face c p = record (piece (inner_class class) (Some (kind.Char c)) face (has_element j) p (p + 1)) { base = base_of j; mark = mark_of j }
 
 abbrev pub char_piece : Scene → Attributes → ℕ → ℕ → Piece
 char_piece s face c p = char_by (mark_role_of s.parts c) (class_of s.parts.classes c) face c p

@@ -41,8 +41,7 @@ impl AlikeRange {
         ensures shown { IsAlikeRange (meaning view.now.state.now) view.now.objects.now result }
     {
         nothing_changes_before_the_next_stop();
-        let state = view.state;
-        let settings = &state.settings;
+        let settings = view.settings();
         AlikeRange {
             from: pos,
             until: stop_behind(view, pos),

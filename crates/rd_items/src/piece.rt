@@ -59,16 +59,10 @@ impl Piece {
     pub fn string(at: u32, face: Face, number: u32) -> Piece
         ensures { result ≡ string_piece at face number }
     {
+        let kind = Some(ItemKind::Text(number));
         Piece {
-            class: Class::ON,
-            kind: Some(ItemKind::Text(number)),
-            face,
             overlay: true,
-            covers: false,
-            at,
-            to: at,
-            base: None,
-            mark: None,
+            ..Piece::new(Class::ON, kind, face, false, at, at)
         }
     }
 
@@ -95,8 +89,7 @@ fn table_of(objects: &Objects, number: Option<u32>) -> Option<&Table>
 pub fn parts_of<'a>(view: &View<'a>) -> Parts<'a>
     ensures { result ≡ (scene_of view.now).parts }
 {
-    let state = view.state;
-    let settings = &state.settings;
+    let settings = view.settings();
     Parts {
         table: table_of(view.objects, settings.table),
         settings,
@@ -201,16 +194,11 @@ fn char_by(role: MarkRole, class: Class, face: Face, ch: Ch, at: u32) -> Piece
     requires { at < 4294967295 }
     ensures { result ≡ char_by role class face ch at }
 {
+    let (class, kind) = (inner_class(class), Some(ItemKind::Char(ch)));
     Piece {
-        class: inner_class(class),
-        kind: Some(ItemKind::Char(ch)),
-        face,
-        overlay: false,
-        covers: has_element(role),
-        at,
-        to: at + 1,
         base: role.base(),
         mark: role.mark(),
+        ..Piece::new(class, kind, face, has_element(role), at, at + 1)
     }
 }
 

@@ -93,8 +93,7 @@ pub fn showing_at(alloc: Global, view: &View, pos: Pos) -> Result<Showing, Memor
     ensures { IfOk result (λ showing. showing ≡ showing_at (meaning view.now.state.now) view.now.objects.now pos) }
 {
     let appearance = appearance_at(alloc, view, pos)?;
-    let state = view.state;
-    let settings = &state.settings;
+    let settings = view.settings();
     Ok(showing_by(&settings.invisible, &appearance))
 }
 
