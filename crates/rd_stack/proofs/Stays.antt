@@ -152,16 +152,22 @@ module _ (old new : Scene) (goes : GoesOnFrom old new) (closed : IsClosed old.ob
         ap (λ (xs : List Shown). flat_map (display_part_elements new origin) xs) (same-string base false under)
         ∙ flat-each (display_part_elements new origin) (display_part_elements old origin) (string_parts old base false text under) (λ x. same-kind x.kind x.face x.odd origin)
 
-  display-by : (number : ℕ) (found : Option TextValue) (base : ℕ) (origin : Origin) (under : Attributes) → slice_get old.objects.strings number ≡ found
-      → display_elements new base origin under found ≡ display_elements old base origin under found
-  display-by number None base origin under e = refl
-  display-by number (Some text) base origin under e = text-display number text e base origin under
+  -- what the string of a number gives, where what it gives if it was made stays
+  found-stays : (f g : Option TextValue → List Element) (found : Option TextValue) → f None ≡ g None → ((text : TextValue) → found ≡ Some text → f (Some text) ≡ g (Some text))
+      → f found ≡ g found
+  found-stays f g None none some = none
+  found-stays f g (Some text) none some = some text refl
+
+  string-stays : (f g : Option TextValue → List Element) (number : ℕ) → number < length old.objects.strings → f None ≡ g None
+      → ((text : TextValue) → slice_get old.objects.strings number ≡ Some text → f (Some text) ≡ g (Some text))
+      → f (slice_get new.objects.strings number) ≡ g (slice_get old.objects.strings number)
+  string-stays f g number made none some =
+      ap f (same_strings old.objects new.objects number goes.objects made) ∙ found-stays f g (slice_get old.objects.strings number) none some
 
   same-display : (number base : ℕ) (origin : Origin) (under : Attributes) → number < length old.objects.strings
       → display_elements new base origin under (slice_get new.objects.strings number) ≡ display_elements old base origin under (slice_get old.objects.strings number)
   same-display number base origin under made =
-      ap (λ (t : Option TextValue). display_elements new base origin under t) (same_strings old.objects new.objects number goes.objects made)
-      ∙ display-by number (slice_get old.objects.strings number) base origin under refl
+      string-stays (display_elements new base origin under) (display_elements old base origin under) number made refl (λ text found. text-display number text found base origin under)
 
   same-overlay-part : (base : ℕ) (origin : Origin) (k : PartKind) (face : Attributes) (odd : Bool) → PartMade old.objects k → overlay_part_by new base origin k face odd ≡ overlay_part_by old base origin k face odd
   same-overlay-part base origin (kind.Char c) face odd made = same-elements c odd face origin
@@ -171,20 +177,14 @@ module _ (old new : Scene) (goes : GoesOnFrom old new) (closed : IsClosed old.ob
   same-overlay-part base origin (kind.Replaced (Align n)) face odd made = refl
   same-overlay-part base origin kind.RowEnd face odd made = refl
 
-  overlay-by : (number : ℕ) (found : Option TextValue) (base : ℕ) (origin : Origin) (under : Attributes) → slice_get old.objects.strings number ≡ found
-      → overlay_elements new base origin under found ≡ overlay_elements old base origin under found
-  overlay-by number None base origin under e = refl
-  overlay-by number (Some text) base origin under e =
-      ap (λ (xs : List Shown). flat_map (overlay_part_elements new base origin) xs) (same-string number text e base true under)
-      ∙ flat-same (IsFineShown old closed) (overlay_part_elements new base origin) (overlay_part_elements old base origin) (string_parts old base true text under)
-      (λ x made. same-overlay-part base origin x.kind x.face x.odd made)
-      (string-fine old closed base true text under)
-
   same-overlay : (number base : ℕ) (origin : Origin) (under : Attributes) → number < length old.objects.strings
       → overlay_elements new base origin under (slice_get new.objects.strings number) ≡ overlay_elements old base origin under (slice_get old.objects.strings number)
   same-overlay number base origin under made =
-      ap (λ (t : Option TextValue). overlay_elements new base origin under t) (same_strings old.objects new.objects number goes.objects made)
-      ∙ overlay-by number (slice_get old.objects.strings number) base origin under refl
+      string-stays (overlay_elements new base origin under) (overlay_elements old base origin under) number made refl (λ text found.
+      ap (λ (xs : List Shown). flat_map (overlay_part_elements new base origin) xs) (same-string number text found base true under)
+      ∙ flat-same (IsFineShown old closed) (overlay_part_elements new base origin) (overlay_part_elements old base origin) (string_parts old base true text under)
+      (λ x made. same-overlay-part base origin x.kind x.face x.odd made)
+      (string-fine old closed base true text under))
 
   -- ---- the items of a line
 

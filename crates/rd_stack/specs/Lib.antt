@@ -5,3 +5,4 @@ pub mod Limits
 pub mod Steps
 pub mod Walks
 pub mod Examples
+pub mod Orders

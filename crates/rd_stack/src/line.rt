@@ -1,10 +1,10 @@
 //! Blocks that are being walked through.
-ghost use Rattle.std.specs.Prelude.{◌≡◌, ◌≤◌, ◌<◌, map, length, IfOk};
+ghost use Rattle.std.specs.Prelude.{◌≡◌, ◌≤◌, ◌<◌, length, IfOk};
 ghost use Rattle.rd_items.specs.Pieces.{scene_of};
-ghost use Rattle.rd_stack.specs.Lines.{item_class, item_code, item_turns};
+ghost use Rattle.rd_stack.specs.Lines.{item_turns};
 
 use crate::order::order_of;
-use rd_base::{Class, ListOf, Memory, mapped};
+use rd_base::Memory;
 use rd_items::Items;
 use rd_levels::Order;
 use rd_props::View;
@@ -66,23 +66,12 @@ pub fn order_of_items(alloc: Global, view: &View, base: u8, items: &Items) -> Re
     ensures places { IfOk result (λ order. order.places ≡ length items.now) }
     ensures few { length items.now < 4294967296 }
 {
-    let classes = classes_of(alloc, items)?;
-    let codes = codes_of(alloc, items)?;
-    order_of(alloc, view, base, &classes, &codes)
-}
-
-/// The classes of items, by which a line of them is ordered.
-fn classes_of(alloc: Global, items: &Items) -> Result<ListOf<Class>, Memory>
-    ensures classes { IfOk result (λ classes. classes ≡ map item_class items.now) }
-    ensures few { length items.now < 4294967296 }
-{
-    mapped(alloc, items.as_slice(), |item| item.class)
-}
-
-/// The codes by which items may be brackets: a character's own, of one with marks that of its base, and one that is listed nowhere of all
-/// else.
-fn codes_of(alloc: Global, items: &Items) -> Result<ListOf<u32>, Memory>
-    ensures { IfOk result (λ codes. codes ≡ map item_code items.now) }
-{
-    mapped(alloc, items.as_slice(), |item| item.kind.bracket_code())
+    order_of(
+        alloc,
+        view,
+        base,
+        items.as_slice(),
+        |item| item.class,
+        |item| item.kind.bracket_code(),
+    )
 }

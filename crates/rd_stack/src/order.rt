@@ -1,31 +1,39 @@
 //! The order in which what is walked through is shown.
-ghost use Rattle.std.specs.Prelude.{◌≡◌, ◌≤◌, length, IfOk};
+ghost use Rattle.std.specs.Prelude.{◌≡◌, ℕ, ◌≤◌, map, length, IfOk};
+ghost use Rattle.rd_base.specs.declared.class.Class.{Class};
 ghost use Rattle.rd_items.specs.Pieces.{scene_of};
 ghost use Rattle.rd_levels.specs.Turns.{turns_of};
+ghost use Rattle.rd_stack.specs.Orders.{Computes};
 
-use rd_base::{Class, ListOf, Memory};
+use rd_base::{Class, Memory, mapped};
 use rd_levels::Order;
 use rd_props::View;
 use std::alloc::Global;
 
-/// The turns of a line of these classes and codes with a base level of 0 or 1, as the buffer's setting `reorder` has them.
-pub fn order_of(
+/// The turns of these items in visual order in a line with a base level of 0 or 1, as the buffer's setting `reorder` has them, by the
+/// class of each and the code by which it may be a bracket.
+pub fn order_of<T, C: Fn(&T) -> Class, B: Fn(&T) -> u32>(
     alloc: Global,
     view: &View,
     base: u8,
-    classes: &ListOf<Class>,
-    codes: &ListOf<u32>,
+    items: &[T],
+    class_of: C,
+    code_of: B,
 ) -> Result<Order, Memory>
     requires base { base ≤ 1 }
-    requires codes { length codes.now ≡ length classes.now }
-    ensures turns { IfOk result (λ order. order.turns ≡ turns_of (scene_of view.now).brackets (scene_of view.now).parts.settings.reorder base classes.now codes.now) }
-    ensures places { IfOk result (λ order. order.places ≡ length classes.now) }
+    requires asked { C.IsAlwaysCallable class_of × B.IsAlwaysCallable code_of }
+    requires class { (class : T → Class) × Computes (C.post class_of) class }
+    requires code { (code : T → ℕ) × Computes (B.post code_of) code }
+    ensures turns { (class : T → Class) (code : T → ℕ) → Computes (C.post class_of) class → Computes (B.post code_of) code
+        → IfOk result (λ order. order.turns ≡ turns_of (scene_of view.now).brackets (scene_of view.now).parts.settings.reorder base (map class items.now) (map code items.now)) }
+    ensures places { IfOk result (λ order. order.places ≡ length items.now) }
 {
-    if classes.len() > u32::MAX as usize {
+    let classes = mapped(alloc, items, class_of)?;
+    let codes = mapped(alloc, items, code_of)?;
+    if items.len() > u32::MAX as usize {
         return Err(Memory);
     }
-    let state = view.state;
-    let settings = &state.settings;
+    let settings = view.settings();
     Order::new(
         alloc,
         settings.reorder,

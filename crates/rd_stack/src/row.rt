@@ -7,7 +7,7 @@ ghost use Rattle.rd_stack.specs.declared.part.Place.{Place};
 
 use crate::order::order_of;
 use crate::part::{Part, Place, ends_row, kind_code, part_of, place_of};
-use rd_base::{Class, Face, ListOf, Memory, mapped};
+use rd_base::{Face, ListOf, Memory};
 use rd_items::same_spec;
 use rd_levels::Order;
 use rd_objects::Text;
@@ -63,21 +63,12 @@ pub fn order_of_parts(alloc: Global, view: &View, base: u8, parts: &[Part]) -> R
     ensures turns { IfOk result (λ order. order.turns ≡ turns_of (scene_of view.now).brackets (scene_of view.now).parts.settings.reorder base (map part_class parts.now) (map part_code parts.now)) }
     ensures places { IfOk result (λ order. order.places ≡ length parts.now) }
 {
-    let classes = classes_of(alloc, parts)?;
-    let codes = codes_of(alloc, parts)?;
-    order_of(alloc, view, base, &classes, &codes)
-}
-
-/// The classes of parts.
-fn classes_of(alloc: Global, parts: &[Part]) -> Result<ListOf<Class>, Memory>
-    ensures { IfOk result (λ classes. classes ≡ map part_class parts.now) }
-{
-    mapped(alloc, parts, |part| part.class)
-}
-
-/// The codes by which parts may be brackets.
-fn codes_of(alloc: Global, parts: &[Part]) -> Result<ListOf<u32>, Memory>
-    ensures { IfOk result (λ codes. codes ≡ map part_code parts.now) }
-{
-    mapped(alloc, parts, |part| kind_code(part.kind))
+    order_of(
+        alloc,
+        view,
+        base,
+        parts,
+        |part| part.class,
+        |part| kind_code(part.kind),
+    )
 }
