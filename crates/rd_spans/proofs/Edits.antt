@@ -5,37 +5,37 @@ use Rattle.std.proofs.lemmas.Bool.Decides.{nat_tests}
 use Rattle.std.proofs.lemmas.Bool.{cases_lt}
 use Rattle.std.proofs.lemmas.List.{length-replicate, get_or_append_left, get_or-append_right, get_or-replicate, get_or_past, get_or-take, nil_from_length}
 use Rattle.rd_spans.specs.declared.run.ValueRun.{ValueRun}
-use Rattle.rd_spans.specs.Values.{value_at, put_at, opened_at, closed_at, CanMove, IsTrimmed}
+use Rattle.rd_spans.specs.Values.{value_at, values_put, values_opened, values_closed, CanMove, IsTrimmed}
 use Rattle.rd_spans.specs.Sides.{values_of, Rises, size_of, top, meet, needs, values_of_both, AtGap, IsCut}
 use Rattle.rd_spans.proofs.Sides.{size-values, few-runs, values_of_both-front, values_of_both-back, values_of_both-past, length-values_of_both, one-at-most}
 
 -- where a position stands to an edit
-put-low : (values : List (Option ℕ)) (from to : ℕ) (value : Option ℕ) (p : ℕ) → p < from → put_at values from to value p ≡ value_at values p
+put-low : (values : List (Option ℕ)) (from to : ℕ) (value : Option ℕ) (p : ℕ) → p < from → values_put (value_at values) from to value p ≡ value_at values p
 put-low values from to value p l = let t : nat_le from p ≡ false = grind (arith, nat_tests) in rw t refl
 
-put-here : (values : List (Option ℕ)) (from to : ℕ) (value : Option ℕ) (p : ℕ) → from ≤ p → p < to → put_at values from to value p ≡ value
+put-here : (values : List (Option ℕ)) (from to : ℕ) (value : Option ℕ) (p : ℕ) → from ≤ p → p < to → values_put (value_at values) from to value p ≡ value
 put-here values from to value p l m =
     let t : nat_le from p ≡ true = grind (arith, nat_tests) in let u : nat_lt p to ≡ true = grind (arith, nat_tests) in rw (t, u) refl
 
-put-high : (values : List (Option ℕ)) (from to : ℕ) (value : Option ℕ) (p : ℕ) → from ≤ p → to ≤ p → put_at values from to value p ≡ value_at values p
+put-high : (values : List (Option ℕ)) (from to : ℕ) (value : Option ℕ) (p : ℕ) → from ≤ p → to ≤ p → values_put (value_at values) from to value p ≡ value_at values p
 put-high values from to value p l m =
     let t : nat_le from p ≡ true = grind (arith, nat_tests) in let u : nat_lt p to ≡ false = grind (arith, nat_tests) in rw (t, u) refl
 
-open-low : (values : List (Option ℕ)) (pos n p : ℕ) → p < pos → opened_at values pos n p ≡ value_at values p
+open-low : (values : List (Option ℕ)) (pos n p : ℕ) → p < pos → values_opened (value_at values) pos n p ≡ value_at values p
 open-low values pos n p l = let t : nat_lt p pos ≡ true = grind (arith, nat_tests) in rw t refl
 
-open-here : (values : List (Option ℕ)) (pos n p : ℕ) → pos ≤ p → p < pos + n → opened_at values pos n p ≡ None
+open-here : (values : List (Option ℕ)) (pos n p : ℕ) → pos ≤ p → p < pos + n → values_opened (value_at values) pos n p ≡ None
 open-here values pos n p l m =
     let t : nat_lt p pos ≡ false = grind (arith, nat_tests) in let u : nat_lt p (pos + n) ≡ true = grind (arith, nat_tests) in rw (t, u) refl
 
-open-high : (values : List (Option ℕ)) (pos n p : ℕ) → pos + n ≤ p → opened_at values pos n p ≡ value_at values (p - n)
+open-high : (values : List (Option ℕ)) (pos n p : ℕ) → pos + n ≤ p → values_opened (value_at values) pos n p ≡ value_at values (p - n)
 open-high values pos n p l =
     let t : nat_lt p pos ≡ false = grind (arith, nat_tests) in let u : nat_lt p (pos + n) ≡ false = grind (arith, nat_tests) in rw (t, u) refl
 
-close-low : (values : List (Option ℕ)) (from to p : ℕ) → p < from → closed_at values from to p ≡ value_at values p
+close-low : (values : List (Option ℕ)) (from to p : ℕ) → p < from → values_closed (value_at values) from to p ≡ value_at values p
 close-low values from to p l = let t : nat_lt p from ≡ true = grind (arith, nat_tests) in rw t refl
 
-close-high : (values : List (Option ℕ)) (from to p : ℕ) → from ≤ p → closed_at values from to p ≡ value_at values (p + (to - from))
+close-high : (values : List (Option ℕ)) (from to p : ℕ) → from ≤ p → values_closed (value_at values) from to p ≡ value_at values (p + (to - from))
 close-high values from to p l = let t : nat_lt p from ≡ false = grind (arith, nat_tests) in rw t refl
 
 -- what positions that were taken away leave
@@ -77,7 +77,7 @@ filled-here a c from to value p h low e l m =
 
 pub put-filled : (a b c d : List ValueRun) (from to : ℕ) (value : Option ℕ) → AtGap a b from → from < to → Rises 0 c → size_of c ≡ to
     → values_of c ≡ (values_of a ++ replicate (from - size_of a) None) ++ replicate (to - from) value → IsCut b d (to - from)
-    → (p : ℕ) → value_at (values_of_both c d) p ≡ put_at (values_of_both a b) from to value p
+    → (p : ℕ) → value_at (values_of_both c d) p ≡ values_put (value_at (values_of_both a b)) from to value p
 put-filled a b c d from to value g some h long e k p =
     let ha = g.front_rises in
     let hb = g.back_rises in
@@ -105,7 +105,7 @@ put-filled a b c d from to value g some h long e k p =
       ]
     ]
 
-pub put-nothing : (a b d : List ValueRun) (from to : ℕ) → AtGap a b from → from < to → IsCut b d (to - from) → size_of d ≡ 0 → (p : ℕ) → value_at (values_of a) p ≡ put_at (values_of_both a b) from to None p
+pub put-nothing : (a b d : List ValueRun) (from to : ℕ) → AtGap a b from → from < to → IsCut b d (to - from) → size_of d ≡ 0 → (p : ℕ) → value_at (values_of a) p ≡ values_put (value_at (values_of_both a b)) from to None p
 put-nothing a b d from to g some k none p =
     let ha = g.front_rises in
     let hb = g.back_rises in
@@ -124,7 +124,7 @@ put-nothing a b d from to g some k none p =
     ]
 
 -- positions are taken away
-pub close-values : (a b d : List ValueRun) (from to : ℕ) → AtGap a b from → from ≤ to → IsCut b d (to - from) → (p : ℕ) → value_at (values_of_both a d) p ≡ closed_at (values_of_both a b) from to p
+pub close-values : (a b d : List ValueRun) (from to : ℕ) → AtGap a b from → from ≤ to → IsCut b d (to - from) → (p : ℕ) → value_at (values_of_both a d) p ≡ values_closed (value_at (values_of_both a b)) from to p
 close-values a b d from to g some k p =
     let ha = g.front_rises in
     let hb = g.back_rises in
@@ -147,7 +147,7 @@ close-values a b d from to g some k p =
     ]
 
 -- positions are opened
-pub open-values : (a b c : List ValueRun) (pos n : ℕ) → AtGap a b pos → 0 < size_of b → Rises 0 c → size_of c ≡ size_of a + n → values_of c ≡ values_of a ++ replicate n None → (p : ℕ) → value_at (values_of_both c b) p ≡ opened_at (values_of_both a b) pos n p
+pub open-values : (a b c : List ValueRun) (pos n : ℕ) → AtGap a b pos → 0 < size_of b → Rises 0 c → size_of c ≡ size_of a + n → values_of c ≡ values_of a ++ replicate n None → (p : ℕ) → value_at (values_of_both c b) p ≡ values_opened (value_at (values_of_both a b)) pos n p
 open-values a b c pos n g some h long e p =
     let ha = g.front_rises in
     let hb = g.back_rises in
@@ -174,7 +174,7 @@ open-values a b c pos n g some h long e p =
       ]
     ]
 
-pub open-nothing : (a b : List ValueRun) (pos n : ℕ) → AtGap a b pos → size_of b ≡ 0 → (p : ℕ) → value_at (values_of_both a b) p ≡ opened_at (values_of_both a b) pos n p
+pub open-nothing : (a b : List ValueRun) (pos n : ℕ) → AtGap a b pos → size_of b ≡ 0 → (p : ℕ) → value_at (values_of_both a b) p ≡ values_opened (value_at (values_of_both a b)) pos n p
 open-nothing a b pos n g none p =
     let ha = g.front_rises in
     let hb = g.back_rises in
@@ -202,7 +202,7 @@ trimmed-by : (xs ys : List (Option ℕ)) (p q : ℕ) → IsTrimmed ys → q + 1 
 trimmed-by xs ys p q t e same none = t q e (sym same ∙ none)
 
 pub put-trimmed : (a b c d : List ValueRun) (from to : ℕ) (value : Option ℕ) → AtGap a b from → from < to → Rises 0 c → size_of c ≡ to → IsCut b d (to - from)
-    → ((p : ℕ) → value_at (values_of_both c d) p ≡ put_at (values_of_both a b) from to value p) → (size_of d ≡ 0 → value ≡ None → ⊥) → IsTrimmed (values_of_both a b) → IsTrimmed (values_of_both c d)
+    → ((p : ℕ) → value_at (values_of_both c d) p ≡ values_put (value_at (values_of_both a b)) from to value p) → (size_of d ≡ 0 → value ≡ None → ⊥) → IsTrimmed (values_of_both a b) → IsTrimmed (values_of_both c d)
 put-trimmed a b c d from to value g some h size k values not t p last none =
     let hb = g.back_rises in
     let long : length (values_of_both c d) ≡ size_of c + size_of d = length-values_of_both c d h k.rises in
@@ -215,14 +215,14 @@ put-trimmed a b c d from to value g some h size k values not t p last none =
     ]
 
 pub close-trimmed : (a b d : List ValueRun) (from to : ℕ) → AtGap a b from → from ≤ to → IsCut b d (to - from) → 0 < size_of d
-    → ((p : ℕ) → value_at (values_of_both a d) p ≡ closed_at (values_of_both a b) from to p) → IsTrimmed (values_of_both a b) → IsTrimmed (values_of_both a d)
+    → ((p : ℕ) → value_at (values_of_both a d) p ≡ values_closed (value_at (values_of_both a b)) from to p) → IsTrimmed (values_of_both a b) → IsTrimmed (values_of_both a d)
 close-trimmed a b d from to g some k more values t p last none =
     let long : length (values_of_both a d) ≡ size_of a + size_of d = length-values_of_both a d g.front_rises k.rises in
     let was : length (values_of_both a b) ≡ size_of a + size_of b = length-values_of_both a b g.front_rises g.back_rises in
     trimmed-by (values_of_both a d) (values_of_both a b) p (p + (to - from)) t (omega (arith, g.gap, k.size)) (values p ∙ close-high (values_of_both a b) from to p (omega (arith, g.gap, k.size))) none
 
 pub open-trimmed : (a b c : List ValueRun) (pos n : ℕ) → AtGap a b pos → 0 < size_of b → Rises 0 c → size_of c ≡ size_of a + n
-    → ((p : ℕ) → value_at (values_of_both c b) p ≡ opened_at (values_of_both a b) pos n p) → IsTrimmed (values_of_both a b) → IsTrimmed (values_of_both c b)
+    → ((p : ℕ) → value_at (values_of_both c b) p ≡ values_opened (value_at (values_of_both a b)) pos n p) → IsTrimmed (values_of_both a b) → IsTrimmed (values_of_both c b)
 open-trimmed a b c pos n g more h size values t p last none =
     let long : length (values_of_both c b) ≡ size_of c + size_of b = length-values_of_both c b h g.back_rises in
     let was : length (values_of_both a b) ≡ size_of a + size_of b = length-values_of_both a b g.front_rises g.back_rises in

@@ -6,7 +6,7 @@ use Rattle.std.proofs.lemmas.Bool.{eqb-true, eq-eqb, lt-ltb, le-ltb, cases_lt}
 use Rattle.std.proofs.lemmas.List.{replicate-append-replicate, length-replicate, take_all, length-reverse, reverse-append, get_or_append_left, get_or-append_right, get_or-replicate, get_or_past, get_or-reverse, take-append-le, reverse-reverse, length_push}
 use Rattle.rd_spans.specs.declared.run.ValueRun.{ValueRun}
 use Rattle.rd_spans.specs.Values.{value_at, IsTrimmed}
-use Rattle.rd_spans.specs.Sides.{values_from, values_of, Rises, reach, size_of, value_in, top, same_value, has_value, meet, needs, values_of_both, AreMoved, GapMoved}
+use Rattle.rd_spans.specs.Sides.{values_from, values_of, Rises, reach, size_of, value_in, top, same_value, has_value, meet, needs, values_of_both, AreMoved, IsLighter, GapMoved}
 
 -- values
 
@@ -288,9 +288,9 @@ moved-swap front back front_new back_new m = record {
 }
 
 -- the last run is cut
-pub cut-lighter : (old rs new : List ValueRun) (r : ValueRun) (n : ℕ) → old ≡ rs ++ r ∷ [] → (n ≡ 0 → new ≡ rs) → length new ≤ length rs + (if has_value (top rs) r.value then 0 else 1)
+cut-needs : (old rs new : List ValueRun) (r : ValueRun) (n : ℕ) → old ≡ rs ++ r ∷ [] → (n ≡ 0 → new ≡ rs) → length new ≤ length rs + (if has_value (top rs) r.value then 0 else 1)
     → (0 < n → has_value (top new) r.value ≡ true) → (other : List ValueRun) → needs other new ≤ needs other old
-cut-lighter old rs new r n e none count has other =
+cut-needs old rs new r n e none count has other =
     let before : needs other old ≡ length other + (length rs + 1) + (if has_value (top other) r.value then 0 else 1) =
     rw (e, top-push rs r, length_push rs r) refl in
     elim (cases_lt 0 n) [
@@ -302,6 +302,13 @@ cut-lighter old rs new r n e none count has other =
           let long : length new ≡ length rs = ap length (none (omega arith)) in
           omega (arith, before, long, one-at-most (meet (top other) (top new)))
     ]
+
+pub cut-lighter : (old rs new : List ValueRun) (r : ValueRun) (n : ℕ) → old ≡ rs ++ r ∷ [] → (n ≡ 0 → new ≡ rs) → length new ≤ length rs + (if has_value (top rs) r.value then 0 else 1)
+    → (0 < n → has_value (top new) r.value ≡ true) → IsLighter old new
+cut-lighter old rs new r n e none count has = record {
+  needs = cut-needs old rs new r n e none count has;
+  count = omega (arith, ap length e, length_push rs r, count, one-at-most (has_value (top rs) r.value));
+}
 
 pub cut-values : (old rs new : List ValueRun) (r : ValueRun) (end : ℕ) → old ≡ rs ++ r ∷ [] → Rises 0 old → end < size_of old → values_of new ≡ values_of rs ++ replicate (end - size_of rs) r.value
     → take end (values_of new) ≡ take end (values_of old)

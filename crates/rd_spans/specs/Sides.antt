@@ -85,15 +85,24 @@ pub record IsCut (runs new : List ValueRun) (n : ℕ) : Type 0 where
   pub values : values_of new ≡ take (size_of runs - n) (values_of runs)
   pub size : size_of new ≡ size_of runs - n
 
+-- a side has no more runs than before, and with it no side needs more room
+pub record IsLighter (runs new : List ValueRun) : Type 0 where
+  pub needs : (other : List ValueRun) → needs other new ≤ needs other runs
+  pub count : length new ≤ length runs
+
 -- the runs of both sides, over no more places than there are positions
 pub record AreRuns (front back : List ValueRun) : Type 0 where
   pub front_rises : Rises 0 front
   pub back_rises : Rises 0 back
   pub few : size_of front + size_of back ≤ 4294967296
 
--- what both sides always keep, where they have so much room
-pub record AreSides (front back : List ValueRun) (front_room back_room : ℕ) : Type 0 where
+-- the runs of both sides, and room for them on each
+pub record HaveRoom (front back : List ValueRun) (front_room back_room : ℕ) : Type 0 where
   pub runs : AreRuns front back
-  pub trimmed : IsTrimmed (values_of_both front back)
   pub front_holds : needs front back ≤ front_room
   pub back_holds : needs front back ≤ back_room
+
+-- what both sides always keep, where they have so much room
+pub record AreSides (front back : List ValueRun) (front_room back_room : ℕ) : Type 0 where
+  pub rooms : HaveRoom front back front_room back_room
+  pub trimmed : IsTrimmed (values_of_both front back)

@@ -5,18 +5,17 @@ use Rattle.std.specs.Prelude.{◌≡◌, ℕ, ◌+◌, ◌-◌, ◌<◌, ◌≤�
 abbrev pub value_at : List (Option ℕ) → ℕ → Option ℕ
 value_at values p = slice_index_or values p None
 
--- the value of each position after a value was put from one position up to another
-abbrev pub put_at : List (Option ℕ) → ℕ → ℕ → Option ℕ → ℕ → Option ℕ
-put_at values from to value p = if nat_le from p && nat_lt p to then value else value_at values p
+-- the values of positions after a value was put from one position up to another
+abbrev pub values_put : (ℕ → Option ℕ) → ℕ → ℕ → Option ℕ → ℕ → Option ℕ
+values_put values from to value p = if nat_le from p && nat_lt p to then value else values p
 
--- the value of each position after so many positions were opened
-abbrev pub opened_at : List (Option ℕ) → ℕ → ℕ → ℕ → Option ℕ
-opened_at values pos n p =
-    if nat_lt p pos then value_at values p else if nat_lt p (pos + n) then None else value_at values (p - n)
+-- the values of positions after so many positions without a value were opened
+abbrev pub values_opened : (ℕ → Option ℕ) → ℕ → ℕ → ℕ → Option ℕ
+values_opened values pos n p = if nat_lt p pos then values p else if nat_lt p (pos + n) then None else values (p - n)
 
--- the value of each position after those from one up to another were taken away
-abbrev pub closed_at : List (Option ℕ) → ℕ → ℕ → ℕ → Option ℕ
-closed_at values from to p = if nat_lt p from then value_at values p else value_at values (p + (to - from))
+-- the values of positions after those from one up to another were taken away
+abbrev pub values_closed : (ℕ → Option ℕ) → ℕ → ℕ → ℕ → Option ℕ
+values_closed values from to p = if nat_lt p from then values p else values (p + (to - from))
 
 -- each position with a value can move on by so many
 abbrev pub CanMove : List (Option ℕ) → ℕ → Type 0

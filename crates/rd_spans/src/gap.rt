@@ -1,8 +1,8 @@
 //! Both sides of the gap, and the edits at it.
 ghost use Rattle.std.specs.Prelude.{◌≡◌, ℕ, ◌+◌, ◌-◌, ◌<◌, ◌≤◌, ◌++◌, true, false, length, replicate, None, OnOk};
 ghost use Rattle.std.specs.Vec.{vec_capacity};
-ghost use Rattle.rd_spans.specs.Values.{value_at, put_at, opened_at, closed_at, CanMove, IsNextChange, IsFirstAlike};
-ghost use Rattle.rd_spans.specs.Sides.{values_of, Rises, size_of, needs, values_of_both, GapMoved, AreRuns, AreSides};
+ghost use Rattle.rd_spans.specs.Values.{value_at, values_put, values_opened, values_closed, CanMove, IsNextChange, IsFirstAlike};
+ghost use Rattle.rd_spans.specs.Sides.{values_of, Rises, size_of, values_of_both, GapMoved, AreRuns, HaveRoom, AreSides};
 
 use crate::run::{ValueRange, ValueRun};
 use crate::side;
@@ -91,9 +91,7 @@ pub(crate) fn make_room(front: &mut Vec<ValueRun>, back: &mut Vec<ValueRun>) -> 
 
 /// Moves the gap to a position, or to the end where that comes before.
 fn move_to(front: &mut Vec<ValueRun>, back: &mut Vec<ValueRun>, pos: u64)
-    requires runs { AreRuns front.old.items back.old.items }
-    requires front_room { needs front.old.items back.old.items ≤ vec_capacity front.old }
-    requires back_room { needs front.old.items back.old.items ≤ vec_capacity back.old }
+    requires rooms { HaveRoom front.old.items back.old.items (vec_capacity front.old) (vec_capacity back.old) }
     ensures moved { GapMoved front.old.items back.old.items front.new.items back.new.items pos }
     ensures front_room { vec_capacity front.new ≡ vec_capacity front.old }
     ensures back_room { vec_capacity back.new ≡ vec_capacity back.old }
@@ -146,7 +144,7 @@ pub(crate) fn put(
     requires some { from < to }
     requires bound { to ≤ 4294967296 }
     ensures sides { AreSides front.new.items back.new.items (vec_capacity front.new) (vec_capacity back.new) }
-    ensures values { (p : ℕ) → value_at (values_of_both front.new.items back.new.items) p ≡ put_at (values_of_both front.old.items back.old.items) from to value p }
+    ensures values { (p : ℕ) → value_at (values_of_both front.new.items back.new.items) p ≡ values_put (value_at (values_of_both front.old.items back.old.items)) from to value p }
 {
     move_to(front, back, from);
     side::cut(back, to - from);
@@ -164,7 +162,7 @@ pub(crate) fn open(front: &mut Vec<ValueRun>, back: &mut Vec<ValueRun>, pos: u64
     requires back_more { length front.old.items + length back.old.items + 4 ≤ vec_capacity back.old }
     requires bound { CanMove (values_of_both front.old.items back.old.items) n }
     ensures sides { AreSides front.new.items back.new.items (vec_capacity front.new) (vec_capacity back.new) }
-    ensures values { (p : ℕ) → value_at (values_of_both front.new.items back.new.items) p ≡ opened_at (values_of_both front.old.items back.old.items) pos n p }
+    ensures values { (p : ℕ) → value_at (values_of_both front.new.items back.new.items) p ≡ values_opened (value_at (values_of_both front.old.items back.old.items)) pos n p }
 {
     move_to(front, back, pos);
     if !back.is_empty() {
@@ -177,7 +175,7 @@ pub(crate) fn close(front: &mut Vec<ValueRun>, back: &mut Vec<ValueRun>, from: u
     requires sides { AreSides front.old.items back.old.items (vec_capacity front.old) (vec_capacity back.old) }
     requires ordered { from ≤ to }
     ensures sides { AreSides front.new.items back.new.items (vec_capacity front.new) (vec_capacity back.new) }
-    ensures values { (p : ℕ) → value_at (values_of_both front.new.items back.new.items) p ≡ closed_at (values_of_both front.old.items back.old.items) from to p }
+    ensures values { (p : ℕ) → value_at (values_of_both front.new.items back.new.items) p ≡ values_closed (value_at (values_of_both front.old.items back.old.items)) from to p }
 {
     move_to(front, back, from);
     side::cut(back, to - from);

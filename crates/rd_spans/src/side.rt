@@ -3,7 +3,7 @@ ghost use Rattle.std.specs.Prelude.{◌≡◌, ℕ, ◌+◌, ◌-◌, ◌<◌, �
 ghost use Rattle.std.specs.Vec.{vec_capacity};
 ghost use Rattle.rd_spans.specs.declared.run.ValueRun.{ValueRun};
 ghost use Rattle.rd_spans.specs.Values.{value_at, IsTrimmed};
-ghost use Rattle.rd_spans.specs.Sides.{values_of, Rises, size_of, top, same_value, has_value, needs, AreMoved, AreRuns, IsCut};
+ghost use Rattle.rd_spans.specs.Sides.{values_of, Rises, size_of, top, same_value, has_value, needs, AreMoved, HaveRoom, IsCut, IsLighter};
 
 use crate::run::{ValueRange, ValueRun};
 
@@ -108,10 +108,8 @@ pub(crate) fn push(runs: &mut Vec<ValueRun>, n: u64, value: Option<u32>)
 /// Moves at most `most` places, all of one run or a part of it, from the end of one side to the end of the other, and answers how
 /// many.
 fn move_run(from: &mut Vec<ValueRun>, to: &mut Vec<ValueRun>, most: u64) -> u64
-    requires runs { AreRuns from.old.items to.old.items }
+    requires rooms { HaveRoom from.old.items to.old.items (vec_capacity from.old) (vec_capacity to.old) }
     requires some { 0 < most }
-    requires from_room { needs from.old.items to.old.items ≤ vec_capacity from.old }
-    requires to_room { needs from.old.items to.old.items ≤ vec_capacity to.old }
     ensures moved { AreMoved from.old.items to.old.items from.new.items to.new.items }
     ensures most { result ≤ most }
     ensures less { size_of from.new.items + result ≡ size_of from.old.items }
@@ -132,9 +130,7 @@ fn move_run(from: &mut Vec<ValueRun>, to: &mut Vec<ValueRun>, most: u64) -> u64
 
 /// Moves so many places, or all that there are, from the end of one side to the end of the other.
 pub(crate) fn shift(from: &mut Vec<ValueRun>, to: &mut Vec<ValueRun>, count: u64)
-    requires runs { AreRuns from.old.items to.old.items }
-    requires from_room { needs from.old.items to.old.items ≤ vec_capacity from.old }
-    requires to_room { needs from.old.items to.old.items ≤ vec_capacity to.old }
+    requires rooms { HaveRoom from.old.items to.old.items (vec_capacity from.old) (vec_capacity to.old) }
     ensures moved { AreMoved from.old.items to.old.items from.new.items to.new.items }
     ensures less { size_of from.new.items + size_of to.new.items ≡ size_of from.old.items + size_of to.old.items }
     ensures more { size_of to.new.items ≡ size_of to.old.items + min count (size_of from.old.items) }
@@ -160,9 +156,8 @@ fn cut_run(runs: &mut Vec<ValueRun>, end: u64)
     ensures order { Rises 0 runs.new.items }
     ensures enough { end ≤ size_of runs.new.items }
     ensures less { size_of runs.new.items < size_of runs.old.items }
-    ensures lighter { (other : List ValueRun) → needs other runs.new.items ≤ needs other runs.old.items }
+    ensures lighter { IsLighter runs.old.items runs.new.items }
     ensures room { vec_capacity runs.new ≡ vec_capacity runs.old }
-    ensures count { length runs.new.items ≤ length runs.old.items }
 {
     let Some(run) = runs.pop() else {
         return;
@@ -177,9 +172,8 @@ pub(crate) fn cut(runs: &mut Vec<ValueRun>, n: u64)
     requires few { size_of runs.old.items ≤ 4294967296 }
     requires room { length runs.old.items ≤ vec_capacity runs.old }
     ensures cut { IsCut runs.old.items runs.new.items n }
-    ensures lighter { (other : List ValueRun) → needs other runs.new.items ≤ needs other runs.old.items }
+    ensures lighter { IsLighter runs.old.items runs.new.items }
     ensures room { vec_capacity runs.new ≡ vec_capacity runs.old }
-    ensures count { length runs.new.items ≤ length runs.old.items }
 {
     let end = size(runs).saturating_sub(n);
     while size(runs) > end {

@@ -27,7 +27,7 @@ impl Model for Spans {
 
 impl Spans {
     ghost use Rattle.std.specs.Prelude.{◌≡◌, ℕ, ◌≤◌, [], OnOk, OnErr, IfOk};
-    ghost use Rattle.rd_spans.specs.Values.{value_at, put_at, opened_at, closed_at, CanMove, IsNextChange, IsFirstAlike, IsTrimmed};
+    ghost use Rattle.rd_spans.specs.Values.{value_at, values_put, values_opened, values_closed, CanMove, IsNextChange, IsFirstAlike, IsTrimmed};
 
     /// No position has a value.
     pub fn new(alloc: Global) -> Result<Spans, Memory>
@@ -44,7 +44,7 @@ impl Spans {
     /// edit before, and for each that lies in the range.
     pub fn put(&mut self, from: Pos, to: Pos, value: Option<u32>) -> Result<(), Memory>
         requires { from ≤ to }
-        ensures ok { OnOk result ((p : ℕ) → value_at self.new p ≡ put_at self.old from to value p) }
+        ensures ok { OnOk result ((p : ℕ) → value_at self.new p ≡ values_put (value_at self.old) from to value p) }
         ensures err { OnErr result (self.new ≡ self.old) }
     {
         if from < to {
@@ -88,7 +88,7 @@ impl Spans {
     /// the edit before.
     pub fn inserted(&mut self, pos: Pos, n: u32) -> Result<(), Memory>
         requires { CanMove self.old n }
-        ensures ok { OnOk result ((p : ℕ) → value_at self.new p ≡ opened_at self.old pos n p) }
+        ensures ok { OnOk result ((p : ℕ) → value_at self.new p ≡ values_opened (value_at self.old) pos n p) }
         ensures err { OnErr result (self.new ≡ self.old) }
     {
         gap::make_room(&mut self.front, &mut self.back)?;
@@ -101,7 +101,7 @@ impl Spans {
     /// lies in the range.
     pub fn deleted(&mut self, from: Pos, to: Pos)
         requires { from ≤ to }
-        ensures { (p : ℕ) → value_at self.new p ≡ closed_at self.old from to p }
+        ensures { (p : ℕ) → value_at self.new p ≡ values_closed (value_at self.old) from to p }
     {
         gap::close(&mut self.front, &mut self.back, from as u64, to as u64);
     }

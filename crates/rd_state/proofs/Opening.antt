@@ -5,7 +5,7 @@ use Rattle.std.proofs.lemmas.Bool.Decides.{nat_tests}
 use Rattle.std.proofs.lemmas.List.{get_or-set_same, get_or-set_other, get_or_default, get_or_past, set-get_or}
 use Rattle.std.specs.Prelude.{is_err, OnOk, OnErr}
 use Rattle.rd_base.proofs.Choices.{either}
-use Rattle.rd_spans.specs.Values.{value_at, opened_at, closed_at}
+use Rattle.rd_spans.specs.Values.{value_at, values_opened, values_closed}
 use Rattle.rd_props.specs.Buffers.{values_of}
 use Rattle.rd_props.specs.Edits.{opened, closed}
 
@@ -48,20 +48,20 @@ one-more change spans old k was now there is made before kind p =
     ]
 
 pub one-opened : (spans : List (List (Option ℕ))) (old : ℕ → ℕ → Option ℕ) (pos n k : ℕ) (was now : List (Option ℕ)) → k < length spans → was ≡ get_or spans k was
-    → ((p : ℕ) → value_at now p ≡ opened_at (get_or spans k was) pos n p)
+    → ((p : ℕ) → value_at now p ≡ values_opened (value_at (get_or spans k was)) pos n p)
     → ((kind p : ℕ) → values_of spans kind p ≡ changed_first (λ f. opened f pos n) old k kind p)
     → (kind p : ℕ) → values_of (set spans k now) kind p ≡ changed_first (λ f. opened f pos n) old (k + 1) kind p
 one-opened spans old pos n k was now there is made =
     one-more (λ f. opened f pos n) spans old k was now there is
-    (λ p e. made p ∙ ap (λ rs. opened_at rs pos n p) (sym is) ∙ branches (nat_lt p pos) _ _ _ _ (e p) (branches (nat_lt p (pos + n)) None (value_at was (p - n)) None (old k (p - n)) (cc) (e (p - n))))
+    (λ p e. made p ∙ ap (λ rs. values_opened (value_at rs) pos n p) (sym is) ∙ branches (nat_lt p pos) _ _ _ _ (e p) (branches (nat_lt p (pos + n)) None (value_at was (p - n)) None (old k (p - n)) (cc) (e (p - n))))
 
 pub one-closed : (spans : List (List (Option ℕ))) (old : ℕ → ℕ → Option ℕ) (from to k : ℕ) (was now : List (Option ℕ)) → k < length spans → was ≡ get_or spans k was
-    → ((p : ℕ) → value_at now p ≡ closed_at (get_or spans k was) from to p)
+    → ((p : ℕ) → value_at now p ≡ values_closed (value_at (get_or spans k was)) from to p)
     → ((kind p : ℕ) → values_of spans kind p ≡ changed_first (λ f. closed f from to) old k kind p)
     → (kind p : ℕ) → values_of (set spans k now) kind p ≡ changed_first (λ f. closed f from to) old (k + 1) kind p
 one-closed spans old from to k was now there is made =
     one-more (λ f. closed f from to) spans old k was now there is
-    (λ p e. made p ∙ ap (λ rs. closed_at rs from to p) (sym is) ∙ branches (nat_lt p from) _ _ _ _ (e p) (e (p + (to - from))))
+    (λ p e. made p ∙ ap (λ rs. values_closed (value_at rs) from to p) (sym is) ∙ branches (nat_lt p from) _ _ _ _ (e p) (e (p + (to - from))))
 
 -- ---- all kinds
 

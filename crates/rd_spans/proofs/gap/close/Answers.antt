@@ -1,15 +1,15 @@
 use Rattle.std.proofs.Common.{◌≡◌, List, ℕ, Option, arith, ap, subst, sym, ◌∙◌}
 use Rattle.std.proofs.lemmas.List.{nil_from_length}
-use Rattle.rd_spans.specs.Values.{value_at, closed_at, IsTrimmed}
+use Rattle.rd_spans.specs.Values.{value_at, values_closed, IsTrimmed}
 use Rattle.rd_spans.specs.Sides.{values_of_both}
 use Rattle.rd_spans.proofs.Edits.{not-empty, is-empty, values_of_both-none, close-values, close-trimmed}
 use Rattle.rd_spans.proofs.gap.close.Goals as goal
 use Rattle.rd_spans.proofs.gap.close.Goals.{After-cut}
 
-closed : (c : goal.After-cut) (p : ℕ) → value_at (values_of_both c.move_to.new.front.items c.cut.new.runs.items) p ≡ closed_at (values_of_both c.args.front.now.items c.args.back.now.items) c.args.from c.args.to p
+closed : (c : goal.After-cut) (p : ℕ) → value_at (values_of_both c.move_to.new.front.items c.cut.new.runs.items) p ≡ values_closed (value_at (values_of_both c.args.front.now.items c.args.back.now.items)) c.args.from c.args.to p
 closed c p =
     close-values c.move_to.new.front.items c.move_to.new.back.items c.cut.new.runs.items c.args.from c.args.to c.move_to.ensures.moved.at c.requires.ordered c.cut.ensures.cut p
-    ∙ ap (λ (xs : List (Option ℕ)). closed_at xs c.args.from c.args.to p) c.move_to.ensures.moved.same
+    ∙ ap (λ (xs : List (Option ℕ)). values_closed (value_at xs) c.args.from c.args.to p) c.move_to.ensures.moved.same
 
 pub returns-then-is_empty-clause-values : goal.returns-then-is_empty-clause-values
 returns-then-is_empty-clause-values c = λ p.
@@ -30,10 +30,12 @@ returns-else-is_empty-clause-sides c =
     let t = subst IsTrimmed (sym m.same) c.requires.sides.trimmed in
     let s = c.requires.sides in
     record {
-      runs = record { front_rises = m.at.front_rises; back_rises = c.cut.ensures.cut.rises; few = omega (arith, m.size, s.runs.few, c.cut.ensures.cut.size) };
+      rooms = record {
+        runs = record { front_rises = m.at.front_rises; back_rises = c.cut.ensures.cut.rises; few = omega (arith, m.size, s.rooms.runs.few, c.cut.ensures.cut.size) };
+        front_holds = omega (arith, c.cut.ensures.lighter.needs a, m.needs, s.rooms.front_holds, c.move_to.ensures.front_room);
+        back_holds = omega (arith, c.cut.ensures.lighter.needs a, m.needs, s.rooms.back_holds, c.move_to.ensures.back_room, c.cut.ensures.room);
+      };
       trimmed = close-trimmed a b d.items c.args.from c.args.to m.at c.requires.ordered c.cut.ensures.cut more (close-values a b d.items c.args.from c.args.to m.at c.requires.ordered c.cut.ensures.cut) t;
-      front_holds = omega (arith, c.cut.ensures.lighter a, m.needs, s.front_holds, c.move_to.ensures.front_room);
-      back_holds = omega (arith, c.cut.ensures.lighter a, m.needs, s.back_holds, c.move_to.ensures.back_room, c.cut.ensures.room);
     }
 
 pub returns-else-is_empty-clause-values : goal.returns-else-is_empty-clause-values

@@ -1,5 +1,5 @@
 use Rattle.std.proofs.Common.{None, List, ℕ, Option, arith, ap, subst, sym, ◌∙◌}
-use Rattle.rd_spans.specs.Values.{opened_at, CanMove, IsTrimmed}
+use Rattle.rd_spans.specs.Values.{value_at, values_opened, CanMove, IsTrimmed}
 use Rattle.rd_spans.specs.Sides.{top, has_value}
 use Rattle.rd_spans.proofs.Sides.{one-at-most}
 use Rattle.rd_spans.proofs.Edits.{not-empty, is-empty, size-none, open-values, open-nothing, open-trimmed, open-few, needs-most, needs-least}
@@ -21,7 +21,7 @@ returns-then-not-is_empty-clause-values c =
     let more = not-empty b.items b.len m.at.back_rises b.ok.0 (sym c.is_empty.ensures ∙ c.if-not-is_empty.true) in
     λ p.
     open-values c.move_to.new.front.items b.items c.push.new.runs.items c.args.pos c.args.n m.at more c.push.ensures.order c.push.ensures.size c.push.ensures.values p
-    ∙ ap (λ (xs : List (Option ℕ)). opened_at xs c.args.pos c.args.n p) m.same
+    ∙ ap (λ (xs : List (Option ℕ)). values_opened (value_at xs) c.args.pos c.args.n p) m.same
 
 pub returns-then-not-is_empty-clause-sides : goal.returns-then-not-is_empty-clause-sides
 returns-then-not-is_empty-clause-sides c =
@@ -38,10 +38,12 @@ returns-then-not-is_empty-clause-sides c =
     let now = needs-most new.items b.items in
     let one = one-at-most (has_value (top a.items) None) in
     record {
-      runs = record { front_rises = c.push.ensures.order; back_rises = m.at.back_rises; few = omega (arith, open-few a.items b.items c.args.n m.at.front_rises m.at.back_rises more t can, c.push.ensures.size) };
+      rooms = record {
+        runs = record { front_rises = c.push.ensures.order; back_rises = m.at.back_rises; few = omega (arith, open-few a.items b.items c.args.n m.at.front_rises m.at.back_rises more t can, c.push.ensures.size) };
+        front_holds = omega (arith, now, one, c.push.ensures.count, least, m.needs, most, c.push.ensures.room, c.move_to.ensures.front_room, c.requires.front_more);
+        back_holds = omega (arith, now, one, c.push.ensures.count, least, m.needs, most, c.move_to.ensures.back_room, c.requires.back_more);
+      };
       trimmed = open-trimmed a.items b.items new.items c.args.pos c.args.n m.at more c.push.ensures.order c.push.ensures.size values t;
-      front_holds = omega (arith, now, one, c.push.ensures.count, least, m.needs, most, c.push.ensures.room, c.move_to.ensures.front_room, c.requires.front_more);
-      back_holds = omega (arith, now, one, c.push.ensures.count, least, m.needs, most, c.move_to.ensures.back_room, c.requires.back_more);
     }
 
 pub returns-else-not-is_empty-clause-values : goal.returns-else-not-is_empty-clause-values
@@ -50,4 +52,4 @@ returns-else-not-is_empty-clause-values c =
     let b = c.move_to.new.back in
     let none = size-none b.items (is-empty b.items b.len b.ok.0 (sym c.is_empty.ensures ∙ c.if-not-is_empty.false)) in
     λ p.
-    open-nothing c.move_to.new.front.items b.items c.args.pos c.args.n m.at none p ∙ ap (λ (xs : List (Option ℕ)). opened_at xs c.args.pos c.args.n p) m.same
+    open-nothing c.move_to.new.front.items b.items c.args.pos c.args.n m.at none p ∙ ap (λ (xs : List (Option ℕ)). values_opened (value_at xs) c.args.pos c.args.n p) m.same

@@ -1,6 +1,6 @@
 use Rattle.std.proofs.Common.{List, ℕ, Option, arith, ap, subst, sym, ◌∙◌}
 use Rattle.std.proofs.lemmas.List.{nil_from_length}
-use Rattle.rd_spans.specs.Values.{value_at, put_at, IsTrimmed}
+use Rattle.rd_spans.specs.Values.{value_at, values_put, IsTrimmed}
 use Rattle.rd_spans.specs.Sides.{values_of_both}
 use Rattle.rd_spans.proofs.Edits.{length-none, size-none, values_of_both-none, put-filled, put-nothing, put-trimmed, needs-most, needs-least}
 use Rattle.rd_spans.proofs.gap.put.Goals as goal
@@ -19,8 +19,8 @@ returns-then-ends_there-clause-values c =
     ap (λ (xs : List (Option ℕ)). value_at xs p) (values_of_both-none c.trim.new.runs.items d nothing)
     ∙ (c.trim.ensures.values p
     ∙ (put-nothing a b d c.args.from c.args.to m.at c.requires.some c.cut.ensures.cut none p
-    ∙ (ap (λ (v : Option ℕ). put_at (values_of_both a b) c.args.from c.args.to v p) (sym there.0)
-    ∙ ap (λ (xs : List (Option ℕ)). put_at xs c.args.from c.args.to c.args.value p) m.same)))
+    ∙ (ap (λ (v : Option ℕ). values_put (value_at (values_of_both a b)) c.args.from c.args.to v p) (sym there.0)
+    ∙ ap (λ (xs : List (Option ℕ)). values_put (value_at xs) c.args.from c.args.to c.args.value p) m.same)))
 
 pub returns-else-ends_there-clause-values : goal.returns-else-ends_there-clause-values
 returns-else-ends_there-clause-values c =
@@ -29,7 +29,7 @@ returns-else-ends_there-clause-values c =
     let b = c.move_to.new.back.items in
     λ p.
     put-filled a b c.fill.new.front.items c.cut.new.runs.items c.args.from c.args.to c.args.value m.at c.requires.some c.fill.ensures.order c.fill.ensures.size c.fill.ensures.values c.cut.ensures.cut p
-    ∙ ap (λ (xs : List (Option ℕ)). put_at xs c.args.from c.args.to c.args.value p) m.same
+    ∙ ap (λ (xs : List (Option ℕ)). values_put (value_at xs) c.args.from c.args.to c.args.value p) m.same
 
 pub returns-else-ends_there-clause-sides : goal.returns-else-ends_there-clause-sides
 returns-else-ends_there-clause-sides c =
@@ -46,9 +46,11 @@ returns-else-ends_there-clause-sides c =
     let least = needs-least a b in
     let now = needs-most new d in
     record {
-      runs = record { front_rises = c.fill.ensures.order; back_rises = c.cut.ensures.cut.rises; few = omega (arith, m.at.gap, m.size, s.runs.few, c.cut.ensures.cut.size, c.fill.ensures.size, c.requires.bound, c.requires.some) };
+      rooms = record {
+        runs = record { front_rises = c.fill.ensures.order; back_rises = c.cut.ensures.cut.rises; few = omega (arith, m.at.gap, m.size, s.rooms.runs.few, c.cut.ensures.cut.size, c.fill.ensures.size, c.requires.bound, c.requires.some) };
+        front_holds = omega (arith, now, c.fill.ensures.count, c.cut.ensures.lighter.count, least, m.needs, most, c.fill.ensures.room, c.move_to.ensures.front_room, c.requires.front_more);
+        back_holds = omega (arith, now, c.fill.ensures.count, c.cut.ensures.lighter.count, least, m.needs, most, c.cut.ensures.room, c.move_to.ensures.back_room, c.requires.back_more);
+      };
       trimmed = put-trimmed a b new d c.args.from c.args.to c.args.value m.at c.requires.some c.fill.ensures.order c.fill.ensures.size c.cut.ensures.cut values
           (λ none v. ends c.if-ends_there.false (length-none d c.cut.ensures.cut.rises none) v) t;
-      front_holds = omega (arith, now, c.fill.ensures.count, c.cut.ensures.count, least, m.needs, most, c.fill.ensures.room, c.move_to.ensures.front_room, c.requires.front_more);
-      back_holds = omega (arith, now, c.fill.ensures.count, c.cut.ensures.count, least, m.needs, most, c.cut.ensures.room, c.move_to.ensures.back_room, c.requires.back_more);
     }

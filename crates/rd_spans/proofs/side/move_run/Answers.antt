@@ -5,28 +5,28 @@ use Rattle.rd_spans.proofs.side.move_run.Goals as goal
 
 pub overflow_sub-all : goal.overflow_sub-all
 overflow_sub-all c =
-    let p = popped-rises c.args.from.now.items c.pop.new.self.items c.in-Some.run' c.in-Some.ensures.items c.requires.runs.front_rises in
+    let p = popped-rises c.args.from.now.items c.pop.new.self.items c.in-Some.run' c.in-Some.ensures.items c.requires.rooms.runs.front_rises in
     let start : c.size.result ≡ size_of c.pop.new.self.items = rw c.deref.ensures.value at c.size.ensures in
     omega (arith, p.1.0)
 
 pub push-requires-clause-order : goal.push-requires-clause-order
-push-requires-clause-order c = (popped-rises c.args.from.now.items c.pop.new.self.items c.in-Some.run' c.in-Some.ensures.items c.requires.runs.front_rises).0
+push-requires-clause-order c = (popped-rises c.args.from.now.items c.pop.new.self.items c.in-Some.run' c.in-Some.ensures.items c.requires.rooms.runs.front_rises).0
 
 pub push-requires-clause-bound : goal.push-requires-clause-bound
 push-requires-clause-bound c =
-    let p = popped-rises c.args.from.now.items c.pop.new.self.items c.in-Some.run' c.in-Some.ensures.items c.requires.runs.front_rises in
+    let p = popped-rises c.args.from.now.items c.pop.new.self.items c.in-Some.run' c.in-Some.ensures.items c.requires.rooms.runs.front_rises in
     let start : c.size.result ≡ size_of c.pop.new.self.items = rw c.deref.ensures.value at c.size.ensures in
-    omega (arith, p.1.0, p.1.1, c.requires.runs.few)
+    omega (arith, p.1.0, p.1.1, c.requires.rooms.runs.few)
 
 pub push-requires-2-clause-bound : goal.push-requires-2-clause-bound
 push-requires-2-clause-bound c =
-    let p = popped-rises c.args.from.now.items c.pop.new.self.items c.in-Some.run' c.in-Some.ensures.items c.requires.runs.front_rises in
+    let p = popped-rises c.args.from.now.items c.pop.new.self.items c.in-Some.run' c.in-Some.ensures.items c.requires.rooms.runs.front_rises in
     let start : c.size.result ≡ size_of c.pop.new.self.items = rw c.deref.ensures.value at c.size.ensures in
-    omega (arith, p.1.0, p.1.1, c.requires.runs.few, c.min-moved.ensures)
+    omega (arith, p.1.0, p.1.1, c.requires.rooms.runs.few, c.min-moved.ensures)
 
 pub returns-clause-moved : goal.returns-clause-moved
 returns-clause-moved c =
-    let p = popped-rises c.args.from.now.items c.pop.new.self.items c.in-Some.run' c.in-Some.ensures.items c.requires.runs.front_rises in
+    let p = popped-rises c.args.from.now.items c.pop.new.self.items c.in-Some.run' c.in-Some.ensures.items c.requires.rooms.runs.front_rises in
     let start : c.size.result ≡ size_of c.pop.new.self.items = rw c.deref.ensures.value at c.size.ensures in
     let rest = c.in-Some.run'.end - c.size.result - c.min-moved.result in
     let all : rest + c.min-moved.result ≡ c.in-Some.run'.end - size_of c.pop.new.self.items = omega (arith, p.1.0, c.min-moved.ensures, start) in
@@ -41,12 +41,12 @@ returns-clause-moved c =
 
 pub returns-clause-less : goal.returns-clause-less
 returns-clause-less c =
-    let p = popped-rises c.args.from.now.items c.pop.new.self.items c.in-Some.run' c.in-Some.ensures.items c.requires.runs.front_rises in
+    let p = popped-rises c.args.from.now.items c.pop.new.self.items c.in-Some.run' c.in-Some.ensures.items c.requires.rooms.runs.front_rises in
     let start : c.size.result ≡ size_of c.pop.new.self.items = rw c.deref.ensures.value at c.size.ensures in
     omega (arith, p.1.0, p.1.1, c.min-moved.ensures, c.push.ensures.size)
 
 pub returns-clause-some : goal.returns-clause-some
 returns-clause-some c =
-    let p = popped-rises c.args.from.now.items c.pop.new.self.items c.in-Some.run' c.in-Some.ensures.items c.requires.runs.front_rises in
+    let p = popped-rises c.args.from.now.items c.pop.new.self.items c.in-Some.run' c.in-Some.ensures.items c.requires.rooms.runs.front_rises in
     let start : c.size.result ≡ size_of c.pop.new.self.items = rw c.deref.ensures.value at c.size.ensures in
     λ any. omega (arith, p.1.0, c.min-moved.ensures, c.requires.some)
