@@ -1,14 +1,13 @@
 -- Margin strings in a tree are a finite map.
-use Rattle.std.proofs.Common.{◌≡◌, ℕ, List, [], ◌∷◌, ◌++◌, Option, None, Some, refl, sym, ap, ◌∙◌}
+use Rattle.std.proofs.Common.{◌≡◌, ℕ, List, [], ◌∷◌, Option, None, Some, refl, sym, ap, ◌∙◌}
 use Rattle.std.specs.Prelude.{Bool, cond}
 use Rattle.std.specs.BTreeMap.{is_at}
 use Rattle.std.specs.Cmp.{nat_cmp_total}
 use Rattle.std.specs.FinMap.{find, get, from_entries, get-from_entries, get-insert, get-remove, same_map, nat_cmp-IsAntisymmetric}
 use Rattle.std.specs.Map.{lookup}
-use Rattle.std.specs.Option.{option_or}
 use Rattle.std.specs.Ordering.{nat_cmp, eq_by_cmp}
 use Rattle.std.proofs.lemmas.Cmp.{eq_by_cmp_equiv}
-use Rattle.rd_margins.specs.Marks.{MarkValues, last_mark, marked}
+use Rattle.rd_margins.specs.Marks.{MarkValues, marked}
 
 found : (q : ℕ) (es : List (ℕ × ℕ)) → find nat_cmp q es ≡ lookup (is_at (nat_cmp q)) es
 found q [] = refl
@@ -32,15 +31,3 @@ entries-marked es fs k w changed =
     ∙ ap (λ (b : Bool). cond b w (lookup (is_at (nat_cmp q)) es)) ((eq_by_cmp_equiv nat_cmp_total).symm k q)
     ∙ ap (cond (eq_by_cmp nat_cmp q k) w) (sym (get-found es q))
     ∙ sym (get-marked (from_entries es) k w q))
-
-or-assoc : (a b c : Option ℕ) → option_or (option_or a b) c ≡ option_or a (option_or b c)
-or-assoc None b c = refl
-or-assoc (Some x) b c = refl
-
--- the last of one more overlay
-pub last_mark-more : (m : MarkValues) (ns : List ℕ) (n : ℕ) → last_mark m (ns ++ n ∷ []) ≡ option_or (get m n) (last_mark m ns)
-last_mark-more m [] n = none (get m n) where
-  none : (a : Option ℕ) → option_or None a ≡ option_or a None
-  none None = refl
-  none (Some x) = refl
-last_mark-more m (x ∷ ns) n = ap (λ (a : Option ℕ). option_or a (get m x)) (last_mark-more m ns n) ∙ or-assoc (get m n) (last_mark m ns) (get m x)

@@ -1,3 +1,2 @@
 mod Finite
-mod Greatest
 mod Whole

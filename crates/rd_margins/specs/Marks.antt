@@ -1,10 +1,10 @@
 -- The margin strings of a buffer's overlays, and which of them a position shows.
-use Rattle.std.specs.Prelude.{ℕ, List, [], ◌∷◌, Option, None, Some}
+use Rattle.std.specs.Prelude.{ℕ, List, Option, None, Some}
 use Rattle.std.specs.FinMap.{FinMap, get, insert, remove}
-use Rattle.std.specs.Option.{option_or}
 use Rattle.std.specs.Ordering.{nat_cmp}
 use Rattle.rd_overlays.specs.declared.overlay.Overlay.{Overlay}
 use Rattle.rd_overlays.specs.Overlays.{covering}
+use Rattle.rd_overlays.specs.Values.{last_given}
 
 -- the numbers of margin strings by the numbers of overlays
 abbrev pub MarkValues : Type 0
@@ -15,12 +15,7 @@ abbrev pub marked : MarkValues → ℕ → Option ℕ → MarkValues
 marked marks overlay (Some string) = insert marks overlay string
 marked marks overlay None = remove marks overlay
 
--- the string of the last of these overlays that has one
-abbrev pub last_mark : MarkValues → List ℕ → Option ℕ
-last_mark marks [] = None
-last_mark marks (number ∷ numbers) = option_or (last_mark marks numbers) (get marks number)
-
 -- the margin string at a position: of the overlays that cover the position and have one, that of the greatest by priority and
 -- number. The end of the accessible text is a position like any other here; an empty overlay covers no position
 abbrev pub margin_string : MarkValues → List (Option Overlay) → ℕ → Option ℕ
-margin_string marks overlays pos = last_mark marks (covering pos overlays)
+margin_string marks overlays pos = last_given (get marks) (covering pos overlays)

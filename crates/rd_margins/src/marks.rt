@@ -1,9 +1,11 @@
 //! The margin strings of overlays.
 ghost use Rattle.std.specs.Prelude.{◌≡◌, IfOk, OnOk, OnErr, IsOk, None};
 ghost use Rattle.std.specs.FinMap as map;
-ghost use Rattle.rd_margins.specs.Marks.{last_mark, marked};
+ghost use Rattle.rd_overlays.specs.Values.{last_given};
+ghost use Rattle.rd_margins.specs.Marks.{marked};
 
 use rd_base::Memory;
+use rd_overlays::last_given;
 use std::alloc::Global;
 use std::collections::BTreeMap;
 use std::marker::Model;
@@ -66,12 +68,8 @@ impl Marks {
     /// The margin string of the last of these overlays that has one. Over a listing of the overlays that cover a position, it is
     /// the margin string there.
     pub fn last_of(&self, overlays: &[u32]) -> Option<u32>
-        ensures { result ≡ last_mark self.now overlays.now }
+        ensures { result ≡ last_given (map.get self.now) overlays.now }
     {
-        let mut last = None;
-        for overlay in overlays {
-            last = self.get(*overlay).or(last);
-        }
-        last
+        last_given(overlays, |overlay| self.get(overlay))
     }
 }

@@ -1,6 +1,8 @@
 mod Alike
 pub mod Bounding
 mod Exact
+mod Greatest
+mod Lasts
 mod Listed
 mod Moving
 mod Nearest

@@ -2,3 +2,4 @@ pub mod Bounds
 pub mod Listings
 pub mod Moves
 pub mod Overlays
+pub mod Values

@@ -3,6 +3,7 @@ ghost use Rattle.std.specs.Prelude.{ℕ, ◌≡◌, ◌≤◌, Bool, true, false
 ghost use Rattle.rd_overlays.specs.declared.overlay.Overlay.{Overlay};
 ghost use Rattle.rd_overlays.specs.Overlays.{overlay_at, new_overlay, grown, shrunk, numbers_of, covering, starting, ending, next_edge, last_edge};
 ghost use Rattle.rd_overlays.specs.Listings.{HoldsExactly, Ascends, listed_priority};
+ghost use Rattle.rd_overlays.specs.Values.{Gives, IsGreatest, last_given};
 
 /// Every edit leaves a start that isn't behind its end. The call does nothing.
 pub fn edits_keep_starts_before_ends()
@@ -43,4 +44,13 @@ pub fn listings_are_exact()
 /// nothing.
 pub fn listings_agree()
     ensures { (f g : Overlay → Bool) (a b : List (Option Overlay)) → ((number : ℕ) → listed_priority f (overlay_at a number) ≡ listed_priority g (overlay_at b number)) → numbers_of f a ≡ numbers_of g b }
+{}
+
+/// Of the overlays that cover a position and have a value the last of the listing is the greatest, by priority and where these are equal
+/// by number. Where the listing gives no value, none of them has one. The call does nothing.
+pub fn last_values_are_the_greatest_overlays()
+    ensures some { (value : ℕ → Option ℕ) (slots : List (Option Overlay)) (pos given : ℕ) → last_given value (covering pos slots) ≡ Some given
+        → (number : ℕ) × (overlay : Overlay) × IsGreatest value slots pos number overlay given }
+    ensures none { (value : ℕ → Option ℕ) (slots : List (Option Overlay)) (pos number given : ℕ) (overlay : Overlay) → last_given value (covering pos slots) ≡ None → Gives value slots pos number overlay given → ⊥ }
+    ensures greatest { (value : ℕ → Option ℕ) (slots : List (Option Overlay)) (pos number given : ℕ) (overlay : Overlay) → IsGreatest value slots pos number overlay given → last_given value (covering pos slots) ≡ Some given }
 {}

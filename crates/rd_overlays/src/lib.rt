@@ -14,13 +14,15 @@ mod moves;
 mod overlay;
 mod overlays;
 mod store;
+mod values;
 mod way;
 
 pub use fault::OverlayFault;
 pub use laws::{
-    edits_keep_starts_before_ends, insertions_at_edges, listings_agree, listings_are_exact,
-    overlays_that_meet,
+    edits_keep_starts_before_ends, insertions_at_edges, last_values_are_the_greatest_overlays,
+    listings_agree, listings_are_exact, overlays_that_meet,
 };
 pub use overlay::{Kind, Overlay, after_deletion};
 pub use overlays::Overlays;
+pub use values::last_given;
 pub use way::Way;

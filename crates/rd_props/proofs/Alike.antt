@@ -12,8 +12,9 @@ use Rattle.rd_overlays.specs.declared.overlay.Kind.TheVariants.{Face, Display, I
 use Rattle.rd_overlays.specs.Overlays.{overlay_at, place_of, covers, starts, ends, numbers_of, covering, starting, ending}
 use Rattle.rd_overlays.specs.Listings.{Passes, HoldsExactly, listed_priority}
 use Rattle.rd_objects.specs.Things.{ObjectLists}
+use Rattle.rd_overlays.specs.Values.{last_given}
 use Rattle.rd_props.specs.Buffers.{BufferValue}
-use Rattle.rd_props.specs.Values.{value_of, last_value, effective}
+use Rattle.rd_props.specs.Values.{value_of, overlay_value, effective}
 use Rattle.rd_props.specs.Faces.{face_of, laid_over, face_at}
 use Rattle.rd_props.specs.Strings.{is_empty, part_of, part_in, strings_of}
 use Rattle.rd_props.specs.declared.strings.StringPlace.{StringPlace}
@@ -122,12 +123,12 @@ turned-contained n ns (k, inside, is) =
 -- ---- values, faces and strings
 
 module _ (a b : List (Option Overlay)) where
-  last-same : (kind : Kind) (ns : List ℕ) → GiveSame a b ns → last_value a kind ns ≡ last_value b kind ns
+  last-same : (kind : Kind) (ns : List ℕ) → GiveSame a b ns → last_given (overlay_value a kind) ns ≡ last_given (overlay_value b kind) ns
   last-same kind [] same = refl
   last-same kind (n ∷ ns) same =
       let rest = last-same kind ns (λ m h. same m (later-contained n m ns h)) in
       let here = (same n (first-contained n ns)).value kind in
-      ap (λ (o : Option ℕ). option_or o (value_of kind (overlay_at a n))) rest ∙ ap (option_or (last_value b kind ns)) here
+      ap (λ (o : Option ℕ). option_or o (value_of kind (overlay_at a n))) rest ∙ ap (option_or (last_given (overlay_value b kind) ns)) here
 
   faces-same : (objects : ObjectLists) (ns : List ℕ) (face : Attributes) → GiveSame a b ns → laid_over objects a ns face ≡ laid_over objects b ns face
   faces-same objects [] face same = refl
@@ -156,8 +157,8 @@ module _ (listings : AreListings) (x y : ℕ) (a b : List (Option Overlay)) (see
   covering-gives : GiveSame a b (covering x a)
   covering-gives = listing-gives listings (covers x) (covers y) a b see.covers
 
-  pub lasts-agree : (kind : Kind) → last_value a kind (covering x a) ≡ last_value b kind (covering y b)
-  lasts-agree kind = last-same a b kind (covering x a) covering-gives ∙ ap (last_value b kind) covering-same
+  pub lasts-agree : (kind : Kind) → last_given (overlay_value a kind) (covering x a) ≡ last_given (overlay_value b kind) (covering y b)
+  lasts-agree kind = last-same a b kind (covering x a) covering-gives ∙ ap (last_given (overlay_value b kind)) covering-same
 
   pub faces-agree : (objects : ObjectLists) (face : Attributes) → laid_over objects a (covering x a) face ≡ laid_over objects b (covering y b) face
   faces-agree objects face =

@@ -3,8 +3,6 @@ mod Edges
 mod Changes
 mod Colours
 mod Few
-mod Lasts
-mod Greatest
 mod Newness
 mod Joining
 mod Moves

@@ -8,9 +8,10 @@ use Rattle.rd_overlays.specs.declared.overlay.Overlay.{Overlay}
 use Rattle.rd_overlays.specs.declared.overlay.Kind.{Kind}
 use Rattle.rd_overlays.specs.declared.overlay.Kind.TheVariants.{Display, LinePrefix, WrapPrefix, Before, After}
 use Rattle.rd_overlays.specs.Overlays.{overlay_at, covering, starting, ending}
+use Rattle.rd_overlays.specs.Values.{last_given}
 use Rattle.rd_objects.specs.Things.{ObjectLists}
 use Rattle.rd_props.specs.Buffers.{BufferValue, property}
-use Rattle.rd_props.specs.Values.{value_of, last_value, effective}
+use Rattle.rd_props.specs.Values.{value_of, overlay_value, effective}
 use Rattle.rd_props.specs.Strings.{is_empty, before_string, after_string, part_of, part_in, strings_of, strings_at}
 use Rattle.rd_props.specs.declared.strings.StringPlace.{StringPlace}
 use Rattle.rd_props.specs.declared.strings.StringPlace.TheVariants.{Closing, Between, Opening}
@@ -27,17 +28,17 @@ module _ (s : BufferValue) (objects : ObjectLists) (made : AreMade s objects) wh
   slot-made number kind None v lives h = absurd (cc)
   slot-made number kind (Some o) v lives h = made.overlays number v kind o lives h
 
-  last-made : (kind : Kind) (numbers : List ℕ) (v : ℕ) → last_value s.overlays kind numbers ≡ Some v → IsMade objects kind v
+  last-made : (kind : Kind) (numbers : List ℕ) (v : ℕ) → last_given (overlay_value s.overlays kind) numbers ≡ Some v → IsMade objects kind v
   last-made kind [] v h = absurd (cc)
   last-made kind (number ∷ numbers) v h =
-      elim (or-some (last_value s.overlays kind numbers) (value_of kind (overlay_at s.overlays number)) v h) [
+      elim (or-some (last_given (overlay_value s.overlays kind) numbers) (value_of kind (overlay_at s.overlays number)) v h) [
         | inl later ↦ last-made kind numbers v later
         | inr here ↦ slot-made number kind (overlay_at s.overlays number) v refl here
       ]
 
-  effective-by : (t : Bool) (kind : Kind) (p v : ℕ) → (if t then option_or (last_value s.overlays kind (covering p s.overlays)) (property s kind p) else None) ≡ Some v → IsMade objects kind v
+  effective-by : (t : Bool) (kind : Kind) (p v : ℕ) → (if t then option_or (last_given (overlay_value s.overlays kind) (covering p s.overlays)) (property s kind p) else None) ≡ Some v → IsMade objects kind v
   effective-by true kind p v h =
-      elim (or-some (last_value s.overlays kind (covering p s.overlays)) (property s kind p) v h) [
+      elim (or-some (last_given (overlay_value s.overlays kind) (covering p s.overlays)) (property s kind p) v h) [
         | inl over ↦ last-made kind (covering p s.overlays) v over
         | inr under ↦ made.properties kind p v under
       ]

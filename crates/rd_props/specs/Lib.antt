@@ -10,5 +10,4 @@ pub mod Agreement
 pub mod Edits
 pub mod Made
 pub mod Stops
-pub mod Laws
 pub mod Examples

@@ -5,8 +5,9 @@ ghost use Rattle.rd_base.specs.Faces.{plain};
 ghost use Rattle.rd_base.specs.declared.settings.Invisible.TheVariants.{Every, Listed};
 ghost use Rattle.rd_overlays.specs.declared.overlay.Overlay.{Overlay};
 ghost use Rattle.rd_overlays.specs.declared.overlay.Kind.{Kind};
+ghost use Rattle.rd_overlays.specs.Values.{Gives, IsGreatest};
 ghost use Rattle.rd_props.specs.Buffers.{BufferValue, property};
-ghost use Rattle.rd_props.specs.Values.{effective};
+ghost use Rattle.rd_props.specs.Values.{overlay_value, effective};
 ghost use Rattle.rd_props.specs.Faces.{face_at};
 ghost use Rattle.rd_props.specs.Shown.{hidden};
 ghost use Rattle.rd_objects.specs.Sound.{AreObjects};
@@ -15,20 +16,19 @@ ghost use Rattle.rd_props.specs.Strings.{strings_at, strings_within};
 ghost use Rattle.rd_props.specs.Seen.{seen_at, hidden_seen};
 ghost use Rattle.rd_props.specs.Stops.{IsNextStop, IsLastStop, LookAlike};
 ghost use Rattle.rd_props.specs.declared.hiding.Hidden.TheVariants.{No, Plain, Ellipsis};
-ghost use Rattle.rd_props.specs.Laws.{Gives, IsGreatest};
 ghost use Rattle.rd_props.specs.Examples.{three_characters, coloured, two_faces, meeting, partly_invisible};
 
-use rd_overlays::{listings_agree, listings_are_exact};
+use rd_overlays::{last_values_are_the_greatest_overlays, listings_agree};
 
 /// The effective value before the end of the accessible text is that of the overlay which covers the position, has a value of
 /// the kind, and which no other such overlay has a greater priority than, nor the same with a greater number; where no overlay
 /// covers the position with a value, it is that of the text property. At the end there is none. The call does nothing.
 pub fn effective_values_are_the_greatest_overlays()
-    ensures overlay { (s : BufferValue) (pos number value : ℕ) (kind : Kind) (overlay : Overlay) → pos < s.text.end → IsGreatest s.overlays pos kind number overlay value → effective s pos kind ≡ Some value }
-    ensures text { (s : BufferValue) (pos : ℕ) (kind : Kind) → pos < s.text.end → ((number value : ℕ) (overlay : Overlay) → Gives s.overlays pos kind number overlay value → ⊥) → effective s pos kind ≡ property s kind pos }
+    ensures overlay { (s : BufferValue) (pos number value : ℕ) (kind : Kind) (overlay : Overlay) → pos < s.text.end → IsGreatest (overlay_value s.overlays kind) s.overlays pos number overlay value → effective s pos kind ≡ Some value }
+    ensures text { (s : BufferValue) (pos : ℕ) (kind : Kind) → pos < s.text.end → ((number value : ℕ) (overlay : Overlay) → Gives (overlay_value s.overlays kind) s.overlays pos number overlay value → ⊥) → effective s pos kind ≡ property s kind pos }
     ensures end { (s : BufferValue) (kind : Kind) → effective s s.text.end kind ≡ None }
 {
-    listings_are_exact();
+    last_values_are_the_greatest_overlays();
 }
 
 /// Whether a position is hidden depends on what is seen there and on the buffer's setting alone. The call does nothing.

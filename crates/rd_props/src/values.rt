@@ -2,13 +2,14 @@
 ghost use Rattle.std.specs.Prelude.{◌≡◌, ◌<◌, IfOk, IsTrue};
 ghost use Rattle.std.specs.Option.{option_or};
 ghost use Rattle.rd_text.specs.Texts.{IsAccessible};
-ghost use Rattle.rd_overlays.specs.Overlays.{overlay_at, place_of};
+ghost use Rattle.rd_overlays.specs.Overlays.{place_of};
+ghost use Rattle.rd_overlays.specs.Values.{last_given};
 ghost use Rattle.rd_props.specs.Buffers.{meaning, property};
-ghost use Rattle.rd_props.specs.Values.{value_of, last_value, effective, is_single};
+ghost use Rattle.rd_props.specs.Values.{overlay_value, effective, is_single};
 
 use crate::state::{BufferState, View};
 use rd_base::{Memory, Pos};
-use rd_overlays::{Kind, Overlays};
+use rd_overlays::{Kind, Overlays, last_given};
 use std::alloc::Global;
 
 /// The value of a text property at a position.
@@ -21,26 +22,12 @@ pub(crate) fn property(state: &BufferState, kind: Kind, pos: Pos) -> Option<u32>
 
 /// The value of a kind that the overlay of a number has.
 pub(crate) fn value_of(overlays: &Overlays, kind: Kind, number: u32) -> Option<u32>
-    ensures { result ≡ value_of kind (overlay_at overlays.now number) }
+    ensures { result ≡ overlay_value overlays.now kind number }
 {
     match overlays.get(number) {
         None => None,
         Some(overlay) => overlay.values[kind as usize],
     }
-}
-
-/// The value of the last of these overlays that has one.
-fn last_value(overlays: &Overlays, kind: Kind, numbers: &[u32]) -> Option<u32>
-    ensures { result ≡ last_value overlays.now kind numbers.now }
-{
-    let mut i = numbers.len();
-    while 0 < i {
-        i -= 1;
-        if let Some(value) = value_of(overlays, kind, numbers[i]) {
-            return Some(value);
-        }
-    }
-    None
 }
 
 /// The value of a kind at a position that these overlays cover: that of the last of them which has one, else that of the text
@@ -52,9 +39,9 @@ pub(crate) fn value_under(
     pos: Pos,
 ) -> Option<u32>
     requires { place_of kind < 5 }
-    ensures { result ≡ option_or (last_value state.now.overlays kind covering.now) (property (meaning state.now) kind pos) }
+    ensures { result ≡ option_or (last_given (overlay_value state.now.overlays kind) covering.now) (property (meaning state.now) kind pos) }
 {
-    match last_value(&state.overlays, kind, covering) {
+    match last_given(covering, |number| value_of(&state.overlays, kind, number)) {
         Some(value) => Some(value),
         None => property(state, kind, pos),
     }
