@@ -1,5 +1,5 @@
 -- Buffers on which the definitions are worked out.
-use Rattle.std.specs.Prelude.{ℕ, ◌+◌, pos, true, false, List, [], ◌∷◌, length, Option, Some}
+use Rattle.std.specs.Prelude.{ℕ, ◌+◌, pos, true, false, List, [], ◌∷◌, Option, Some}
 use Rattle.rd_base.specs.Faces.{plain}
 use Rattle.rd_base.specs.Settings.{opening}
 use Rattle.rd_base.specs.declared.class.Class.TheVariants.{L, B, ON, NSM}
@@ -15,8 +15,8 @@ use Rattle.rd_objects.specs.Texts.{text_of}
 use Rattle.rd_objects.specs.Things.{ObjectLists, nothing_made}
 use Rattle.rd_glyphs.specs.Marks.{marks_joined}
 use Rattle.rd_glyphs.specs.declared.mark_role.MarkRole.TheVariants.{Base, Mark}
-use Rattle.rd_props.specs.Buffers.{BufferValue, values_of}
-use Rattle.rd_props.specs.Examples.{three_characters, put_once}
+use Rattle.rd_props.specs.Buffers.{BufferValue}
+use Rattle.rd_props.specs.Examples.{buffer, three_characters, put_once}
 use Rattle.rd_items.specs.Readings.{reading}
 use Rattle.rd_items.specs.Pieces.{scene_in, char_by}
 use Rattle.rd_items.specs.Items.{piece_joins, covering, items_of}
@@ -45,12 +45,7 @@ two_strings = record nothing_made {
 
 -- a text with overlays and no properties
 abbrev pub a_text : List ℕ → List (Option Overlay) → BufferValue
-a_text chars overlays = record {
-  text = record { text = chars; begin = 1; end = length chars + 1 };
-  properties = values_of [];
-  overlays = overlays;
-  settings = opening;
-}
+a_text chars overlays = buffer chars [] overlays opening
 
 -- two characters with overlays
 abbrev pub two_characters : List (Option Overlay) → BufferValue
@@ -68,12 +63,7 @@ with_ellipsis =
 
 -- two lines of one character, of which the newline between them has the atom 7
 abbrev pub folded : Invisible → BufferValue
-folded invisible = record {
-  text = record { text = 97 ∷ 10 ∷ 98 ∷ []; begin = 1; end = 4 };
-  properties = values_of ([] ∷ [] ∷ put_once 2 3 7 ∷ []);
-  overlays = [];
-  settings = record opening { invisible = invisible };
-}
+folded invisible = buffer (97 ∷ 10 ∷ 98 ∷ []) ([] ∷ [] ∷ put_once 2 3 7 ∷ []) [] (record opening { invisible = invisible })
 
 -- an overlay's string before the position at an offset
 abbrev pub string : ℕ → ℕ → Item

@@ -51,14 +51,13 @@ same-kind : (k l : Kind) → place_of k ≡ place_of l → k ≡ l
 same-kind k l e = sym (at-place k) ∙ (ap kind_at e ∙ at-place l)
 
 put-by : (objects : ObjectLists) (k chosen : Kind) (t u : Bool) (value other : Option ℕ) (v : ℕ) → (place_of k == place_of chosen) ≡ t
-    → ((w : ℕ) → value ≡ Some w → IsMade objects chosen w) → (other ≡ Some v → IsMade objects k v) → (if t && u then value else other) ≡ Some v → IsMade objects k v
+    → ((w : ℕ) → value ≡ Some w → IsMade objects chosen w) → (other ≡ Some v → IsMade objects k v) → (if t then (if u then value else other) else other) ≡ Some v → IsMade objects k v
 put-by objects k chosen true true value other v same given old h =
     let place : place_of k ≡ place_of chosen = grind (arith, nat_tests) in
     let P : Kind → Type 0 = λ l. IsMade objects l v in
     subst P (sym (same-kind k chosen place)) (given v h)
 put-by objects k chosen true false value other v same given old h = old h
-put-by objects k chosen false true value other v same given old h = old h
-put-by objects k chosen false false value other v same given old h = old h
+put-by objects k chosen false u value other v same given old h = old h
 
 -- ---- values of overlays
 

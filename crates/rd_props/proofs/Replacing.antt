@@ -69,11 +69,10 @@ settings-edit listings old new objects head tail edit =
 
 -- ---- a property that is put
 
-put-outside : (t u : Bool) (value other : Option ℕ) → u ≡ false → other ≡ (if t && u then value else other)
+put-outside : (t u : Bool) (value other : Option ℕ) → u ≡ false → other ≡ (if t then (if u then value else other) else other)
 put-outside true false value other out = refl
-put-outside false false value other out = refl
 put-outside true true value other out = absurd (cc)
-put-outside false true value other out = absurd (cc)
+put-outside false u value other out = refl
 
 put-stays : (old new : BufferValue) (kind : Kind) (from to x : ℕ) (value : Option ℕ) → IsPut old new kind from to value → (x < from) ⊎ (from + (to - from) < x) → StaysSame old x new x
 put-stays old new kind from to x value edit away =

@@ -1,28 +1,30 @@
 -- Buffers on which the definitions are worked out.
-use Rattle.std.specs.Prelude.{ℕ, ◌-◌, pos, Bool, false, List, [], ◌∷◌, ◌++◌, length, map, replicate, Option, None, Some}
+use Rattle.std.specs.Prelude.{ℕ, ◌+◌, ◌-◌, pos, Bool, false, List, [], ◌∷◌, ◌++◌, length, replicate, Option, None, Some}
 use Rattle.rd_base.specs.Faces.{plain}
-use Rattle.rd_base.specs.Settings.{opening}
+use Rattle.rd_base.specs.Settings.{SettingValues, opening}
 use Rattle.rd_base.specs.declared.settings.Invisible as setting
 use Rattle.rd_overlays.specs.declared.overlay.Overlay.{Overlay}
 use Rattle.rd_overlays.specs.declared.overlay.Kind.TheVariants.{Face, Before, After}
-use Rattle.rd_text.specs.Texts.{inserted, deleted}
-use Rattle.rd_overlays.specs.Overlays.{new_overlay, given, slot_grown, slot_shrunk}
+use Rattle.rd_overlays.specs.Overlays.{new_overlay, given}
 use Rattle.rd_props.specs.Buffers.{BufferValue, values_of}
-use Rattle.rd_props.specs.Edits.{opened, closed}
 use Rattle.rd_objects.specs.Things.{ObjectLists, nothing_made}
 
 -- a property with one value from one position up to another
 abbrev pub put_once : ℕ → ℕ → ℕ → List (Option ℕ)
 put_once from to value = replicate from None ++ replicate (to - from) (Some value)
 
+-- a text with properties, overlays and settings
+abbrev pub buffer : List ℕ → List (List (Option ℕ)) → List (Option Overlay) → SettingValues → BufferValue
+buffer chars properties overlays settings = record {
+  text = record { text = chars; begin = 1; end = length chars + 1 };
+  properties = values_of properties;
+  overlays = overlays;
+  settings = settings;
+}
+
 -- three characters with a face, display specs, atoms and overlays
 abbrev pub three_characters : List (Option ℕ) → List (Option ℕ) → List (Option ℕ) → List (Option Overlay) → BufferValue
-three_characters faces specs atoms overlays = record {
-  text = record { text = 97 ∷ 98 ∷ 99 ∷ []; begin = 1; end = 4 };
-  properties = values_of (faces ∷ specs ∷ atoms ∷ []);
-  overlays = overlays;
-  settings = opening;
-}
+three_characters faces specs atoms overlays = buffer (97 ∷ 98 ∷ 99 ∷ []) (faces ∷ specs ∷ atoms ∷ []) overlays opening
 
 -- a red face, and one on green
 abbrev pub two_faces : ObjectLists
@@ -50,21 +52,3 @@ partly_invisible setting =
 -- that are put in there or stays
 abbrev pub enclosed : Bool → BufferValue
 enclosed front = three_characters [] [] [] (given (given (Some (new_overlay 2 3 (pos 0) front false) ∷ []) 0 Before (Some 4)) 0 After (Some 5))
-
--- a buffer with characters put in
-abbrev pub with_more : BufferValue → ℕ → List ℕ → BufferValue
-with_more s place new = record {
-  text = inserted s.text place new;
-  properties = opened s.properties place (length new);
-  overlays = map (slot_grown place (length new)) s.overlays;
-  settings = s.settings;
-}
-
--- a buffer without the characters from one position to another, that one not included
-abbrev pub with_less : BufferValue → ℕ → ℕ → BufferValue
-with_less s from to = record {
-  text = deleted s.text from to;
-  properties = closed s.properties from to;
-  overlays = map (slot_shrunk from to) s.overlays;
-  settings = s.settings;
-}

@@ -1,5 +1,5 @@
 -- The objects that a buffer names.
-use Rattle.std.specs.Prelude.{◌≡◌, ℕ, ◌<◌, IfSome, length, All, Some}
+use Rattle.std.specs.Prelude.{◌≡◌, ℕ, ◌<◌, IfSome, length, All, Option, None, Some}
 use Rattle.rd_base.specs.Settings.{SettingValues}
 use Rattle.rd_overlays.specs.declared.overlay.Overlay.{Overlay}
 use Rattle.rd_overlays.specs.declared.overlay.Kind.{Kind}
@@ -10,15 +10,19 @@ use Rattle.rd_props.specs.Buffers.{BufferValue, property}
 use Rattle.rd_props.specs.Seen.{Seen}
 use Rattle.rd_props.specs.Values.{value_of}
 
--- the object that a value of a kind names was made; an atom names none
+-- how many objects were made of those that values of a kind name; an atom names none
+abbrev pub object_count : ObjectLists → Kind → Option ℕ
+object_count objects Face = Some (length objects.faces)
+object_count objects Display = Some (length objects.specs)
+object_count objects Invisible = None
+object_count objects LinePrefix = Some (length objects.strings)
+object_count objects WrapPrefix = Some (length objects.strings)
+object_count objects Before = Some (length objects.strings)
+object_count objects After = Some (length objects.strings)
+
+-- the object that a value of a kind names was made, where it names one
 abbrev pub IsMade : ObjectLists → Kind → ℕ → Type 0
-IsMade objects Face value = value < length objects.faces
-IsMade objects Display value = value < length objects.specs
-IsMade objects Invisible value = Unit {0}
-IsMade objects LinePrefix value = value < length objects.strings
-IsMade objects WrapPrefix value = value < length objects.strings
-IsMade objects Before value = value < length objects.strings
-IsMade objects After value = value < length objects.strings
+IsMade objects kind value = IfSome (object_count objects kind) (λ count. value < count)
 
 -- the table and the strings that settings name were made
 pub record SettingsMade (objects : ObjectLists) (settings : SettingValues) : Type 0 where

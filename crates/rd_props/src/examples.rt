@@ -3,7 +3,8 @@ ghost use Rattle.std.specs.Prelude.{◌≡◌, true, false, None, Some, ◌∷�
 ghost use Rattle.rd_objects.specs.Things.{nothing_made};
 ghost use Rattle.rd_props.specs.Strings.{strings_at};
 ghost use Rattle.rd_props.specs.Seen.{seen_at, Agree};
-ghost use Rattle.rd_props.specs.Examples.{enclosed, with_more, with_less};
+ghost use Rattle.rd_props.specs.Edits.{with_more, with_less};
+ghost use Rattle.rd_props.specs.Examples.{enclosed};
 
 /// Before the third of three characters stands the after-string of an overlay on the second.
 fn what_is_seen_of_three_characters()

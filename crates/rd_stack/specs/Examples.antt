@@ -1,5 +1,5 @@
 -- Buffers and strings on which the definitions are worked out.
-use Rattle.std.specs.Prelude.{ℕ, ◌+◌, pos, false, true, List, [], ◌∷◌, length, Option, Some}
+use Rattle.std.specs.Prelude.{ℕ, pos, false, true, List, [], ◌∷◌, Option, Some}
 use Rattle.rd_base.specs.Faces.{Attributes, plain}
 use Rattle.rd_base.specs.Cells.{single}
 use Rattle.rd_base.specs.Settings.{opening}
@@ -21,7 +21,8 @@ use Rattle.rd_objects.specs.declared.run.RunKind.TheVariants as run
 use Rattle.rd_objects.specs.Texts.{TextValue, text_of}
 use Rattle.rd_objects.specs.Things.{ObjectLists, nothing_made}
 use Rattle.rd_glyphs.specs.Characters.{element_of}
-use Rattle.rd_props.specs.Buffers.{BufferValue, values_of}
+use Rattle.rd_props.specs.Buffers.{BufferValue}
+use Rattle.rd_props.specs.Examples as props
 use Rattle.rd_items.specs.Readings.{reading}
 use Rattle.rd_items.specs.Pieces.{Scene, scene_in}
 use Rattle.rd_stack.specs.Shown.{outside}
@@ -41,12 +42,7 @@ stretch extent item from to = record { extent = extent; look = look.Blank; face 
 
 -- a text with properties and overlays
 abbrev pub buffer : List ℕ → List (List (Option ℕ)) → List (Option Overlay) → Invisible → BufferValue
-buffer chars properties overlays invisible = record {
-  text = record { text = chars; begin = 1; end = length chars + 1 };
-  properties = values_of properties;
-  overlays = overlays;
-  settings = record opening { invisible = invisible };
-}
+buffer chars properties overlays invisible = props.buffer chars properties overlays (record opening { invisible = invisible })
 
 -- a string without runs
 abbrev pub bare : List ℕ → TextValue

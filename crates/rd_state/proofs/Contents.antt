@@ -133,7 +133,7 @@ abbrev put_values : ContentValue → ℕ → ℕ → Kind → Option ℕ → pro
 put_values c from to kind value = record (seen c) { properties = put_on (value_in c.properties) kind from to value }
 
 -- where a value on a range came from
-put-came : (t u w : Bool) (a : Option ℕ) (value : Option ℕ) (v : ℕ) → (if t && (u && w) then value else a) ≡ Some v → ((t ≡ true) × (u ≡ true) × (w ≡ true)) ⊎ (a ≡ Some v)
+put-came : (t u w : Bool) (a : Option ℕ) (value : Option ℕ) (v : ℕ) → (if t then (if u && w then value else a) else a) ≡ Some v → ((t ≡ true) × (u ≡ true) × (w ≡ true)) ⊎ (a ≡ Some v)
 put-came true true true a value v h = inl (refl, refl, refl)
 put-came true true false a value v h = inr h
 put-came true false w a value v h = inr h

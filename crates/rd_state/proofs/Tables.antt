@@ -48,7 +48,7 @@ closed-alike f g from to h kind p = branches (nat_lt p from) (f kind p) _ (g kin
 
 pub put_on-alike : (f g : ℕ → ℕ → Option ℕ) (chosen : Kind) (from to : ℕ) (value : Option ℕ) → AreAlike f g → AreAlike (put_on f chosen from to value) (put_on g chosen from to value)
 put_on-alike f g chosen from to value h kind p =
-    branches ((kind == place_of chosen) && (nat_le from p && nat_lt p to)) value (f kind p) value (g kind p) refl (h kind p)
+    branches (kind == place_of chosen) _ (f kind p) _ (g kind p) (branches (nat_le from p && nat_lt p to) value (f kind p) value (g kind p) refl (h kind p)) (h kind p)
 
 -- ---- looking at them
 

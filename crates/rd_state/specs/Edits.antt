@@ -1,20 +1,21 @@
 -- What an op does to what one buffer holds.
-use Rattle.std.specs.Prelude.{ℕ, ◌+◌, nat_lt, nat_le, ◌&&◌, ◌||◌, Bool, true, is_some, if◌then◌else◌, ℤ, Option, Some, None, Result, Ok, Err, List, [], ◌∷◌, ◌++◌, length, map}
+use Rattle.std.specs.Prelude.{ℕ, ◌+◌, nat_lt, nat_le, ◌&&◌, ◌||◌, Bool, true, is_some, if◌then◌else◌, ℤ, Option, Some, None, Result, Ok, Err, List, [], ◌∷◌, ◌++◌, length}
+use Rattle.std.specs.Option.{option_map, unwrap_or}
 use Rattle.rd_base.specs.declared.limits.TheConstants.{OVERLAYS}
 use Rattle.rd_base.specs.Settings.{SettingValues}
-use Rattle.rd_text.specs.Texts.{TextValue, most_characters, inserted, deleted, narrowed, widened}
+use Rattle.rd_text.specs.Texts.{TextValue, most_characters, narrowed, widened}
 use Rattle.rd_overlays.specs.declared.overlay.Kind.{Kind}
-use Rattle.rd_overlays.specs.declared.overlay.Kind.TheVariants.{Face, Display, Invisible, LinePrefix, WrapPrefix, Before, After}
-use Rattle.rd_overlays.specs.Overlays.{overlay_at, new_overlay, moved, dropped, given, slot_grown, slot_shrunk}
+use Rattle.rd_overlays.specs.Overlays.{overlay_at, new_overlay, moved, dropped, given}
 use Rattle.rd_objects.specs.Things.{ObjectLists}
 use Rattle.rd_props.specs.Buffers as props
-use Rattle.rd_props.specs.Edits.{opened, closed, put_on}
+use Rattle.rd_props.specs.Edits.{put_on, with_more, with_less}
+use Rattle.rd_props.specs.Made.{object_count}
 use Rattle.rd_margins.specs.Marks as marks
 use Rattle.rd_script.specs.declared.setting.Setting.{Setting}
 use Rattle.rd_script.specs.declared.setting.Setting.TheVariants as setting
 use Rattle.rd_state.specs.declared.refused.Refused.{Refused}
 use Rattle.rd_state.specs.declared.refused.Refused.TheVariants.{NoObject, NoOverlay, OutOfRange, TextTooLarge, TooManyOverlays}
-use Rattle.rd_state.specs.States.{ContentValue, value_in, values_on}
+use Rattle.rd_state.specs.States.{ContentValue, seen, value_in, values_on}
 
 -- ---- tests
 
@@ -39,15 +40,9 @@ abbrev pub is_made : ℕ → Option ℕ → Bool
 is_made count None = true
 is_made count (Some number) = nat_lt number count
 
--- the same of the object that a value of a kind names; an atom names none
+-- the same of the object that a value of a kind names, where it names one
 abbrev pub is_value_made : ObjectLists → Kind → Option ℕ → Bool
-is_value_made objects Face value = is_made (length objects.faces) value
-is_value_made objects Display value = is_made (length objects.specs) value
-is_value_made objects Invisible value = true
-is_value_made objects LinePrefix value = is_made (length objects.strings) value
-is_value_made objects WrapPrefix value = is_made (length objects.strings) value
-is_value_made objects Before value = is_made (length objects.strings) value
-is_value_made objects After value = is_made (length objects.strings) value
+is_value_made objects kind value = unwrap_or (option_map (λ count. is_made count value) (object_count objects kind)) true
 
 -- the same of the object that a setting names
 abbrev pub is_setting_made : ObjectLists → Setting → Bool
@@ -66,14 +61,9 @@ marked_modified changed s = record s { modified = changed || s.modified }
 abbrev pub with_seen : ContentValue → props.BufferValue → ContentValue
 with_seen c b = record c { text = b.text; properties = values_on b.text b.properties; overlays = b.overlays; settings = b.settings }
 
--- a buffer with a text put in before a position: the new characters have no properties, and what stands behind them moves
+-- a buffer with a text put in before a position
 abbrev pub seen_grown : ContentValue → ℕ → List ℕ → props.BufferValue
-seen_grown c pos new = record {
-  text = inserted c.text pos new;
-  properties = opened (value_in c.properties) pos (length new);
-  overlays = map (slot_grown pos (length new)) c.overlays;
-  settings = marked_modified (nat_lt 0 (length new)) c.settings;
-}
+seen_grown c pos new = record (with_more (seen c) pos new) { settings = marked_modified (nat_lt 0 (length new)) c.settings }
 
 abbrev pub grown : ContentValue → ℕ → List ℕ → ContentValue
 grown c pos new = with_seen c (seen_grown c pos new)
@@ -83,12 +73,7 @@ insertion pos new c = if is_accessible c.text pos then (if has_room c.text new t
 
 -- a buffer with a range taken away
 abbrev pub seen_shrunk : ContentValue → ℕ → ℕ → props.BufferValue
-seen_shrunk c from to = record {
-  text = deleted c.text from to;
-  properties = closed (value_in c.properties) from to;
-  overlays = map (slot_shrunk from to) c.overlays;
-  settings = marked_modified (nat_lt from to) c.settings;
-}
+seen_shrunk c from to = record (with_less (seen c) from to) { settings = marked_modified (nat_lt from to) c.settings }
 
 abbrev pub shrunk : ContentValue → ℕ → ℕ → ContentValue
 shrunk c from to = with_seen c (seen_shrunk c from to)
