@@ -1,5 +1,6 @@
 -- Words of UAX 9 on bidirectional classes that several rules share.
 use Rattle.std.specs.Prelude.{ℕ, zero, suc, ◌%◌, ◌==◌, Bool, true, false, if◌then◌else◌, List, [], ◌∷◌, Option, None, Some}
+use Rattle.std.specs.Option.{option_or}
 use Rattle.rd_base.specs.declared.class.Class.{Class}
 use Rattle.rd_base.specs.declared.class.Class.TheVariants.{L, R, AL, BN, LRE, LRO, RLE, RLO, PDF, LRI, RLI, FSI, PDI}
 
@@ -24,16 +25,23 @@ is_removed c = false
 abbrev pub direction_of : ℕ → Class
 direction_of level = if level % 2 == 0 then L else R
 
+-- the level that a character inside so many isolates decides, by rules P2 and P3
+abbrev pub strong_of : ℕ → Class → Option ℕ
+strong_of zero L = Some 0
+strong_of zero R = Some 1
+strong_of zero AL = Some 1
+strong_of depth c = None
+
+-- inside how many isolates the next character stands: a PDI ends one, where there is one
+abbrev pub depth_after : ℕ → Class → ℕ
+depth_after depth LRI = suc depth
+depth_after depth RLI = suc depth
+depth_after depth FSI = suc depth
+depth_after (suc depth) PDI = depth
+depth_after depth c = depth
+
 -- the level that rules P2 and P3 find in what is left of a line, inside so many isolates: that of the first L, R or AL outside
 -- isolates, where an isolate ends at its matching PDI or else at the end
 abbrev pub strong_level : ℕ → List Class → Option ℕ
 strong_level depth [] = None
-strong_level zero (L ∷ cs) = Some 0
-strong_level zero (R ∷ cs) = Some 1
-strong_level zero (AL ∷ cs) = Some 1
-strong_level depth (LRI ∷ cs) = strong_level (suc depth) cs
-strong_level depth (RLI ∷ cs) = strong_level (suc depth) cs
-strong_level depth (FSI ∷ cs) = strong_level (suc depth) cs
-strong_level zero (PDI ∷ cs) = strong_level zero cs
-strong_level (suc depth) (PDI ∷ cs) = strong_level depth cs
-strong_level depth (c ∷ cs) = strong_level depth cs
+strong_level depth (c ∷ cs) = option_or (strong_of depth c) (strong_level (depth_after depth c) cs)

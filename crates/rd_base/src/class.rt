@@ -1,7 +1,7 @@
 //! The bidirectional classes of UAX 9, table 4.
 
-ghost use Rattle.std.specs.Prelude.{◌≡◌, if◌then◌else◌};
-ghost use Rattle.rd_base.specs.Classes.{is_initiator, is_removed, direction_of};
+ghost use Rattle.std.specs.Prelude.{◌≡◌, ◌<◌, ◌≤◌, ◌+◌, if◌then◌else◌};
+ghost use Rattle.rd_base.specs.Classes.{is_initiator, is_removed, direction_of, strong_of, depth_after};
 
 /// A bidirectional class.
 #[derive(Clone, Copy, Debug, PartialEq, Eq)]
@@ -64,5 +64,28 @@ impl Class {
         ensures { result ≡ direction_of level }
     {
         if level % 2 == 0 { Class::L } else { Class::R }
+    }
+    /// The level that it decides inside so many isolates, by rules P2 and P3: L decides 0, R and AL 1, and none does inside an isolate.
+    pub fn strong_level(self, depth: u32) -> Option<u8>
+        ensures { result ≡ strong_of depth self }
+    {
+        match self {
+            Class::L if depth == 0 => Some(0),
+            Class::R | Class::AL if depth == 0 => Some(1),
+            _ => None,
+        }
+    }
+
+    /// Inside how many isolates the next character stands, where this one stands inside so many.
+    pub fn depth_after(self, depth: u32) -> u32
+        requires { depth < 4294967295 }
+        ensures value { result ≡ depth_after depth self }
+        ensures bound { result ≤ depth + 1 }
+    {
+        match self {
+            Class::LRI | Class::RLI | Class::FSI => depth + 1,
+            Class::PDI => depth.saturating_sub(1),
+            _ => depth,
+        }
     }
 }

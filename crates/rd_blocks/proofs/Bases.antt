@@ -6,9 +6,9 @@ use Rattle.std.specs.List.{slice_split}
 use Rattle.std.proofs.lemmas.Bool.{cases_lt, cond_both}
 use Rattle.std.proofs.lemmas.List.{get_or_past}
 use Rattle.std.proofs.lemmas.List.Elements.{All-nil, All-append, All-replicate}
-use Rattle.rd_base.specs.Classes.{strong_level}
+use Rattle.rd_base.specs.Classes.{strong_of, depth_after, strong_level}
 use Rattle.rd_base.specs.declared.class.Class.{Class}
-use Rattle.rd_base.specs.declared.class.Class.TheVariants.{L, R, AL, EN, ES, ET, AN, CS, NSM, BN, B, S, WS, ON, LRE, LRO, RLE, RLO, PDF, LRI, RLI, FSI, PDI}
+use Rattle.rd_base.specs.declared.class.Class.TheVariants.{L, R, AL}
 use Rattle.rd_base.specs.declared.settings.Direction.{Direction}
 use Rattle.rd_base.specs.declared.settings.Direction.TheVariants.{Auto, Left, Right}
 use Rattle.rd_ucd.specs.declared.spans.Span.{Span}
@@ -22,58 +22,20 @@ abbrev IsLow : Option ℕ → Type 0
 IsLow None = Unit {0}
 IsLow (Some level) = level ≤ 1
 
-strong-low : (depth : ℕ) (cs : List Class) → IsLow (strong_level depth cs)
-strong-low depth [] = tt
-strong-low zero (L ∷ cs) = omega arith
-strong-low (suc depth) (L ∷ cs) = strong-low (suc depth) cs
-strong-low zero (R ∷ cs) = omega arith
-strong-low (suc depth) (R ∷ cs) = strong-low (suc depth) cs
-strong-low zero (AL ∷ cs) = omega arith
-strong-low (suc depth) (AL ∷ cs) = strong-low (suc depth) cs
-strong-low zero (EN ∷ cs) = strong-low zero cs
-strong-low (suc depth) (EN ∷ cs) = strong-low (suc depth) cs
-strong-low zero (ES ∷ cs) = strong-low zero cs
-strong-low (suc depth) (ES ∷ cs) = strong-low (suc depth) cs
-strong-low zero (ET ∷ cs) = strong-low zero cs
-strong-low (suc depth) (ET ∷ cs) = strong-low (suc depth) cs
-strong-low zero (AN ∷ cs) = strong-low zero cs
-strong-low (suc depth) (AN ∷ cs) = strong-low (suc depth) cs
-strong-low zero (CS ∷ cs) = strong-low zero cs
-strong-low (suc depth) (CS ∷ cs) = strong-low (suc depth) cs
-strong-low zero (NSM ∷ cs) = strong-low zero cs
-strong-low (suc depth) (NSM ∷ cs) = strong-low (suc depth) cs
-strong-low zero (BN ∷ cs) = strong-low zero cs
-strong-low (suc depth) (BN ∷ cs) = strong-low (suc depth) cs
-strong-low zero (B ∷ cs) = strong-low zero cs
-strong-low (suc depth) (B ∷ cs) = strong-low (suc depth) cs
-strong-low zero (S ∷ cs) = strong-low zero cs
-strong-low (suc depth) (S ∷ cs) = strong-low (suc depth) cs
-strong-low zero (WS ∷ cs) = strong-low zero cs
-strong-low (suc depth) (WS ∷ cs) = strong-low (suc depth) cs
-strong-low zero (ON ∷ cs) = strong-low zero cs
-strong-low (suc depth) (ON ∷ cs) = strong-low (suc depth) cs
-strong-low zero (LRE ∷ cs) = strong-low zero cs
-strong-low (suc depth) (LRE ∷ cs) = strong-low (suc depth) cs
-strong-low zero (LRO ∷ cs) = strong-low zero cs
-strong-low (suc depth) (LRO ∷ cs) = strong-low (suc depth) cs
-strong-low zero (RLE ∷ cs) = strong-low zero cs
-strong-low (suc depth) (RLE ∷ cs) = strong-low (suc depth) cs
-strong-low zero (RLO ∷ cs) = strong-low zero cs
-strong-low (suc depth) (RLO ∷ cs) = strong-low (suc depth) cs
-strong-low zero (PDF ∷ cs) = strong-low zero cs
-strong-low (suc depth) (PDF ∷ cs) = strong-low (suc depth) cs
-strong-low zero (LRI ∷ cs) = strong-low 1 cs
-strong-low (suc depth) (LRI ∷ cs) = strong-low (suc (suc depth)) cs
-strong-low zero (RLI ∷ cs) = strong-low 1 cs
-strong-low (suc depth) (RLI ∷ cs) = strong-low (suc (suc depth)) cs
-strong-low zero (FSI ∷ cs) = strong-low 1 cs
-strong-low (suc depth) (FSI ∷ cs) = strong-low (suc (suc depth)) cs
-strong-low zero (PDI ∷ cs) = strong-low zero cs
-strong-low (suc depth) (PDI ∷ cs) = strong-low depth cs
-
 first-low : (a b : Option ℕ) → IsLow a → IsLow b → IsLow (option_or a b)
 first-low None b h k = k
 first-low (Some level) b h k = h
+
+strong_of-low : (depth : ℕ) (c : Class) → IsLow (strong_of depth c)
+strong_of-low zero L = omega arith
+strong_of-low zero R = omega arith
+strong_of-low zero AL = omega arith
+strong_of-low depth c = tt
+
+strong-low : (depth : ℕ) (cs : List Class) → IsLow (strong_level depth cs)
+strong-low depth [] = tt
+strong-low depth (c ∷ cs) =
+    first-low (strong_of depth c) (strong_level (depth_after depth c) cs) (strong_of-low depth c) (strong-low (depth_after depth c) cs)
 
 decided-low : (classes : List Span) (lines : List (List ℕ)) → IsLow (decided classes lines)
 decided-low classes [] = tt

@@ -12,13 +12,10 @@ pub fn x5c_starts_right(rest: &[Class]) -> bool
 {
     let mut depth = 0u32;
     for class in rest {
-        match *class {
-            Class::L if depth == 0 => return false,
-            Class::R | Class::AL if depth == 0 => return true,
-            Class::LRI | Class::RLI | Class::FSI => depth += 1,
-            Class::PDI if depth == 0 => return false,
-            Class::PDI => depth -= 1,
-            _ => {}
+        match class.strong_level(depth) {
+            Some(level) => return level == 1,
+            None if depth == 0 && *class == Class::PDI => return false,
+            None => depth = class.depth_after(depth),
         }
     }
     false

@@ -1,10 +1,9 @@
 //! What one line of a text says of its paragraph.
-ghost use Rattle.std.specs.Prelude.{◌≡◌, ◌==◌, ◌≤◌, ◌<◌, ◌+◌, ◌-◌, if◌then◌else◌, None, length, slice_index};
+ghost use Rattle.std.specs.Prelude.{◌≡◌, ◌≤◌, ◌+◌, ◌-◌, length, slice_index};
 ghost use Rattle.rd_text.specs.Texts.{IsText, IsAccessible, between, is_separator, next_newline};
-ghost use Rattle.rd_para.specs.Strong.{decided_by, depth_after};
 ghost use Rattle.rd_para.specs.Paragraphs.{line_level};
 
-use rd_base::{Ch, Class, Pos};
+use rd_base::{Ch, Pos};
 use rd_text::Buffer;
 use rd_ucd::Classes;
 
@@ -30,10 +29,10 @@ pub fn level_of_line(text: &Buffer, classes: &Classes, from: Pos, to: Pos) -> Op
     let mut depth = 0;
     while pos < to {
         let class = classes.class(char_at(text, pos));
-        if let Some(level) = deciding(class, depth) {
+        if let Some(level) = class.strong_level(depth) {
             return Some(level);
         }
-        depth = deeper(class, depth);
+        depth = class.depth_after(depth);
         pos += 1;
     }
     None
@@ -48,32 +47,5 @@ fn char_at(text: &Buffer, pos: Pos) -> Ch
     match text.fetch(pos) {
         Some(ch) => ch,
         None => unreachable!(),
-    }
-}
-
-/// The level that a character in so many isolates decides.
-fn deciding(class: Class, depth: u32) -> Option<u8>
-    ensures { result ≡ (if depth == 0 then decided_by class else None) }
-{
-    if depth != 0 {
-        return None;
-    }
-    match class {
-        Class::L => Some(0),
-        Class::R | Class::AL => Some(1),
-        _ => None,
-    }
-}
-
-/// In how many isolates the next character stands.
-fn deeper(class: Class, depth: u32) -> u32
-    requires { depth < 4294967295 }
-    ensures value { result ≡ depth_after class depth }
-    ensures bound { result ≤ depth + 1 }
-{
-    match class {
-        Class::LRI | Class::RLI | Class::FSI => depth + 1,
-        Class::PDI => depth.saturating_sub(1),
-        _ => depth,
     }
 }

@@ -17,14 +17,14 @@ loop-pos-preserved c =
     let inv = c.loop-pos.invariant in
     let from = inv.from in
     let depth = inv.depth in
-    let deep = c.deeper-depth.ensures.bound in
+    let deep = c.depth_after-depth.ensures.bound in
     let first = c.requires.first in
     let less = c.loop-pos-test.true in
     record {
       from = omega arith;
       to = omega arith;
       depth = omega arith;
-      rest = level_goes c.args.classes.now c.args.text.now.text c.loop-pos.pos c.args.to c.char_at.result c.loop-pos.depth c.deeper-depth.result c.class-class.result
+      rest = level_goes c.args.classes.now c.args.text.now.text c.loop-pos.pos c.args.to c.char_at.result c.loop-pos.depth c.depth_after-depth.result c.class-class.result
           (line_level c.args.classes.now (between c.args.text.now c.args.from c.args.to)) (omega arith) c.loop-pos-test.true
-          c.requires.last c.char_at.ensures c.class-class.ensures c.in_default.ensures c.deeper-depth.ensures.value inv.rest;
+          c.requires.last c.char_at.ensures c.class-class.ensures c.in_default.ensures c.depth_after-depth.ensures.value inv.rest;
     }
