@@ -7,7 +7,6 @@ mod Edited
 mod Faults
 mod Finding
 pub mod Free
-mod Glyphs
 mod Keeping
 pub mod Leaves
 mod Leaving

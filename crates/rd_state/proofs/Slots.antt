@@ -49,7 +49,7 @@ glyphs-right (c ∷ cs) h =
     let parts = and_parts (is_glyph c) (list_all is_glyph cs) h in
     and_from (is_glyph_character (glyph_of c)) (list_all is_glyph_character (map glyph_of cs)) (glyph-right c parts.0) (glyphs-right cs parts.1)
 
-text-right : (text : List ℕ) → is_glyph_text text ≡ true → tables.is_glyph_text (map glyph_of text) ≡ true
+pub text-right : (text : List ℕ) → is_glyph_text text ≡ true → tables.is_glyph_text (map glyph_of text) ≡ true
 text-right text h =
     let parts = and_parts (nat_le (length text) ENTRY_GLYPHS) (list_all is_glyph text) h in
     and_from (nat_le (length (map glyph_of text)) ENTRY_GLYPHS) (list_all is_glyph_character (map glyph_of text))

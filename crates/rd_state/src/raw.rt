@@ -3,7 +3,7 @@ ghost use Rattle.std.specs.Prelude.{◌≡◌, ◌+◌, ◌≤◌, All, IfOk};
 ghost use Rattle.rd_script.specs.Forms.{IsRawByte};
 ghost use Rattle.rd_state.specs.Steps.{raw_text};
 
-use rd_base::{Ch, ListOf, Memory};
+use rd_base::{Ch, ListOf, Memory, mapped};
 use std::alloc::Global;
 
 /// The characters of raw bytes.
@@ -11,11 +11,7 @@ pub(crate) fn raw_text(alloc: Global, bytes: &[u8]) -> Result<ListOf<Ch>, Memory
     requires { All IsRawByte bytes.now }
     ensures { IfOk result (λ text. text ≡ raw_text bytes.now) }
 {
-    let mut text = ListOf::new(alloc);
-    for byte in bytes {
-        text.push(raw_character(*byte))?;
-    }
-    Ok(text)
+    mapped(alloc, bytes, |byte| raw_character(*byte))
 }
 
 /// The character of a raw byte.

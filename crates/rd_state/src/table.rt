@@ -4,7 +4,7 @@ ghost use Rattle.rd_objects.specs.Tables.{is_glyph_character, is_glyph_text as a
 ghost use Rattle.rd_script.specs.Forms.{is_glyph, is_glyph_text, IsSlot, IsEllipsis, IsEntryInForm};
 ghost use Rattle.rd_state.specs.Making.{glyph_of, entry_of, table_of};
 
-use rd_base::{Ch, Glyph, ListOf, Memory};
+use rd_base::{Ch, Glyph, ListOf, Memory, mapped};
 use rd_objects::{Slot, Table, glyph_character};
 use rd_script::OpEntry;
 use std::alloc::Global;
@@ -91,11 +91,7 @@ fn glyphs(alloc: Global, text: &[Ch]) -> Result<ListOf<Glyph>, Memory>
     ensures value { IfOk result (λ list. list ≡ map glyph_of text.now) }
     ensures right { IfOk result (λ list. IsTrue (are_glyph_characters list)) }
 {
-    let mut list = ListOf::new(alloc);
-    for ch in text {
-        list.push(glyph(*ch))?;
-    }
-    Ok(list)
+    mapped(alloc, text, |ch| glyph(*ch))
 }
 
 /// The glyph of a glyph character, in its own columns.

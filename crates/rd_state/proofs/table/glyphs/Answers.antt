@@ -1,21 +1,28 @@
-use Rattle.std.proofs.Common.{◌≡◌, true, subst, sym, arith}
+use Rattle.std.proofs.Common.{◌≡◌, ℕ, true, Result, Ok, Err, List, length, map, nat_le, subst, sym, rules}
+use Rattle.std.proofs.lemmas.Bool.{and_parts}
+use Rattle.std.proofs.lemmas.List.Sums.{AllPass-from_list_all}
 use Rattle.std.specs.List.{list_all}
-use Rattle.rd_objects.specs.Tables.{is_glyph_character}
-use Rattle.rd_state.proofs.Glyphs.{glyph-at, all-push, all-taken, glyphs-more, glyphs-right}
+use Rattle.std.specs.Prelude.{IfOk}
+use Rattle.rd_base.proofs.Lists.{all-at}
+use Rattle.rd_base.specs.declared.cell.Glyph.{Glyph}
+use Rattle.rd_base.specs.declared.memory.Memory.{Memory}
+use Rattle.rd_objects.specs.Tables as tables
+use Rattle.rd_script.specs.Forms.{is_glyph, is_glyph_text}
+use Rattle.rd_state.specs.Making.{glyph_of}
+use Rattle.rd_state.proofs.Slots.{text-right}
 use Rattle.rd_state.proofs.table.glyphs.Goals as goal
 
-pub glyph-requires : goal.glyph-requires
-glyph-requires c = glyph-at c.args.text.now c.loop-ch.ch-index c.ch-item.result c.requires (omega arith) c.ch-item.is
+pub mapped-requires : goal.mapped-requires
+mapped-requires c = λ i x at _ _ _ _ _.
+    let text = c.args.text.now in
+    all-at (λ ch. is_glyph ch ≡ true) text i x.now (AllPass-from_list_all is_glyph text (and_parts (nat_le (length text) 16) (list_all is_glyph text) c.requires).1) at
 
-pub loop-ch-preserved : goal.loop-ch-preserved
-loop-ch-preserved c = (
-  glyphs-more c.args.text.now c.loop-ch.list c.push.new.self c.loop-ch.ch-index c.ch-item.result c.glyph.result c.loop-ch.invariant.0 (omega arith) c.ch-item.is
-      c.glyph.ensures.value c.in_ok-push.ensures.ok,
-  subst (λ l. list_all is_glyph_character l ≡ true) (sym c.in_ok-push.ensures.ok)
-      (all-push is_glyph_character c.loop-ch.list c.glyph.result c.loop-ch.invariant.1 c.glyph.ensures.right),
-)
+pub returns-clause-value : goal.returns-clause-value
+returns-clause-value c = c.mapped.ensures glyph_of (λ x y told. search rules)
+
+right : (r : Result (List Glyph) Memory) (text : List ℕ) → is_glyph_text text ≡ true → IfOk r (λ list. list ≡ map glyph_of text) → IfOk r (λ list. tables.is_glyph_text list ≡ true)
+right (Ok list) text form is = subst (λ (glyphs : List Glyph). tables.is_glyph_text glyphs ≡ true) (sym is) (text-right text form)
+right (Err none) text form is = tt
 
 pub returns-clause-right : goal.returns-clause-right
-returns-clause-right c =
-    glyphs-right c.args.text.now c.loop-ch.list c.requires
-    (all-taken c.args.text.now c.loop-ch.list c.loop-ch.ch-index c.loop-ch.invariant.0 c.loop-ch.auto.ch-index-end (omega arith)) c.loop-ch.invariant.1
+returns-clause-right c = right c.mapped.result c.args.text.now c.requires (returns-clause-value c)
