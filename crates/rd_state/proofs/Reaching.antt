@@ -1,14 +1,16 @@
 -- An edit of a text at a position that no text reaches is refused.
-use Rattle.std.proofs.Common.{◌≡◌, ℕ, ◌+◌, ◌<◌, false, Some, Result, Err, List, length, get_or, max, subst, sym, ap, refl, ◌∙◌, arith}
+use Rattle.std.proofs.Common.{◌≡◌, ℕ, ◌+◌, ◌<◌, Bool, true, false, if◌then◌else◌, Some, Result, Err, List, length, get_or, max, subst, sym, ap, refl, ◌∙◌, arith}
 use Rattle.std.proofs.lemmas.Bool.{cond-false}
 use Rattle.std.proofs.lemmas.Bool.Decides.{nat_tests}
-use Rattle.std.proofs.lemmas.Option.{slice_get-get_or}
-use Rattle.std.specs.Prelude.{IsErr, IfErr, slice_get}
+use Rattle.std.proofs.lemmas.Option.{slice_get-get_or, slice_get_past}
+use Rattle.std.specs.Prelude.{IsErr, slice_get}
 use Rattle.std.specs.Result.{IsErrAnd}
 use Rattle.rd_text.specs.Texts.{TextValue, IsText, most_characters}
 use Rattle.rd_script.specs.declared.op.Op.{Op}
+use Rattle.rd_script.specs.declared.op.Op.TheVariants.{Delete, Narrow}
 use Rattle.rd_state.specs.declared.effect.Effect.{Effect}
 use Rattle.rd_state.specs.declared.moves.Move.{Move}
+use Rattle.rd_state.specs.declared.moves.Move.TheVariants.{Deleted, Narrowed}
 use Rattle.rd_state.specs.declared.refused.Refused.{Refused}
 use Rattle.rd_state.specs.declared.refused.Refused.TheVariants.{NoBuffer, OutOfRange}
 use Rattle.rd_state.specs.Answers.{Applies}
@@ -16,7 +18,7 @@ use Rattle.rd_state.specs.Edits.{is_accessible, is_accessible_range, is_range_of
 use Rattle.rd_state.specs.States.{BufferValue, ContentValue, StateValue, new_buffer, number_of}
 use Rattle.rd_state.specs.Steps.{edited_moving, moving, replaced, step, with_found}
 use Rattle.rd_state.specs.Valid.{IsValid}
-use Rattle.rd_state.proofs.Sharing.{if-refused, refuses}
+use Rattle.rd_state.proofs.Sharing.{refuses}
 
 -- ---- texts
 
@@ -69,16 +71,24 @@ refused-found s t e name i how edit out same valid found within every =
     let refused = refused-there t name how edit (subst IsValid (sym same) valid) less every in
     ap (λ x. edited_moving x name how edit) (sym same) ∙ (refused ∙ ap (λ x. Err x) (sym out))
 
--- a call answers so that looks for what the edit needs
-pub finds-none : {A : Type 0} (r : Result A Refused) (s t : StateValue) (e : Refused) (name : List ℕ) (i : ℕ) (how : Move) (edit : ContentValue → Result ContentValue Refused)
-    → IsErrAnd r (λ x. x ≡ e) → e ≡ OutOfRange → t ≡ s → IsValid s → i ≡ number_of name t.buffers → i < length t.buffers
-    → ((c : ContentValue) → IsText c.text → edit c ≡ Err OutOfRange) → IfErr r (λ x. edited_moving s name how edit ≡ Err x)
-finds-none r s t e name i how edit and out same valid found within every =
-    if-refused r e (λ x. edited_moving s name how edit ≡ Err x) and (refused-found s t e name i how edit out same valid found within every)
-
 -- and an op that asks for the edit
 pub refuses-behind : (r : Result Effect Refused) (op : Op) (s t : StateValue) (e : Refused) (name : List ℕ) (i : ℕ) (how : Move) (edit : ContentValue → Result ContentValue Refused)
     → IsErr r → IsErrAnd r (λ x. x ≡ e) → e ≡ OutOfRange → t ≡ s → IsValid s → i ≡ number_of name t.buffers → i < length t.buffers
     → ((c : ContentValue) → IsText c.text → edit c ≡ Err OutOfRange) → step s op ≡ edited_moving s name how edit → Applies r op s s
 refuses-behind r op s t e name i how edit is and out same valid found within every asks =
     refuses r op s s e is and refl (asks ∙ refused-found s t e name i how edit out same valid found within every)
+
+-- a range is taken away or made the accessible one
+pub range-asks : (s : StateValue) (name : List ℕ) (from to : ℕ) (deletes : Bool) → step s (if deletes then Delete name from to else Narrow name from to)
+    ≡ edited_moving s name (if deletes then Deleted from to else Narrowed from to) (if deletes then deletion from to else narrowing from to)
+unfolding step
+range-asks s name from to true = refl
+range-asks s name from to false = refl
+
+pub range-unnamed : (s : StateValue) (name : List ℕ) (from to : ℕ) (deletes : Bool) → number_of name s.buffers ≡ length s.buffers
+    → step s (if deletes then Delete name from to else Narrow name from to) ≡ Err NoBuffer
+range-unnamed s name from to deletes none =
+    range-asks s name from to deletes
+    ∙ ap (λ o. with_found NoBuffer o (λ b. moving (number_of name s.buffers) (if deletes then Deleted from to else Narrowed from to)
+    (replaced s (number_of name s.buffers) b ((if deletes then deletion from to else narrowing from to) b.content))))
+    (slice_get_past s.buffers (number_of name s.buffers) (omega (arith, none)))

@@ -28,8 +28,8 @@ impl StateParts {
                 self.insert_raw(buffer.as_str(), pos, bytes.as_slice())
             }
             Op::TypeText { text } => self.type_text(text.as_slice()),
-            Op::Delete { buffer, from, to } => self.delete(buffer.as_str(), from, to),
-            Op::Narrow { buffer, from, to } => self.narrow(buffer.as_str(), from, to),
+            Op::Delete { buffer, from, to } => self.change_range(buffer.as_str(), from, to, true),
+            Op::Narrow { buffer, from, to } => self.change_range(buffer.as_str(), from, to, false),
             Op::Widen { buffer } => self.widen(buffer.as_str()),
             Op::Put {
                 buffer,

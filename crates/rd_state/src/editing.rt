@@ -1,16 +1,12 @@
 //! The ops on the texts of buffers by name, as methods of `StateParts`. Each moves the windows' points with the text, and answers its
 //! effect.
-ghost use Rattle.std.specs.Prelude.{◌≡◌, ◌≢◌, ◌+◌, ◌<◌, Err, IfOk, IfErr, OnErr, length};
+ghost use Rattle.std.specs.Prelude.{◌≡◌, ◌≢◌, ◌+◌, ◌<◌, if◌then◌else◌, Err, IfOk, IfErr, OnErr};
 ghost use Rattle.rd_base.specs.declared.limits.TheConstants.{TEXT_CHARACTERS};
 ghost use Rattle.rd_script.specs.Forms.{IsInForm};
 ghost use Rattle.rd_script.specs.declared.op.Op.TheVariants.{Buffer as MakeBuffer, Insert, InsertRaw, TypeText, Delete, Narrow, Widen};
 ghost use Rattle.rd_state.specs.declared.effect.Effect.TheVariants.{Edit};
-ghost use Rattle.rd_state.specs.declared.moves.Move.TheVariants.{Deleted, Narrowed};
 ghost use Rattle.rd_state.specs.declared.refused.Refused.TheVariants.{OutOfRange};
 ghost use Rattle.rd_state.specs.Answers.{Applies};
-ghost use Rattle.rd_state.specs.Edits.{deletion, narrowing};
-ghost use Rattle.rd_state.specs.States.{number_of};
-ghost use Rattle.rd_state.specs.Steps.{edited_moving};
 ghost use Rattle.rd_state.specs.Valid.{IsValid};
 
 use crate::buffers::{add, find};
@@ -90,53 +86,35 @@ impl StateParts {
         Ok(inserted(buffer, from, added))
     }
 
-    /// Takes a range away.
+    /// Takes a range away, or else makes it the accessible one. One to which no text reaches is refused.
     #[tactic(auto, using(crate::proofs::ByName::in_place), unfolding(crate::specs::Steps::step, crate::specs::Effects::effect_of))]
-    pub(crate) fn delete(&mut self, name: &str, from: u64, to: u64) -> Result<Effect, Refused>
+    pub(crate) fn change_range(
+        &mut self,
+        name: &str,
+        from: u64,
+        to: u64,
+        deletes: bool,
+    ) -> Result<Effect, Refused>
         requires { IsValid self.old }
-        ensures applies { Applies result (Delete name.now from to) self.old self.new }
-        ensures free { result ≢ Err Refused.Memory }
-    {
-        let (i, from, to) = self.find_range(name, from, to)?;
-        self.buffers[i].delete(from, to)?;
-        let buffer = i as u32;
-        move_windows(&mut self.windows, buffer, Move::Deleted(from, to));
-        Ok(Effect::Edit {
-            buffer,
-            from,
-            removed: to - from,
-            added: 0,
-        })
-    }
-
-    /// Makes a range the accessible one.
-    #[tactic(auto, using(crate::proofs::ByName::in_place), unfolding(crate::specs::Steps::step, crate::specs::Effects::effect_of))]
-    pub(crate) fn narrow(&mut self, name: &str, from: u64, to: u64) -> Result<Effect, Refused>
-        requires { IsValid self.old }
-        ensures applies { Applies result (Narrow name.now from to) self.old self.new }
-        ensures free { result ≢ Err Refused.Memory }
-    {
-        let (i, from, to) = self.find_range(name, from, to)?;
-        self.buffers[i].narrow(from, to)?;
-        let buffer = i as u32;
-        move_windows(&mut self.windows, buffer, Move::Narrowed(from, to));
-        Ok(Effect::All { buffer })
-    }
-
-    /// The number of the buffer with a name, and both ends of a range in 32 bits. It is refused where no buffer has the name, or no text
-    /// reaches so far: in both cases the range can neither be taken away nor made the accessible one.
-    fn find_range(&self, name: &str, from: u64, to: u64) -> Result<(usize, Pos, Pos), Refused>
-        requires { IsValid self.now }
-        ensures found { IfOk result (λ range. range.0 ≡ number_of name.now self.now.buffers) }
-        ensures within { IfOk result (λ range. range.0 < length self.now.buffers) }
-        ensures same { IfOk result (λ range. (range.1 ≡ from) × (range.2 ≡ to)) }
-        ensures undeleted { IfErr result (λ e. edited_moving self.now name.now (Deleted from to) (deletion from to) ≡ Err e) }
-        ensures unnarrowed { IfErr result (λ e. edited_moving self.now name.now (Narrowed from to) (narrowing from to) ≡ Err e) }
+        ensures applies { Applies result (if deletes then Delete name.now from to else Narrow name.now from to) self.old self.new }
         ensures free { result ≢ Err Refused.Memory }
     {
         let i = find(&self.buffers, name)?;
         place(from.max(to))?;
-        Ok((i, from as Pos, to as Pos))
+        let (buffer, from, to) = (i as u32, from as Pos, to as Pos);
+        if deletes {
+            self.buffers[i].delete(from, to)?;
+            move_windows(&mut self.windows, buffer, Move::Deleted(from, to));
+            return Ok(Effect::Edit {
+                buffer,
+                from,
+                removed: to - from,
+                added: 0,
+            });
+        }
+        self.buffers[i].narrow(from, to)?;
+        move_windows(&mut self.windows, buffer, Move::Narrowed(from, to));
+        Ok(Effect::All { buffer })
     }
 
     /// Makes the whole text accessible.
