@@ -1,5 +1,5 @@
 -- The map of buffers by name, as the list of buffers.
-use Rattle.std.proofs.Common.{◌≡◌, ◌≢◌, ℕ, zero, suc, ◌+◌, ◌≤◌, Bool, true, false, cond, not, if◌then◌else◌, None, Some, Result, Ok, Err, List, [], ◌∷◌, ◌++◌, length, sym, ap, refl, ◌∙◌, arith}
+use Rattle.std.proofs.Common.{◌≡◌, ◌≢◌, ℕ, zero, suc, ◌+◌, ◌<◌, ◌≤◌, Bool, true, false, cond, not, if◌then◌else◌, None, Some, Result, Ok, Err, List, [], ◌∷◌, ◌++◌, length, sym, ap, refl, ◌∙◌, arith}
 use Rattle.std.proofs.lemmas.Bool.{ltb-false}
 use Rattle.std.proofs.lemmas.List.Sums.{prefix_len-le-length}
 use Rattle.std.proofs.lemmas.Map.Entries.{length-keys_of}
@@ -16,6 +16,7 @@ use Rattle.rd_state.specs.declared.refused.Refused.{Refused}
 use Rattle.rd_state.specs.declared.refused.Refused.TheVariants.{Memory}
 use Rattle.rd_state.specs.States.{BufferValue, ContentValue, buffers_of, number_of}
 use Rattle.rd_state.specs.Answers.{Answers}
+use Rattle.rd_state.proofs.Options.{position-is}
 
 -- ---- searching
 
@@ -33,16 +34,13 @@ number_of-keys name (e ∷ es) = ap (λ n. cond (not (bytes_eq name (string_byte
 pub number_of-bound : (name : List ℕ) (es : List (String Global × ContentValue)) → number_of name (buffers_of es) ≤ length (buffers_of es)
 number_of-bound name es = prefix_len-le-length (λ b. not (bytes_eq name b.name)) (buffers_of es)
 
-placed : (b : Bool) (n i : ℕ) → cond b (Some n) None ≡ Some i → n ≡ i
-placed true n i h = cc
-placed false n i h = absurd (cc)
-
-pub number_of-found : (name : List ℕ) (es : List (String Global × ContentValue)) (i : ℕ) → position (has_name name) (keys_of es) ≡ Some i → i ≡ number_of name (buffers_of es)
+pub number_of-found : (name : List ℕ) (es : List (String Global × ContentValue)) (i : ℕ) → position (has_name name) (keys_of es) ≡ Some i
+    → (i ≡ number_of name (buffers_of es)) × (i < length (buffers_of es))
 number_of-found name es i h =
-    let n = position_or_len (has_name name) (keys_of es) in
-    sym (placed (nat_lt n (length (keys_of es))) n i h) ∙ number_of-keys name es
+    let (is, within) = position-is (has_name name) (keys_of es) i h in
+    (is ∙ number_of-keys name es, omega (arith, within, length-keys_of es, length-buffers_of es))
 
-pub number_of-missed : (name : List ℕ) (es : List (String Global × ContentValue)) → position (has_name name) (keys_of es) ≡ None → length es ≡ number_of name (buffers_of es)
+pub number_of-missed : (name : List ℕ) (es : List (String Global × ContentValue)) → position (has_name name) (keys_of es) ≡ None → number_of name (buffers_of es) ≡ length (buffers_of es)
 number_of-missed name es h =
     let n = position_or_len (has_name name) (keys_of es) in
     let past = ltb-false n (length (keys_of es)) (none-chosen (nat_lt n (length (keys_of es))) n None h).0 in

@@ -1,7 +1,11 @@
 -- What an option holds, and choices of options.
-use Rattle.std.proofs.Common.{◌≡◌, ℕ, true, is_some, Option, None, Some, ap, refl, ◌≢◌, ◌⊎◌, zero, suc, List, [], ◌∷◌, set, inl, inr, arith}
-use Rattle.std.specs.Prelude.{option_map, slice_get}
-use Rattle.std.specs.Option.{option_or}
+use Rattle.std.proofs.Common.{◌≡◌, ℕ, ◌<◌, Bool, true, false, cond, is_some, Option, None, Some, ap, refl, ◌≢◌, ◌⊎◌, zero, suc, List, [], ◌∷◌, length, nat_lt, set, inl, inr, arith}
+use Rattle.std.proofs.lemmas.Bool.Decides.{nat_tests}
+use Rattle.std.specs.List.{position_or_len}
+use Rattle.std.specs.Prelude.{option_map, slice_get, position}
+use Rattle.std.specs.Option.{option_or, ok_or}
+use Rattle.rd_state.specs.declared.refused.Refused.{Refused}
+use Rattle.rd_state.specs.Answers.{Finds}
 
 pub one-value : {X : Type 0} (o : Option X) (x y : X) → o ≡ Some x → o ≡ Some y → x ≡ y
 one-value o x y h k = cc
@@ -17,6 +21,22 @@ some-or (Some x) p h = refl
 pub map-map : {X Y Z : Type 0} (f : X → Y) (g : Y → Z) (h : X → Z) (o : Option X) → ((x : X) → g (f x) ≡ h x) → option_map g (option_map f o) ≡ option_map h o
 map-map f g h None e = refl
 map-map f g h (Some x) e = ap (λ z. Some z) (e x)
+
+-- the place that a search finds, and what is answered of it
+placed : (b : Bool) (n i : ℕ) → cond b (Some n) None ≡ Some i → (b ≡ true) × (i ≡ n)
+placed true n i h = (refl, cc)
+placed false n i h = absurd (cc)
+
+pub position-is : {X : Type 0} (p : X → Bool) (xs : List X) (i : ℕ) → position p xs ≡ Some i → (i ≡ position_or_len p xs) × (i < length xs)
+position-is p xs i h =
+    let n = position_or_len p xs in
+    let (less, is) = placed (nat_lt n (length xs)) n i h in
+    (is, grind (arith, nat_tests))
+
+pub finds : {X : Type 0} (o : Option X) (refusal : Refused) (Found : X → Type 0) (Absent : Type 0) → ((x : X) → o ≡ Some x → Found x) → (o ≡ None → Absent)
+    → Finds (ok_or o refusal) Found Absent refusal
+finds None refusal Found Absent there none = (none refl, refl)
+finds (Some x) refusal Found Absent there none = there x refl
 
 -- what stands at a place of a list after a write
 pub get-set : {X : Type 0} (xs : List X) (i k : ℕ) (c b : X) → slice_get (set xs i c) k ≡ Some b

@@ -69,3 +69,8 @@ Answers (Err refused) said old new = (new ≡ old) × (refused ≢ Memory → sa
 abbrev pub Applies : Result Effect Refused → Op → StateValue → StateValue → Type 0
 Applies (Ok effect) op old new = (step old op ≡ Ok new) × (effect ≡ effect_of old op)
 Applies (Err refused) op old new = (new ≡ old) × (refused ≢ Memory → step old op ≡ Err refused)
+
+-- what a search answers: what was found, of which this holds, or where this holds in its place the refusal
+abbrev pub Finds : {X : Type 0} → Result X Refused → (X → Type 0) → Type 0 → Refused → Type 0
+Finds (Ok x) Found Absent refusal = Found x
+Finds (Err e) Found Absent refusal = Absent × (e ≡ refusal)

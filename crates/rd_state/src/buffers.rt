@@ -1,6 +1,7 @@
 //! The buffers by name, in order of making.
-ghost use Rattle.std.specs.Prelude.{◌≡◌, ◌<◌, ◌++◌, ◌∷◌, [], Some, IfOk, IfErr, OnOk, OnErr, length, slice_get};
+ghost use Rattle.std.specs.Prelude.{◌≡◌, ◌<◌, ◌++◌, ◌∷◌, [], Some, OnOk, OnErr, length, slice_get};
 ghost use Rattle.rd_state.specs.States.{BufferValue, buffers_of, new_buffer, number_of};
+ghost use Rattle.rd_state.specs.Answers.{Finds};
 ghost use Rattle.rd_state.specs.declared.refused.Refused.TheVariants.{NoBuffer};
 
 use crate::content::Content;
@@ -15,15 +16,9 @@ pub(crate) type Buffers = IndexMap<String, Content>;
 
 /// The number of the buffer with a name, which is refused where no buffer has it.
 pub(crate) fn find(buffers: &Buffers, name: &str) -> Result<usize, Refused>
-    ensures found { IfOk result (λ i. i ≡ number_of name.now (buffers_of buffers.now.entries)) }
-    ensures within { IfOk result (λ i. i < length (buffers_of buffers.now.entries)) }
-    ensures absent { OnErr result (number_of name.now (buffers_of buffers.now.entries) ≡ length (buffers_of buffers.now.entries)) }
-    ensures refused { IfErr result (λ e. e ≡ NoBuffer) }
+    ensures { Finds result (λ i. (i ≡ number_of name.now (buffers_of buffers.now.entries)) × (i < length (buffers_of buffers.now.entries))) (number_of name.now (buffers_of buffers.now.entries) ≡ length (buffers_of buffers.now.entries)) NoBuffer }
 {
-    match buffers.get_index_of(name) {
-        Some(i) => Ok(i),
-        None => Err(Refused::NoBuffer),
-    }
+    buffers.get_index_of(name).ok_or(Refused::NoBuffer)
 }
 
 /// The text of the buffer with a number.

@@ -52,20 +52,6 @@ fn is_value(objects: &Objects, kind: Kind, number: u64) -> bool
     }
 }
 
-/// The number of a string in 32 bits, or none, which is refused where no string of the number was made.
-pub(crate) fn made_string(objects: &Objects, number: Option<u64>) -> Result<Option<u32>, Refused>
-    requires { AreObjects objects.now }
-    ensures same { IfOk result (λ string. string ≡ number) }
-    ensures made { IfOk result (λ string. is_made (length objects.now.strings) number ≡ true) }
-    ensures absent { OnErr result (is_made (length objects.now.strings) number ≡ false) }
-    ensures refused { IfErr result (λ e. e ≡ NoObject) }
-{
-    match number {
-        Some(number) => number_if(is_made_string(objects, number), number),
-        None => Ok(None),
-    }
-}
-
 /// A number in 32 bits, which is refused unless its object was made.
 fn number_if(is_made: bool, number: u64) -> Result<Option<u32>, Refused>
     requires { is_made ≡ true → number < 4294967296 }

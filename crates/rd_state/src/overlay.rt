@@ -1,14 +1,14 @@
 //! The ops on the overlays of a buffer, as methods of `Content`, with the refusals of each in order.
-ghost use Rattle.std.specs.Prelude.{◌≡◌, ◌≢◌, ◌+◌, ◌<◌, ◌≤◌, true, None, Some, IfOk, IfErr, IsSome, OnErr, OnOk, length};
+ghost use Rattle.std.specs.Prelude.{◌≡◌, ◌≢◌, ◌+◌, ◌<◌, ◌≤◌, true, None, Some, IfOk, IsSome, OnOk, length};
 ghost use Rattle.rd_overlays.specs.Overlays.{overlay_at};
 ghost use Rattle.rd_objects.specs.Sound.{AreObjects};
 ghost use Rattle.rd_script.specs.Forms.{IsPropertyValue};
 ghost use Rattle.rd_state.specs.Edits.{is_range_of_all, overlay_making, overlay_moving, overlay_dropping, overlay_putting, margin_putting};
-ghost use Rattle.rd_state.specs.Answers.{Answers};
+ghost use Rattle.rd_state.specs.Answers.{Answers, Finds};
 ghost use Rattle.rd_state.specs.declared.refused.Refused.TheVariants.{NoOverlay};
 
 use crate::content::Content;
-use crate::made::{made_string, made_value};
+use crate::made::made_value;
 use crate::refused::Refused;
 use rd_base::limits::{OVERLAYS, TEXT_CHARACTERS};
 use rd_objects::Objects;
@@ -92,7 +92,7 @@ impl Content {
         Ok(overlay)
     }
 
-    /// Gives an overlay another margin string, or takes its string away.
+    /// Gives an overlay another margin string, or takes its string away. A margin string is named as one before an overlay is.
     pub(crate) fn put_margin_string(
         &mut self,
         objects: &Objects,
@@ -104,7 +104,7 @@ impl Content {
         ensures free { result ≡ Err Refused.Memory → IsSome string }
     {
         find_overlay(&self.state.overlays, number)?;
-        let string = made_string(objects, string)?;
+        let string = made_value(objects, Kind::Before, string)?;
         self.marks.set(number as u32, string)?;
         Ok(())
     }
@@ -113,10 +113,7 @@ impl Content {
 /// The overlay with a number, which is refused where none lives.
 fn find_overlay(overlays: &Overlays, number: u64) -> Result<Overlay, Refused>
     requires { length overlays.now ≤ OVERLAYS }
-    ensures found { IfOk result (λ overlay. overlay_at overlays.now number ≡ Some overlay) }
-    ensures small { IfOk result (λ overlay. number < OVERLAYS) }
-    ensures absent { OnErr result (overlay_at overlays.now number ≡ None) }
-    ensures refused { IfErr result (λ e. e ≡ NoOverlay) }
+    ensures { Finds result (λ overlay. (overlay_at overlays.now number ≡ Some overlay) × (number < OVERLAYS)) (overlay_at overlays.now number ≡ None) NoOverlay }
 {
     if MOST_OVERLAYS <= number {
         return Err(Refused::NoOverlay);

@@ -1,7 +1,8 @@
 //! The windows that live, each under its number, in order of making.
-ghost use Rattle.std.specs.Prelude.{◌≡◌, ◌==◌, ◌<◌, length, position, IfOk, IfErr, OnOk, OnErr, None, ◌++◌, ◌∷◌, []};
+ghost use Rattle.std.specs.Prelude.{◌≡◌, ◌==◌, ◌<◌, length, position, IfOk, OnOk, None, ◌++◌, ◌∷◌, []};
 ghost use Rattle.std.specs.Vec.{vec_len, vec_capacity};
 ghost use Rattle.rd_state.specs.Windows.{place_in, window_of};
+ghost use Rattle.rd_state.specs.Answers.{Finds};
 ghost use Rattle.rd_state.specs.declared.refused.Refused.TheVariants.{NoWindow};
 
 use crate::refused::Refused;
@@ -11,15 +12,9 @@ use std::alloc::Global;
 
 /// The place of the window with a number, counted from 0. It is refused exactly where the window does not live.
 pub(crate) fn find(windows: &[(u32, WindowState)], number: u64) -> Result<usize, Refused>
-    ensures place { IfOk result (λ i. i ≡ place_in number windows.now) }
-    ensures inside { IfOk result (λ i. i < length windows.now) }
-    ensures absent { OnErr result (window_of number windows.now ≡ None) }
-    ensures refused { IfErr result (λ e. e ≡ NoWindow) }
+    ensures { Finds result (λ i. (i ≡ place_in number windows.now) × (i < length windows.now)) (window_of number windows.now ≡ None) NoWindow }
 {
-    match place_of(windows, number) {
-        Some(i) => Ok(i),
-        None => Err(Refused::NoWindow),
-    }
+    place_of(windows, number).ok_or(Refused::NoWindow)
 }
 
 /// The place of the window with a number, counted from 0.

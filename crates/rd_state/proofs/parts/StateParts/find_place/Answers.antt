@@ -12,7 +12,7 @@ pub accessible-requires : goal.accessible-requires
 accessible-requires c =
     let t = the_view c.self.inside in
     let n = c.args.window in
-    let there = found-in t c.as_slice.result.now n c.in_ok-i.i c.index.result.now c.as_slice.ensures.value c.in_ok-i.ensures.place c.in_ok-i.ensures.inside c.index.ensures in
+    let there = found-in t c.as_slice.result.now n c.in_ok-i.i c.index.result.now c.as_slice.ensures.value c.in_ok-i.ensures.0 c.in_ok-i.ensures.1 c.index.ensures in
     let valid : IsValid t = subst IsValid (sym c.self.view_is) c.requires.valid in
     shown-made t n c.in_ok-i.i c.index.result.now valid there
 
@@ -20,7 +20,7 @@ pub returns-in_err-place-clause-refused : goal.returns-in_err-place-clause-refus
 returns-in_err-place-clause-refused c =
     let t = the_view c.self.inside in
     let n = c.args.window in
-    let there = found-in t c.as_slice.result.now n c.in_ok-i.i c.index.result.now c.as_slice.ensures.value c.in_ok-i.ensures.place c.in_ok-i.ensures.inside c.index.ensures in
+    let there = found-in t c.as_slice.result.now n c.in_ok-i.i c.index.result.now c.as_slice.ensures.value c.in_ok-i.ensures.0 c.in_ok-i.ensures.1 c.index.ensures in
     let b = c.in_err-place.ensures.exact in
     if-refused c.from_residual-in_err-place.result c.in_err-place.field-0.0 (λ x. (f : WindowState → WindowState) → placing c.args.self.now n c.args.pos f ≡ Err x)
     c.from_residual-in_err-place.ensures.1
@@ -30,7 +30,7 @@ pub returns-clause-placed : goal.returns-clause-placed
 returns-clause-placed c =
     let t = the_view c.self.inside in
     let n = c.args.window in
-    let there = found-in t c.as_slice.result.now n c.in_ok-i.i c.index.result.now c.as_slice.ensures.value c.in_ok-i.ensures.place c.in_ok-i.ensures.inside c.index.ensures in
+    let there = found-in t c.as_slice.result.now n c.in_ok-i.i c.index.result.now c.as_slice.ensures.value c.in_ok-i.ensures.0 c.in_ok-i.ensures.1 c.index.ensures in
     let b = c.in_ok-place.ensures.exact in
     λ f. places-window c.args.self.now t n c.in_ok-i.i c.args.pos c.index.result.now f b.0 c.self.view_is there b.1 b.2
     ∙ sym (sets-window c.args.self.now t n c.in_ok-i.i c.index.result.now f c.self.view_is there)

@@ -23,5 +23,5 @@ pub returns-in_err-from : goal.returns-in_err-from
 unfolding step
 returns-in_err-from c =
     refuses-behind c.from_residual-in_err-from.result (Insert c.args.name.now c.args.pos c.args.text.now) c.args.self.now (the_view c.self.inside) c.in_err-from.field-0.0 c.args.name.now c.in_ok-i.i (Inserted c.args.pos (length c.args.text.now)) (insertion c.args.pos c.args.text.now)
-    c.from_residual-in_err-from.ensures.0 c.from_residual-in_err-from.ensures.1 c.in_err-from.ensures.refused c.self.view_is c.requires c.in_ok-i.ensures.found c.in_ok-i.ensures.within
+    c.from_residual-in_err-from.ensures.0 c.from_residual-in_err-from.ensures.1 c.in_err-from.ensures.refused c.self.view_is c.requires c.in_ok-i.ensures.0 c.in_ok-i.ensures.1
     (insertion-behind c.args.pos c.args.text.now c.in_err-from.ensures.far) refl

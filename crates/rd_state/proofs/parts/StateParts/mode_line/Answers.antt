@@ -16,7 +16,7 @@ unfolding step
 returns-in_err-check_format-clause-applies c =
     let t = the_view c.self.inside in
     let n = c.args.window in
-    let there = some-found t c.as_slice.result.now n c.in_ok-i.i c.as_slice.ensures.value c.in_ok-i.ensures.place c.in_ok-i.ensures.inside in
+    let there = some-found t c.as_slice.result.now n c.in_ok-i.i c.as_slice.ensures.value c.in_ok-i.ensures.0 c.in_ok-i.ensures.1 in
     refuses c.from_residual-in_err-check_format.result (ModeLine n c.args.format) c.args.self.now c.args.self.now c.in_err-check_format.field-0.0 c.from_residual-in_err-check_format.ensures.0
     c.from_residual-in_err-check_format.ensures.1 refl
     (format-refuses c.args.self.now t n c.in_ok-i.i there.0 c.args.format c.in_err-check_format.field-0.0 c.self.view_is there.1 c.in_err-check_format.ensures)
@@ -26,7 +26,7 @@ unfolding step
 returns-in_err-mode-clause-applies c =
     let t = the_view c.self.inside in
     let n = c.args.window in
-    let there = found-in t c.as_slice.result.now n c.in_ok-i.i c.index.result.now c.as_slice.ensures.value c.in_ok-i.ensures.place c.in_ok-i.ensures.inside c.index.ensures in
+    let there = found-in t c.as_slice.result.now n c.in_ok-i.i c.index.result.now c.as_slice.ensures.value c.in_ok-i.ensures.0 c.in_ok-i.ensures.1 c.index.ensures in
     let f : WindowState → WindowState = λ old. record old { format = c.args.format } in
     refuses c.from_residual-in_err-mode.result (ModeLine n c.args.format) c.args.self.now (record t { tree = c.mode.new.self }) (refused_tree c.in_err-mode.field-0.0)
     c.from_residual-in_err-mode.ensures.0 c.from_residual-in_err-mode.ensures.1 (ap (λ d. record t { tree = d }) c.in_err-mode.ensures.0 ∙ c.self.view_is)
@@ -39,8 +39,8 @@ unfolding step effect_of
 returns-clause-applies c =
     let t = the_view c.self.inside in
     let n = c.args.window in
-    let there = found-in t c.as_slice.result.now n c.in_ok-i.i c.index.result.now c.as_slice.ensures.value c.in_ok-i.ensures.place c.in_ok-i.ensures.inside c.index.ensures in
-    let there_2 = found-in t c.as_slice.result.now n c.in_ok-i.i c.index_mut.result.now c.as_slice.ensures.value c.in_ok-i.ensures.place c.in_ok-i.ensures.inside c.index_mut.ensures.value in
+    let there = found-in t c.as_slice.result.now n c.in_ok-i.i c.index.result.now c.as_slice.ensures.value c.in_ok-i.ensures.0 c.in_ok-i.ensures.1 c.index.ensures in
+    let there_2 = found-in t c.as_slice.result.now n c.in_ok-i.i c.index_mut.result.now c.as_slice.ensures.value c.in_ok-i.ensures.0 c.in_ok-i.ensures.1 c.index_mut.ensures.value in
     let f : WindowState → WindowState = λ old. record old { format = c.args.format } in (
       good-format c.args.self.now n c.args.format c.in_ok-check_format.ensures
           ∙ changes-with-tree c.args.self.now t n c.in_ok-i.i c.index_mut.result.now f (λ x. mode_tree x.tree n (is_some c.args.format)) c.mode.new.self c.self.view_is there_2

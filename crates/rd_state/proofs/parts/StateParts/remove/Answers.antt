@@ -18,7 +18,7 @@ pub returns-in_err-heir-clause-applies : goal.returns-in_err-heir-clause-applies
 unfolding step
 returns-in_err-heir-clause-applies c =
     let t = the_view c.self.inside in
-    let there = found-in t c.as_slice.result.now c.args.window c.in_ok-i.i c.index.result.now c.as_slice.ensures.value c.in_ok-i.ensures.place c.in_ok-i.ensures.inside c.index.ensures in
+    let there = found-in t c.as_slice.result.now c.args.window c.in_ok-i.i c.index.result.now c.as_slice.ensures.value c.in_ok-i.ensures.0 c.in_ok-i.ensures.1 c.index.ensures in
     let n = c.args.window in
     let after : StateValue → WindowState → Configuration → StateValue = λ x w d. record x {
       tree = d;
@@ -34,7 +34,7 @@ pub returns-clause-applies : goal.returns-clause-applies
 unfolding step effect_of
 returns-clause-applies c =
     let t = the_view c.self.inside in
-    let there = found-in t c.as_slice.result.now c.args.window c.in_ok-i.i c.index.result.now c.as_slice.ensures.value c.in_ok-i.ensures.place c.in_ok-i.ensures.inside c.index.ensures in
+    let there = found-in t c.as_slice.result.now c.args.window c.in_ok-i.i c.index.result.now c.as_slice.ensures.value c.in_ok-i.ensures.0 c.in_ok-i.ensures.1 c.index.ensures in
     let n = c.args.window in (
       removes-window c.args.self.now t n c.in_ok-i.i c.index.result.now c.remove.new.self c.remove-2.new.self.items c.selected_without-self-inside.result c.self.view_is there
           (asked (λ k. remove_tree t.tree k) n c.in_ok-i.i t.windows c.index.result.now _ there c.in_ok-heir.ensures.0) c.remove-2.ensures.items

@@ -12,7 +12,7 @@ pub overflow_add-view : goal.overflow_add-view
 overflow_add-view c =
     let t = the_view c.self.inside in
     let n = c.args.window in
-    let there = found-in t c.as_slice.result.now n c.in_ok-i.i c.index_mut.result.now c.as_slice.ensures.value c.in_ok-i.ensures.place c.in_ok-i.ensures.inside c.index_mut.ensures.value in
+    let there = found-in t c.as_slice.result.now n c.in_ok-i.i c.index_mut.result.now c.as_slice.ensures.value c.in_ok-i.ensures.0 c.in_ok-i.ensures.1 c.index_mut.ensures.value in
     let valid : IsValid t = subst IsValid (sym c.self.view_is) c.requires.valid in
     rows-fit c.index_mut.result.now.1.pending c.args.rows (rows-near t n c.in_ok-i.i c.index_mut.result.now valid there) c.requires.form.1
 
@@ -21,7 +21,7 @@ unfolding step effect_of
 returns-clause-applies c =
     let t = the_view c.self.inside in
     let n = c.args.window in
-    let there = found-in t c.as_slice.result.now n c.in_ok-i.i c.index_mut.result.now c.as_slice.ensures.value c.in_ok-i.ensures.place c.in_ok-i.ensures.inside c.index_mut.ensures.value in
+    let there = found-in t c.as_slice.result.now n c.in_ok-i.i c.index_mut.result.now c.as_slice.ensures.value c.in_ok-i.ensures.0 c.in_ok-i.ensures.1 c.index_mut.ensures.value in
     let valid : IsValid t = subst IsValid (sym c.self.view_is) c.requires.valid in
     let e = c.index_mut.result.now in
     let f : WindowState → WindowState = λ old. record old { forced = true; pending = held (old.pending +ℤ c.args.rows) } in (

@@ -15,7 +15,7 @@ pub returns-in_err-margins-clause-applies : goal.returns-in_err-margins-clause-a
 unfolding step
 returns-in_err-margins-clause-applies c =
     let t = the_view c.self.inside in
-    let there = found-in t c.as_slice.result.now c.args.window c.in_ok-i.i c.index.result.now c.as_slice.ensures.value c.in_ok-i.ensures.place c.in_ok-i.ensures.inside c.index.ensures in
+    let there = found-in t c.as_slice.result.now c.args.window c.in_ok-i.i c.index.result.now c.as_slice.ensures.value c.in_ok-i.ensures.0 c.in_ok-i.ensures.1 c.index.ensures in
     let n = c.args.window in
     let f : WindowState → WindowState = λ old. record old { numbers = c.args.numbers; strings = c.args.strings } in
     refuses c.from_residual-in_err-margins.result (Margin n c.args.numbers c.args.strings) c.args.self.now (record t { tree = c.margins.new.self }) (refused_tree c.in_err-margins.field-0.0)
@@ -27,8 +27,8 @@ pub returns-clause-applies : goal.returns-clause-applies
 unfolding step effect_of
 returns-clause-applies c =
     let t = the_view c.self.inside in
-    let there = found-in t c.as_slice.result.now c.args.window c.in_ok-i.i c.index.result.now c.as_slice.ensures.value c.in_ok-i.ensures.place c.in_ok-i.ensures.inside c.index.ensures in
-    let there_2 = found-in t c.as_slice.result.now c.args.window c.in_ok-i.i c.index_mut.result.now c.as_slice.ensures.value c.in_ok-i.ensures.place c.in_ok-i.ensures.inside c.index_mut.ensures.value in
+    let there = found-in t c.as_slice.result.now c.args.window c.in_ok-i.i c.index.result.now c.as_slice.ensures.value c.in_ok-i.ensures.0 c.in_ok-i.ensures.1 c.index.ensures in
+    let there_2 = found-in t c.as_slice.result.now c.args.window c.in_ok-i.i c.index_mut.result.now c.as_slice.ensures.value c.in_ok-i.ensures.0 c.in_ok-i.ensures.1 c.index_mut.ensures.value in
     let n = c.args.window in
     let f : WindowState → WindowState = λ old. record old { numbers = c.args.numbers; strings = c.args.strings } in (
       changes-with-tree c.args.self.now t n c.in_ok-i.i c.index_mut.result.now f (λ x. margins_tree x.tree n (c.args.numbers + c.args.strings)) c.margins.new.self c.self.view_is there_2

@@ -7,5 +7,5 @@ use Rattle.rd_state.proofs.parts.StateParts.settle.Goals as goal
 pub returns-in-Ok : goal.returns-in-Ok
 returns-in-Ok c =
     let t = the_view c.self.inside in
-    let there = found-in t c.as_slice.result.now c.args.window c.in-Ok.i c.index_mut.result.now c.as_slice.ensures.value c.in-Ok.ensures.place c.in-Ok.ensures.inside c.index_mut.ensures.value in
+    let there = found-in t c.as_slice.result.now c.args.window c.in-Ok.i c.index_mut.result.now c.as_slice.ensures.value c.in-Ok.ensures.0 c.in-Ok.ensures.1 c.index_mut.ensures.value in
     sym (changes-window c.args.self.now t c.args.window c.in-Ok.i c.index_mut.result.now (λ (old : WindowState). record old { anchor = c.args.anchor; point = c.args.point; forced = false; pending = pos 0 }) c.self.view_is there)

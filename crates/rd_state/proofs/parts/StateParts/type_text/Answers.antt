@@ -19,7 +19,7 @@ use Rattle.rd_state.proofs.parts.StateParts.type_text.Goals as goal
 pub index_mut-requires : goal.index_mut-requires
 index_mut-requires c =
     let t = the_view c.self.inside in
-    let inside = subst (λ (ws : List NumberedWindow). c.in_ok-w.w < length ws) c.as_slice.ensures.value c.in_ok-w.ensures.inside in
+    let inside = subst (λ (ws : List NumberedWindow). c.in_ok-w.w < length ws) c.as_slice.ensures.value c.in_ok-w.ensures.1 in
     let made = shows-made t c.in_ok-w.w c.index.result.now (subst IsValid (sym c.self.view_is) c.requires) inside c.index.ensures in
     subst (λ n. c.index.result.now.1.buffer < n) (length-buffers_of c.self.inside.buffers.entries) made
 
@@ -37,7 +37,7 @@ returns-in_err-insert c =
     let es = c.self.inside.buffers.entries in
     let e = c.index.result.now in
     let why = c.in_err-insert.field-0.0 in
-    let there = found-in t c.as_slice.result.now t.selected c.in_ok-w.w e c.as_slice.ensures.value c.in_ok-w.ensures.place c.in_ok-w.ensures.inside c.index.ensures in
+    let there = found-in t c.as_slice.result.now t.selected c.in_ok-w.w e c.as_slice.ensures.value c.in_ok-w.ensures.0 c.in_ok-w.ensures.1 c.index.ensures in
     let refuses = answers-at (Err why) (insertion e.1.point c.args.text.now) e.1.buffer es c.index_mut.result.now c.insert.new.self c.index_mut.ensures.value c.in_err-insert.ensures in
     refuses-unless c.from_residual-in_err-insert.result (TypeText c.args.text.now) c.args.self.now (record t { buffers = buffers_of (set_value_at es e.1.buffer c.insert.new.self) }) why
     c.from_residual-in_err-insert.ensures.0 c.from_residual-in_err-insert.ensures.1 (ap (λ (bs : List BufferValue). record t { buffers = bs }) refuses.0 ∙ c.self.view_is)
@@ -50,11 +50,11 @@ returns c =
     let es = c.self.inside.buffers.entries in
     let new = c.args.text.now in
     let e = c.index.result.now in
-    let there = found-in t c.as_slice.result.now t.selected c.in_ok-w.w e c.as_slice.ensures.value c.in_ok-w.ensures.place c.in_ok-w.ensures.inside c.index.ensures in
-    let inside = subst (λ (ws : List NumberedWindow). c.in_ok-w.w < length ws) c.as_slice.ensures.value c.in_ok-w.ensures.inside in
+    let there = found-in t c.as_slice.result.now t.selected c.in_ok-w.w e c.as_slice.ensures.value c.in_ok-w.ensures.0 c.in_ok-w.ensures.1 c.index.ensures in
+    let inside = subst (λ (ws : List NumberedWindow). c.in_ok-w.w < length ws) c.as_slice.ensures.value c.in_ok-w.ensures.1 in
     let inserts = answers-at (Ok tt) (insertion e.1.point new) e.1.buffer es c.index_mut.result.now c.insert.new.self c.index_mut.ensures.value c.in_ok-insert.ensures in
     let there_2 = found-moved t.selected c.in_ok-w.w e.1.buffer (Inserted e.1.point (length new)) t.windows c.move_windows.new.windows.items c.index_mut-2.result.now c.move_windows.ensures
-    (c.in_ok-w.ensures.place ∙ ap (place_in t.selected) c.as_slice.ensures.value) inside c.index_mut-2.ensures.value in (
+    (c.in_ok-w.ensures.0 ∙ ap (place_in t.selected) c.as_slice.ensures.value) inside c.index_mut-2.ensures.value in (
       typing-ok c.args.self.now t new c.in_ok-w.w e c.index_mut-2.result.now (buffers_of (set_value_at es e.1.buffer c.insert.new.self)) c.move_windows.new.windows.items c.self.view_is there
           inserts c.move_windows.ensures there_2,
       c.inserted.ensures ∙ typing-effect c.args.self.now t new c.in_ok-w.w e c.self.view_is there,

@@ -9,5 +9,5 @@ use Rattle.rd_state.proofs.parts.StateParts.wrap.Goals as goal
 pub returns-clause-applies : goal.returns-clause-applies
 unfolding step effect_of
 returns-clause-applies c =
-    let there = found-in (the_view c.self.inside) c.as_slice.result.now c.args.window c.in_ok-i.i c.index_mut.result.now c.as_slice.ensures.value c.in_ok-i.ensures.place c.in_ok-i.ensures.inside c.index_mut.ensures.value in
+    let there = found-in (the_view c.self.inside) c.as_slice.result.now c.args.window c.in_ok-i.i c.index_mut.result.now c.as_slice.ensures.value c.in_ok-i.ensures.0 c.in_ok-i.ensures.1 c.index_mut.ensures.value in
     (sets-window c.args.self.now (the_view c.self.inside) c.args.window c.in_ok-i.i c.index_mut.result.now (λ (old : WindowState). record old { wrap = c.args.mode }) c.self.view_is there, refl)
