@@ -57,8 +57,8 @@ module _ (laws : GrowthLaws) (old new : Scene) (goes : GoesOnFrom old new) (clos
 
   same-cutting : (base : ℕ) (shape : ShapeValues) (es : List Seen) → ReadsMade old.objects es → block_cutting new base shape es ≡ block_cutting old base shape es
   same-cutting base shape es made =
-      let line = same-prefix-of (λ e. e.line_prefix) base es _ _ (ap (λ (s : SettingValues). s.line_prefix) goes.settings) (λ e sees. sees.line_prefix) settings.line_prefix made in
-      let wrap = same-prefix-of (λ e. e.wrap_prefix) base es _ _ (ap (λ (s : SettingValues). s.wrap_prefix) goes.settings) (λ e sees. sees.wrap_prefix) settings.wrap_prefix made in
+      let line = same-prefix-of (λ e. e.appearance.line_prefix) base es _ _ (ap (λ (s : SettingValues). s.line_prefix) goes.settings) (λ e sees. sees.line_prefix) settings.line_prefix made in
+      let wrap = same-prefix-of (λ e. e.appearance.wrap_prefix) base es _ _ (ap (λ (s : SettingValues). s.wrap_prefix) goes.settings) (λ e sees. sees.wrap_prefix) settings.wrap_prefix made in
       λ i. cutting_of shape base (line i) (wrap i) (same-truncation i) (same-continuation base i)
 
   pub same-rows : (base : ℕ) (shape : ShapeValues) (es : List Seen) → ReadsMade old.objects es → block_rows new base shape es ≡ block_rows old base shape es

@@ -8,9 +8,9 @@ use Rattle.rd_base.specs.declared.element.Element.{Element}
 use Rattle.rd_objects.specs.Things.{ObjectLists}
 use Rattle.rd_items.specs.Pieces.{Scene}
 use Rattle.rd_items.specs.Readings.{reading}
-use Rattle.rd_props.specs.Appearance.{appearance_in}
+use Rattle.rd_props.specs.Appearance.{appearance_at}
 use Rattle.rd_props.specs.Buffers.{BufferValue}
-use Rattle.rd_props.specs.Seen.{Seen, seen_at}
+use Rattle.rd_props.specs.Seen.{Seen}
 use Rattle.rd_props.specs.declared.appearance.Appearance.{Appearance}
 use Rattle.rd_rows.specs.declared.cutting.Cutting.{Cutting}
 use Rattle.rd_rows.specs.Left.{MakerValues}
@@ -37,13 +37,13 @@ left-is scene base shape es first wrap line truncation continuation m fresh a b 
 -- the same of a maker with the prefixes of a position that looks like this
 pub left-seen : (scene : Scene) (base : ℕ) (shape : ShapeValues) (s : BufferValue) (objects : ObjectLists) (p : ℕ) (a : Appearance) (settings : SettingValues)
     (first wrap line : List Element) (truncation continuation : Glyph) (m : MakerValues)
-    → a ≡ appearance_in (seen_at s objects p) → settings ≡ scene.parts.settings → IsFresh (cutting_of shape base first wrap truncation continuation) m
+    → a ≡ appearance_at s objects p → settings ≡ scene.parts.settings → IsFresh (cutting_of shape base first wrap truncation continuation) m
     → first ≡ prefix_elements scene base (option_or a.line_prefix settings.line_prefix) → wrap ≡ prefix_elements scene base (option_or a.wrap_prefix settings.wrap_prefix)
     → truncation ≡ truncation_mark scene → continuation ≡ continuation_mark scene base → line ≡ line_elements scene base (reading s objects p)
     → rows_left m line ≡ block_rows scene base shape (reading s objects p)
 left-seen scene base shape s objects p a settings first wrap line truncation continuation m looks set fresh f w t c l =
     left-is scene base shape (reading s objects p) first wrap line truncation continuation m fresh
-    (prefix-at (λ e. e.line_prefix) scene base s objects p a.line_prefix scene.parts.settings.line_prefix settings.line_prefix first
+    (prefix-at (λ e. e.appearance.line_prefix) scene base s objects p a.line_prefix scene.parts.settings.line_prefix settings.line_prefix first
     (ap (λ (x : Appearance). x.line_prefix) looks) (ap (λ (v : SettingValues). v.line_prefix) set) f)
-    (prefix-at (λ e. e.wrap_prefix) scene base s objects p a.wrap_prefix scene.parts.settings.wrap_prefix settings.wrap_prefix wrap
+    (prefix-at (λ e. e.appearance.wrap_prefix) scene base s objects p a.wrap_prefix scene.parts.settings.wrap_prefix settings.wrap_prefix wrap
     (ap (λ (x : Appearance). x.wrap_prefix) looks) (ap (λ (v : SettingValues). v.wrap_prefix) set) w) t c l

@@ -1,5 +1,5 @@
 -- Buffers on which the definitions are worked out.
-use Rattle.std.specs.Prelude.{ℕ, ◌+◌, Bool, List, [], ◌∷◌, length, Some}
+use Rattle.std.specs.Prelude.{ℕ, ◌+◌, Bool, List, [], ◌∷◌, Some}
 use Rattle.rd_base.specs.Cells.{single}
 use Rattle.rd_base.specs.Settings.{opening}
 use Rattle.rd_base.specs.declared.cell.Cell.{Cell}
@@ -12,6 +12,7 @@ use Rattle.rd_objects.specs.Texts.{text_of}
 use Rattle.rd_objects.specs.Things.{ObjectLists, nothing_made}
 use Rattle.rd_props.specs.Buffers.{BufferValue, values_of}
 use Rattle.rd_props.specs.Examples.{put_once}
+use Rattle.rd_props.specs.Examples as props
 use Rattle.rd_matrix.specs.declared.block.Block.{Block}
 use Rattle.rd_rows.specs.Examples.{cells}
 use Rattle.rd_rows.specs.Shapes.{ShapeValues}
@@ -30,12 +31,7 @@ files = record {
 
 -- a text without properties and overlays
 abbrev pub buffer : List ℕ → BufferValue
-buffer chars = record {
-  text = record { text = chars; begin = 1; end = length chars + 1 };
-  properties = values_of [];
-  overlays = [];
-  settings = opening;
-}
+buffer chars = props.buffer chars [] [] opening
 
 -- an a, and in a line of its own an r, with and without reordering
 abbrev pub two_lines : Bool → Direction → BufferValue

@@ -19,10 +19,10 @@ prefix_of own setting [] = setting
 prefix_of own setting (e ∷ es) = option_or (own e) setting
 
 abbrev pub line_prefix_of : Option ℕ → List Seen → Option ℕ
-line_prefix_of = prefix_of (λ e. e.line_prefix)
+line_prefix_of = prefix_of (λ e. e.appearance.line_prefix)
 
 abbrev pub wrap_prefix_of : Option ℕ → List Seen → Option ℕ
-wrap_prefix_of = prefix_of (λ e. e.wrap_prefix)
+wrap_prefix_of = prefix_of (λ e. e.appearance.wrap_prefix)
 
 -- the elements of the prefix of a number, and none without one
 abbrev pub prefix_elements : Scene → ℕ → Option ℕ → List Element

@@ -1,18 +1,11 @@
 -- Positions up to the next stop are shown alike, and so are those from the last.
 use Rattle.std.proofs.Common.{◌≡◌, ◌⊎◌, inl, inr, ℕ, ◌+◌, ◌-◌, ◌<◌, ◌≤◌, sym, ap, ◌∙◌, arith}
-use Rattle.rd_base.specs.declared.settings.Invisible.{Invisible}
 use Rattle.rd_objects.specs.Things.{ObjectLists}
-use Rattle.rd_props.specs.Appearance.{hidden_by}
 use Rattle.rd_props.specs.Buffers.{BufferValue}
 use Rattle.rd_props.specs.Stops.{IsNextStop, IsLastStop, LookAlike}
-use Rattle.rd_props.specs.declared.appearance.Appearance.{Appearance}
-use Rattle.rd_items.specs.Readings.{showing_at}
+use Rattle.rd_items.specs.Readings.{showing_at, showing_by}
 use Rattle.rd_items.specs.AlikeRanges.{IsAlikeRange, IsStopBehind}
 use Rattle.rd_items.specs.declared.showing.Showing.{Showing}
-
--- how a position that looks like this is shown
-abbrev shown_as : Invisible → Appearance → Showing
-shown_as setting a = record { display = a.display; hidden = hidden_by setting a; face = a.face }
 
 module _ (s : BufferValue) (o : ObjectLists) (first stop : ℕ) (look : LookAlike s o first stop) where
   -- the positions up to a stop are shown as the first is
@@ -23,7 +16,7 @@ module _ (s : BufferValue) (o : ObjectLists) (first stop : ℕ) (look : LookAlik
 
     by-place : (q ≡ first) ⊎ (first < q) → showing_at s o q ≡ showing_at s o first
     by-place (inl e) = rw e
-    by-place (inr later) = ap (shown_as s.settings.invisible) (look.appearance q later before)
+    by-place (inr later) = ap (showing_by s.settings.invisible) (look.appearance q later before)
 
   -- and as any of them
   alike-within : (p : ℕ) (showing : Showing) → first ≤ p → p < stop → (first < s.text.end → stop ≤ s.text.end) → showing ≡ showing_at s o p → IsAlikeRange s o (record { from = first; until = stop; showing = showing })

@@ -179,7 +179,7 @@ shown_in s e = showing_of s.parts.settings.invisible e
 
 own : (s : Scene) (e : Seen) (es : List Seen) (p : ℕ) → is_ender s.parts.settings.invisible e ≡ false → IsOwn s p (suc p + run_in s e es) (piece_at s (shown_in s e) e.character p (suc p + run_in s e es))
 own s e es p none =
-    own-by s (shown_in s e).display (shown_in s e).hidden e.face e.character p (suc p + run_in s e es) (omega arith)
+    own-by s (shown_in s e).display (shown_in s e).hidden e.appearance.face e.character p (suc p + run_in s e es) (omega arith)
     (λ shown. omega (arith, open-alone s.parts.settings.invisible (shown_in s e) es shown)) none
 
 open-ender : (s : Scene) (display : Option ℕ) (hidden : Hidden) (face : Attributes) (ch : Option ℕ) (p to : ℕ) → ((not (is_some display) && not (is_hidden hidden)) && ends_line ch) ≡ true → piece_by s display hidden face ch p to ≡ ender_piece face p
@@ -215,18 +215,18 @@ pieces-chain s (suc due) p to (e ∷ []) well inside far = absurd (omega arith)
 pieces-chain s (suc due) p to (e ∷ f ∷ es) well inside far =
     chain-moved s (suc p + due) (p + suc due) to (pieces_from s due (suc p) (f ∷ es)) (omega arith) (pieces-chain s due (suc p) to (f ∷ es) well.1 (omega arith) (omega arith))
 pieces-chain s zero p to (e ∷ []) well inside far =
-    let last = open-ender s (shown_in s e).display (shown_in s e).hidden e.face e.character p (suc p + 0) well in
+    let last = open-ender s (shown_in s e).display (shown_in s e).hidden e.appearance.face e.character p (suc p + 0) well in
     let there : to ≡ p + 1 = omega arith in
-    chain-moved s p (p + 0) to (string_pieces p e.face e.strings ++ piece_at s (shown_in s e) e.character p (suc p + 0) ∷ []) (omega arith)
-    (strings-before s p to e.face e.strings (piece_at s (shown_in s e) e.character p (suc p + 0) ∷ []) (rw (last, there) (last-ender s e.face p)))
+    chain-moved s p (p + 0) to (string_pieces p e.appearance.face e.strings ++ piece_at s (shown_in s e) e.character p (suc p + 0) ∷ []) (omega arith)
+    (strings-before s p to e.appearance.face e.strings (piece_at s (shown_in s e) e.character p (suc p + 0) ∷ []) (rw (last, there) (last-ender s e.appearance.face p)))
 pieces-chain s zero p to (e ∷ f ∷ es) well inside far =
     let m = run_in s e (f ∷ es) in
     let x = piece_at s (shown_in s e) e.character p (suc p + m) in
     let mine = own s e (f ∷ es) p well.0 in
     let rest = pieces_from s m (suc p) (f ∷ es) in
     let chain = pieces-chain s m (suc p) to (f ∷ es) well.1 (run-short s.parts.settings.invisible (shown_in s e) (f ∷ es) well.1) (omega arith) in
-    chain-moved s p (p + 0) to (string_pieces p e.face e.strings ++ x ∷ rest) (omega arith)
-    (strings-before s p to e.face e.strings (x ∷ rest) (chain-cons s p to x rest mine.own (chain-moved s (suc p + m) x.to to rest (sym mine.ends) chain)))
+    chain-moved s p (p + 0) to (string_pieces p e.appearance.face e.strings ++ x ∷ rest) (omega arith)
+    (strings-before s p to e.appearance.face e.strings (x ∷ rest) (chain-cons s p to x rest mine.own (chain-moved s (suc p + m) x.to to rest (sym mine.ends) chain)))
 
 -- the pieces of what is read of a block, in which marks have joined, stand one behind the other
 pub reading-chain : (s : Scene) (es : List Seen) → IsReading s.parts.settings.invisible es → Chain s 0 (length es) (marks_joined piece_joins (pieces_from s 0 0 es))

@@ -23,28 +23,28 @@ use Rattle.rd_items.specs.declared.piece.Piece.{Piece}
 
 -- P holds of each piece that a position at an offset may give where this is seen, with a run up to another offset
 pub record GivesOnly (s : Scene) (P : Piece → Type 0) (k to : ℕ) (e : Seen) : Type 0 where
-  pub string : All (λ n. P (string_piece k e.face n)) e.strings
-  pub text : (covers : Bool) (m n : ℕ) → e.display ≡ Some m → spec_in s.objects m ≡ Text n → P (piece ON (Some (kind.Text n)) e.face covers k to)
-  pub space : (m : ℕ) (spec : Spec) → e.display ≡ Some m → spec_in s.objects m ≡ spec → P (piece S (Some (kind.Space spec)) e.face true k to)
-  pub char : (c : ℕ) → e.character ≡ Some c → P (char_piece s e.face c k)
-  pub nothing : P (piece ON None e.face false k to)
-  pub ellipsis : (covers : Bool) → P (piece ON (Some kind.Ellipsis) e.face covers k to)
-  pub ender : P (ender_piece e.face k)
+  pub string : All (λ n. P (string_piece k e.appearance.face n)) e.strings
+  pub text : (covers : Bool) (m n : ℕ) → e.appearance.display ≡ Some m → spec_in s.objects m ≡ Text n → P (piece ON (Some (kind.Text n)) e.appearance.face covers k to)
+  pub space : (m : ℕ) (spec : Spec) → e.appearance.display ≡ Some m → spec_in s.objects m ≡ spec → P (piece S (Some (kind.Space spec)) e.appearance.face true k to)
+  pub char : (c : ℕ) → e.character ≡ Some c → P (char_piece s e.appearance.face c k)
+  pub nothing : P (piece ON None e.appearance.face false k to)
+  pub ellipsis : (covers : Bool) → P (piece ON (Some kind.Ellipsis) e.appearance.face covers k to)
+  pub ender : P (ender_piece e.appearance.face k)
 
 module _ (s : Scene) (P : Piece → Type 0) (k to : ℕ) (e : Seen) (gives : GivesOnly s P k to e) where
-  of-strings : AllByRecursion P (string_pieces k e.face e.strings)
-  of-strings = recursion_from_All P (string_pieces k e.face e.strings) (All-map P (string_piece k e.face) e.strings gives.string)
+  of-strings : AllByRecursion P (string_pieces k e.appearance.face e.strings)
+  of-strings = recursion_from_All P (string_pieces k e.appearance.face e.strings) (All-map P (string_piece k e.appearance.face) e.strings gives.string)
 
-  of-spec : (m : ℕ) (spec : Spec) → e.display ≡ Some m → spec_in s.objects m ≡ spec → P (spec_piece s spec e.face k to)
+  of-spec : (m : ℕ) (spec : Spec) → e.appearance.display ≡ Some m → spec_in s.objects m ≡ spec → P (spec_piece s spec e.appearance.face k to)
   of-spec m (Text n) shown is = gives.text _ m n shown is
   of-spec m (Width n) shown is = gives.space m (Width n) shown is
   of-spec m (Align n) shown is = gives.space m (Align n) shown is
 
-  of-open : (ch : Option ℕ) → e.character ≡ ch → P (open_piece s e.face ch k)
+  of-open : (ch : Option ℕ) → e.character ≡ ch → P (open_piece s e.appearance.face ch k)
   of-open None is = gives.ender
-  of-open (Some c) is = cond_both (is_newline c) (ender_piece e.face k) (char_piece s e.face c k) P (λ ends. gives.ender) (λ shown. gives.char c is)
+  of-open (Some c) is = cond_both (is_newline c) (ender_piece e.appearance.face k) (char_piece s e.appearance.face c k) P (λ ends. gives.ender) (λ shown. gives.char c is)
 
-  of-position : (display : Option ℕ) (hidden : Hidden) → e.display ≡ display → P (piece_by s display hidden e.face e.character k to)
+  of-position : (display : Option ℕ) (hidden : Hidden) → e.appearance.display ≡ display → P (piece_by s display hidden e.appearance.face e.character k to)
   of-position (Some m) hidden shown = of-spec m (spec_in s.objects m) shown refl
   of-position None No shown = of-open e.character refl
   of-position None Plain shown = gives.nothing
@@ -63,7 +63,7 @@ module _ (s : Scene) (P : Piece → Type 0) (I : Item → Type 0) (A : ℕ → L
       let showing = showing_of s.parts.settings.invisible e in
       let to = suc k + run_in s e es in
       let each = gives k e es all in
-      each-append P (string_pieces k e.face e.strings) (piece_at s showing e.character k to ∷ pieces_from s (run_in s e es) (suc k) es)
+      each-append P (string_pieces k e.appearance.face e.strings) (piece_at s showing e.character k to ∷ pieces_from s (run_in s e es) (suc k) es)
       (of-strings s P k to e each) (of-position s P k to e each showing.display showing.hidden refl, pieces-each (run_in s e es) (suc k) es (next k e es all))
 
   item-each : (since : ℕ) (x : Piece) (kind : Option ItemKind) → IfSome kind (λ k. I (item_of since x k)) → AllByRecursion I (items_by kind since x)

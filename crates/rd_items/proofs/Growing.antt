@@ -86,7 +86,7 @@ module _ (old new : Scene) (goes : GoesOnFrom old new) (closed : IsClosed old.ob
   same-at e es p made =
       ap (λ (n : ℕ). piece_at new (showing_of new.parts.settings.invisible e) e.character p (suc p + n)) (same-run e es)
       ∙ ap (λ (i : Invisible). piece_at new (showing_of i e) e.character p (suc p + run_in old e es)) setting
-      ∙ (same-by e.display (showing_of old.parts.settings.invisible e).hidden e.face e.character p (suc p + run_in old e es) made.display)
+      ∙ (same-by e.appearance.display (showing_of old.parts.settings.invisible e).hidden e.appearance.face e.character p (suc p + run_in old e es) made.display)
 
   same-pieces : (due p : ℕ) (es : List Seen) → ReadsMade old.objects es → pieces_from new due p es ≡ pieces_from old due p es
   same-pieces due p [] made = refl
@@ -94,7 +94,7 @@ module _ (old new : Scene) (goes : GoesOnFrom old new) (closed : IsClosed old.ob
   same-pieces zero p (e ∷ es) made =
       let rest = same-pieces (run_in old e es) (suc p) es (All-tail (SeesMade old.objects) e es made) in
       let first = same-at e es p (All-head (SeesMade old.objects) e es made) in
-      ap (λ (xs : List Piece). string_pieces p e.face e.strings ++ xs)
+      ap (λ (xs : List Piece). string_pieces p e.appearance.face e.strings ++ xs)
       (ap (λ (x : Piece). x ∷ pieces_from new (run_in new e es) (suc p) es) first
       ∙ ap (λ (xs : List Piece). piece_at old (showing_of old.parts.settings.invisible e) e.character p (suc p + run_in old e es) ∷ xs)
       (ap (λ (due : ℕ). pieces_from new due (suc p) es) (same-run e es) ∙ rest))

@@ -37,7 +37,7 @@ gives laws s k to e code = record {
   string = λ i d inside. record { kind = tt; base = tt; mark = tt };
   text = λ covers m n shown is. record { kind = tt; base = tt; mark = tt };
   space = λ m spec shown is. record { kind = tt; base = tt; mark = tt };
-  char = λ c is. of-char laws s e.face c k (subst (λ (ch : Option ℕ). IfSome ch (λ c. IsTrue (is_code c))) is code);
+  char = λ c is. of-char laws s e.appearance.face c k (subst (λ (ch : Option ℕ). IfSome ch (λ c. IsTrue (is_code c))) is code);
   nothing = record { kind = tt; base = tt; mark = tt };
   ellipsis = λ covers. record { kind = tt; base = tt; mark = tt };
   ender = record { kind = tt; base = tt; mark = tt };

@@ -165,7 +165,7 @@ abbrev pub pieces_from : Scene → ℕ → ℕ → List Seen → List Piece
 pieces_from s due k [] = []
 pieces_from s (suc due) k (e ∷ es) = pieces_from s due (suc k) es
 pieces_from s zero k (e ∷ es) =
-    string_pieces k e.face e.strings
+    string_pieces k e.appearance.face e.strings
     ++ piece_at s (showing_of s.parts.settings.invisible e) e.character k (suc k + run_in s e es) ∷ pieces_from s (run_in s e es) (suc k) es
 
 -- what a kind shows has the columns that Unicode gives it

@@ -7,7 +7,7 @@ use Rattle.rd_objects.specs.Things.{ObjectLists}
 use Rattle.rd_props.specs.Buffers.{BufferValue}
 use Rattle.rd_props.specs.Appearance.{hidden_by}
 use Rattle.rd_props.specs.Shown.{is_replaced, hidden}
-use Rattle.rd_props.specs.Seen.{Seen, seen_at, accessible_char, hidden_seen}
+use Rattle.rd_props.specs.Seen.{Seen, seen_at, accessible_char}
 use Rattle.rd_props.specs.declared.appearance.Appearance.{Appearance}
 use Rattle.rd_props.specs.declared.hiding.Hidden.{Hidden}
 use Rattle.rd_props.specs.declared.hiding.Hidden.TheVariants.{No, Plain, Ellipsis}
@@ -27,13 +27,13 @@ ends_line (Some c) = is_newline c
 abbrev pub ends_block : BufferValue → ℕ → Bool
 ends_block s p = (not (is_replaced s p) && not (is_hidden (hidden s p))) && ends_line (accessible_char s.text p)
 
--- how a position where this is seen is shown: the number of the display spec that replaces it, how it is hidden, and its face
-abbrev pub showing_of : Invisible → Seen → Showing
-showing_of setting seen = record { display = seen.display; hidden = hidden_seen setting seen; face = seen.face }
-
--- the same of a position that looks like this
+-- how a position that looks like this is shown: the number of the display spec that replaces it, how it is hidden, and its face
 abbrev pub showing_by : Invisible → Appearance → Showing
 showing_by setting appearance = record { display = appearance.display; hidden = hidden_by setting appearance; face = appearance.face }
+
+-- the same of a position where this is seen
+abbrev pub showing_of : Invisible → Seen → Showing
+showing_of setting seen = showing_by setting seen.appearance
 
 abbrev pub showing_at : BufferValue → ObjectLists → ℕ → Showing
 showing_at s objects p = showing_of s.settings.invisible (seen_at s objects p)

@@ -26,15 +26,14 @@ impl AlikeRange {
     ghost use Rattle.std.specs.Prelude.{◌≡◌, ◌<◌, ◌≤◌, OnOk};
     ghost use Rattle.rd_text.specs.Texts.{IsAccessible};
     ghost use Rattle.rd_props.specs.Buffers.{meaning};
-    ghost use Rattle.rd_props.specs.Appearance.{appearance_in};
-    ghost use Rattle.rd_props.specs.Seen.{seen_at};
+    ghost use Rattle.rd_props.specs.Appearance.{appearance_at};
     ghost use Rattle.rd_items.specs.AlikeRanges.{holds, IsAlikeRange};
 
     /// The range from an accessible position, or from the end of the accessible text, that looks like this, up to where a property
     /// changes or an overlay starts or ends.
     pub fn of(view: &View, pos: Pos, appearance: &Appearance) -> AlikeRange
         requires place { IsAccessible view.now.state.now.text pos }
-        requires appearance { appearance.now ≡ appearance_in (seen_at (meaning view.now.state.now) view.now.objects.now pos) }
+        requires appearance { appearance.now ≡ appearance_at (meaning view.now.state.now) view.now.objects.now pos }
         ensures first { result.from ≡ pos }
         ensures some { pos < result.until }
         ensures within { pos < view.now.state.now.text.end → result.until ≤ view.now.state.now.text.end }

@@ -1,9 +1,8 @@
 //! The items of a block.
 ghost use Rattle.std.specs.Prelude.{◌≡◌, IfOk};
 ghost use Rattle.rd_text.specs.Texts.{IsAccessible};
-ghost use Rattle.rd_props.specs.Appearance.{appearance_in};
+ghost use Rattle.rd_props.specs.Appearance.{appearance_at};
 ghost use Rattle.rd_props.specs.Buffers.{meaning};
-ghost use Rattle.rd_props.specs.Seen.{seen_at};
 ghost use Rattle.rd_items.specs.Readings.{reading};
 ghost use Rattle.rd_items.specs.Pieces.{scene_of};
 ghost use Rattle.rd_items.specs.Items.{items_of};
@@ -36,9 +35,8 @@ impl Model for Items {
 impl Items {
     ghost use Rattle.std.specs.Prelude.{◌≡◌, ◌<◌, length, slice_get, Some, IfOk};
     ghost use Rattle.rd_text.specs.Texts.{IsAccessible};
-    ghost use Rattle.rd_props.specs.Appearance.{appearance_in};
+    ghost use Rattle.rd_props.specs.Appearance.{appearance_at};
     ghost use Rattle.rd_props.specs.Buffers.{meaning};
-    ghost use Rattle.rd_props.specs.Seen.{seen_at};
     ghost use Rattle.rd_items.specs.Readings.{reading};
     ghost use Rattle.rd_items.specs.Pieces.{scene_of};
     ghost use Rattle.rd_items.specs.Items.{items_of};
@@ -62,7 +60,7 @@ impl Items {
         appearance: &Appearance,
     ) -> Result<Items, Memory>
         requires place { IsAccessible view.now.state.now.text start }
-        requires appearance { appearance.now ≡ appearance_in (seen_at (meaning view.now.state.now) view.now.objects.now start) }
+        requires appearance { appearance.now ≡ appearance_at (meaning view.now.state.now) view.now.objects.now start }
         ensures value { IfOk result (λ items. items ≡ items_of (scene_of view.now) (reading (meaning view.now.state.now) view.now.objects.now start)) }
     {
         let list = walk_from(alloc, view, start, appearance)?;
@@ -108,7 +106,7 @@ fn walk_from(
     appearance: &Appearance,
 ) -> Result<ListOf<Item>, Memory>
     requires place { IsAccessible view.now.state.now.text start }
-    requires appearance { appearance.now ≡ appearance_in (seen_at (meaning view.now.state.now) view.now.objects.now start) }
+    requires appearance { appearance.now ≡ appearance_at (meaning view.now.state.now) view.now.objects.now start }
     ensures value { IfOk result (λ items. items ≡ items_of (scene_of view.now) (reading (meaning view.now.state.now) view.now.objects.now start)) }
 {
     let line = view.state.text.next_newline(start) - start;

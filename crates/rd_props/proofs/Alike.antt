@@ -213,10 +213,12 @@ module _ (listings : AreListings) (s t : BufferValue) (x y : ℕ) (read : ReadSa
       (strings_of Between s.overlays (starting x s.overlays)) (strings_of Opening s.overlays (starting x s.overlays)) refl refl refl in
       λ i. record {
         character = read.character i;
-        display = values-agree Display i;
-        invisible = values-agree Invisible i;
-        line_prefix = values-agree LinePrefix i;
-        wrap_prefix = values-agree WrapPrefix i;
-        face = face-agrees objects i;
+        appearance = record {
+          display = values-agree Display i;
+          invisible = values-agree Invisible i;
+          line_prefix = values-agree LinePrefix i;
+          wrap_prefix = values-agree WrapPrefix i;
+          face = face-agrees objects i;
+        };
         strings = strings i;
       }

@@ -13,8 +13,7 @@ use Rattle.rd_props.specs.Stops.{AreSame, HasEdge, IsNextStop, IsLastStop, LookA
 use Rattle.rd_props.specs.Values.{effective}
 use Rattle.rd_props.specs.Faces.{face_at}
 use Rattle.rd_props.specs.Strings.{strings_at}
-use Rattle.rd_props.specs.Seen.{seen_at}
-use Rattle.rd_props.specs.Appearance.{appearance_in}
+use Rattle.rd_props.specs.Appearance.{appearance_at}
 
 -- what the law of overlays says of two listings
 abbrev ListingsAgree : Type 0
@@ -72,7 +71,7 @@ module _ (agree : ListingsAgree) (s : BufferValue) (p stop q : ℕ) (next : IsQu
   face-same : (objects : ObjectLists) → face_at s objects q ≡ face_at s objects p
   face-same objects = rw (here, first, covering-same, next.same q later before (place_of Face)) refl
 
-  appearance-same : (objects : ObjectLists) → appearance_in (seen_at s objects q) ≡ appearance_in (seen_at s objects p)
+  appearance-same : (objects : ObjectLists) → appearance_at s objects q ≡ appearance_at s objects p
   appearance-same objects = λ i. record {
     display = value-same Display i;
     invisible = value-same Invisible i;

@@ -16,6 +16,7 @@ use Rattle.rd_objects.specs.Sound.{Extends}
 use Rattle.rd_props.specs.Buffers.{BufferValue, property}
 use Rattle.rd_props.specs.Values.{value_of}
 use Rattle.rd_props.specs.Faces.{face_of, laid_over, face_at}
+use Rattle.rd_props.specs.Appearance.{appearance_at}
 use Rattle.rd_props.specs.Seen.{seen_at, Agree}
 use Rattle.rd_props.specs.Agreement.{IsInReach, IsSame, Unchanged, IsEdited}
 use Rattle.rd_props.specs.Edits.{IsPut, HasOverlays}
@@ -271,7 +272,7 @@ module _ (s : BufferValue) (old new : ObjectLists) (extends : Extends old new) (
       let laid = laid-same (covering x s.overlays) (face_of old (property s Face x))
       ∙ ap (laid_over new s.overlays (covering x s.overlays)) own in
       let face : face_at s old x ≡ face_at s new x = ap (λ (a : Attributes). if nat_lt x s.text.end then a else plain) laid in
-      λ i. record (seen_at s old x) { face = face i }
+      λ i. record (seen_at s old x) { appearance = record (appearance_at s old x) { face = face i } }
 
   within-same : (x : ℕ) → IsInReach s x s x → IsSame s old x s new x
   within-same x reach =

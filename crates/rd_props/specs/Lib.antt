@@ -4,8 +4,8 @@ pub mod Faces
 pub mod Hiding
 pub mod Shown
 pub mod Strings
-pub mod Seen
 pub mod Appearance
+pub mod Seen
 pub mod Agreement
 pub mod Edits
 pub mod Made

@@ -38,7 +38,7 @@ pub record AreMade (s : BufferValue) (objects : ObjectLists) : Type 0 where
 
 -- each spec and each string that is named where this is seen was made
 pub record SeesMade (objects : ObjectLists) (seen : Seen) : Type 0 where
-  pub display : IfSome seen.display (λ number. number < length objects.specs)
-  pub line_prefix : IfSome seen.line_prefix (λ number. number < length objects.strings)
-  pub wrap_prefix : IfSome seen.wrap_prefix (λ number. number < length objects.strings)
+  pub display : IfSome seen.appearance.display (λ number. number < length objects.specs)
+  pub line_prefix : IfSome seen.appearance.line_prefix (λ number. number < length objects.strings)
+  pub wrap_prefix : IfSome seen.appearance.wrap_prefix (λ number. number < length objects.strings)
   pub strings : All (λ number. number < length objects.strings) seen.strings

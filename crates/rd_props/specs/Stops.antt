@@ -3,9 +3,8 @@ use Rattle.std.specs.Prelude.{◌≡◌, ◌⊎◌, ℕ, ◌-◌, ◌<◌, ◌�
 use Rattle.rd_overlays.specs.declared.overlay.Overlay.{Overlay}
 use Rattle.rd_overlays.specs.Overlays.{overlay_at}
 use Rattle.rd_objects.specs.Things.{ObjectLists}
-use Rattle.rd_props.specs.Appearance.{appearance_in}
+use Rattle.rd_props.specs.Appearance.{appearance_at}
 use Rattle.rd_props.specs.Buffers.{BufferValue, values_of}
-use Rattle.rd_props.specs.Seen.{seen_at}
 use Rattle.rd_props.specs.Strings.{strings_at}
 
 -- every text property has the same value at two positions
@@ -40,7 +39,7 @@ pub record IsLastStop (s : BufferValue) (pos stop : ℕ) : Type 0 where
 
 -- the positions behind one and before another look like it, and no string of an overlay stands at them
 pub record LookAlike (s : BufferValue) (objects : ObjectLists) (pos stop : ℕ) : Type 0 where
-  pub appearance : (p : ℕ) → pos < p → p < stop → appearance_in (seen_at s objects p) ≡ appearance_in (seen_at s objects pos)
+  pub appearance : (p : ℕ) → pos < p → p < stop → appearance_at s objects p ≡ appearance_at s objects pos
   pub strings : (p : ℕ) → pos < p → p < stop → strings_at s p ≡ []
 
 -- the first edge of an overlay behind a position, and the end where there is none before it

@@ -2,8 +2,7 @@
 ghost use Rattle.std.specs.Prelude.{◌≡◌, IfOk};
 ghost use Rattle.rd_text.specs.Texts.{IsAccessible};
 ghost use Rattle.rd_props.specs.Buffers.{meaning};
-ghost use Rattle.rd_props.specs.Seen.{seen_at};
-ghost use Rattle.rd_props.specs.Appearance.{appearance_in};
+ghost use Rattle.rd_props.specs.Appearance.{appearance_at};
 
 use crate::faces::face_under;
 use crate::hiding::{Hidden, hiding_of_value};
@@ -58,7 +57,7 @@ impl Appearance {
 /// position, a pass over them for each of the five, and one look-up of each property.
 pub fn appearance_at(alloc: Global, view: &View, pos: Pos) -> Result<Appearance, Memory>
     requires { IsAccessible view.now.state.now.text pos }
-    ensures { IfOk result (λ appearance. appearance ≡ appearance_in (seen_at (meaning view.now.state.now) view.now.objects.now pos)) }
+    ensures { IfOk result (λ appearance. appearance ≡ appearance_at (meaning view.now.state.now) view.now.objects.now pos) }
 {
     let state = view.state;
     if state.text.end() <= pos {

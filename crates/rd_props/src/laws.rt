@@ -13,7 +13,8 @@ ghost use Rattle.rd_props.specs.Shown.{hidden};
 ghost use Rattle.rd_objects.specs.Sound.{AreObjects};
 ghost use Rattle.rd_objects.specs.Things.{ObjectLists};
 ghost use Rattle.rd_props.specs.Strings.{strings_at, strings_within};
-ghost use Rattle.rd_props.specs.Seen.{seen_at, hidden_seen};
+ghost use Rattle.rd_props.specs.Appearance.{hidden_by};
+ghost use Rattle.rd_props.specs.Seen.{seen_at};
 ghost use Rattle.rd_props.specs.Stops.{IsNextStop, IsLastStop, LookAlike};
 ghost use Rattle.rd_props.specs.declared.hiding.Hidden.TheVariants.{No, Plain, Ellipsis};
 ghost use Rattle.rd_props.specs.Examples.{three_characters, coloured, two_faces, meeting, partly_invisible};
@@ -33,7 +34,7 @@ pub fn effective_values_are_the_greatest_overlays()
 
 /// Whether a position is hidden depends on what is seen there and on the buffer's setting alone. The call does nothing.
 pub fn what_is_seen_says_what_is_hidden()
-    ensures { (s : BufferValue) (objects : ObjectLists) (pos : ℕ) → hidden s pos ≡ hidden_seen s.settings.invisible (seen_at s objects pos) }
+    ensures { (s : BufferValue) (objects : ObjectLists) (pos : ℕ) → hidden s pos ≡ hidden_by s.settings.invisible (seen_at s objects pos).appearance }
 {}
 
 /// The colours of each position's face are in their range where those of all faces that were made are. The call does nothing.

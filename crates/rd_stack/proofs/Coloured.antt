@@ -39,7 +39,7 @@ abbrev ItemColours : Item → Type 0
 ItemColours x = HasColours x.face
 
 module _ (s : Scene) where
-  gives : (k to : ℕ) (e : Seen) → HasColours e.face → GivesOnly s PieceColours k to e
+  gives : (k to : ℕ) (e : Seen) → HasColours e.appearance.face → GivesOnly s PieceColours k to e
   gives k to e h = record {
     string = λ i d inside. h;
     text = λ covers m n shown is. h;
@@ -53,8 +53,8 @@ module _ (s : Scene) where
   pieces-grow : Grows piece_joins PieceColours
   pieces-grow held next glyph these those e = these
 
-  items-coloured : (es : List Seen) → AllByRecursion (λ (e : Seen). HasColours e.face) es → AllByRecursion ItemColours (items_of s es)
-  items-coloured = items-each s PieceColours ItemColours (λ (e : Seen). HasColours e.face) gives pieces-grow (λ since x h. if-value (λ (k : ItemKind). HasColours x.face) x.kind (λ k e. h))
+  items-coloured : (es : List Seen) → AllByRecursion (λ (e : Seen). HasColours e.appearance.face) es → AllByRecursion ItemColours (items_of s es)
+  items-coloured = items-each s PieceColours ItemColours (λ (e : Seen). HasColours e.appearance.face) gives pieces-grow (λ since x h. if-value (λ (k : ItemKind). HasColours x.face) x.kind (λ k e. h))
 
 -- ---- lines and prefixes
 
@@ -67,11 +67,11 @@ module _ (own : (text : TextValue) (i : ℕ) → IsString text → HasColours (f
   turn-coloured turn (Some x) h =
       item-each s base (origin_of turn.index x) (λ f. HasColours f) IsColoured faces (λ extent l face inner coloured. coloured) x.kind x.overlay turn.odd x.face (λ ends. h) h
 
-  pub line-coloured : (es : List Seen) → All (λ e. HasColours e.face) es → AreColoured (line_elements s base es)
+  pub line-coloured : (es : List Seen) → All (λ e. HasColours e.appearance.face) es → AreColoured (line_elements s base es)
   line-coloured es all =
       let items = items_of s es in
       let turns = item_turns s base items in
-      let coloured = items-coloured s es (recursion_from_All (λ (e : Seen). HasColours e.face) es all) in
+      let coloured = items-coloured s es (recursion_from_All (λ (e : Seen). HasColours e.appearance.face) es all) in
       All-from_recursion IsColoured (line_elements s base es)
       (each-flat (item_elements s base items) (λ (t : Turn). Unit {0}) IsColoured
       (λ t any. turn-coloured t (slice_get items t.index) (found-by ItemColours items t.index coloured)) turns (each-any turns))

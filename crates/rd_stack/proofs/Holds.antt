@@ -68,8 +68,8 @@ pieces-few s zero k (e ∷ es) =
     let x = piece_at s showing e.character k (suc k + run_in s e es) in
     let behind = pieces_from s (run_in s e es) (suc k) es in
     let rest = pieces-few s (run_in s e es) (suc k) es in
-    let sum = length-append (string_pieces k e.face e.strings) (x ∷ behind) in
-    let strings = length-map e.strings (string_piece k e.face) in
+    let sum = length-append (string_pieces k e.appearance.face e.strings) (x ∷ behind) in
+    let strings = length-map e.strings (string_piece k e.appearance.face) in
     omega (arith, rest, sum, strings)
 
 by-few : (since : ℕ) (x : Piece) (k : Option ItemKind) (xs : List Item) (n : ℕ) → length xs ≤ n → length (items_by k since x ++ xs) ≤ suc n

@@ -77,9 +77,9 @@ pub fn prefixes_are_sound()
 /// The faces of a line's elements have their colours in range where those of what is read have, and where the objects are sound; those of
 /// a prefix have where the objects are. What is read of a buffer has such faces. The call does nothing.
 pub fn lines_are_coloured()
-    ensures line { (scene : Scene) (base : ℕ) (es : List Seen) → AreObjects scene.objects → All (λ e. HasColours e.face) es → AreColoured (line_elements scene base es) }
+    ensures line { (scene : Scene) (base : ℕ) (es : List Seen) → AreObjects scene.objects → All (λ e. HasColours e.appearance.face) es → AreColoured (line_elements scene base es) }
     ensures prefix { (scene : Scene) (base number : ℕ) → AreObjects scene.objects → AreColoured (prefix scene base number) }
-    ensures reading { (s : BufferValue) (objects : ObjectLists) (p : ℕ) → AreObjects objects → All (λ e. HasColours e.face) (reading s objects p) }
+    ensures reading { (s : BufferValue) (objects : ObjectLists) (p : ℕ) → AreObjects objects → All (λ e. HasColours e.appearance.face) (reading s objects p) }
 {
     merged_faces_have_their_colours();
     strings_have_colours();

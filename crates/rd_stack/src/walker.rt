@@ -25,9 +25,8 @@ impl<'a> Walker<'a> {
     ghost use Rattle.std.specs.Prelude.{◌≡◌, ◌≤◌, ◌<◌, ◌+◌, ◌-◌, ◌++◌, [], length, take, option_to_list, IfOk, OnOk};
     ghost use Rattle.rd_base.specs.Elements.{Takes};
     ghost use Rattle.rd_text.specs.Texts.{IsAccessible};
-    ghost use Rattle.rd_props.specs.Appearance.{appearance_in};
+    ghost use Rattle.rd_props.specs.Appearance.{appearance_at};
     ghost use Rattle.rd_props.specs.Buffers.{meaning};
-    ghost use Rattle.rd_props.specs.Seen.{seen_at};
     ghost use Rattle.rd_items.specs.Pieces.{scene_of};
     ghost use Rattle.rd_items.specs.Readings.{reading};
     ghost use Rattle.rd_stack.specs.Lines.{line_elements, line_of_items};
@@ -57,7 +56,7 @@ impl<'a> Walker<'a> {
     ) -> Result<Walker<'a>, Memory>
         requires place { IsAccessible view.state.now.text start }
         requires base { base ≤ 1 }
-        requires appearance { appearance.now ≡ appearance_in (seen_at (meaning view.state.now) view.objects.now start) }
+        requires appearance { appearance.now ≡ appearance_at (meaning view.state.now) view.objects.now start }
         ensures { IfOk result (λ walker. IsLine (line_elements (scene_of view.entry) base (reading (meaning view.entry.state.now) view.entry.objects.now start)) (⟦<Walker<'a> as Elements>⟧.left walker)) }
     {
         blocks_are_read_whole();
