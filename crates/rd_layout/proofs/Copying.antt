@@ -1,6 +1,7 @@
 -- How often rows were copied changes no allowance, no op, and nothing that is told.
-use Rattle.std.proofs.Common.{◌≡◌, ℕ, zero, suc, ◌+◌, ◌*◌, ◌&&◌, Bool, true, false, cond, if◌then◌else◌, Option, None, Some, Err, List, [], ◌∷◌, ◌++◌, length, map, ap, refl, ◌∙◌}
+use Rattle.std.proofs.Common.{◌≡◌, ℕ, zero, suc, ◌+◌, ◌*◌, ◌&&◌, Bool, true, false, cond, if◌then◌else◌, Option, None, Some, Err, List, [], ◌∷◌, length, map, ap, refl, ◌∙◌}
 use Rattle.std.proofs.lemmas.List.{length-map}
+use Rattle.std.proofs.lemmas.Simd.{map-map}
 use Rattle.std.specs.List.{flat_map}
 use Rattle.std.specs.Prelude.{option_map, unwrap_or}
 use Rattle.rd_frame.specs.Panes.{body_height}
@@ -82,23 +83,14 @@ same-older l shape = by (is_same_shape l.shape shape) where
 
 -- ---- allowances
 
-same-costs : (first second : Block → ℕ) → ((b : Block) → first b ≡ second b) → (bs : List Block) → costs_of first bs ≡ costs_of second bs
-same-costs first second same [] = refl
-same-costs first second same (b ∷ bs) =
-    let here = same b in
-    let behind = same-costs first second same bs in
-    λ i. here i + behind i
-
 same-allowance : (last : Option Layout) (m : SourceValues) (shape : ShapeValues) (w : Wanted) → allowance (option_map uncopied last) m shape w ≡ allowance last m shape w
 same-allowance None m shape w = refl
-same-allowance (Some l) m shape w =
-    let costs = same-costs (λ b. (kept_by (Some (uncopied l)) m shape).cost_of b shape) (λ b. (kept_by (Some l) m shape).cost_of b shape)
-    (λ b.
-    let kept : is_kept (older_rows (Some (uncopied l)) shape) l.change b ≡ is_kept (older_rows (Some l) shape) l.change b =
-    ap (λ (es : List Entry). is_kept es l.change b) (same-older l shape) ∙ same-kept (older_rows (Some l) shape) l.change b in
-    ap (λ (t : Bool). if is_same_shape shape shape then (if t then 0 else m.cost_of b shape) else m.cost_of b shape) kept)
-    (blocks_with (is_near w (places_of m shape w)) (λ b. m.rows_of b shape) 0 m.blocks) in
-    ap (λ (n : ℕ). if rests (Some l) m shape w then 0 else 3 * n) costs
+same-allowance (Some l) m shape w = λ i. if rests (Some l) m shape w then 0 else 3 * costs_of (λ b. cost b i) (blocks_with (is_near w (places_of m shape w)) (λ b. m.rows_of b shape) 0 m.blocks) where
+  cost : (b : Block) → (kept_by (Some (uncopied l)) m shape).cost_of b shape ≡ (kept_by (Some l) m shape).cost_of b shape
+  cost b =
+      let kept : is_kept (older_rows (Some (uncopied l)) shape) l.change b ≡ is_kept (older_rows (Some l) shape) l.change b =
+      ap (λ (es : List Entry). is_kept es l.change b) (same-older l shape) ∙ same-kept (older_rows (Some l) shape) l.change b in
+      ap (λ (t : Bool). if is_same_shape shape shape then (if t then 0 else m.cost_of b shape) else m.cost_of b shape) kept
 
 same-layout : (n : ℕ) (ls : List Last) → layout_of n (map (λ (e : Last). (e.0, uncopied e.1)) ls) ≡ option_map uncopied (layout_of n ls)
 same-layout n ls = under-became (λ k. uncopied) n ls
@@ -121,8 +113,7 @@ same-allowed v = same-allowances v (places v.state)
 -- ---- ops
 
 same-shown : (es : List Entry) → shown_entries (map uncopied_entry es) ≡ shown_entries es
-same-shown [] = refl
-same-shown (e ∷ es) = ap (λ (xs : List EntryMeaning). shown_entry e ∷ xs) (same-shown es)
+same-shown es = map-map shown_entry uncopied_entry es
 
 same-pointed : (s : StateValue) (window : ℕ) (w : WindowState) (last : Option Layout) (place : Option Placed) (row column : ℕ)
     → hitting_by s window w (option_map uncopied last) place row column ≡ hitting_by s window w last place row column
@@ -163,14 +154,9 @@ same-fact last p None = refl
 same-fact last p (Some w) =
     ap (λ (c : Option (ℕ × ℕ)). record { window = p.number; rect = p.rect; start = w.anchor; point = w.point; cursor = c } ∷ []) (same-cursor last w.point)
 
-same-places : (v : SessionValue) (ps : List Placed) → flat_map (facts_at (without_copies v)) ps ≡ flat_map (facts_at v) ps
-same-places v [] = refl
-same-places v (p ∷ ps) =
-    let o = window_of p.number v.state.windows in
-    let here : facts_at (without_copies v) p ≡ facts_at v p =
-    ap (λ (last : Option Layout). facts_by last p o) (same-layout p.number v.layouts) ∙ same-fact (layout_of p.number v.layouts) p o in
-    let behind = same-places v ps in
-    λ i. here i ++ behind i
-
 pub same-facts : (v : SessionValue) → facts_of (without_copies v) ≡ facts_of v
-same-facts v = same-places v (places v.state)
+same-facts v = λ i. flat_map (λ p. fact p i) (places v.state) where
+  fact : (p : Placed) → facts_at (without_copies v) p ≡ facts_at v p
+  fact p =
+      let o = window_of p.number v.state.windows in
+      ap (λ (last : Option Layout). facts_by last p o) (same-layout p.number v.layouts) ∙ same-fact (layout_of p.number v.layouts) p o

@@ -46,6 +46,7 @@ use Rattle.rd_state.specs.declared.window.WindowState.{WindowState}
 use Rattle.rd_text.specs.Texts as text
 use Rattle.rd_tree.specs.Calls.{frame_of}
 use Rattle.rd_tree.proofs.Keeping.{found_held}
+use Rattle.rd_tree.proofs.Rooms.{found_number}
 use Rattle.rd_tree.specs.Windows.{Windows, window_at}
 use Rattle.rd_tree.specs.declared.placed.Placed.{Placed}
 use Rattle.rd_tree.specs.declared.rect.Rect.{Rect}
@@ -55,7 +56,7 @@ use Rattle.rd_layout.specs.Laws.{FitLaws}
 use Rattle.rd_layout.specs.Panes.{cells_of_pieces, facts_of, margin_of, margin_text, mode_line, pane_of, text_of, widths_of}
 use Rattle.rd_layout.specs.Screens.{cursor_at, cursor_by, frame_in, pane_at, pane_by}
 use Rattle.rd_layout.specs.Windows.{place_of, places, shown_buffer, view_in, wanted_of, window_shape, window_source}
-use Rattle.rd_layout.proofs.Placed.{all-places, number-of}
+use Rattle.rd_layout.proofs.Placed.{all-places}
 use Rattle.rd_layout.proofs.Settling.{is-shape, shown-is}
 
 -- ---- what holds of all rows
@@ -216,7 +217,7 @@ module _ (laws : FitLaws) (files : Data) (s : StateValue) (valid : IsValid s) wh
   selected-fits None at = tt
   selected-fits (Some p) at = by (window_of s.selected s.windows) refl where
     number : p.number ≡ s.selected
-    number = number-of s.selected (places s) p at
+    number = found_number s.selected (places s) p at
 
     by : (w : Option WindowState) → window_of s.selected s.windows ≡ w → IfSome (cursor_by files s w (Some p)) (IsInBody s.width p)
     by None is = tt

@@ -127,7 +127,7 @@ module _ (laws : OverLaws) (s : BufferValue) (made objects : ObjectLists) (close
   block-rows views files shape is b among =
       let source = views.source s made files text in
       let some = (later-start (first_start (blocks_in files.classes s)) among.0 (blocks_in files.classes s) b source.blocks.stand among.1).1 in
-      let inside = accessible views files.classes s b.start text (block-inside (text_source s made files) shape source is b b.start among (omega arith) some) in
+      let inside = accessible views files.classes s b.start text (block-inside (text_source s made files) shape source is b among b.start (omega arith) some) in
       ap seen_rows (laws.local s s made objects files b b shape refl closed named extends refl (same-reading b.start inside.0 inside.1))
 
   pub objects-over : (views : ViewLaws) (files : Data) (anchor : Anchor) (l : Layout) → IsShape l.shape → Stands (text_source s made files) anchor l → Stands (text_source s objects files) anchor l

@@ -1,14 +1,16 @@
 -- The windows of a frame, in their order and by their numbers.
-use Rattle.std.proofs.Common.{◌≡◌, ◌≢◌, inl, inr, ℕ, ◌+◌, ◌-◌, ◌<◌, ◌≤◌, ◌==◌, Bool, true, false, if◌then◌else◌, Option, None, Some, List, [], ◌∷◌, ◌++◌, get_or, is_some, length, map, unwrap_or, sym, ap, refl, ◌∙◌, arith, nat_le}
-use Rattle.std.proofs.lemmas.Bool.{cases_eq, leb-true, leb-false, cond-false, cond-true, eq-eqb, ne_eqb}
+use Rattle.std.proofs.Common.{◌≡◌, ◌≢◌, ℕ, ◌+◌, ◌-◌, ◌<◌, ◌≤◌, ◌==◌, Bool, true, false, if◌then◌else◌, Option, None, Some, List, [], ◌∷◌, ◌++◌, get_or, is_some, length, map, unwrap_or, sym, ap, refl, ◌∙◌, arith, nat_le}
+use Rattle.std.proofs.lemmas.Bool.{leb-true, leb-false, cond-false, cond-true, eq-eqb, ne_eqb}
 use Rattle.std.proofs.lemmas.List.{length-map}
-use Rattle.std.proofs.lemmas.List.Elements.{All-from_get_or, All-from_recursion, recursion_from_All}
+use Rattle.std.proofs.lemmas.List.Elements.{All-from_get_or, All-nil, recursion_from_All}
 use Rattle.std.proofs.lemmas.Option.{slice_get-get_or, slice_get-map}
 use Rattle.std.specs.List.{All, AllByRecursion, flat_map}
 use Rattle.std.specs.Prelude.{slice_get, option_map}
+use Rattle.rd_base.proofs.Lists.{all-one}
 use Rattle.rd_frame.specs.Panes.{body_height}
 use Rattle.rd_lineshift.specs.Choices.{AreWithin}
 use Rattle.rd_lineshift.specs.declared.band.Band.{Band}
+use Rattle.rd_start.proofs.Lists.{all-flat}
 use Rattle.rd_state.proofs.Leaves.{placed-window}
 use Rattle.rd_state.specs.States.{StateValue, opening_window}
 use Rattle.rd_state.specs.Valid.{IsValid}
@@ -31,13 +33,6 @@ placed-here n p ps h = cond-true (p.number == n) (Some p) (of_number n ps) (eq-e
 
 pub placed-there : (n : ℕ) (p : Placed) (ps : List Placed) → p.number ≢ n → of_number n (p ∷ ps) ≡ of_number n ps
 placed-there n p ps h = cond-false (p.number == n) (Some p) (of_number n ps) (ne_eqb p.number n h)
-
-pub number-of : (n : ℕ) (ps : List Placed) (p : Placed) → of_number n ps ≡ Some p → p.number ≡ n
-number-of n [] p h = absurd (cc)
-number-of n (q ∷ qs) p h = elim (cases_eq q.number n) [
-  | inl e ↦ let same : q ≡ p = cc (sym (placed-here n q qs e) ∙ h) in sym (ap (λ (x : Placed). x.number) same) ∙ e
-  | inr e ↦ number-of n qs p (sym (placed-there n q qs e) ∙ h)
-]
 
 pub found-once : (n : ℕ) (windows : Windows) (rect : Rect) (p : Placed) → window_at n windows rect ≡ Some p → 1 ≤ times n windows
 found-once n windows rect p h = held_times n windows (sym (found_held n windows rect) ∙ ap is_some h)
@@ -102,34 +97,27 @@ module _ (laws : PlaceLaws) (s : StateValue) (valid : IsValid s) where
 
   -- ---- bands
 
-  abbrev Fits : Placed → Type 0
-  Fits p = p.rect.y + body_height p ≤ s.height
-
   body-fits : (mode : Bool) (y height frame whole : ℕ) → y + height ≤ frame → frame + 1 ≡ whole → y + (height - (if mode then 1 else 0)) ≤ whole
   body-fits true y height frame whole h e = omega arith
   body-fits false y height frame whole h e = omega arith
 
-  place-fits : (p : Placed) → place_of p.number s ≡ Some p → Fits p
-  place-fits p at =
-      let stands = laws.inside p.number s.tree.windows (frame_of s.tree) p valid.windows.tree.room at in
-      let low = stands.0.3 in
-      body-fits p.mode p.rect.y p.rect.height s.tree.height s.height (omega arith) valid.frame.rows
-
   abbrev InFrame : Band → Type 0
   InFrame band = band.top + band.height ≤ s.height
 
-  one-band : (p : Placed) (bands : List Band) → Fits p → AllByRecursion InFrame bands → AllByRecursion InFrame (band_of s.width p ++ bands)
-  one-band p bands fits h = by (p.rect.width == s.width) where
-    by : (t : Bool) → AllByRecursion InFrame ((if t then record { top = p.rect.y; height = body_height p } ∷ [] else []) ++ bands)
-    by true = (fits, h)
-    by false = h
+  band-fits : (p : Placed) → place_of p.number s ≡ Some p → All InFrame (band_of s.width p)
+  band-fits p at = by (p.rect.width == s.width) where
+    fits : p.rect.y + body_height p ≤ s.height
+    fits =
+        let stands = laws.inside p.number s.tree.windows (frame_of s.tree) p valid.windows.tree.room at in
+        let low = stands.0.3 in
+        body-fits p.mode p.rect.y p.rect.height s.tree.height s.height (omega arith) valid.frame.rows
 
-  each-band : (ps : List Placed) → AllByRecursion Fits ps → AllByRecursion InFrame (flat_map (band_of s.width) ps)
-  each-band [] h = tt
-  each-band (p ∷ ps) h = one-band p (flat_map (band_of s.width) ps) h.0 (each-band ps h.1)
+    by : (t : Bool) → All InFrame (if t then record { top = p.rect.y; height = body_height p } ∷ [] else [])
+    by true = all-one InFrame (record { top = p.rect.y; height = body_height p }) fits
+    by false = All-nil InFrame
 
   pub bands-within : AreWithin s.height (bands_of s)
   bands-within = by s.shifting where
     by : (t : Bool) → All InFrame (if t then flat_map (band_of s.width) (places s) else [])
-    by true = All-from_recursion InFrame (flat_map (band_of s.width) (places s)) (each-band (places s) (recursion_from_All Fits (places s) (all-places Fits place-fits)))
-    by false = All-from_recursion InFrame [] tt
+    by true = all-flat InFrame (band_of s.width) (places s) (all-places (λ p. All InFrame (band_of s.width p)) band-fits)
+    by false = All-nil InFrame

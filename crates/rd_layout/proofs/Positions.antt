@@ -1,24 +1,21 @@
 -- The items that begin in the rows of a last layout end at positions.
-use Rattle.std.proofs.Common.{◌≡◌, ℕ, suc, ◌+◌, ◌-◌, ◌^◌, ◌<◌, Some, List, [], ◌∷◌, refl, subst, arith}
-use Rattle.std.proofs.lemmas.List.Elements.{All-from_recursion, All-map, recursion_from_All}
+use Rattle.std.proofs.Common.{◌-◌, ◌^◌, ◌<◌, List, subst, arith}
+use Rattle.std.proofs.lemmas.List.Elements.{All-map}
 use Rattle.std.proofs.lemmas.Option.{get_or_from_slice_get, slice_get_within}
-use Rattle.std.specs.List.{All, AllByRecursion}
-use Rattle.std.specs.Prelude.{slice_get, slice_index_or}
-use Rattle.rd_base.proofs.Lists.{each-append, each-back, each-front}
+use Rattle.std.specs.List.{All}
+use Rattle.std.specs.Prelude.{slice_index_or}
 use Rattle.rd_blocks.specs.Kept.{AreRowsAt}
 use Rattle.rd_blocks.specs.Sources.{text_source}
+use Rattle.rd_matrix.proofs.EachRow.{begins-each}
 use Rattle.rd_matrix.proofs.HeldLemmas.{later-start}
 use Rattle.rd_matrix.specs.Blocks.{IsAmong, first_start}
-use Rattle.rd_matrix.specs.Entries.{EntryMeaning, all_rows, entries_of, numbered, shown_entries, shown_entry}
-use Rattle.rd_matrix.specs.Sources.{IsSource, SourceValues, rows_at, IsInBlock}
+use Rattle.rd_matrix.specs.Entries.{EntryMeaning, shown_entries, shown_entry}
+use Rattle.rd_matrix.specs.Sources.{IsSource, SourceValues, rows_at}
 use Rattle.rd_matrix.specs.declared.block.Block.{Block}
 use Rattle.rd_matrix.specs.declared.matrix.Entry.{Entry}
 use Rattle.rd_objects.specs.Things.{ObjectLists}
 use Rattle.rd_props.specs.Buffers as props
-use Rattle.rd_rows.specs.Laws.{begins_of}
-use Rattle.rd_rows.specs.Rows.{RowMeaning}
 use Rattle.rd_rows.specs.Shapes.{IsShape, ShapeValues}
-use Rattle.rd_rows.specs.declared.begin.Begin.{Begin}
 use Rattle.rd_state.specs.States.{StateValue}
 use Rattle.rd_state.specs.declared.window.WindowState.{WindowState}
 use Rattle.rd_text.specs.Texts.{IsText}
@@ -43,34 +40,18 @@ module _ (views : ViewLaws) (s : props.BufferValue) (objects : ObjectLists) (fil
   block-end : (b : Block) → IsAmong m.blocks b → b.end < 2 ^ 32
   block-end b at =
       let some = (later-start (first_start m.blocks) at.0 m.blocks b source.blocks.stand at.1).1 in
-      let inside = accessible views files.classes s (b.end - 1) text (block-inside m shape source is b (b.end - 1) at (omega arith) (omega arith)) in
+      let inside = accessible views files.classes s (b.end - 1) text (block-inside m shape source is b at (b.end - 1) (omega arith) (omega arith)) in
       let high = inside.1 in
       let last = text.last in
       let short = text.short in
       omega arith
 
-  begins-fit : (b : Block) → b.end < 2 ^ 32 → (xs : List Begin) → AllByRecursion (IsInBlock b.start b.end) xs → AllByRecursion (Fits b.start) xs
-  begins-fit b small [] h = tt
-  begins-fit b small (x ∷ xs) h = let high = h.0.1 in (omega arith, begins-fit b small xs h.1)
-
-  numbered-fit : (b : Block) → b.end < 2 ^ 32 → (number : ℕ) (rows : List RowMeaning) → AllByRecursion (IsInBlock b.start b.end) (begins_of rows)
-      → AllByRecursion EntryFits (numbered b.start number rows)
-  numbered-fit b small number [] h = tt
-  numbered-fit b small number (r ∷ rs) h =
-      let here = each-front (IsInBlock b.start b.end) r.begins (begins_of rs) h in
-      let behind = each-back (IsInBlock b.start b.end) r.begins (begins_of rs) h in
-      (All-from_recursion (Fits b.start) r.begins (begins-fit b small r.begins here), numbered-fit b small (number + 1) rs behind)
-
-  all-fit : (bs : List Block) → ((k : ℕ) (b : Block) → slice_get bs k ≡ Some b → IsAmong m.blocks b) → AllByRecursion EntryFits (all_rows (λ b. m.rows_of b shape) bs)
-  all-fit [] among = tt
-  all-fit (b ∷ bs) among =
-      let at = among 0 b refl in
-      each-append EntryFits (entries_of (λ b. m.rows_of b shape) b) (all_rows (λ b. m.rows_of b shape) bs)
-      (numbered-fit b (block-end b at) 0 (m.rows_of b shape) (recursion_from_All (IsInBlock b.start b.end) (begins_of (m.rows_of b shape)) (source.rows b shape at is).inside))
-      (all-fit bs (λ k c h. among (suc k) c h))
-
   rows-fit : All EntryFits (rows_at m shape)
-  rows-fit = All-from_recursion EntryFits (rows_at m shape) (all-fit m.blocks (λ k b h. (k, h)))
+  rows-fit = begins-each Fits (λ b. m.rows_of b shape) m.blocks (λ b at. λ k x below.
+      let low = block-end b at in
+      let lies = (source.rows b shape at is).inside k x below in
+      let high = lies.1 in
+      omega (arith, low, high))
 
   pub entries-fit : (es : List Entry) → AreRowsAt m shape es → AreInPositions (shown_entries es)
   entries-fit es at =

@@ -7,12 +7,12 @@ use Rattle.rd_state.specs.States.{BufferValue, StateValue}
 use Rattle.rd_state.specs.Valid.{IsValid}
 use Rattle.rd_state.specs.Windows.{window_of}
 use Rattle.rd_state.specs.declared.window.WindowState.{WindowState}
+use Rattle.rd_tree.proofs.Rooms.{found_number}
 use Rattle.rd_tree.specs.Windows.{of_number}
 use Rattle.rd_tree.specs.declared.placed.Placed.{Placed}
 use Rattle.rd_window.specs.Views.{WindowView}
 use Rattle.rd_layout.specs.Screens.{cursor_at, cursor_by, cursor_of}
 use Rattle.rd_layout.specs.Windows.{place_of, places, view_in, views_in}
-use Rattle.rd_layout.proofs.Placed.{number-of}
 use Rattle.rd_paint.specs.Laws.{LeafLaws}
 use Rattle.rd_paint.specs.Shown.{IsLeaf}
 use Rattle.rd_paint.proofs.Leaves.{view-at}
@@ -34,7 +34,7 @@ pub no-cursor : (files : Data) (s : StateValue) (number : ℕ) → ((k : ℕ) (p
 no-cursor files s number none = by (place_of number s) refl where
   by : (o : Option Placed) → place_of number s ≡ o → None ≡ cursor_by files s (window_of number s.windows) o
   by None is = sym (none-by files s (window_of number s.windows))
-  by (Some p) is = let found = found-at number (places s) p is in absurd (none found.0 p found.2 found.1 (number-of number (places s) p is))
+  by (Some p) is = let found = found-at number (places s) p is in absurd (none found.0 p found.2 found.1 (found_number number (places s) p is))
 
 -- the window at a place of the leaf order has the number
 pub cursor-here : LeafLaws → (files : Data) (s : StateValue) → IsValid s → (views : List WindowView) → views ≡ views_in files s → (i number : ℕ) (place : Placed) (w : WindowState) (content : BufferValue)

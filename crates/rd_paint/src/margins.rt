@@ -71,14 +71,6 @@ impl<'a> WindowMargins<'a> {
         if number > 0 {
             return row_margin(self.alloc, self.classes, self.widths, number, 1, &[]);
         }
-        self.beside_first(start)
-    }
-
-    /// The margins beside the first row of the block that starts at a position.
-    fn beside_first(&self, start: Pos) -> Result<ListOf<Cell>, Memory>
-        requires { IsAccessible self.now.content.now.content.text start }
-        ensures { IfOk result (λ cells. cells ≡ row_margin self.now.classes.now self.now.widths 0 (line_of self.now.content.now.content.text start) (margin_text self.now.objects.now self.now.content.now.content start)) }
-    {
         let content = self.content;
         let line = line_beside(&content.buffer.text, self.widths.numbers, start);
         let text = self.text_beside(start)?;
@@ -86,7 +78,7 @@ impl<'a> WindowMargins<'a> {
             self.alloc,
             self.classes,
             self.widths,
-            0,
+            number,
             line,
             text.as_slice(),
         )

@@ -147,23 +147,29 @@ updated-shows width height u target t reached done h = record {
 
 -- ---- one line
 
+-- what holds where a line leads from one place to another, by the terminal there and the end of its redisplay
+record GoesOn (from to : Standing) (t : Tty) (o : Option Outcome) : Type 0 where
+  pub at : IsAt to.session t
+  pub under : to.mode ≡ from.mode
+  pub knows : is_sent o ≡ true → IsOn to.session.current t
+  pub reaches : is_shown o ≡ true → to.session.current ≡ Some (laid_out from.session.files from.session.state).picture
+  pub shows : is_shown o ≡ true → Shows t (laid_out from.session.files from.session.state).picture
+
 -- what holds behind a line with this effect
 record Goes (place : Standing) (t : Tty) (e : Effect) : Type 0 where
-  pub at : IsAt e.now.session (terminal_after t e)
-  pub under : e.now.mode ≡ place.mode
+  pub on : GoesOn place e.now (terminal_after t e) e.outcome
   pub size : e.fresh ≡ false → AreOfOneSize place.session.state e.now.session.state
-  pub knows : is_sent e.outcome ≡ true → IsOn e.now.session.current (terminal_after t e)
-  pub reaches : is_shown e.outcome ≡ true → e.now.session.current ≡ Some (laid_out place.session.files place.session.state).picture
-  pub shows : is_shown e.outcome ≡ true → Shows (terminal_after t e) (laid_out place.session.files place.session.state).picture
 
 never : {P : Type 0} {b : Bool} → b ≡ false → b ≡ true → P
 never p q = absurd (true≢false (sym q ∙ p))
 
 -- a line that sends nothing
+silent-on : (from to : Standing) (t : Tty) (o : Option Outcome) → is_sent o ≡ false → is_shown o ≡ false → IsAt to.session t → to.mode ≡ from.mode → GoesOn from to t o
+silent-on from to t o unsent unshown at under = record { at = at; under = under; knows = λ s. never unsent s; reaches = λ s. never unshown s; shows = λ s. never unshown s }
+
 silent-goes : (place : Standing) (t : Tty) (e : Effect) → is_sent e.outcome ≡ false → is_shown e.outcome ≡ false → IsAt e.now.session (terminal_after t e) → e.now.mode ≡ place.mode
     → (e.fresh ≡ false → AreOfOneSize place.session.state e.now.session.state) → Goes place t e
-silent-goes place t e unsent unshown at under size =
-    record { at = at; under = under; size = size; knows = λ s. never unsent s; reaches = λ s. never unshown s; shows = λ s. never unshown s }
+silent-goes place t e unsent unshown at under size = record { on = silent-on place e.now (terminal_after t e) e.outcome unsent unshown at under; size = size }
 
 -- an op that was accepted
 accepted-at : (place : Standing) (t : Tty) (op : Op) (s : StateValue) (framed : Bool) → is_frame op ≡ framed → IsAt place.session t → IsSession (behind place.session op s)
@@ -201,12 +207,14 @@ redisplayed-goes laws place t stop h =
     let updated : IsUpdated w n u target (feed_bytes t u.bytes) = laws.updated w n v.current target (bands_of v.state) stop t (ready laws v t h) (laws.bands v.state h.session.state) in
     let reached = target-reached laws v stop h.session in
     record {
-      at = updated-at v (redisplayed_session v stop) u target (feed_bytes t u.bytes) (leads-on laws.leads v stop h.session) same refl updated;
-      under = refl;
+      on = record {
+        at = updated-at v (redisplayed_session v stop) u target (feed_bytes t u.bytes) (leads-on laws.leads v stop h.session) same refl updated;
+        under = refl;
+        knows = λ s. (updated.sure, updated.cells);
+        reaches = λ s. ap (λ (p : Picture). Some p) (reached (shown-done u.done u.rows s));
+        shows = λ s. let done = shown-done u.done u.rows s in updated-shows w n u target (feed_bytes t u.bytes) (reached done) done updated;
+      };
       size = λ _. same;
-      knows = λ s. (updated.sure, updated.cells);
-      reaches = λ s. ap (λ (p : Picture). Some p) (reached (shown-done u.done u.rows s));
-      shows = λ s. let done = shown-done u.done u.rows s in updated-shows w n u target (feed_bytes t u.bytes) (reached done) done updated;
     }
 
 line-goes : (laws : RunLaws) (place : Standing) (t : Tty) (line : Input) → IsAt place.session t → Goes place t (effect place line)
@@ -225,18 +233,14 @@ line-goes laws place t line h = effect-is place line (Goes place t) (record {
 -- ---- all lines
 
 -- where one more line leads; a run that has ended stays as it is
-record GoesOn (w next : World) (o : Option Outcome) : Type 0 where
-  pub at : IsAt next.now.session next.terminal
-  pub under : next.now.mode ≡ w.now.mode
-  pub knows : is_sent o ≡ true → IsOn next.now.session.current next.terminal
-  pub reaches : is_shown o ≡ true → next.now.session.current ≡ Some (laid_out w.now.session.files w.now.session.state).picture
-  pub shows : is_shown o ≡ true → Shows next.terminal (laid_out w.now.session.files w.now.session.state).picture
+abbrev Next : World → World → Option Outcome → Type 0
+Next w next o = GoesOn w.now next.now next.terminal o
 
-goes-if : (stays : Bool) (w : World) (e : Effect) → IsAt w.now.session w.terminal → Goes w.now w.terminal e → GoesOn w (if stays then w else after w e) (if stays then None else e.outcome)
-goes-if true w e h g = record { at = h; under = refl; knows = λ s. never refl s; reaches = λ s. never refl s; shows = λ s. never refl s }
-goes-if false w e h g = record { at = g.at; under = g.under; knows = g.knows; reaches = g.reaches; shows = g.shows }
+goes-if : (stays : Bool) (w : World) (e : Effect) → IsAt w.now.session w.terminal → Goes w.now w.terminal e → Next w (if stays then w else after w e) (if stays then None else e.outcome)
+goes-if true w e h g = silent-on w.now w.now w.terminal None refl refl h refl
+goes-if false w e h g = g.on
 
-goes-on : (laws : RunLaws) (w : World) (t : Input) → IsAt w.now.session w.terminal → GoesOn w (run_line w t) (outcome_at w t)
+goes-on : (laws : RunLaws) (w : World) (t : Input) → IsAt w.now.session w.terminal → Next w (run_line w t) (outcome_at w t)
 goes-on laws w t h = goes-if (is_some w.fault) w (effect w.now t) h (line-goes laws w.now w.terminal t h)
 
 -- where a run in this mode stands

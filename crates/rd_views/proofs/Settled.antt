@@ -14,6 +14,7 @@ use Rattle.rd_state.specs.Steps.{settled}
 use Rattle.rd_state.specs.Windows.{AreApart, content_in, shown_content, window_of, with_window}
 use Rattle.rd_state.specs.declared.window.WindowState.{WindowState}
 use Rattle.rd_text.specs.Texts.{IsAccessible}
+use Rattle.rd_tree.proofs.Rooms.{found_number}
 use Rattle.rd_tree.specs.Windows.{of_number}
 use Rattle.rd_tree.specs.declared.placed.Placed.{Placed}
 use Rattle.rd_ucd.specs.Data.{Data}
@@ -22,7 +23,7 @@ use Rattle.rd_layout.specs.Sessions.{SessionValue, layout_of}
 use Rattle.rd_layout.specs.Windows.{place_of, places, view_in, wanted_of, window_shape, window_source}
 use Rattle.rd_state.proofs.ByNumber.{NumberedWindow, under-became, under-here, under-there, window-other, window-same}
 use Rattle.rd_layout.proofs.Known.{Last}
-use Rattle.rd_layout.proofs.Placed.{number-of, placed-here, placed-there}
+use Rattle.rd_layout.proofs.Placed.{placed-here, placed-there}
 use Rattle.rd_views.specs.Layings.{AreDesired, AreOnce, CanSettle, IsDesiredBy, all_settled}
 use Rattle.rd_views.specs.declared.desired.LaidWindow.{LaidWindow}
 use Rattle.rd_views.proofs.Desiring.{each-desired}
@@ -158,7 +159,7 @@ module _ (v : SessionValue) where
       → settle_found c (window_of n v.state.windows) ≡ option_map (λ w. settled_by v.files v.state w o) (window_of n v.state.windows)
   both-settle n None c at right = ap (λ (k : Option Chosen). settle_found k (window_of n v.state.windows)) right ∙ sym (option_map_id (window_of n v.state.windows))
   both-settle n (Some p) c at right =
-      let lives : window_of n v.state.windows ≡ Some right.window = ap (λ (k : ℕ). window_of k v.state.windows) (sym (number-of n (places v.state) p at)) ∙ right.lives in
+      let lives : window_of n v.state.windows ≡ Some right.window = ap (λ (k : ℕ). window_of k v.state.windows) (sym (found_number n (places v.state) p at)) ∙ right.lives in
       ap (λ (k : Option Chosen). settle_found k (window_of n v.state.windows)) right.is
       ∙ (ap (option_map (settle_to (chosen_of (window_source v.files v.state right.window) (window_shape v.state right.window p) (wanted_of v.state right.window p)))) lives
       ∙ sym (ap (option_map (λ w. settled_by v.files v.state w (Some p))) lives))
