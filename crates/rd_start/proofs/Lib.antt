@@ -16,6 +16,6 @@ mod Inside
 mod Moving
 pub mod NearRows
 mod Places
-mod Positions
+pub mod Positions
 mod Pushing
 mod Reaching
