@@ -3,7 +3,7 @@ use Rattle.std.proofs.Common.{◌≡◌, ◌≢◌, ◌==◌, ℕ, zero, suc, �
 use Rattle.std.specs.Prelude.{MatchOption}
 use Rattle.std.proofs.lemmas.Bool.Decides.{Decides-eqb}
 use Rattle.rd_io.specs.Lines.{lines_of, in_front}
-use Rattle.rd_audit.specs.Cuts.{stripped, cut, cut_last_or, cut_last, pieces}
+use Rattle.rd_audit.specs.Cuts.{stripped, cut, cut_last_or, cut_last}
 
 -- ---- a front
 
@@ -48,7 +48,7 @@ last-here byte zero (b ∷ bs) less found none =
     sym (ap (cut_last_or byte b bs) none ∙ ap (λ t. if t then Some ([], bs) else None) ((Decides-eqb b byte).1 found))
 last-here byte (suc i) (b ∷ bs) less found none = ap (cut_last_or byte b bs) (last-here byte i bs (omega (arith, less)) found none)
 
--- ---- lines and pieces
+-- ---- lines
 
 abbrev front_of : List ℕ → Option (List ℕ × List ℕ) → List ℕ
 front_of a None = a
@@ -58,22 +58,21 @@ abbrev back_of : List ℕ → Option (List ℕ × List ℕ) → List ℕ
 back_of b None = b
 back_of b (Some parts) = parts.1
 
-parts-listed : (a b f k : List ℕ) (lines : List ℕ → List (List ℕ)) → ◌≡◌ {A = Option (List ℕ × List ℕ)} (Some (a, b)) (Some (f, k)) → a ∷ lines b ≡ f ∷ lines k
-parts-listed a b f k lines e =
-    ap (λ l. l ∷ lines b) (ap (λ x. front_of a x) e) ∙ ap (λ l. f ∷ lines l) (ap (λ x. back_of b x) e)
+parts-listed : (a b f k : List ℕ) → ◌≡◌ {A = Option (List ℕ × List ℕ)} (Some (a, b)) (Some (f, k)) → a ∷ lines_of b ≡ f ∷ lines_of k
+parts-listed a b f k e =
+    ap (λ l. l ∷ lines_of b) (ap (λ x. front_of a x) e) ∙ ap (λ l. f ∷ lines_of l) (ap (λ x. back_of b x) e)
 
--- a first piece stands before those of the rest
-cut-listed : (lines : List ℕ → List (List ℕ)) (b : ℕ) (bs f k : List ℕ) (t : Bool) (o : Option (List ℕ × List ℕ))
-    → ((f' k' : List ℕ) → o ≡ Some (f', k') → lines bs ≡ f' ∷ lines k')
+-- a first line stands before those of the rest
+line-cut : (b : ℕ) (bs f k : List ℕ) (t : Bool) (o : Option (List ℕ × List ℕ)) → ((f' k' : List ℕ) → o ≡ Some (f', k') → lines_of bs ≡ f' ∷ lines_of k')
     → (if t then cut_here bs else option_map (λ parts. (b ∷ parts.0, parts.1)) o) ≡ Some (f, k)
-    → (if t then [] ∷ lines bs else in_front b (lines bs)) ≡ f ∷ lines k
-cut-listed lines b bs f k true o so e = parts-listed [] bs f k lines e
-cut-listed lines b bs f k false None so e = absurd (cc)
-cut-listed lines b bs f k false (Some parts) so e = ap (in_front b) (so parts.0 parts.1 refl) ∙ parts-listed (b ∷ parts.0) parts.1 f k lines e
+    → (if t then [] ∷ lines_of bs else in_front b (lines_of bs)) ≡ f ∷ lines_of k
+line-cut b bs f k true o so e = parts-listed [] bs f k e
+line-cut b bs f k false None so e = absurd (cc)
+line-cut b bs f k false (Some parts) so e = ap (in_front b) (so parts.0 parts.1 refl) ∙ parts-listed (b ∷ parts.0) parts.1 f k e
 
 pub lines-cut : (bs f k : List ℕ) → cut 10 bs ≡ Some (f, k) → lines_of bs ≡ f ∷ lines_of k
 lines-cut [] f k e = absurd (cc)
-lines-cut (b ∷ bs) f k e = cut-listed lines_of b bs f k (b == 10) (cut 10 bs) (lines-cut bs) e
+lines-cut (b ∷ bs) f k e = line-cut b bs f k (b == 10) (cut 10 bs) (lines-cut bs) e
 
 lines-uncut_at : (b : ℕ) (bs : List ℕ) (t : Bool) (o : Option (List ℕ × List ℕ)) → (o ≡ None → 0 < length bs → lines_of bs ≡ bs ∷ [])
     → (if t then cut_here bs else option_map (λ parts. (b ∷ parts.0, parts.1)) o) ≡ None
@@ -86,18 +85,3 @@ lines-uncut_at b bs false (Some parts) so e = absurd (cc)
 pub lines-uncut : (bs : List ℕ) → cut 10 bs ≡ None → 0 < length bs → lines_of bs ≡ bs ∷ []
 lines-uncut [] e some = absurd (omega (arith, some))
 lines-uncut (b ∷ bs) e some = lines-uncut_at b bs (b == 10) (cut 10 bs) (lines-uncut bs) e
-
-pub pieces-cut : (byte : ℕ) (bs f k : List ℕ) → cut byte bs ≡ Some (f, k) → pieces byte bs ≡ f ∷ pieces byte k
-pieces-cut byte [] f k e = absurd (cc)
-pieces-cut byte (b ∷ bs) f k e = cut-listed (pieces byte) b bs f k (b == byte) (cut byte bs) (pieces-cut byte bs) e
-
-pieces-uncut_at : (byte b : ℕ) (bs : List ℕ) (t : Bool) (o : Option (List ℕ × List ℕ)) → (o ≡ None → pieces byte bs ≡ bs ∷ [])
-    → (if t then cut_here bs else option_map (λ parts. (b ∷ parts.0, parts.1)) o) ≡ None
-    → (if t then [] ∷ pieces byte bs else in_front b (pieces byte bs)) ≡ (b ∷ bs) ∷ []
-pieces-uncut_at byte b bs true o so e = absurd (cc)
-pieces-uncut_at byte b bs false None so e = ap (in_front b) (so refl)
-pieces-uncut_at byte b bs false (Some parts) so e = absurd (cc)
-
-pub pieces-uncut : (byte : ℕ) (bs : List ℕ) → cut byte bs ≡ None → pieces byte bs ≡ bs ∷ []
-pieces-uncut byte [] e = refl
-pieces-uncut byte (b ∷ bs) e = pieces-uncut_at byte b bs (b == byte) (cut byte bs) (pieces-uncut byte bs) e

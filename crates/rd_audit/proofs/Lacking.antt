@@ -2,10 +2,13 @@
 use Rattle.std.proofs.Common.{◌≡◌, ◌==◌, ℕ, zero, suc, ◌+◌, ◌/◌, ◌%◌, ◌<◌, ◌||◌, ◌&&◌, not, nat_lt, Bool, true, false, if◌then◌else◌, None, Some, option_map, decimal, List, [], ◌∷◌, ◌++◌, refl, ap, ◌∙◌, arith}
 use Rattle.std.proofs.lemmas.Bool.{and_from, and_parts, not-true}
 use Rattle.std.proofs.lemmas.Bool.Decides.{nat_tests, Decides-eqb}
+use Rattle.std.specs.List.{All}
+use Rattle.std.proofs.lemmas.List.Elements.{All-cons, All-nil}
+use Rattle.std.proofs.lemmas.List.Splits.{slice_split_at, slice_split_none}
 use Rattle.std.specs.Fmt.{digits, digits_onto, digit_glyph}
 use Rattle.rd_io.specs.Lines.{lines_of}
 use Rattle.rd_audit.specs.Cuts.{cut, cut_last_or, cut_last, pieces}
-use Rattle.rd_audit.proofs.Cutting.{lines-cut, pieces-cut, pieces-uncut}
+use Rattle.rd_audit.proofs.Cutting.{lines-cut}
 
 -- whether bytes do not have a byte
 abbrev pub lacks : ℕ → List ℕ → Bool
@@ -55,18 +58,17 @@ cut-seam byte (b ∷ bs) back h =
     ap (λ t. if t then Some ([], bs ++ byte ∷ back) else option_map (λ parts. (b ∷ parts.0, parts.1)) (cut byte (bs ++ byte ∷ back))) (not-true (b == byte) both.0)
     ∙ ap (option_map (λ parts. (b ∷ parts.0, parts.1))) (cut-seam byte bs back both.1)
 
-pub cut-none : (byte : ℕ) (bytes : List ℕ) → lacks byte bytes ≡ true → cut byte bytes ≡ None
-cut-none byte [] h = refl
-cut-none byte (b ∷ bs) h =
+all-other : (byte : ℕ) (bytes : List ℕ) → lacks byte bytes ≡ true → All (λ b. (b == byte) ≡ false) bytes
+all-other byte [] h = All-nil _
+all-other byte (b ∷ bs) h =
     let both = and_parts (not (b == byte)) (lacks byte bs) h in
-    ap (λ t. if t then Some ([], bs) else option_map (λ parts. (b ∷ parts.0, parts.1)) (cut byte bs)) (not-true (b == byte) both.0)
-    ∙ ap (option_map (λ parts. (b ∷ parts.0, parts.1))) (cut-none byte bs both.1)
+    All-cons _ b bs (not-true (b == byte) both.0) (all-other byte bs both.1)
 
 pub pieces-seam : (byte : ℕ) (front back : List ℕ) → lacks byte front ≡ true → pieces byte (front ++ byte ∷ back) ≡ front ∷ pieces byte back
-pieces-seam byte front back h = pieces-cut byte (front ++ byte ∷ back) front back (cut-seam byte front back h)
+pieces-seam byte front back h = slice_split_at (λ b. b == byte) front byte back (all-other byte front h) ((Decides-eqb byte byte).1 refl)
 
 pub pieces-one : (byte : ℕ) (bytes : List ℕ) → lacks byte bytes ≡ true → pieces byte bytes ≡ bytes ∷ []
-pieces-one byte bytes h = pieces-uncut byte bytes (cut-none byte bytes h)
+pieces-one byte bytes h = slice_split_none (λ b. b == byte) bytes (all-other byte bytes h)
 
 pub lines-seam : (line back : List ℕ) → lacks 10 line ≡ true → lines_of (line ++ 10 ∷ back) ≡ line ∷ lines_of back
 lines-seam line back h = lines-cut (line ++ 10 ∷ back) line back (cut-seam 10 line back h)

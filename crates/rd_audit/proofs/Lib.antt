@@ -11,7 +11,6 @@ mod OnDumps
 mod Painting
 mod ReadBack
 mod Recorded
-mod Runs
 mod Shapes
 mod Since
 mod Spelling

@@ -1,14 +1,15 @@
 -- The text of a row, read back.
-use Rattle.std.proofs.Common.{◌≡◌, ◌==◌, ℕ, zero, suc, ◌+◌, ◌-◌, ◌/◌, ◌%◌, ◌<◌, ◌≤◌, nat_lt, true, false, if◌then◌else◌, Option, None, Some, option_and_then, option_map, List, [], ◌∷◌, ◌++◌, length, take, drop, get_or, replicate, inl, inr, refl, sym, ap, ap₂, ◌∙◌, arith, append_assoc, append-nil, length-append, length-take, length-drop}
+use Rattle.std.proofs.Common.{◌≡◌, ◌==◌, ℕ, zero, suc, ◌+◌, ◌-◌, ◌/◌, ◌%◌, ◌<◌, ◌≤◌, nat_lt, true, false, if◌then◌else◌, Option, None, Some, option_and_then, option_map, List, [], ◌∷◌, ◌++◌, length, take, drop, get_or, replicate, inl, inr, refl, sym, ap, ap₂, ◌∙◌, arith, append_assoc, append-nil, length-append, length-take}
 use Rattle.std.specs.Char.{encode_utf8}
 use Rattle.std.specs.List.{flat_map}
 use Rattle.std.specs.Str.{all_scalars, encode_utf8_all, chars}
 use Rattle.std.proofs.lemmas.Bool.{cases_lt, cond-true}
 use Rattle.std.proofs.lemmas.Bool.Decides.{nat_tests}
 use Rattle.std.proofs.lemmas.Str.{chars-encodes, is_utf8-from_IsUtf8}
-use Rattle.std.proofs.Math.Seq.{set-append_seam, get_or-drop}
+use Rattle.std.proofs.Math.Seq.{set-append_seam}
 use Rattle.std.proofs.lemmas.List.{replicate-append-replicate, take-append-drop, length-replicate}
 use Rattle.unicode_width.specs.Width.{char_width}
+use Rattle.rd_base.proofs.Rows.{spare-marks}
 use Rattle.rd_base.specs.Cells.{single, with_mark}
 use Rattle.rd_base.specs.Chars.{is_scalar, encoded, columns_of}
 use Rattle.rd_base.specs.Faces.{plain}
@@ -188,21 +189,11 @@ filled base width done (m ∷ ms) (p ∷ ps) rest e =
     ∙ ap (λ l. glyph_with base width l (length next + length ms)) (append_assoc done (m ∷ []) (ms ++ rest))
     ∙ ap (glyph_with base width (done ++ (m ∷ (ms ++ rest)))) total
 
-zeros : (n : ℕ) (xs : List ℕ) → length xs ≡ n → ((k : ℕ) → k < n → get_or xs k 0 ≡ 0) → replicate n 0 ≡ xs
-zeros zero [] e all = refl
-zeros zero (x ∷ xs) e all = absurd (omega (arith, e))
-zeros (suc n) [] e all = absurd (omega (arith, e))
-zeros (suc n) (x ∷ xs) e all = ap₂ (λ y ys. y ∷ ys) (sym (all 0 (omega arith))) (zeros n xs (omega (arith, e)) (λ k lt. all (suc k) (omega (arith, lt))))
-
 -- the places of a glyph's marks: those that count are to be filled
 places-of : (g : Glyph) → IsMeasured g → replicate 6 0 ≡ replicate g.count 0 ++ drop g.count g.marks
 places-of g h =
     let sum : g.count + (6 - g.count) ≡ 6 = omega (arith, h.count) in
-    let size : length (drop g.count g.marks) ≡ 6 - g.count = omega (arith, length-drop g.count g.marks, h.places) in
-    sym (ap (λ n. replicate n 0) sum) ∙ sym (replicate-append-replicate g.count (6 - g.count) 0)
-    ∙ ap (λ l. replicate g.count 0 ++ l)
-    (zeros (6 - g.count) (drop g.count g.marks) size
-    (λ k lt. get_or-drop g.count g.marks k 0 ∙ h.rest (g.count + k) (omega arith) (omega (arith, lt, h.count))))
+    sym (ap (λ n. replicate n 0) sum) ∙ sym (replicate-append-replicate g.count (6 - g.count) 0) ∙ ap (λ l. replicate g.count 0 ++ l) (sym (spare-marks g h))
 
 pub marks-joined_glyph : (g : Glyph) → IsMeasured g → with_marks (single g.base g.width) (marks_of g) ≡ g
 marks-joined_glyph g h =

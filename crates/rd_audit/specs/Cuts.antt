@@ -1,6 +1,6 @@
 -- Pieces of bytes.
 use Rattle.std.specs.Prelude.{ℕ, ◌==◌, Bool, if◌then◌else◌, List, [], ◌∷◌, Option, None, Some, option_map, is_some}
-use Rattle.rd_io.specs.Lines.{in_front}
+use Rattle.std.specs.List.{slice_split}
 
 -- what stands behind these bytes, where the others begin with them
 abbrev pub stripped : List ℕ → List ℕ → Option (List ℕ)
@@ -27,5 +27,4 @@ cut_last byte (b ∷ bs) = cut_last_or byte b bs (cut_last byte bs)
 
 -- the pieces before, between and behind a byte
 abbrev pub pieces : ℕ → List ℕ → List (List ℕ)
-pieces byte [] = [] ∷ []
-pieces byte (b ∷ bs) = if b == byte then [] ∷ pieces byte bs else in_front b (pieces byte bs)
+pieces byte bytes = slice_split (λ b. b == byte) bytes

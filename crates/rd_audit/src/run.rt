@@ -32,18 +32,14 @@ pub fn runs_over(text: &[u8], cells: ListOf<Cell>) -> Option<ListOf<Cell>>
 }
 
 /// The same by the text behind the first space.
-#[tactic(auto, using(crate::proofs::Runs::painted_next))]
 fn painted(cells: ListOf<Cell>, runs: &[u8]) -> Option<ListOf<Cell>>
     ensures { result ≡ painted 0 cells (pieces 32 runs.now) }
 {
     let mut cells = cells;
     let mut from = 0;
-    let mut rest = runs;
-    while let Some((text, more)) = cut(b' ', rest) {
+    for text in runs.split(|b| *b == b' ') {
         from = with_run(from, &mut cells, text)?;
-        rest = more;
     }
-    with_run(from, &mut cells, rest)?;
     Some(cells)
 }
 
@@ -81,18 +77,14 @@ fn span_of(text: &[u8]) -> Option<(u32, u32)>
 }
 
 /// The face of its numbers between semicolons.
-#[tactic(auto, using(crate::proofs::Runs::face_next))]
 fn face_of(codes: &[u8]) -> Option<Face>
     ensures { result ≡ face_of codes.now }
 {
     let mut place = 0;
     let mut face = Face::PLAIN;
-    let mut rest = codes;
-    while let Some((text, more)) = cut(b';', rest) {
+    for text in codes.split(|b| *b == b';') {
         (place, face) = with_number(place, face, text)?;
-        rest = more;
     }
-    let (_place, face) = with_number(place, face, rest)?;
     Some(face)
 }
 

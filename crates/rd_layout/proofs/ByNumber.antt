@@ -2,10 +2,11 @@
 use Rattle.std.proofs.Common.{◌≡◌, ◌≢◌, ◌==◌, ℕ, zero, suc, inl, inr, if◌then◌else◌, Some, List, [], ◌∷◌, ◌++◌, map, sym, ap, ◌∙◌, subst}
 use Rattle.std.proofs.lemmas.Bool.{cases_eq}
 use Rattle.std.specs.Prelude.{slice_get, option_map}
+use Rattle.rd_base.proofs.Lists.{get-end}
 use Rattle.rd_base.proofs.Choices.{map-some}
 use Rattle.rd_state.specs.Moves.{moved, moved_in}
 use Rattle.rd_state.specs.Windows.{window_of, with_window, without_window}
-use Rattle.rd_state.proofs.ByNumber.{NumberedWindow, get-end, get-window, get-without, under-here, under-there, window-each, window-other, window-same}
+use Rattle.rd_state.proofs.ByNumber.{NumberedWindow, get-window, get-without, under-here, under-there, window-each, window-other, window-same}
 use Rattle.rd_state.specs.declared.moves.Move.{Move}
 use Rattle.rd_state.specs.declared.window.WindowState.{WindowState}
 

@@ -4,6 +4,7 @@ use Rattle.std.proofs.lemmas.Bool.{cases_eq, eqb-true, cond-false, cond-true, eq
 use Rattle.std.specs.Option.{option_and_then}
 use Rattle.std.specs.Ordering.{int_eq}
 use Rattle.std.specs.Prelude.{ℤ, ◌-ℤ◌, slice_get, IfOk}
+use Rattle.rd_base.proofs.Lists.{get-set}
 use Rattle.rd_margins.specs.Marks as marks
 use Rattle.rd_objects.specs.Things.{ObjectLists}
 use Rattle.rd_overlays.specs.Overlays.{overlay_at}
@@ -32,7 +33,7 @@ use Rattle.rd_tree.specs.declared.fault.TreeFault.{TreeFault}
 use Rattle.rd_layout.specs.Changes.{change_by, if_shown, restyled}
 use Rattle.rd_layout.proofs.Standing.{one-of, unless}
 use Rattle.rd_state.proofs.ByNumber.{NumberedWindow, Each, each-same, each-with, each-moved, each-end, each-without, window-other}
-use Rattle.rd_state.proofs.Options.{one-value, get-set}
+use Rattle.rd_state.proofs.Options.{one-value}
 use Rattle.rd_state.proofs.Tests.{if-ok}
 
 -- an effect tells no change of a window that shows a buffer

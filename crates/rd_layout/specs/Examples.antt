@@ -44,11 +44,6 @@ after_all r (op ∷ ops) = after_all (then_done r op) ops
 abbrev pub after : List Op → Result SessionValue Refused
 after ops = after_all (Ok (opened files)) ops
 
--- what is asked of a session, where ops lead to it
-abbrev pub told : {A : Type 0} → (SessionValue → A) → Result SessionValue Refused → Result A Refused
-told f (Err refusal) = Err refusal
-told f (Ok v) = Ok (f v)
-
 -- characters, each in a line of its own
 abbrev pub each_in_a_line : List ℕ → List ℕ
 each_in_a_line [] = []

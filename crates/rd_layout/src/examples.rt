@@ -3,9 +3,10 @@ ghost use Rattle.std.specs.Prelude.{◌≡◌, ◌∷◌, ◌++◌, [], true, fa
 ghost use Rattle.rd_script.specs.declared.op.Op.TheVariants.{Frame, Insert, TypeText, Split, Point, Start, Scroll, ModeLine, Echo, Redisplay, Shift, Go, Hit, Margin};
 ghost use Rattle.rd_frame.specs.Examples.{inverted, letters};
 ghost use Rattle.rd_tree.specs.declared.side.Side.TheVariants.{Right};
+ghost use Rattle.rd_state.specs.Examples.{told};
 ghost use Rattle.rd_state.specs.States.{main_name};
 ghost use Rattle.rd_state.specs.declared.refused.Refused.TheVariants.{NoWindow, NotShown};
-ghost use Rattle.rd_layout.specs.Examples.{after, told, bytes_of, each_in_a_line, point_and_cursor, row_of, turned, turning, unscreened};
+ghost use Rattle.rd_layout.specs.Examples.{after, bytes_of, each_in_a_line, point_and_cursor, row_of, turned, turning, unscreened};
 ghost use Rattle.rd_layout.specs.Redisplays.{allowed, update_of};
 
 /// Three lines: all of them are new at the first redisplay, nothing is laid out at the second, and at the third only the changed line.

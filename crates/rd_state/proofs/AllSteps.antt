@@ -2,6 +2,7 @@
 use Rattle.std.proofs.Common.{◌≡◌, ℕ, zero, suc, ◌+◌, ◌≤◌, inl, inr, ◌==◌, Bool, true, false, if◌then◌else◌, pos, ◌+ℤ◌, map, IsTrue, None, Some, Result, Ok, Err, List, [], ◌∷◌, length, subst, sym, ap, refl, ◌∙◌, arith}
 use Rattle.std.specs.Prelude.{slice_get, slice_set, option_map}
 use Rattle.std.specs.Str.{chars}
+use Rattle.rd_base.proofs.Lists.{get-set}
 use Rattle.rd_base.specs.declared.limits.TheConstants.{SCROLL_CONSERVATIVELY, SCROLL_MARGIN}
 use Rattle.rd_base.specs.declared.settings.Anchor.{Anchor}
 use Rattle.rd_text.specs.Texts.{TextValue, IsAccessible}
@@ -26,7 +27,6 @@ use Rattle.rd_state.specs.Moves.{moved, moved_in}
 use Rattle.rd_state.specs.Steps.{replaced, moving, changing, typing, raw_text, held, step, settled}
 use Rattle.rd_state.proofs.Below.{TextLaws, MadeLaws, ObjectLaws, TreeLaws}
 use Rattle.rd_state.proofs.Naming.{setting-keeps, margin-keeps, string-valid, spec-valid, face-valid, table-valid, making-valid, new-valid}
-use Rattle.rd_state.proofs.Options.{get-set}
 use Rattle.rd_state.proofs.Showing.{set-valid, found-ok, buffer-ok, setting-valid, placing-valid, point-keeps, start-keeps, look-keeps, scroll-keeps, showing-valid, splitting-valid, removing-valid, resizing-valid, selecting-valid, mode_lining-valid, margining-valid}
 use Rattle.rd_state.proofs.Slots.{table-right}
 use Rattle.rd_state.proofs.Stepping.{raw-codes, edited-valid, edited_moving-valid, moving-is, moving-valid, insertion-keeps, insertion-means, deletion-keeps, narrowing-keeps, widening-keeps, put-keeps, making-keeps, moving-keeps, dropping-keeps, giving-keeps}

@@ -217,15 +217,6 @@ apart-end (x ∷ rest) e h none =
       apart-end rest e h.1 further,
     )
 
-pub get-end : {X : Type 0} (xs : List X) (y : X) (k : ℕ) (b : X) → slice_get (xs ++ y ∷ []) k ≡ Some b → (slice_get xs k ≡ Some b) ⊎ ((k ≡ length xs) × (b ≡ y))
-get-end [] y zero b h = inr (refl, cc)
-get-end [] y (suc k) b h = absurd (cc)
-get-end (x ∷ xs) y zero b h = inl h
-get-end (x ∷ xs) y (suc k) b h = elim (get-end xs y k b h) [
-  | inl p ↦ inl p
-  | inr p ↦ inr (omega (arith, p.0), p.1)
-]
-
 -- ---- all windows
 
 -- what stands under each number became something else

@@ -5,6 +5,7 @@ use Rattle.std.proofs.lemmas.List.{length-set}
 use Rattle.std.proofs.lemmas.List.Sums.{fails_before_first}
 use Rattle.std.proofs.lemmas.Option.{slice_get_within, get_or_from_slice_get}
 use Rattle.std.proofs.lemmas.Slice.Eq.{bytes_eq-Decides}
+use Rattle.rd_base.proofs.Lists.{get-set, get-end}
 use Rattle.rd_base.proofs.Choices.{is_some-map}
 use Rattle.std.specs.Prelude.{slice_get, slice_set, option_map, IsTrue, IsSome}
 use Rattle.std.specs.Str.{bytes_eq}
@@ -19,8 +20,8 @@ use Rattle.rd_state.specs.States.{BufferValue, ContentValue, new_buffer, new_con
 use Rattle.rd_state.specs.Windows.{window_of, with_window, leaf_at, leaf_of}
 use Rattle.rd_state.specs.Valid.{most_buffers, AreToldByName, AreBuffers, IsContent, IsWindow, AreWindows}
 use Rattle.rd_state.specs.Moves.{place_after, moved, moved_in}
-use Rattle.rd_state.proofs.ByNumber.{NumberedWindow, window-each, apart-each, get-each, window-same, window-other, apart-with, get-with, get-end, window-at}
-use Rattle.rd_state.proofs.Options.{map-map, get-set}
+use Rattle.rd_state.proofs.ByNumber.{NumberedWindow, window-each, apart-each, get-each, window-same, window-other, apart-with, get-with, window-at}
+use Rattle.rd_state.proofs.Options.{map-map}
 
 -- ---- buffers
 

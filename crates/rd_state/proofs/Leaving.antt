@@ -1,6 +1,7 @@
 -- What ops leave of what is seen.
 use Rattle.std.proofs.Common.{◌≡◌, ◌≢◌, ℕ, ◌+◌, ◌-◌, inl, inr, Bool, true, is_some, min, max, ℤ, pos, Option, Some, Result, Ok, List, [], ◌∷◌, ◌++◌, length, subst, sym, ap, refl, ◌∙◌}
 use Rattle.std.specs.Prelude.{slice_get, slice_set, ◌-ℤ◌}
+use Rattle.rd_base.proofs.Lists.{get-set}
 use Rattle.rd_overlays.specs.declared.overlay.Overlay.{Overlay}
 use Rattle.rd_overlays.specs.declared.overlay.Kind.{Kind}
 use Rattle.rd_overlays.specs.Overlays as overlays
@@ -21,7 +22,7 @@ use Rattle.rd_state.proofs.Contents.{grown-is, shrunk-is, put-is, overlays-are, 
 use Rattle.rd_state.proofs.Keeping.{holding}
 use Rattle.rd_state.proofs.Stepping.{IsEditOf, insertion-means, deletion-means, putting-means, making-means, dropping-means, giving-means, moving-means}
 use Rattle.rd_state.proofs.Tests.{both-ok, is_range_of_all-means}
-use Rattle.rd_state.proofs.Options.{one-value, get-set}
+use Rattle.rd_state.proofs.Options.{one-value}
 
 -- ---- the same buffer
 

@@ -10,7 +10,6 @@ pub mod Free
 mod Keeping
 pub mod Leaves
 mod Leaving
-mod Mapped
 mod Naming
 mod Opening
 pub mod Options

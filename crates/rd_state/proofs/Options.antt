@@ -1,8 +1,8 @@
 -- What an option holds, and choices of options.
-use Rattle.std.proofs.Common.{◌≡◌, ℕ, ◌<◌, Bool, true, false, cond, is_some, Option, None, Some, ap, refl, ◌≢◌, ◌⊎◌, zero, suc, List, [], ◌∷◌, length, nat_lt, set, inl, inr, arith}
+use Rattle.std.proofs.Common.{◌≡◌, ℕ, ◌<◌, Bool, true, false, cond, is_some, Option, None, Some, ap, refl, List, length, nat_lt, arith}
 use Rattle.std.proofs.lemmas.Bool.Decides.{nat_tests}
 use Rattle.std.specs.List.{position_or_len}
-use Rattle.std.specs.Prelude.{option_map, slice_get, position}
+use Rattle.std.specs.Prelude.{option_map, position}
 use Rattle.std.specs.Option.{option_or, ok_or}
 use Rattle.rd_state.specs.declared.refused.Refused.{Refused}
 use Rattle.rd_state.specs.Answers.{Finds}
@@ -37,15 +37,3 @@ pub finds : {X : Type 0} (o : Option X) (refusal : Refused) (Found : X → Type 
     → Finds (ok_or o refusal) Found Absent refusal
 finds None refusal Found Absent there none = (none refl, refl)
 finds (Some x) refusal Found Absent there none = there x refl
-
--- what stands at a place of a list after a write
-pub get-set : {X : Type 0} (xs : List X) (i k : ℕ) (c b : X) → slice_get (set xs i c) k ≡ Some b
-    → ((k ≡ i) × (b ≡ c)) ⊎ ((k ≢ i) × (slice_get xs k ≡ Some b))
-get-set [] i k c b h = absurd (cc)
-get-set (x ∷ xs) zero zero c b h = inl (refl, cc)
-get-set (x ∷ xs) zero (suc k) c b h = inr (λ e. absurd (omega arith), h)
-get-set (x ∷ xs) (suc i) zero c b h = inr (λ e. absurd (omega arith), h)
-get-set (x ∷ xs) (suc i) (suc k) c b h = elim (get-set xs i k c b h) [
-  | inl p ↦ inl (ap suc p.0, p.1)
-  | inr p ↦ inr (λ e. p.0 (omega arith), p.1)
-]

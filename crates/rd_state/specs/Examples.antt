@@ -19,8 +19,8 @@ after_all r (op ∷ ops) = after_all (then_done r op) ops
 abbrev pub after : List Op → Result StateValue Refused
 after ops = after_all (Ok opening) ops
 
--- what is asked of a state, where ops lead to it
-abbrev pub told : {A : Type 0} → (StateValue → A) → Result StateValue Refused → Result A Refused
+-- what is asked of a state or a session, where ops lead to it
+abbrev pub told : {S A : Type 0} → (S → A) → Result S Refused → Result A Refused
 told f (Err refusal) = Err refusal
 told f (Ok s) = Ok (f s)
 

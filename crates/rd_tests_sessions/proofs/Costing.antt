@@ -1,11 +1,12 @@
 -- What ops and redisplays lead to, one after the other, and what a redisplay may cost behind them.
 use Rattle.std.proofs.Common.{◌≡◌, ℕ, ◌+◌, ◌≤◌, None, List, [], OnOk, Result, Ok, Err, refl, sym, ap, ◌∙◌, subst}
 use Rattle.rd_layout.specs.Copies.{redisplayed, without_copies}
-use Rattle.rd_layout.specs.Examples.{after, after_all, led, then_done, told}
+use Rattle.rd_layout.specs.Examples.{after, after_all, led, then_done}
 use Rattle.rd_layout.specs.Redisplays.{allowed}
 use Rattle.rd_layout.specs.Sessions.{Applied, IsStep, SessionValue, behind, session_step}
 use Rattle.rd_script.specs.declared.op.Op.{Op}
 use Rattle.rd_script.specs.declared.op.Op.TheVariants.{Redisplay}
+use Rattle.rd_state.specs.Examples.{told}
 use Rattle.rd_state.specs.States.{StateValue}
 use Rattle.rd_state.specs.declared.refused.Refused.{Refused}
 

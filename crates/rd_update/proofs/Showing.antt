@@ -5,6 +5,7 @@ use Rattle.std.specs.List.{flat_map}
 use Rattle.std.proofs.lemmas.Bool.{and_parts, cond-true}
 use Rattle.std.proofs.lemmas.Bool.Decides.{nat_tests}
 use Rattle.std.proofs.lemmas.List.{get_or_at, set_at, take_at, drop_at, drop-drop, drop-append-le, length-append, length-replicate, length-take-le, length-drop, take_more, drop_more, take-append-drop}
+use Rattle.rd_base.proofs.Rows.{spare-marks}
 use Rattle.rd_base.specs.Cells.{single}
 use Rattle.rd_base.proofs.Equals.{glyphs-same}
 use Rattle.rd_base.specs.Chars.{is_scalar, encoded, columns_of}
@@ -199,25 +200,10 @@ marks_join region above below front tail g f cursor wait (suc n) k h le =
     ∙ marks_join region above below front tail g f cursor wait n (suc k) h (omega (arith, le))
     ∙ ap State after
 
-zeros : (xs : List ℕ) (c : ℕ) → ((k : ℕ) → c ≤ k → k < length xs → get_or xs k 0 ≡ 0) → drop c xs ≡ replicate (length xs - c) 0
-zeros [] zero h = refl
-zeros [] (suc c) h = let n : length {A = ℕ} [] - suc c ≡ 0 = omega arith in ap (λ j. replicate j 0) (sym n)
-zeros (x ∷ xs) zero h =
-    let here : x ≡ 0 = h 0 (omega arith) (omega arith) in
-    let rest = zeros xs 0 (λ k p q. h (suc k) (omega arith) (omega (arith, q))) in
-    let n : length xs - 0 ≡ length xs = omega arith in
-    let more : xs ≡ replicate (length xs) 0 = rest ∙ ap (λ j. replicate j 0) n in
-    let m : length (x ∷ xs) - 0 ≡ suc (length xs) = omega arith in
-    ap (λ y. y ∷ xs) here ∙ ap (λ ys. 0 ∷ ys) more ∙ ap (λ j. replicate j 0) (sym m)
-zeros (x ∷ xs) (suc c) h =
-    let m : length (x ∷ xs) - suc c ≡ length xs - c = omega arith in
-    zeros xs c (λ k p q. h (suc k) (omega (arith, p)) (omega (arith, q))) ∙ ap (λ j. replicate j 0) (sym m)
-
 -- a glyph with all its marks
 all-marks : (g : Glyph) → IsMeasured g → upto g g.count ≡ g
 all-marks g h =
-    let rest : drop g.count g.marks ≡ replicate (6 - g.count) 0 = zeros g.marks g.count (λ k p q. h.rest k p (omega (arith, q, h.places))) ∙ ap (λ j. replicate (j - g.count) 0) h.places in
-    let marks : take g.count g.marks ++ replicate (6 - g.count) 0 ≡ g.marks = ap (λ xs. take g.count g.marks ++ xs) (sym rest) ∙ take-append-drop g.count g.marks in
+    let marks : take g.count g.marks ++ replicate (6 - g.count) 0 ≡ g.marks = ap (λ xs. take g.count g.marks ++ xs) (sym (spare-marks g h)) ∙ take-append-drop g.count g.marks in
     ap (λ xs. let x : Glyph = record { base = g.base; marks = xs; count = g.count; width = g.width } in x) marks
 
 whole-glyph : (g : Glyph) (f : Attributes) → IsGood g → grown g g.count f ≡ First g f

@@ -2,13 +2,14 @@ use Rattle.std.proofs.Common.{◌≡◌, ℕ, ◌+◌, Result, Ok, Err, List, []
 use Rattle.std.specs.Char.{encode_utf8}
 use Rattle.std.specs.Fmt.{digits}
 use Rattle.unicode_width.specs.Width.{char_width}
+use Rattle.rd_state.specs.Examples.{told}
 use Rattle.rd_state.specs.Effects.{effect_of}
 use Rattle.rd_state.specs.Steps.{step}
 use Rattle.rd_state.specs.Windows.{window_of}
 use Rattle.rd_state.specs.declared.refused.Refused.{Refused}
 use Rattle.rd_tree.specs.Calls.{margins_tree, mode_tree, resize_tree, split_tree}
 use Rattle.rd_tree.specs.declared.placed.Placed.{Placed}
-use Rattle.rd_layout.specs.Examples.{after, told, turned, turning, unscreened}
+use Rattle.rd_layout.specs.Examples.{after, turned, turning, unscreened}
 use Rattle.rd_layout.specs.Redisplays.{allowance_by, allowances, allowed}
 use Rattle.rd_layout.specs.Screens.{laid_out}
 use Rattle.rd_layout.specs.Sessions.{SessionValue, layout_of}

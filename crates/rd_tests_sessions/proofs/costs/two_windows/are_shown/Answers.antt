@@ -4,11 +4,12 @@ use Rattle.std.specs.Fmt.{digits}
 use Rattle.std.specs.Str.{chars}
 use Rattle.unicode_width.specs.Width.{char_width}
 use Rattle.rd_layout.specs.Copies.{without_copies}
-use Rattle.rd_layout.specs.Examples.{after, then_done, told}
+use Rattle.rd_layout.specs.Examples.{after, then_done}
 use Rattle.rd_layout.specs.Redisplays.{allowed}
 use Rattle.rd_layout.specs.Screens.{laid_out}
 use Rattle.rd_script.specs.declared.op.Op.{Op}
 use Rattle.rd_script.specs.declared.op.Op.TheVariants.{Insert, Redisplay}
+use Rattle.rd_state.specs.Examples.{told}
 use Rattle.rd_state.specs.Effects.{effect_of}
 use Rattle.rd_state.specs.States.{main_name}
 use Rattle.rd_state.specs.Steps.{step}
