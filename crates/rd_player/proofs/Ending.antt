@@ -66,20 +66,14 @@ ended (endings.Ends status lines) given mode inputs bytes source screen result p
 ended (endings.Sums s) given mode inputs bytes source screen result p0 p1 p2 n0 n1 n2 law h m n f =
     told-last given mode Done inputs bytes source screen result (summary_of s) p0 p1 p2 n0 n1 n2 h.0 h.1 h.2 h.3 m f
 ended endings.ScreenBroke given None inputs bytes source screen result p0 p1 p2 n0 n1 n2 law h m n f = absurd h
-ended endings.ScreenBroke given (Some mode) inputs bytes source screen result p0 p1 p2 n0 n1 n2 law h m n (inl (same, line)) =
-    let w = run (opened mode) inputs in
+ended endings.ScreenBroke given (Some mode) inputs bytes source screen result p0 p1 p2 n0 n1 n2 law h m n f =
+    let told = (run (opened mode) inputs).told in
+    let line = last_line WriteFault (length inputs) in
+    let same : result ≡ WriteFault = elim f [ inl p ↦ p.0 | inr p ↦ p.0 ] in
     let broke : ScreenBroke given mode inputs h.0 bytes source screen (sunk p0 p2 n0 n2) = record {
       hand = h.1;
       sent = h.2;
-      told = inl (Appends-trans p0 p1 p2 w.told (last_line WriteFault (length inputs)) h.3 line);
-    } in
-    inr (same, inl (h.0, broke))
-ended endings.ScreenBroke given (Some mode) inputs bytes source screen result p0 p1 p2 n0 n1 n2 law h m n (inr (same, front)) =
-    let w = run (opened mode) inputs in
-    let broke : ScreenBroke given mode inputs h.0 bytes source screen (sunk p0 p2 n0 n2) = record {
-      hand = h.1;
-      sent = h.2;
-      told = inr (broke-after p0 p1 p2 n0 n1 n2 w.told (last_line WriteFault (length inputs)) h.3 m front);
+      told = elim f [ inl p ↦ inl (Appends-trans p0 p1 p2 told line h.3 p.1) | inr p ↦ inr (broke-after p0 p1 p2 n0 n1 n2 told line h.3 m p.1) ];
     } in
     inr (same, inl (h.0, broke))
 ended endings.ReportBroke given None inputs bytes source screen result p0 p1 p2 n0 n1 n2 law h m n f = absurd h
