@@ -5,7 +5,7 @@ use Rattle.std.specs.Io.KnownBytes.{Appends, IsAtEnd}
 use Rattle.rd_base.specs.Equals.{same_cell}
 use Rattle.rd_base.specs.declared.cell.Cell.{Cell}
 use Rattle.rd_base.specs.declared.limits.TheConstants.{FILE_BYTES}
-use Rattle.rd_io.specs.Devices.{AppendsFront}
+use Rattle.rd_io.specs.Devices.{AppendsFront, Rose}
 use Rattle.rd_term.specs.Pictures.{Picture, width_of}
 use Rattle.rd_term.specs.Terminals.{Tty, Shows, unknown, feed_bytes}
 use Rattle.rd_audit.specs.Dumps.{dump_in}
@@ -94,6 +94,11 @@ JudgesFile verdict told bytes left = (dump : Picture) × ((file : List ℕ) × I
 abbrev pub Comes : Verdict → List (List ℕ) → (List ℕ → Option (List ℕ)) → List ℕ → Option (List ℕ) → Type 0
 Comes Usage words told bytes left = (length words ≢ 1) × (bytes ≡ [])
 Comes verdict words told bytes left = (name : List ℕ) × (words ≡ name ∷ []) × JudgesFile verdict (told name) bytes left
+
+-- the stream failed, or the file that the only word names
+abbrev pub ReadFails : {S F : Type 0} → (S → ℕ) → S → S → (F → List ℕ → ℕ) → F → F → List (List ℕ) → Type 0
+ReadFails faults_of old new faults_in before after words =
+    Rose (faults_of old) (faults_of new) ⊎ ((name : List ℕ) × (words ≡ name ∷ []) × Rose (faults_in before name) (faults_in after name))
 
 -- the only word names a file with a dump, and the stream has no byte too many
 pub record IsSound (words : List (List ℕ)) (told : List ℕ → Option (List ℕ)) (left : Option (List ℕ)) : Type 0 where

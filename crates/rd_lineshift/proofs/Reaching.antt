@@ -13,14 +13,14 @@ use Rattle.rd_term.specs.Controls.{control_of}
 use Rattle.rd_term.specs.Pictures.{Picture, blank, blank_row, width_of, IsGrid, IsOfSize}
 use Rattle.rd_term.specs.Shifts.{cleared, moved_down, moved_up, changed_between}
 use Rattle.rd_term.specs.Steps.{at_end}
-use Rattle.rd_term.specs.Terminals.{Tty, feed_bytes, perform, known, on_screen}
+use Rattle.rd_term.specs.Terminals.{Tty, feed_bytes, perform, known}
 use Rattle.rd_term.specs.declared.reading.Reading.TheVariants.{Between}
 use Rattle.rd_term.proofs.Cutting.{map-replicate}
 use Rattle.rd_term.proofs.Encoded.{Rows, standing}
 use Rattle.rd_term.proofs.Shapes.{grid-width, length-between, length-up, length-down, grid-known}
 use Rattle.rd_update.specs.Laws.{IsReady, IsUpdated}
 use Rattle.rd_update.specs.Updates.{differing, sequence, update, Update}
-use Rattle.rd_update.proofs.Sequences.{tty-same}
+use Rattle.rd_update.proofs.Sequences.{move_fed, tty-same}
 use Rattle.rd_lineshift.specs.Choices.{AreWithin, cheaper, cheapest, choice, cost, if_gains, shifts_from, shifts_of}
 use Rattle.rd_lineshift.specs.Laws.{IsShift}
 use Rattle.rd_lineshift.specs.Plans.{after_shift, opening, shifted_update}
@@ -51,15 +51,6 @@ region-fed reads r rows cursor wait pen latest top bottom order within small =
     let test : (nat_lt 0 (top + 1) && nat_lt (top + 1) bottom && nat_le bottom (length rows)) ≡ true = grind (arith, nat_tests) in
     let e : top + 1 - 1 ≡ top = omega arith in
     reads (standing r rows cursor wait pen latest) 114 (top + 1) (bottom ∷ []) refl refl refl refl (omega arith) (all-one (λ (k : ℕ). k ≤ 65535) bottom small) (omega arith)
-    ∙ rw (test, e) refl
-
-move-fed : Reads → (r : Place) (rows : Rows) (cursor : Place) (wait : Bool) (pen : Option Attributes) (latest : Place) (row : ℕ)
-    → row < length rows → 0 < length (get_or rows row []) → row + 1 ≤ 65535
-    → feed_bytes (standing r rows cursor wait pen latest) (sequence (row + 1) (1 ∷ []) 72) ≡ standing r rows (Some (row, 0)) false pen None
-move-fed reads r rows cursor wait pen latest row here some small =
-    let e : row + 1 - 1 ≡ row = omega arith in
-    let test : on_screen rows (row + 1) 1 ≡ true = rw e (grind (arith, nat_tests)) in
-    reads (standing r rows cursor wait pen latest) 72 (row + 1) (1 ∷ []) refl refl refl refl small (all-one (λ (k : ℕ). k ≤ 65535) 1 (omega arith)) (omega arith)
     ∙ rw (test, e) refl
 
 -- the rows as the terminal moves them
@@ -100,7 +91,7 @@ shift-fed reads cuts r rows cursor wait latest height s n tall h some =
     let order : s.top + 1 < s.top + s.height = omega (arith, h.some, h.left) in
     let back : s.top + s.height - 1 + 1 ≡ s.top + s.height = omega (arith, order) in
     let one = region-fed reads r rows cursor wait (Some plain) latest s.top end order (omega (arith, n, h.within)) (omega (arith, h.within, tall)) in
-    let two = move-fed reads (Some (s.top, end - 1)) rows None false (Some plain) None s.top (omega (arith, n, h.within, order)) some (omega (arith, h.within, tall, order)) in
+    let two = move_fed (Some (s.top, end - 1)) rows None false (Some plain) None s.top 0 (omega (arith, n, h.within, order)) some (omega (arith, h.within, tall, order)) (omega arith) in
     let three = moving-fed reads rows None s.top (end - 1) s.by h.some (omega (arith, h.left, h.within, tall)) (omega (arith, order)) in
     let long : length after ≡ height =
     length-between s.top (end - 1 + 1) (terminal_moved s.by) rows (length-moved s.by) (omega (arith, back)) (omega (arith, back, n, h.within)) ∙ n in

@@ -23,8 +23,8 @@ shifts_of band = shifts_from band 1 (band.height - 1)
 abbrev pub cost : Picture → Picture → Shift → ℕ
 cost current target s = differing (shifted s current).rows target.rows
 
--- one of two shifts, the second only where it costs less
-abbrev pub cheaper : (Shift → ℕ) → Option Shift → Option Shift → Option Shift
+-- one of two, the second only where it costs less
+abbrev pub cheaper : {A : Type 0} → (A → ℕ) → Option A → Option A → Option A
 cheaper cost_of None other = other
 cheaper cost_of (Some s) None = Some s
 cheaper cost_of (Some s) (Some other) = if nat_le (cost_of s) (cost_of other) then Some s else Some other

@@ -4,6 +4,7 @@ use Rattle.rd_base.specs.Faces.{Attributes}
 use Rattle.rd_base.specs.declared.cell.Cell.{Cell}
 use Rattle.rd_base.specs.declared.cell.Cell.TheVariants.{Blank, First, Rest}
 use Rattle.rd_update.specs.Updates.{differs}
+use Rattle.rd_lineshift.specs.Choices.{cheaper}
 use Rattle.rd_lineshift.specs.Shifts.{shifted_rows}
 use Rattle.rd_lineshift.specs.declared.band.Band.{Band}
 use Rattle.rd_lineshift.specs.declared.band.Shift.{Shift}
@@ -59,9 +60,7 @@ priced cost_of (Some s) = Some (record { shift = s; cost = cost_of s })
 
 -- one of two, the second only where it costs less
 abbrev pub lesser : Option Priced → Option Priced → Option Priced
-lesser None other = other
-lesser (Some p) None = Some p
-lesser (Some p) (Some other) = if nat_le p.cost other.cost then Some p else Some other
+lesser p other = cheaper (λ priced. priced.cost) p other
 
 -- a shift that spares three of so many rows
 abbrev pub gained : ℕ → Option Priced → Option Shift
