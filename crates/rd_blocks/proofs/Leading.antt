@@ -21,23 +21,27 @@ pub record ChangeLaws : Type 0 where
   pub first_all : (c : Change) → join all c ≡ all
   pub last_all : (c : Change) → join c all ≡ all
 
+-- a change of a range, or of all where it is none
+pub leads-ranged : (old new : BufferValue) (made objects : ObjectLists) (head tail : ℕ) (added : ℤ) → IsClosed made → AreMade old made → without_flags new.settings ≡ without_flags old.settings → Extends made objects
+    → Unchanged old made new objects head tail added → (pos old.text.begin +ℤ added) ≤ℤ pos (max old.text.begin tail) → LeadsTo old made new objects (change_of head tail added)
+leads-ranged old new made objects head tail added closed named settings extends same inside = by (nat_le tail 4294967295 && is_small added) where
+  by : (t : Bool) → LeadsTo old made new objects (if t then record { head = head; tail = tail; added = added } else all)
+  by true = inr (record {
+    follows = record { settings = settings; closed = closed; named = named; extends = extends; unchanged = same };
+    inside = inside;
+  })
+  by false = inl refl
+
 -- where nothing changed
 pub leads-none : (old new : BufferValue) (made objects : ObjectLists) → IsClosed made → AreMade old made → without_flags new.settings ≡ without_flags old.settings → Extends made objects
     → Unchanged old made new objects 4294967295 0 (pos 0) → LeadsTo old made new objects none
-leads-none old new made objects closed named settings extends same = inr (record {
-  follows = record { settings = settings; closed = closed; named = named; extends = extends; unchanged = same };
-  inside = omega (arith, ints);
-})
+leads-none old new made objects closed named settings extends same =
+    leads-ranged old new made objects 4294967295 0 (pos 0) closed named settings extends same (omega (arith, ints))
 
 pub leads-edited : ChangeLaws → (old new : BufferValue) (objects : ObjectLists) (from removed added : ℕ) → old.text.begin ≤ from → IsClosed objects → AreMade old objects → without_flags new.settings ≡ without_flags old.settings
     → IsEdited old objects new objects from removed added → LeadsTo old objects new objects (edit from removed added)
-leads-edited laws old new objects from removed added low closed named settings edited = by (nat_le (from + added + 1) 4294967295 && is_small (pos added -ℤ pos removed)) where
-  by : (t : Bool) → LeadsTo old objects new objects (if t then record { head = from; tail = from + added + 1; added = pos added -ℤ pos removed } else all)
-  by true = inr (record {
-    follows = record { settings = settings; closed = closed; named = named; extends = laws.itself objects; unchanged = edited };
-    inside = omega (arith, ints);
-  })
-  by false = inl refl
+leads-edited laws old new objects from removed added low closed named settings edited =
+    leads-ranged old new objects objects from (from + added + 1) (pos added -ℤ pos removed) closed named settings (laws.itself objects) edited (omega (arith, ints))
 
 moved-least : (d : ℤ) (tail : ℕ) → (pos tail +ℤ d) ≤ℤ pos (moved d tail)
 moved-least (pos n) tail = omega (arith, ints)

@@ -12,6 +12,6 @@ mod Local
 mod SameReading
 mod EntryBlocks
 mod KeptRows
-mod Leading
+pub mod Leading
 mod Marks
 mod WholeRows

@@ -4,6 +4,7 @@ use Rattle.std.proofs.lemmas.Bool.{cases_eq, cond-false, cond-true, eq-eqb, ne_e
 use Rattle.std.proofs.lemmas.Int.{ints}
 use Rattle.std.specs.Prelude.{ℤ, pos, ◌+ℤ◌, ◌-ℤ◌, ◌≤ℤ◌}
 use Rattle.rd_blocks.specs.Leads.{LeadsTo}
+use Rattle.rd_blocks.proofs.Leading.{leads-none, leads-ranged}
 use Rattle.rd_objects.specs.Sound.{IsClosed, Extends}
 use Rattle.rd_objects.specs.Things.{ObjectLists}
 use Rattle.rd_props.specs.Made.{AreMade}
@@ -36,21 +37,10 @@ module _ (last_all : (c : Change) → join c all ≡ all) (old new : ContentValu
   Goal change = LeadsTo (seen old) a (seen new) b change
 
   stays-lead : (head tail : ℕ) (added : ℤ) → Stays old a new b head tail added → (pos old.text.begin +ℤ added) ≤ℤ pos (max old.text.begin tail) → Goal (change_of head tail added)
-  stays-lead head tail added s inside = by (nat_le tail 4294967295 && is_small added) where
-    by : (t : Bool) → Goal (if t then record { head = head; tail = tail; added = added } else all)
-    by true = inr (record {
-      follows = record { settings = s.settings; closed = closed; named = named; extends = extends; unchanged = s.seen };
-      inside = inside;
-    })
-    by false = inl refl
+  stays-lead head tail added s inside = leads-ranged (seen old) (seen new) a b head tail added closed named s.settings extends s.seen inside
 
   whole-leads : StaysWhole old a new b → Goal none
-  whole-leads whole =
-      let s = whole 4294967295 0 in
-      inr (record {
-        follows = record { settings = s.settings; closed = closed; named = named; extends = extends; unchanged = s.seen };
-        inside = none-inside old.text.begin 0;
-      })
+  whole-leads whole = let s = whole 4294967295 0 in leads-none (seen old) (seen new) a b closed named s.settings extends s.seen
 
   edit-leads : (from removed added : ℕ) → (old.text.begin ≤ from) ⊎ (removed ≡ added) → Stays old a new b from (from + added + 1) (pos added -ℤ pos removed) → Goal (edit from removed added)
   edit-leads from removed added low s = stays-lead from (from + added + 1) (pos added -ℤ pos removed) s (edit-inside old.text.begin from removed added low)

@@ -189,16 +189,19 @@ turned_by times a b q r from to e = elim (cases_eq (times % 2) 0) [
       (record { even = λ even. absurd (other even); odd = λ _. omega arith }, omega arith, omega arith)
 ]
 
+-- where no level beside is above the lower one, the runs of all levels up to the higher one are the same
+runs-between : (f : ℕ → ℕ) (n base low high a b : ℕ) → base ≤ low → low < high → a < b → b ≤ n → AreHigh f high a b → BeginsLow f (low + 1) a → (b < n → f b < low + 1)
+    → AreRuns f n base (low - base) (high - low) a b
+runs-between f n base low high a b up rise order within tall low_before low_after = λ i more less.
+    let all : AreHigh f (base + i) a b = λ x x_from x_to. let h = tall x x_from x_to in omega arith in
+    let before : BeginsLow f (base + i) a = λ x e. let l = low_before x e in omega arith in
+    record { order = order; within = within; high = all; before = before; after = λ less. let l = low_after less in omega arith }
+
 -- the runs that are entered at once: those from a level up to the lowest level in them
 pub entered : (f : ℕ → ℕ) (n base level lowest a b p q r : ℕ) → base ≤ level → level < lowest → IsRun f n (level + 1) a b → AreHigh f lowest a b
     → a ≤ q → q < b → IsTurnedBy (lowest - level) a b q r → Comes f n base (level - base) p q → Comes f n base (lowest - base) p r
 entered f n base level lowest a b p q r up rise run high from to turn c =
-    let order = run.order in
-    let within = run.within in
-    let runs : AreRuns f n base (level - base) (lowest - level) a b = λ i more less.
-    let all : AreHigh f (base + i) a b = λ x x_from x_to. let h = high x x_from x_to in omega arith in
-    let before : BeginsLow f (base + i) a = λ x e. let l = run.before x e in omega arith in
-    record { order = order; within = within; high = all; before = before; after = λ less. let l = run.after less in omega arith } in
+    let runs = runs-between f n base level lowest a b up rise run.order run.within high run.before run.after in
     let e : (lowest - level) + (level - base) ≡ lowest - base = omega arith in
     let C : ℕ → Type 0 = λ m. Comes f n base m p r in
     subst C e (enter f n base (level - base) (lowest - level) p q r a b runs from to turn c)
@@ -207,12 +210,7 @@ entered f n base level lowest a b p q r up rise run high from to turn c =
 pub left_at : (f : ℕ → ℕ) (n base level outer a b p q r : ℕ) → base ≤ outer → outer < level → IsRun f n level a b → BeginsLow f (outer + 1) a
     → (b < n → f b < outer + 1) → a ≤ q → q < b → IsTurnedBy (level - outer) a b q r → Comes f n base (level - base) p q → Comes f n base (outer - base) p r
 left_at f n base level outer a b p q r up fall run low_before low_after from to turn c =
-    let order = run.order in
-    let within = run.within in
-    let runs : AreRuns f n base (outer - base) (level - outer) a b = λ i more less.
-    let all : AreHigh f (base + i) a b = λ x x_from x_to. let h = run.high x x_from x_to in omega arith in
-    let before : BeginsLow f (base + i) a = λ x e. let l = low_before x e in omega arith in
-    record { order = order; within = within; high = all; before = before; after = λ less. let l = low_after less in omega arith } in
+    let runs = runs-between f n base outer level a b up fall run.order run.within run.high low_before low_after in
     let e : level - base ≡ (level - outer) + (outer - base) = omega arith in
     let C : ℕ → Type 0 = λ m. Comes f n base m p q in
     leave f n base (outer - base) (level - outer) p q r a b runs from to turn (subst C e c)

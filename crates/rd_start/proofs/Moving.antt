@@ -24,7 +24,7 @@ use Rattle.rd_start.proofs.Choosing.{chosen-forced, chosen-free, follows-found, 
 use Rattle.rd_start.proofs.NearRows.{forced-near, moving-near, old-near, point-near, view-near}
 use Rattle.rd_start.proofs.Growth.{affords}
 use Rattle.rd_start.proofs.Reaching.{EdgePays}
-use Rattle.rd_start.proofs.Rows.{find_point, whereabouts}
+use Rattle.rd_start.proofs.Rows.{find_point}
 use Rattle.rd_start.proofs.Sides.{point-found}
 use Rattle.rd_start.proofs.Suits.{old-is, point-is}
 
@@ -156,22 +156,10 @@ has-found m s h some =
     record { strip = h; from = omega arith; to = omega arith }
 
 pub row-found : (m : SourceValues) (s : Strip) (d : ℕ) → HasPoint m s → (unwrap_or (find_point s.strip_rows.items) d < length s.strip_rows.items) × (first_row m s + unwrap_or (find_point s.strip_rows.items) d ≡ point_row m s.sweep)
-row-found m s d h =
-    let strip = h.strip in
-    let from = h.from in
-    let to = h.to in
-    let home = strip.home in
-    elim (whereabouts m s.sweep s.blocks.items s.strip_rows.items s.home strip) [
-      | inl above ↦ let row = above.row in absurd (omega arith)
-      | inr other ↦ elim other [
-        | inl among ↦
-            let e = ap (λ o. unwrap_or o d) among.here in
-            let inside = among.inside in
-            let place = among.place in
-            (omega arith, omega arith)
-        | inr below ↦ let row = below.row in absurd (omega arith)
-      ]
-    ]
+row-found m s d h = by (find_point s.strip_rows.items) refl where
+  by : (o : Option ℕ) → find_point s.strip_rows.items ≡ o → (unwrap_or o d < length s.strip_rows.items) × (first_row m s + unwrap_or o d ≡ point_row m s.sweep)
+  by (Some row) found = point-found m s row h.strip found
+  by None lost = absurd (elim (point-lost m s h.strip lost) [ inl above ↦ omega (arith, above, h.from) | inr below ↦ omega (arith, below.0, h.to) ])
 
 -- sweeps for one point at one shape
 pub points-same : (m : SourceValues) (a b : Sweep) → b.point ≡ a.point → b.shape ≡ a.shape → point_row m b ≡ point_row m a
