@@ -1,5 +1,5 @@
 -- The base level of a block is 0 or 1.
-use Rattle.std.proofs.Common.{ℕ, zero, suc, ◌+◌, ◌-◌, ◌≤◌, Bool, false, not, ◌||◌, List, [], ◌∷◌, length, map, replicate, All, inl, inr, Option, None, Some, subst, sym, arith}
+use Rattle.std.proofs.Common.{ℕ, zero, ◌+◌, ◌-◌, ◌≤◌, Bool, false, not, ◌||◌, List, [], ◌∷◌, length, map, replicate, All, inl, inr, Option, None, Some, subst, sym, arith}
 use Rattle.std.specs.Prelude.{slice_index}
 use Rattle.std.specs.Option.{unwrap_or, option_or}
 use Rattle.std.specs.List.{slice_split}
