@@ -13,6 +13,7 @@ use Rattle.rd_rows.specs.Examples.{text}
 use Rattle.rd_script.specs.declared.op.Op.{Op}
 use Rattle.rd_script.specs.declared.op.Op.TheVariants.{Frame, Insert, Redisplay}
 use Rattle.rd_start.specs.Examples.{items_from}
+use Rattle.rd_state.specs.Examples.{all_by, then_by}
 use Rattle.rd_state.specs.States.{ContentValue, StateValue, main_name, opening, values_on}
 use Rattle.rd_state.specs.Windows.{selected_window}
 use Rattle.rd_state.specs.declared.refused.Refused.{Refused}
@@ -30,15 +31,16 @@ abbrev pub led : SessionValue → Op → Result StateValue Refused → Result Se
 led v op (Err refusal) = Err refusal
 led v op (Ok state) = Ok (behind v op state)
 
+abbrev pub taken : SessionValue → Op → Result SessionValue Refused
+taken v (Redisplay stop) = Ok (redisplayed v stop)
+taken v op = led v op (session_step v op)
+
 abbrev pub then_done : Result SessionValue Refused → Op → Result SessionValue Refused
-then_done (Err refusal) op = Err refusal
-then_done (Ok v) (Redisplay stop) = Ok (redisplayed v stop)
-then_done (Ok v) op = led v op (session_step v op)
+then_done r op = then_by taken r op
 
 -- the session after ops and redisplays, one after the other, or the first refusal
 abbrev pub after_all : Result SessionValue Refused → List Op → Result SessionValue Refused
-after_all r [] = r
-after_all r (op ∷ ops) = after_all (then_done r op) ops
+after_all r ops = all_by taken r ops
 
 -- In it digits have their class, and the letters r and t are read from the right
 abbrev pub after : List Op → Result SessionValue Refused

@@ -7,17 +7,18 @@ use Rattle.rd_state.specs.States.{StateValue, opening}
 use Rattle.rd_state.specs.Steps.{step}
 use Rattle.rd_state.specs.Windows.{selected_window, shown_content}
 
-abbrev pub then_done : Result StateValue Refused → Op → Result StateValue Refused
-then_done (Err refusal) op = Err refusal
-then_done (Ok s) op = step s op
+-- what a step makes of what was reached, and of it by ops, one after the other, or the first refusal
+abbrev pub then_by : {S : Type 0} → (S → Op → Result S Refused) → Result S Refused → Op → Result S Refused
+then_by stepped (Err refusal) op = Err refusal
+then_by stepped (Ok s) op = stepped s op
 
--- the state after ops, one after the other, or the first refusal
-abbrev pub after_all : Result StateValue Refused → List Op → Result StateValue Refused
-after_all r [] = r
-after_all r (op ∷ ops) = after_all (then_done r op) ops
+abbrev pub all_by : {S : Type 0} → (S → Op → Result S Refused) → Result S Refused → List Op → Result S Refused
+all_by stepped r [] = r
+all_by stepped r (op ∷ ops) = all_by stepped (then_by stepped r op) ops
 
+-- the state after ops
 abbrev pub after : List Op → Result StateValue Refused
-after ops = after_all (Ok opening) ops
+after ops = all_by step (Ok opening) ops
 
 -- what is asked of a state or a session, where ops lead to it
 abbrev pub told : {S A : Type 0} → (S → A) → Result S Refused → Result A Refused
