@@ -19,7 +19,7 @@ use Rattle.rd_rows.specs.Rows.{RowMeaning}
 use Rattle.rd_rows.specs.Shapes.{ShapeValues, IsShape}
 use Rattle.rd_rows.specs.declared.begin.Begin.{Begin}
 use Rattle.rd_visual.specs.Hits.{AreInPositions, AreRowsAt, Fits, begins_at, covers_some, hit_in, item_at, item_of_cell, least_at, reading_column}
-use Rattle.rd_visual.proofs.Items.{found-none, item-again, item-alone, item-column, item-member}
+use Rattle.rd_visual.proofs.Items.{found-none, held-at, item-again, item-alone, item-column, item-member}
 
 -- how many items of these rows cover a position
 abbrev pub count_at : ℕ → List EntryMeaning → ℕ
@@ -201,11 +201,6 @@ fits-entry (x ∷ xs) zero e fits there =
     subst (λ (y : Entry). All (Fits y.start) y.row.shown.begins) same (All-head AreInRow (shown_entry x) (shown_entries xs) fits)
 fits-entry (x ∷ xs) (suc row) e fits there = fits-entry xs row e (All-tail AreInRow (shown_entry x) (shown_entries xs) fits) there
 
-fits-at : (start : ℕ) (bs : List Begin) (k : ℕ) (b : Begin) → All (Fits start) bs → slice_get bs k ≡ Some b → Fits start b
-fits-at start [] k b fits there = absurd cc
-fits-at start (x ∷ xs) zero b fits there = let same : x ≡ b = cc in subst (Fits start) same (All-head (Fits start) x xs fits)
-fits-at start (x ∷ xs) (suc k) b fits there = fits-at start xs k b (All-tail (Fits start) x xs fits) there
-
 some-cell : (row : RowMeaning) (column : ℕ) (b : Begin) (q : Bool) → nat_lt column (length row.cells) ≡ q → item_of_cell row column ≡ Some b → item_at (reading_column row column) row.begins ≡ Some b
 some-cell row column b true cell found = subst (λ (t : Bool). cond t (item_at (reading_column row column) row.begins) None ≡ Some b) cell found
 some-cell row column b false cell found = let e : None ≡ Some b = subst (λ (t : Bool). cond t (item_at (reading_column row column) row.begins) None ≡ Some b) cell found in absurd cc
@@ -216,7 +211,7 @@ item-fits start row column b fits found =
     let one = item-member (reading_column row column) row.begins b at in
     let some = (item-column (reading_column row column) row.begins b at).0 in
     let order : b.from < b.to = grind (arith, nat_tests) in
-    let end : start + b.to < 4294967296 = fits-at start row.begins one.place b fits one.there in
+    let end : start + b.to < 4294967296 = held-at (Fits start) row.begins one.place b fits one.there in
     omega (arith, order, end)
 
 -- a reading column and the cell in which it is shown

@@ -1,16 +1,18 @@
 -- The items of a row begin in columns of its window.
 use Rattle.std.proofs.Common.{◌≡◌, ℕ, zero, suc, ◌+◌, ◌-◌, ◌<◌, ◌≤◌, ◌&&◌, min, max, nat_le, nat_lt, Bool, true, false, List, [], ◌∷◌, ◌++◌, All, Option, None, Some, refl, subst, arith, length-append}
 use Rattle.std.specs.Prelude.{flat_map, drop, length, if◌then◌else◌, replicate, slice_get}
+use Rattle.std.specs.List.{AllByRecursion}
 use Rattle.std.proofs.lemmas.List.{length-replicate}
-use Rattle.std.proofs.lemmas.List.Elements.{All-append, All-cons, All-nil}
-use Rattle.std.proofs.lemmas.Option.{get_or_from_slice_get, slice_get_within}
+use Rattle.std.proofs.lemmas.List.Elements.{All-append, All-cons, All-nil, All-from_recursion}
 use Rattle.rd_base.proofs.Choices.{either}
+use Rattle.rd_base.proofs.Lists.{each-append, each-back, each-front}
 use Rattle.rd_base.specs.Faces.{Attributes, plain}
 use Rattle.rd_base.specs.Glyphs.{blanks, is_space}
 use Rattle.rd_base.specs.declared.cell.Cell.{Cell}
 use Rattle.rd_base.specs.declared.cell.Cell.TheVariants.{Blank, First, Rest}
 use Rattle.rd_base.specs.declared.cell.Glyph.{Glyph}
 use Rattle.rd_base.specs.declared.element.Element.{Element}
+use Rattle.rd_visual.proofs.Items.{held-at}
 use Rattle.rd_rows.proofs.Mirroring.{mirror-length}
 use Rattle.rd_rows.specs.Cuts.{cut_row}
 use Rattle.rd_ucd.specs.Data.{Data}
@@ -142,26 +144,11 @@ row-fits c used continued ps some =
 
 -- the rows of a buffer, each with its place
 
+abbrev FitsIn : EntryMeaning → Type 0
+FitsIn e = Fits e.row
+
 abbrev FitsEach : List EntryMeaning → Type 0
-FitsEach [] = Unit {0}
-FitsEach (e ∷ es) = Fits e.row × FitsEach es
-
-fits-append : (xs ys : List EntryMeaning) → FitsEach xs → FitsEach ys → FitsEach (xs ++ ys)
-fits-append [] ys these those = those
-fits-append (x ∷ xs) ys these those = (these.0, fits-append xs ys these.1 those)
-
-fits-behind : (xs ys : List EntryMeaning) → FitsEach (xs ++ ys) → FitsEach ys
-fits-behind [] ys all = all
-fits-behind (x ∷ xs) ys all = fits-behind xs ys all.1
-
-fits-front : (xs ys : List EntryMeaning) → FitsEach (xs ++ ys) → FitsEach xs
-fits-front [] ys all = tt
-fits-front (x ∷ xs) ys all = (all.0, fits-front xs ys all.1)
-
-fits-at : (es : List EntryMeaning) (k : ℕ) (e : EntryMeaning) → FitsEach es → slice_get es k ≡ Some e → Fits e.row
-fits-at [] k e all there = absurd cc
-fits-at (x ∷ xs) zero e all there = let same : x ≡ e = cc in subst (λ (y : EntryMeaning). Fits y.row) same all.0
-fits-at (x ∷ xs) (suc k) e all there = fits-at xs k e all.1 there
+FitsEach es = AllByRecursion FitsIn es
 
 line-fits : (n start number : ℕ) (c : Cutting) (lead : List Placed) (spot : Spot) (es : List Element) → 1 ≤ c.shape.width → FitsEach (numbered start number (seen_rows (rows_within n c lead spot es)))
 line-fits zero start number c lead spot es some = tt
@@ -183,7 +170,7 @@ blocks-fit s objects files shape (b ∷ bs) some =
     let scene = scene_in s.settings objects files in
     let cutting = block_cutting scene b.base shape es in
     let line = line_elements scene b.base es in
-    fits-append (entries_of (λ x. (text_source s objects files).rows_of x shape) b) (all_rows (λ x. (text_source s objects files).rows_of x shape) bs)
+    each-append FitsIn (entries_of (λ x. (text_source s objects files).rows_of x shape) b) (all_rows (λ x. (text_source s objects files).rows_of x shape) bs)
     (line-fits (length line) b.start 0 cutting cutting.first line_start line some) (blocks-fit s objects files shape bs some)
 
 pub entry-fits : (s : BufferValue) (objects : ObjectLists) (files : Data) (shape : ShapeValues) (es : List EntryMeaning) (k : ℕ) (e : EntryMeaning) → IsShape shape
@@ -192,10 +179,9 @@ entry-fits s objects files shape es k e is rows there =
     let least = is.least in
     let all = blocks-fit s objects files shape (blocks_in files.classes s) (omega (arith, least)) in
     let mine = subst FitsEach rows.rows all in
-    fits-at es k e (fits-front es rows.below (fits-behind rows.above (es ++ rows.below) mine)) there
+    held-at FitsIn es k e (All-from_recursion FitsIn es (each-front FitsIn es rows.below (each-back FitsIn rows.above (es ++ rows.below) mine))) there
 
 pub item-fits : (s : BufferValue) (objects : ObjectLists) (files : Data) (shape : ShapeValues) (es : List EntryMeaning) (row : ℕ) (e : EntryMeaning) (k : ℕ) (b : Begin) → IsShape shape
     → AreRowsAt (text_source s objects files) shape es → slice_get es row ≡ Some e → slice_get e.row.begins k ≡ Some b → b.column < length e.row.cells
 item-fits s objects files shape es row e k b is rows there place =
-    let fits = entry-fits s objects files shape es row e is rows there in
-    subst (λ (x : Begin). x.column < length e.row.cells) (get_or_from_slice_get e.row.begins k b b place) (fits k b (slice_get_within e.row.begins k b place))
+    held-at (λ (x : Begin). x.column < length e.row.cells) e.row.begins k b (entry-fits s objects files shape es row e is rows there) place
