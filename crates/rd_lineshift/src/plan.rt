@@ -111,9 +111,8 @@ impl Shifted {
         self.plan.rows()
     }
 
-    /// Sends the bytes of the shift, whatever the limit is, then those of the rows that differ after it, from the top, at most
-    /// so many of them, and then the move of the cursor where these were all. It takes no memory. A fault comes only where the
-    /// sink's count of faults rose, and a front of the bytes was then written.
+    /// Sends the bytes of the shift, whatever the limit is, and then, as `Plan::send` does, the update from there: of the rows that
+    /// differ after the shift at most so many. A fault is as there.
     pub fn send<K: Sink>(&self, sink: &mut K, rows_at_most: Option<u32>) -> Result<Sent, WriteFault>
         ensures bytes { (current : Option Picture) (target : Picture) (bands : List Band) → self.now ≡ shifted_planned current target bands
             → Writes (K.written sink.old) (K.written sink.new) (shifted_update current target bands rows_at_most).bytes result }
