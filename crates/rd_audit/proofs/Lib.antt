@@ -16,3 +16,4 @@ mod Since
 mod Spelling
 mod Streams
 mod Texts
+mod Yielded
