@@ -1,5 +1,5 @@
 //! The terminal: what it shows, by the bytes that it reads.
-ghost use Rattle.std.specs.Prelude.{◌≡◌, ◌<◌, ◌≤◌, OnOk, OnErr, IfOk, length, slice_index_or};
+ghost use Rattle.std.specs.Prelude.{◌≡◌, ◌<◌, OnOk, OnErr, IfOk, length, slice_index_or};
 ghost use Rattle.rd_base.specs.Cells.{row_at};
 ghost use Rattle.rd_term.specs.Pictures.{IsFrameSize, width_of};
 ghost use Rattle.rd_term.specs.Terminals.{IsTerminal, unknown, feed_byte, feed_bytes, perform, obey};
