@@ -41,7 +41,7 @@ ends-not q o differs = grind (arith, nat_tests)
 -- is the end of the accessible text
 record IsQuiet (s : BufferValue) (p stop : ℕ) : Type 0 where
   within : stop ≤ s.text.end
-  same : (q : ℕ) → p < q → q < stop → AreSame s q p
+  same : (q : ℕ) → p < q → q < stop → AreSame s.properties q p
   no_edge : (q : ℕ) → p < q → q < stop → HasEdge s.overlays q → ⊥
 
 module _ (agree : ListingsAgree) (s : BufferValue) (p stop q : ℕ) (next : IsQuiet s p stop) (later : p < q) (before : q < stop) where

@@ -6,7 +6,8 @@ use Rattle.rd_overlays.specs.declared.overlay.Overlay.{Overlay}
 use Rattle.rd_overlays.specs.declared.way.Way.{Way}
 use Rattle.rd_overlays.specs.declared.way.Way.TheVariants.{Next, Last}
 use Rattle.rd_overlays.specs.Overlays.{closer, nearer, is_on, reached, slot_edge, nearest_edge, next_edge, last_edge}
-use Rattle.rd_props.specs.Stops.{HasEdge, IsFirstEdge, IsLastEdge, sooner, later}
+use Rattle.rd_props.specs.Buffers.{values_of}
+use Rattle.rd_props.specs.Stops.{HasEdge, IsFirstChange, IsLastChange, sooner, later}
 
 -- a place stands on the way from a position
 abbrev IsOn : Way → ℕ → ℕ → Type 0
@@ -105,26 +106,36 @@ list-nearest way pos (slot ∷ slots) =
     nearest-same way (Either (SlotHasEdge slot) (HasEdge slots)) (HasEdge (slot ∷ slots)) pos (nearest_edge way pos (slot ∷ slots)) (edge-cons slot slots) (edge-uncons slot slots)
     (nearer-nearest way (SlotHasEdge slot) (HasEdge slots) pos (slot_edge way pos slot) (nearest_edge way pos slots) (slot-nearest way pos slot) (list-nearest way pos slots))
 
+-- the first edge behind a position, and an end where there is none before it
+abbrev IsFirstEdge : List (Option Overlay) → ℕ → ℕ → ℕ → Type 0
+IsFirstEdge slots end pos stop = IsFirstChange (values_of []) slots end pos stop
+
+-- the last edge up to a position, and a beginning where there is none behind it
+abbrev IsLastEdge : List (Option Overlay) → ℕ → ℕ → ℕ → Type 0
+IsLastEdge slots begin pos stop = IsLastChange (values_of []) slots begin pos stop
+
 first-by : (slots : List (Option Overlay)) (end pos : ℕ) (o : Option ℕ) → pos < end → IsNearest Next (HasEdge slots) pos o → IsFirstEdge slots end pos (sooner end o)
-first-by slots end pos None p nearest = record { later = p; within = omega arith; no_edge = λ q l m h. nearest q l h; reason = λ l. absurd (omega arith) }
+first-by slots end pos None p nearest = record { later = p; within = omega arith; same = λ q l m kind. refl; no_edge = λ q l m h. nearest q l h; reason = λ l. absurd (omega arith) }
 first-by slots end pos (Some q) p nearest =
     let below = nearest.0 in
     record {
       later = omega arith;
       within = omega arith;
+      same = λ r l m kind. refl;
       no_edge = λ r l m h. nearest.2 r l (omega arith) h;
-      reason = λ l. let e : q ≡ min end q = omega arith in let P : ℕ → Type 0 = HasEdge slots in subst P e nearest.1;
+      reason = λ l. let e : q ≡ min end q = omega arith in let P : ℕ → Type 0 = HasEdge slots in inr (subst P e nearest.1);
     }
 
 last-by : (slots : List (Option Overlay)) (begin pos : ℕ) (o : Option ℕ) → begin ≤ pos → IsNearest Last (HasEdge slots) pos o → IsLastEdge slots begin pos (later begin o)
-last-by slots begin pos None p nearest = record { within = omega arith; before = p; no_edge = λ q l m h. nearest q m h; reason = λ l. absurd (omega arith) }
+last-by slots begin pos None p nearest = record { within = omega arith; before = p; same = λ q l m kind. refl; no_edge = λ q l m h. nearest q m h; reason = λ l. absurd (omega arith) }
 last-by slots begin pos (Some q) p nearest =
     let below = nearest.0 in
     record {
       within = omega arith;
       before = omega arith;
+      same = λ r l m kind. refl;
       no_edge = λ r l m h. nearest.2 r m (omega arith) h;
-      reason = λ l. let e : q ≡ max begin q = omega arith in let P : ℕ → Type 0 = HasEdge slots in subst P e nearest.1;
+      reason = λ l. let e : q ≡ max begin q = omega arith in let P : ℕ → Type 0 = HasEdge slots in inr (subst P e nearest.1);
     }
 
 pub first-edge : (slots : List (Option Overlay)) (end pos stop : ℕ) (o : Option ℕ) → pos < end → o ≡ next_edge pos slots → stop ≡ sooner end o → IsFirstEdge slots end pos stop

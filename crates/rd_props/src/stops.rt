@@ -1,7 +1,7 @@
 //! How far nothing changes.
-ghost use Rattle.std.specs.Prelude.{◌≡◌, ◌<◌, ◌≤◌};
-ghost use Rattle.rd_props.specs.Buffers.{meaning};
-ghost use Rattle.rd_props.specs.Stops.{IsNextStop, IsLastStop, IsFirstEdge, IsLastEdge, IsFirstChange, IsFirstSame, sooner, later};
+ghost use Rattle.std.specs.Prelude.{◌≡◌, ◌<◌, ◌≤◌, []};
+ghost use Rattle.rd_props.specs.Buffers.{meaning, values_of};
+ghost use Rattle.rd_props.specs.Stops.{IsNextStop, IsLastStop, IsFirstChange, IsLastChange, sooner, later};
 
 use crate::state::View;
 use rd_base::Pos;
@@ -31,17 +31,17 @@ fn later(stop: Pos, other: Option<Pos>) -> Pos
 /// The first place behind a position where an overlay starts or ends, up to an end.
 fn first_edge(overlays: &Overlays, pos: Pos, end: Pos) -> Pos
     requires { pos < end }
-    ensures { IsFirstEdge overlays.now end pos result }
+    ensures { IsFirstChange (values_of []) overlays.now end pos result }
 {
     sooner(end, overlays.next_edge(pos))
 }
 
-/// The first place behind a position where one of these properties changes, up to an end.
-fn first_change(spans: &[Spans], pos: Pos, end: Pos) -> Pos
+/// The first place behind a position where one of these properties changes or an overlay starts or ends, up to an end.
+fn first_change(overlays: &Overlays, spans: &[Spans], pos: Pos, end: Pos) -> Pos
     requires { pos < end }
-    ensures { IsFirstChange spans.now end pos result }
+    ensures { IsFirstChange (values_of spans.now) overlays.now end pos result }
 {
-    let mut stop = end;
+    let mut stop = first_edge(overlays, pos, end);
     let mut i = spans.len();
     while 0 < i {
         i -= 1;
@@ -61,24 +61,24 @@ pub fn next_stop(view: &View, pos: Pos) -> Pos
     ensures { IsNextStop (meaning view.now.state.now) pos result }
 {
     let state = view.state;
-    let edge = first_edge(&state.overlays, pos, state.text.end());
-    first_change(&state.spans, pos, edge)
+    first_change(&state.overlays, &state.spans, pos, state.text.end())
 }
 
 /// The last place up to a position where an overlay starts or ends, from a beginning on.
 fn last_edge(overlays: &Overlays, pos: Pos, begin: Pos) -> Pos
     requires { begin ≤ pos }
-    ensures { IsLastEdge overlays.now begin pos result }
+    ensures { IsLastChange (values_of []) overlays.now begin pos result }
 {
     later(begin, overlays.last_edge(pos))
 }
 
-/// The first place up to a position from which on each of these properties has the position's value, from a beginning on.
-fn first_same(spans: &[Spans], pos: Pos, begin: Pos) -> Pos
+/// The last place up to a position where one of these properties changes from the place before or an overlay starts or ends, from a
+/// beginning on.
+fn last_change(overlays: &Overlays, spans: &[Spans], pos: Pos, begin: Pos) -> Pos
     requires { begin ≤ pos }
-    ensures { IsFirstSame spans.now begin pos result }
+    ensures { IsLastChange (values_of spans.now) overlays.now begin pos result }
 {
-    let mut stop = begin;
+    let mut stop = last_edge(overlays, pos, begin);
     let mut i = spans.len();
     while 0 < i {
         i -= 1;
@@ -96,6 +96,5 @@ pub fn last_stop(view: &View, pos: Pos) -> Pos
     ensures { IsLastStop (meaning view.now.state.now) pos result }
 {
     let state = view.state;
-    let edge = last_edge(&state.overlays, pos, state.text.begin());
-    first_same(&state.spans, pos, edge)
+    last_change(&state.overlays, &state.spans, pos, state.text.begin())
 }

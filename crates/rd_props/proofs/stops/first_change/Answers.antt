@@ -8,6 +8,6 @@ loop-i-preserved c =
     let some = c.loop-i-test.true in
     record {
       within = omega arith;
-      first = from-back c.args.spans.now c.loop-i.i (c.loop-i.i - 1) c.args.end c.args.pos c.loop-i.stop c.sooner-stop.result c.index-spans-i.result c.next_change.result
+      first = from-back c.args.spans.now c.args.overlays.now c.loop-i.i (c.loop-i.i - 1) c.args.end c.args.pos c.loop-i.stop c.sooner-stop.result c.index-spans-i.result c.next_change.result
           c.ranges.end.fits (omega arith) within c.index-spans-i.is c.next_change.ensures c.loop-i.invariant.first c.sooner-stop.ensures;
     }
