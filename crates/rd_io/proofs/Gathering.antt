@@ -74,7 +74,7 @@ gathers-end held first left line rest given Over g none end is = (g.bytes, g.tak
 gathers-end held first left line rest given Last g none end is =
     let come : held ++ g.bytes ≡ line = g.split ∙ ap (λ l. line ++ l) none ∙ append-nil line in
     let few : given < 1000000 = elim g.few [ inl empty ↦ absurd (omega (arith, ap length empty)) | inr few ↦ few ] in
-    (g.bytes, g.taken, (record { unbroken = g.unbroken; short = g.short; few = few }, come, none, is, end))
+    (g.bytes, g.taken, record { fits = record { unbroken = g.unbroken; short = g.short; few = few }; split = come; some = is; none = none; end = end })
 
 -- a list of no element
 pub emptied : (xs ys : List ℕ) (b : Bool) → xs ≡ ys → b ≡ (length xs == 0) → b ≡ true → ys ≡ []

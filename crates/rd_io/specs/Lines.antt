@@ -42,28 +42,30 @@ pub record Reading : Type 0 where
 abbrev pub unread : Reading
 unread = record { held = []; line = []; given = 0; ended = false; fault = None }
 
--- a line may be given, and is: it has no newline and at most 1,048,576 bytes, and is not the 1,000,001st
-pub record Gives (old new : Reading) : Type 0 where
-  pub unbroken : IsUnbroken new.line
-  pub short : length new.line ≤ LINE_BYTES
-  pub few : old.given < LINES
-  pub count : new.given ≡ old.given + 1
-  pub fault : new.fault ≡ None
+-- a line may be given: it has no newline and at most 1,048,576 bytes, and is not the 1,000,001st
+pub record IsLine (line : List ℕ) (given : ℕ) : Type 0 where
+  pub unbroken : IsUnbroken line
+  pub short : length line ≤ LINE_BYTES
+  pub few : given < LINES
 
--- a line and its newline are the front of the bytes held and taken, and the rest is held
-pub record GivesWhole (old new : Reading) (bytes : List ℕ) : Type 0 where
-  pub line : Gives old new
-  pub split : old.held ++ bytes ≡ new.line ++ 10 ∷ new.held
-  pub goes_on : new.ended ≡ false
+-- a line and its newline are the front of the bytes that came, and this is the rest
+pub record IsWhole (come line rest : List ℕ) (given : ℕ) : Type 0 where
+  pub fits : IsLine line given
+  pub split : come ≡ line ++ 10 ∷ rest
 
--- the bytes held and taken are the last line, behind which the source has no byte and no newline
-pub record GivesLast (old new : Reading) (bytes : List ℕ) (left : Option (List ℕ)) : Type 0 where
-  pub line : Gives old new
-  pub split : old.held ++ bytes ≡ new.line
-  pub some : 0 < length new.line
-  pub held : new.held ≡ []
-  pub ended : new.ended ≡ true
+-- the bytes that came are the last line, behind which the source has no byte and no newline
+pub record IsLast (come line rest : List ℕ) (given : ℕ) (left : Option (List ℕ)) : Type 0 where
+  pub fits : IsLine line given
+  pub split : come ≡ line
+  pub some : 0 < length line
+  pub none : rest ≡ []
   pub end : IsAtEnd left
+
+-- a reader counts the line that it gives, and has met the end behind the last
+pub record Gives (old new : Reading) (last : Bool) : Type 0 where
+  pub count : new.given ≡ old.given + 1
+  pub ended : new.ended ≡ last
+  pub fault : new.fault ≡ None
 
 -- no byte is held or taken, and the source has none, or had none when its end was met
 pub record GivesNone (old new : Reading) (bytes : List ℕ) (left : Option (List ℕ)) : Type 0 where
@@ -84,6 +86,8 @@ Cause Memory given come = Unit {0}
 
 -- What the reader answers, where it took these bytes from the source, which then has this left.
 abbrev pub Answers : Result Bool LineFault → Reading → Reading → List ℕ → Option (List ℕ) → Type 0
-Answers (Ok true) old new bytes left = GivesWhole old new bytes ⊎ GivesLast old new bytes left
+Answers (Ok true) old new bytes left =
+    (IsWhole (old.held ++ bytes) new.line new.held old.given × Gives old new false)
+    ⊎ (IsLast (old.held ++ bytes) new.line new.held old.given left × Gives old new true)
 Answers (Ok false) old new bytes left = GivesNone old new bytes left
 Answers (Err fault) old new bytes left = Cause fault old.given (old.held ++ bytes) × (new.given ≡ old.given) × (new.fault ≡ Some fault)

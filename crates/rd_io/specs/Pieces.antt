@@ -2,7 +2,7 @@
 use Rattle.std.specs.Prelude.{◌≡◌, ℕ, ◌+◌, ◌<◌, ◌≤◌, ◌⊎◌, List, [], ◌∷◌, ◌++◌, length, take, drop, Option, None, Some, Result, Ok, Err}
 use Rattle.std.specs.Io.KnownBytes.{IsAtEnd}
 use Rattle.rd_base.specs.declared.limits.TheConstants.{LINE_BYTES, LINES}
-use Rattle.rd_io.specs.Lines.{IsUnbroken, Cause}
+use Rattle.rd_io.specs.Lines.{IsUnbroken, IsWhole, IsLast, Cause}
 use Rattle.rd_io.specs.declared.lines.Found.{Found}
 use Rattle.rd_io.specs.declared.lines.Found.TheVariants.{Whole, Last, Over}
 use Rattle.rd_io.specs.declared.lines.LineFault.{LineFault}
@@ -38,15 +38,9 @@ IsLeft Over line = line ≡ []
 IsLeft Last line = 0 < length line
 IsLeft Whole line = ⊥
 
--- a line that may be given
-pub record IsLine (line : List ℕ) (given : ℕ) : Type 0 where
-  pub unbroken : IsUnbroken line
-  pub short : length line ≤ LINE_BYTES
-  pub few : given < LINES
-
 -- what the bytes that came begin with
 abbrev pub Gathers : Result Found LineFault → List ℕ → List ℕ → List ℕ → ℕ → Option (List ℕ) → Type 0
-Gathers (Ok Whole) come line held given left = IsLine line given × (come ≡ line ++ 10 ∷ held)
-Gathers (Ok Last) come line held given left = IsLine line given × (come ≡ line) × (held ≡ []) × (0 < length line) × IsAtEnd left
+Gathers (Ok Whole) come line held given left = IsWhole come line held given
+Gathers (Ok Last) come line held given left = IsLast come line held given left
 Gathers (Ok Over) come line held given left = (come ≡ []) × (held ≡ []) × IsAtEnd left
 Gathers (Err fault) come line held given left = Cause fault given come

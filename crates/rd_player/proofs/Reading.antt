@@ -6,7 +6,7 @@ use Rattle.std.proofs.KnownBytes.{Consumes-nil, Consumes-trans}
 use Rattle.std.proofs.lemmas.Bool.{both_ways, false_from_ne_true}
 use Rattle.std.proofs.lemmas.List.{length_push}
 use Rattle.rd_base.proofs.Lists.{each-append}
-use Rattle.rd_io.specs.Lines.{Reading, Answers, Gives, GivesNone, IsUnbroken, lines_of, text_of_lines, last_of, unread}
+use Rattle.rd_io.specs.Lines.{Reading, Answers, IsLine, Gives, GivesNone, IsUnbroken, lines_of, text_of_lines, last_of, unread}
 use Rattle.rd_io.specs.declared.lines.LineFault.{LineFault}
 use Rattle.rd_io.proofs.Cuts.{lines-text_of_lines}
 use Rattle.rd_run.specs.Ends.{AreFirst, AreInLimits}
@@ -42,38 +42,36 @@ last-some (b ∷ bs) p = refl
 pub come : (lines : List (List ℕ)) (bytes held more : List ℕ) → bytes ≡ text_of_lines lines ++ held → bytes ++ more ≡ text_of_lines lines ++ (held ++ more)
 come lines bytes held more e = ap (λ l. l ++ more) e ∙ append_assoc (text_of_lines lines) held more
 
--- a line was given, and the reader goes on or has come to the end
-read-one : (lines : List (List ℕ)) (bytes more : List ℕ) (l0 l1 l2 : Option (List ℕ)) (old new : Reading) → HasRead lines bytes l0 l1 old → Consumes l1 l2 more → Gives old new
-    → (new.ended ≡ false → bytes ++ more ≡ text_of_lines (lines ++ new.line ∷ []) ++ new.held)
+read-more : (lines : List (List ℕ)) (bytes more : List ℕ) (l0 l1 l2 : Option (List ℕ)) (old new : Reading) (last : Bool) → HasRead lines bytes l0 l1 old → Consumes l1 l2 more
+    → IsLine new.line old.given → Gives old new last → (new.ended ≡ false → bytes ++ more ≡ text_of_lines (lines ++ new.line ∷ []) ++ new.held)
     → (new.ended ≡ true → (lines_of (bytes ++ more) ≡ lines ++ new.line ∷ []) × IsAtEnd l2) → HasRead (lines ++ new.line ∷ []) (bytes ++ more) l0 l2 new
-read-one lines bytes more l0 l1 l2 old new h p line split over = record {
+read-more lines bytes more l0 l1 l2 old new last h p line g split over = record {
   taken = Consumes-trans l0 l1 l2 bytes more h.taken p;
   unbroken = each-append IsUnbroken lines (new.line ∷ []) h.unbroken (line.unbroken, tt);
   short = each-append (λ line. length line ≤ 1048576) lines (new.line ∷ []) h.short (line.short, tt);
   split = split;
   over = over;
-  count = let a = h.count in let b = line.count in omega (arith, length_push lines new.line);
-  few = let a = line.few in let b = line.count in omega arith;
-  clear = line.fault;
+  count = let a = h.count in let b = g.count in omega (arith, length_push lines new.line);
+  few = let a = line.few in let b = g.count in omega arith;
+  clear = g.fault;
 }
 
 pub read-line : (lines : List (List ℕ)) (bytes more : List ℕ) (l0 l1 l2 : Option (List ℕ)) (old new : Reading) → HasRead lines bytes l0 l1 old → Consumes l1 l2 more → old.ended ≡ false
     → Answers (Ok true) old new more l2 → HasRead (lines ++ new.line ∷ []) (bytes ++ more) l0 l2 new
-read-line lines bytes more l0 l1 l2 old new h p off (inl g) =
-    read-one lines bytes more l0 l1 l2 old new h p g.line
-    (λ q. come lines bytes old.held more (h.split off) ∙ ap (λ l. text_of_lines lines ++ l) g.split ∙ sym (text_of_lines-push lines new.line new.held))
-    (λ q. absurd (both_ways new.ended g.goes_on q))
-read-line lines bytes more l0 l1 l2 old new h p off (inr g) =
-    read-one lines bytes more l0 l1 l2 old new h p g.line (λ q. absurd (both_ways new.ended q g.ended))
-    (λ q. (
-      ap lines_of (come lines bytes old.held more (h.split off) ∙ ap (λ l. text_of_lines lines ++ l) g.split) ∙ lines-text_of_lines lines new.line h.unbroken g.line.unbroken
-          ∙ ap (λ l. lines ++ l) (last-some new.line g.some),
-      g.end,
+read-line lines bytes more l0 l1 l2 old new h p off (inl (found, g)) =
+    read-more lines bytes more l0 l1 l2 old new false h p found.fits g
+    (λ q. come lines bytes old.held more (h.split off) ∙ ap (λ l. text_of_lines lines ++ l) found.split ∙ sym (text_of_lines-push lines new.line new.held))
+    (λ q. absurd (both_ways new.ended g.ended q))
+read-line lines bytes more l0 l1 l2 old new h p off (inr (found, g)) =
+    read-more lines bytes more l0 l1 l2 old new true h p found.fits g (λ q. absurd (both_ways new.ended q g.ended)) (λ q. (
+      ap lines_of (come lines bytes old.held more (h.split off) ∙ ap (λ l. text_of_lines lines ++ l) found.split) ∙ lines-text_of_lines lines new.line h.unbroken found.fits.unbroken
+          ∙ ap (λ l. lines ++ l) (last-some new.line found.some),
+      found.end,
     ))
 
 pub line-given : (old new : Reading) (more : List ℕ) (l2 : Option (List ℕ)) → Answers (Ok true) old new more l2 → (new.given ≡ old.given + 1) × (old.given < 1000000)
-line-given old new more l2 (inl g) = (g.line.count, g.line.few)
-line-given old new more l2 (inr g) = (g.line.count, g.line.few)
+line-given old new more l2 (inl (found, g)) = (g.count, found.fits.few)
+line-given old new more l2 (inr (found, g)) = (g.count, found.fits.few)
 
 -- the lines given pass no limit
 pub in-limits : (lines : List (List ℕ)) (bytes : List ℕ) (l0 l1 : Option (List ℕ)) (r : Reading) → HasRead lines bytes l0 l1 r → AreInLimits lines
