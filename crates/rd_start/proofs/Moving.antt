@@ -25,7 +25,7 @@ use Rattle.rd_start.proofs.NearRows.{forced-near, moving-near, old-near, point-n
 use Rattle.rd_start.proofs.Growth.{affords}
 use Rattle.rd_start.proofs.Reaching.{EdgePays}
 use Rattle.rd_start.proofs.Rows.{find_point}
-use Rattle.rd_start.proofs.Sides.{point-found}
+use Rattle.rd_start.proofs.Sides.{point-found, point-lost}
 use Rattle.rd_start.proofs.Suits.{old-is, point-is}
 
 abbrev pub near_of : SourceValues → Sweep → Wanted → ℕ → Bool
