@@ -8,12 +8,12 @@ use Rattle.rd_dump.specs.Dumps.{dump_text}
 use Rattle.rd_dump.specs.declared.dump.WindowFacts.{WindowFacts}
 use Rattle.rd_io.specs.Lines.{lines_of}
 use Rattle.rd_layout.specs.Copies.{redisplayed as redisplayed_session}
-use Rattle.rd_layout.specs.Facts.{facts_at, facts_by, facts_of}
+use Rattle.rd_layout.specs.Facts.{fact_of, facts_of}
 use Rattle.rd_layout.specs.Redisplays.{update_of}
 use Rattle.rd_layout.specs.Screens.{laid_out}
-use Rattle.rd_layout.specs.Sessions.{SessionValue, layout_of}
+use Rattle.rd_layout.specs.Sessions.{SessionValue}
 use Rattle.rd_layout.specs.Since.{FitsFrame, IsSession}
-use Rattle.rd_layout.specs.Windows.{places}
+use Rattle.rd_layout.specs.Windows.{of_place, of_window, places}
 use Rattle.rd_run.proofs.Effects.{effect-is, shown-done}
 use Rattle.rd_run.proofs.Leading.{Lives, LiveLaws, all-live}
 use Rattle.rd_update.proofs.Sizes.{is-screen, width-is}
@@ -68,9 +68,9 @@ has-dump s p valid h =
     }
 
 -- it has the line of a window
-told-of : (v : SessionValue) (p : Placed) → Lives v.state p → 0 < length (facts_at v p)
+told-of : (v : SessionValue) (p : Placed) → Lives v.state p → 0 < length (of_place (fact_of v) v.state p)
 told-of v p (w, lives) = by (window_of p.number v.state.windows) lives where
-  by : (o : Option WindowState) → o ≡ Some w → 0 < length (facts_by (layout_of p.number v.layouts) p o)
+  by : (o : Option WindowState) → o ≡ Some w → 0 < length (of_window (fact_of v) p o)
   by None h = absurd (let k : None ≡ Some w = h in cc)
   by (Some x) h = omega arith
 
@@ -80,11 +80,11 @@ some-placed (Split side size first second) rect =
     let one = some-placed first (first_part side size rect) in
     omega (arith, one, length-append (placed first (first_part side size rect)) (placed second (second_part side size rect)))
 
-some-facts : (v : SessionValue) (ps : List Placed) → 0 < length ps → AllByRecursion (Lives v.state) ps → 0 < length (flat_map (facts_at v) ps)
+some-facts : (v : SessionValue) (ps : List Placed) → 0 < length ps → AllByRecursion (Lives v.state) ps → 0 < length (flat_map (of_place (fact_of v) v.state) ps)
 some-facts v [] some h = absurd (omega arith)
 some-facts v (p ∷ ps) some h =
     let one = told-of v p h.0 in
-    omega (arith, one, length-append (facts_at v p) (flat_map (facts_at v) ps))
+    omega (arith, one, length-append (of_place (fact_of v) v.state p) (flat_map (of_place (fact_of v) v.state) ps))
 
 windows-told : (laws : LiveLaws) (v : SessionValue) → IsValid v.state → 0 < length (facts_of v)
 windows-told laws v valid = some-facts v (places v.state) (some-placed v.state.tree.windows (frame_of v.state.tree)) (all-live laws v.state valid)

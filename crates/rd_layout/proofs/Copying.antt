@@ -2,7 +2,6 @@
 use Rattle.std.proofs.Common.{◌≡◌, ℕ, zero, suc, ◌+◌, ◌*◌, ◌&&◌, Bool, true, false, cond, if◌then◌else◌, Option, None, Some, Err, List, [], ◌∷◌, length, map, ap, refl, ◌∙◌}
 use Rattle.std.proofs.lemmas.List.{length-map}
 use Rattle.std.proofs.lemmas.Simd.{map-map}
-use Rattle.std.specs.List.{flat_map}
 use Rattle.std.specs.Prelude.{option_map, unwrap_or}
 use Rattle.rd_frame.specs.Panes.{body_height}
 use Rattle.rd_matrix.specs.Cursors.{cursor_in}
@@ -35,11 +34,11 @@ use Rattle.rd_window.specs.Layouts.{allowance, kept_by, older_rows, rests}
 use Rattle.rd_window.specs.declared.layout.Layout.{Layout}
 use Rattle.rd_layout.specs.Changes.{later, layouts_after}
 use Rattle.rd_layout.specs.Copies.{uncopied, uncopied_entry, without_copies}
-use Rattle.rd_layout.specs.Facts.{cursor_since, facts_at, facts_by, facts_of}
+use Rattle.rd_layout.specs.Facts.{cursor_since, fact_of, facts_of}
 use Rattle.rd_layout.specs.Pointing.{hitting, hitting_by, is_shown}
 use Rattle.rd_layout.specs.Redisplays.{allowance_by, allowances, allowed}
 use Rattle.rd_layout.specs.Sessions.{SessionValue, behind, layout_of, session_step}
-use Rattle.rd_layout.specs.Windows.{place_of, places, wanted_of, window_shape, window_source}
+use Rattle.rd_layout.specs.Windows.{of_windows, place_of, places, wanted_of, window_shape, window_source}
 use Rattle.rd_layout.proofs.Known.{Last}
 use Rattle.rd_state.proofs.ByNumber.{under-became}
 
@@ -149,14 +148,10 @@ same-cursor : (last : Option Layout) (point : ℕ) → cursor_since (option_map 
 same-cursor None point = refl
 same-cursor (Some l) point = ap (cursor_in point) (same-shown l.matrix)
 
-same-fact : (last : Option Layout) (p : Placed) (o : Option WindowState) → facts_by (option_map uncopied last) p o ≡ facts_by last p o
-same-fact last p None = refl
-same-fact last p (Some w) =
-    ap (λ (c : Option (ℕ × ℕ)). record { window = p.number; rect = p.rect; start = w.anchor; point = w.point; cursor = c } ∷ []) (same-cursor last w.point)
+same-fact : (v : SessionValue) (p : Placed) (w : WindowState) → fact_of (without_copies v) p w ≡ fact_of v p w
+same-fact v p w =
+    let cursor = ap (λ (last : Option Layout). cursor_since last w.point) (same-layout p.number v.layouts) ∙ same-cursor (layout_of p.number v.layouts) w.point in
+    λ i. record { window = p.number; rect = p.rect; start = w.anchor; point = w.point; cursor = cursor i }
 
 pub same-facts : (v : SessionValue) → facts_of (without_copies v) ≡ facts_of v
-same-facts v = λ i. flat_map (λ p. fact p i) (places v.state) where
-  fact : (p : Placed) → facts_at (without_copies v) p ≡ facts_at v p
-  fact p =
-      let o = window_of p.number v.state.windows in
-      ap (λ (last : Option Layout). facts_by last p o) (same-layout p.number v.layouts) ∙ same-fact (layout_of p.number v.layouts) p o
+same-facts v = λ i. of_windows (λ p w. same-fact v p w i) v.state

@@ -7,10 +7,10 @@ use Rattle.rd_state.specs.Windows.{window_of}
 use Rattle.rd_state.specs.declared.window.WindowState.{WindowState}
 use Rattle.rd_tree.specs.declared.placed.Placed.{Placed}
 use Rattle.rd_window.specs.declared.layout.Layout.{Layout}
-use Rattle.rd_layout.specs.Copies.{fresh_at, fresh_by, fresh_layouts, redisplayed, uncopied, uncopied_entry, without_copies}
+use Rattle.rd_layout.specs.Copies.{fresh_layout, fresh_layouts, redisplayed, uncopied, uncopied_entry, without_copies}
 use Rattle.rd_layout.specs.Redisplays.{AreLaidOut, IsLaidOutBy, IsSent}
 use Rattle.rd_layout.specs.Sessions.{SessionValue, layout_of}
-use Rattle.rd_layout.specs.Windows.{places}
+use Rattle.rd_layout.specs.Windows.{of_place, of_window, places}
 
 made-anew : (es : List Entry) → map uncopied_entry es ≡ map made_entry (shown_entries es)
 made-anew [] = refl
@@ -18,7 +18,7 @@ made-anew (e ∷ es) = ap (λ (xs : List Entry). made_entry (record { start = e.
 
 -- the layout of one window, as it is from nothing
 one-fresh : (v : SessionValue) (last : Option Layout) (p : Placed) (o : Option WindowState) (number : ℕ) (l : Layout) (rest : List (ℕ × Layout)) → number ≡ p.number → IsLaidOutBy v.files v.state last p o l
-    → (number, uncopied l) ∷ rest ≡ fresh_by v.files v.state p o ++ rest
+    → (number, uncopied l) ∷ rest ≡ of_window (fresh_layout v.files v.state) p o ++ rest
 one-fresh v last p None number l rest is laid = absurd laid
 one-fresh v last p (Some w) number l rest is laid =
     let matrix = made-anew l.matrix ∙ ap (map made_entry) laid.rows in
@@ -36,13 +36,13 @@ one-fresh v last p (Some w) number l rest is laid =
       },
     ) ∷ rest
 
-all-fresh : (v : SessionValue) (ps : List Placed) (es : List (ℕ × Layout)) → AreLaidOut v ps es → map (λ (e : ℕ × Layout). (e.0, uncopied e.1)) es ≡ flat_map (fresh_at v.files v.state) ps
+all-fresh : (v : SessionValue) (ps : List Placed) (es : List (ℕ × Layout)) → AreLaidOut v ps es → map (λ (e : ℕ × Layout). (e.0, uncopied e.1)) es ≡ flat_map (of_place (fresh_layout v.files v.state) v.state) ps
 all-fresh v [] [] h = refl
 all-fresh v [] (e ∷ es) h = absurd h
 all-fresh v (p ∷ ps) [] h = absurd h
 all-fresh v (p ∷ ps) (e ∷ es) h =
     ap (λ (xs : List (ℕ × Layout)). (e.0, uncopied e.1) ∷ xs) (all-fresh v ps es h.2)
-    ∙ one-fresh v (layout_of p.number v.layouts) p (window_of p.number v.state.windows) e.0 e.1 (flat_map (fresh_at v.files v.state) ps) h.0 h.1
+    ∙ one-fresh v (layout_of p.number v.layouts) p (window_of p.number v.state.windows) e.0 e.1 (flat_map (of_place (fresh_layout v.files v.state) v.state) ps) h.0 h.1
 
 pub determined : (rows : ℕ) (done : Bool) (stop : Option ℕ) (old new : SessionValue) (before after : Option (List ℕ)) → IsSent rows done stop old new before after → without_copies new ≡ redisplayed old stop
 determined rows done stop old new before after sent =

@@ -24,7 +24,7 @@ use Rattle.rd_tree.specs.declared.placed.Placed.{Placed}
 use Rattle.rd_tree.specs.declared.rect.Rect.{Rect}
 use Rattle.rd_layout.specs.Laws.{PlaceLaws}
 use Rattle.rd_layout.specs.Redisplays.{band_of, bands_of}
-use Rattle.rd_layout.specs.Windows.{place_of, places}
+use Rattle.rd_layout.specs.Windows.{of_place, of_window, of_windows, place_of, places}
 
 -- ---- a window that is found was made
 
@@ -56,34 +56,31 @@ module _ (laws : PlaceLaws) (s : StateValue) (valid : IsValid s) where
   all-places P each = All-from_get_or P (places s) none (λ i less. each (get_or (places s) i none) (placed-at i (get_or (places s) i none) (slice_get-get_or (places s) i none less)))
 
   -- what is shown of each window, in the order of their places
-  module _ {B : Type 0} (by_window : Placed → Option WindowState → List B) (one : Placed → WindowState → B) (gives : (p : Placed) (w : WindowState) → by_window p (Some w) ≡ one p w ∷ []) where
-    abbrev pub of-place : Placed → List B
-    of-place p = by_window p (window_of p.number s.windows)
-
+  module _ {B : Type 0} (one : Placed → WindowState → B) where
     abbrev pub each-one : Placed → B
     each-one p = one p (unwrap_or (window_of p.number s.windows) opening_window)
 
     abbrev pub IsOne : Placed → Type 0
-    IsOne p = of-place p ≡ each-one p ∷ []
+    IsOne p = of_place one s p ≡ each-one p ∷ []
 
-    pub shown-listed : flat_map of-place (places s) ≡ map each-one (places s)
+    pub shown-listed : of_windows one s ≡ map each-one (places s)
     shown-listed = by (places s) (recursion_from_All IsOne (places s) (all-places IsOne (λ p at.
         let w = placed-window s p.number p valid at in
-        ap (by_window p) w.1 ∙ (gives p w.0 ∙ ap (λ (o : Option WindowState). one p (unwrap_or o opening_window) ∷ []) (sym w.1)))))
+        ap (of_window one p) w.1 ∙ ap (λ (o : Option WindowState). one p (unwrap_or o opening_window) ∷ []) (sym w.1))))
       where
-        by : (ps : List Placed) → AllByRecursion IsOne ps → flat_map of-place ps ≡ map each-one ps
+        by : (ps : List Placed) → AllByRecursion IsOne ps → flat_map (of_place one s) ps ≡ map each-one ps
         by [] h = refl
-        by (p ∷ ps) h = ap (λ (ys : List B). ys ++ flat_map of-place ps) h.0 ∙ ap (λ (ys : List B). each-one p ∷ ys) (by ps h.1)
+        by (p ∷ ps) h = ap (λ (ys : List B). ys ++ flat_map (of_place one s) ps) h.0 ∙ ap (λ (ys : List B). each-one p ∷ ys) (by ps h.1)
 
-    pub shown-at : (i : ℕ) (p : Placed) (w : WindowState) → slice_get (places s) i ≡ Some p → window_of p.number s.windows ≡ Some w → slice_get (flat_map of-place (places s)) i ≡ Some (one p w)
+    pub shown-at : (i : ℕ) (p : Placed) (w : WindowState) → slice_get (places s) i ≡ Some p → window_of p.number s.windows ≡ Some w → slice_get (of_windows one s) i ≡ Some (one p w)
     shown-at i p w at window =
         ap (λ (bs : List B). slice_get bs i) shown-listed
         ∙ (slice_get-map each-one (places s) i ∙ (ap (option_map each-one) at ∙ ap (λ (o : Option WindowState). Some (one p (unwrap_or o opening_window))) window))
 
-    pub none-shown : (i : ℕ) → slice_get (places s) i ≡ None → slice_get (flat_map of-place (places s)) i ≡ None
+    pub none-shown : (i : ℕ) → slice_get (places s) i ≡ None → slice_get (of_windows one s) i ≡ None
     none-shown i past = ap (λ (bs : List B). slice_get bs i) shown-listed ∙ (slice_get-map each-one (places s) i ∙ ap (option_map each-one) past)
 
-    pub shown-count : length (flat_map of-place (places s)) ≡ length (places s)
+    pub shown-count : length (of_windows one s) ≡ length (places s)
     shown-count = ap length shown-listed ∙ length-map (places s) each-one
 
   pub made-number : (number : ℕ) (p : Placed) → place_of number s ≡ Some p → number < s.tree.made

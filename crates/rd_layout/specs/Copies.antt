@@ -1,12 +1,10 @@
 -- Layouts as they are seen, however often their rows were copied.
-use Rattle.std.specs.Prelude.{ℕ, List, [], ◌∷◌, map, Option, None, Some}
-use Rattle.std.specs.List.{flat_map}
+use Rattle.std.specs.Prelude.{ℕ, List, map, Option, Some}
 use Rattle.rd_ucd.specs.Data.{Data}
 use Rattle.rd_matrix.specs.Entries.{made_entry}
 use Rattle.rd_matrix.specs.declared.matrix.Entry.{Entry}
 use Rattle.rd_reuse.specs.Changes.{none}
 use Rattle.rd_state.specs.States.{StateValue}
-use Rattle.rd_state.specs.Windows.{window_of}
 use Rattle.rd_state.specs.declared.window.WindowState.{WindowState}
 use Rattle.rd_frame.specs.Panes.{body_height}
 use Rattle.rd_tree.specs.declared.placed.Placed.{Placed}
@@ -14,7 +12,7 @@ use Rattle.rd_window.specs.declared.layout.Layout.{Layout}
 use Rattle.rd_layout.specs.Redisplays.{update_of}
 use Rattle.rd_layout.specs.Screens.{laid_out}
 use Rattle.rd_layout.specs.Sessions.{SessionValue}
-use Rattle.rd_layout.specs.Windows.{places, view_in, window_shape}
+use Rattle.rd_layout.specs.Windows.{of_windows, view_in, window_shape}
 
 -- a row that was never copied
 abbrev pub uncopied_entry : Entry → Entry
@@ -28,9 +26,8 @@ abbrev pub without_copies : SessionValue → SessionValue
 without_copies v = record v { layouts = map (λ e. (e.0, uncopied e.1)) v.layouts }
 
 -- the layout of a window from nothing
-abbrev pub fresh_by : Data → StateValue → Placed → Option WindowState → List (ℕ × Layout)
-fresh_by files s place None = []
-fresh_by files s place (Some w) = (
+abbrev pub fresh_layout : Data → StateValue → Placed → WindowState → ℕ × Layout
+fresh_layout files s place w = (
   place.number,
   record {
     matrix = map made_entry (view_in files s w place).rows;
@@ -42,14 +39,11 @@ fresh_by files s place (Some w) = (
     bottom = (view_in files s w place).bottom;
     change = none;
   },
-) ∷ []
-
-abbrev pub fresh_at : Data → StateValue → Placed → List (ℕ × Layout)
-fresh_at files s place = fresh_by files s place (window_of place.number s.windows)
+)
 
 -- the layouts of all windows from nothing, in leaf order
 abbrev pub fresh_layouts : Data → StateValue → List (ℕ × Layout)
-fresh_layouts files s = flat_map (fresh_at files s) (places s)
+fresh_layouts files s = of_windows (fresh_layout files s) s
 
 -- a session behind a redisplay that stops after so many rows, where a number is given, with rows that were never copied
 abbrev pub redisplayed : SessionValue → Option ℕ → SessionValue

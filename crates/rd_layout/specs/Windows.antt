@@ -51,14 +51,18 @@ window_source files s w = text_source (seen (shown_content s w)) s.objects files
 abbrev pub view_in : Data → StateValue → WindowState → Placed → WindowView
 view_in files s w place = view_of (window_source files s w) (window_shape s w place) (wanted_of s w place)
 
--- the view of a window that lives
-abbrev pub views_by : Data → StateValue → Placed → Option WindowState → List WindowView
-views_by files s place None = []
-views_by files s place (Some w) = view_in files s w place ∷ []
+-- what is given of a window that lives
+abbrev pub of_window : {A : Type 0} → (Placed → WindowState → A) → Placed → Option WindowState → List A
+of_window given place None = []
+of_window given place (Some w) = given place w ∷ []
 
-abbrev pub views_at : Data → StateValue → Placed → List WindowView
-views_at files s place = views_by files s place (window_of place.number s.windows)
+abbrev pub of_place : {A : Type 0} → (Placed → WindowState → A) → StateValue → Placed → List A
+of_place given s place = of_window given place (window_of place.number s.windows)
+
+-- what is given of all windows, in leaf order
+abbrev pub of_windows : {A : Type 0} → (Placed → WindowState → A) → StateValue → List A
+of_windows given s = flat_map (of_place given s) (places s)
 
 -- the views of all windows, in leaf order
 abbrev pub views_in : Data → StateValue → List WindowView
-views_in files s = flat_map (views_at files s) (places s)
+views_in files s = of_windows (λ place w. view_in files s w place) s

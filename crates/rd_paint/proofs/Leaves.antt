@@ -1,5 +1,5 @@
 -- The windows of a state in leaf order, and their views.
-use Rattle.std.proofs.Common.{◌≡◌, ℕ, ◌<◌, ◌≤◌, Option, None, Some, List, length, sym, ap, refl, subst, ◌∙◌, arith}
+use Rattle.std.proofs.Common.{◌≡◌, ℕ, ◌<◌, ◌≤◌, Option, None, Some, List, length, sym, ap, subst, ◌∙◌, arith}
 use Rattle.std.proofs.lemmas.List.{length-map}
 use Rattle.std.specs.Option.{MatchOption}
 use Rattle.std.specs.Prelude.{option_map, slice_get}
@@ -16,7 +16,7 @@ use Rattle.rd_tree.specs.Windows.{placed, window_at}
 use Rattle.rd_tree.specs.declared.placed.Placed.{Placed}
 use Rattle.rd_ucd.specs.Data.{Data}
 use Rattle.rd_window.specs.Views.{WindowView}
-use Rattle.rd_layout.specs.Windows.{place_of, places, view_in, views_by, views_in}
+use Rattle.rd_layout.specs.Windows.{place_of, places, view_in, views_in}
 use Rattle.rd_layout.proofs.Placed.{shown-at, shown-count}
 use Rattle.rd_paint.specs.Laws.{LeafLaws}
 use Rattle.rd_paint.specs.Shown.{IsLeaf, painted_of}
@@ -61,10 +61,10 @@ module _ (laws : LeafLaws) (s : StateValue) (valid : IsValid s) where
 
   pub view-at : (files : Data) (i : ℕ) (p : Placed) (w : WindowState) → slice_get (places s) i ≡ Some p → window_of p.number s.windows ≡ Some w
       → slice_get (views_in files s) i ≡ Some (view_in files s w p)
-  view-at files = shown-at laws.places s valid (views_by files s) (λ p w. view_in files s w p) (λ p w. refl)
+  view-at files = shown-at laws.places s valid (λ p w. view_in files s w p)
 
   pub views-count : (files : Data) → length (views_in files s) ≡ length (places s)
-  views-count files = shown-count laws.places s valid (views_by files s) (λ p w. view_in files s w p) (λ p w. refl)
+  views-count files = shown-count laws.places s valid (λ p w. view_in files s w p)
 
   -- a place in a list of views is one of the leaf order
   pub inside : (files : Data) (views : List WindowView) (i : ℕ) → views ≡ views_in files s → i < length views → i < length (places s)

@@ -16,12 +16,12 @@ use Rattle.rd_tree.specs.declared.rect.Rect.{Rect}
 use Rattle.rd_ucd.specs.Data.{Data}
 use Rattle.rd_window.specs.Layouts.{IsLaidOut}
 use Rattle.rd_window.specs.declared.layout.Layout.{Layout}
-use Rattle.rd_layout.specs.Copies.{fresh_at, fresh_by, redisplayed}
+use Rattle.rd_layout.specs.Copies.{fresh_layout, redisplayed}
 use Rattle.rd_layout.specs.Laws.{PlaceLaws}
 use Rattle.rd_layout.specs.Redisplays.{AreLaidOut, IsLaidOutBy, IsSent, update_of}
 use Rattle.rd_layout.specs.Sessions.{SessionValue}
 use Rattle.rd_layout.specs.Since.{IsSession}
-use Rattle.rd_layout.specs.Windows.{place_of, places, view_in, wanted_of, window_shape, window_source}
+use Rattle.rd_layout.specs.Windows.{of_place, of_window, place_of, places, view_in, wanted_of, window_shape, window_source}
 use Rattle.rd_layout.proofs.Placed.{all-places}
 
 -- what the layers below say of the windows of a frame: their places, and that each of them lives
@@ -43,22 +43,19 @@ shown-made (row ∷ rows) = ap (λ es. row ∷ es) (shown-made rows)
 
 -- its layout from nothing
 fresh-laid : (files : Data) (s : StateValue) (w : WindowState) (p : Placed)
-    → AllByRecursion (λ (e : ℕ × Layout). IsLaidOut None (window_source files s w) (window_shape s w p) (wanted_of s w p) e.1) (fresh_by files s p (Some w))
-fresh-laid files s w p = (
-  record {
-    rows = shown-made (view_in files s w p).rows;
-    shape_is = refl;
-    height = refl;
-    margin = refl;
-    conservatively = refl;
-    top = refl;
-    bottom = refl;
-    change = refl;
-    stays = λ rests. absurd (cc);
-    copies = λ rests k d less b o among at kept under. absurd (none-some o under);
-  },
-  tt,
-)
+    → IsLaidOut None (window_source files s w) (window_shape s w p) (wanted_of s w p) (fresh_layout files s p w).1
+fresh-laid files s w p = record {
+  rows = shown-made (view_in files s w p).rows;
+  shape_is = refl;
+  height = refl;
+  margin = refl;
+  conservatively = refl;
+  top = refl;
+  bottom = refl;
+  change = refl;
+  stays = λ rests. absurd (cc);
+  copies = λ rests k d less b o among at kept under. absurd (none-some o under);
+}
 
 -- ---- all windows
 
@@ -86,15 +83,13 @@ laid-by : (files : Data) (s : StateValue) (p : Placed) (o : Option WindowState) 
 laid-by files s p o w l lives h = subst (λ (x : Option WindowState). IsLaidOutBy files s None p x l) (sym lives) h
 
 one-laid : (v : SessionValue) (p : Placed) (ps : List Placed) (es : List (ℕ × Layout)) (o : Option WindowState) (w : WindowState) → window_of p.number v.state.windows ≡ o → o ≡ Some w
-    → AreLaidOut (bare v) ps es → AreLaidOut (bare v) (p ∷ ps) (fresh_by v.files v.state p o ++ es)
+    → AreLaidOut (bare v) ps es → AreLaidOut (bare v) (p ∷ ps) (of_window (fresh_layout v.files v.state) p o ++ es)
 one-laid v p ps es None w at lives h = absurd (let k : None ≡ Some w = lives in cc)
-one-laid v p ps es (Some x) w at lives h =
-    let fresh = fresh-laid v.files v.state x p in
-    (refl, laid-by v.files v.state p _ x _ at fresh.0, h)
+one-laid v p ps es (Some x) w at lives h = (refl, laid-by v.files v.state p _ x _ at (fresh-laid v.files v.state x p), h)
 
-all-laid : (v : SessionValue) (ps : List Placed) → AllByRecursion (Lives v.state) ps → AreLaidOut (bare v) ps (flat_map (fresh_at v.files v.state) ps)
+all-laid : (v : SessionValue) (ps : List Placed) → AllByRecursion (Lives v.state) ps → AreLaidOut (bare v) ps (flat_map (of_place (fresh_layout v.files v.state) v.state) ps)
 all-laid v [] h = tt
-all-laid v (p ∷ ps) h = one-laid v p ps (flat_map (fresh_at v.files v.state) ps) (window_of p.number v.state.windows) h.0.0 refl h.0.1 (all-laid v ps h.1)
+all-laid v (p ∷ ps) h = one-laid v p ps (flat_map (of_place (fresh_layout v.files v.state) v.state) ps) (window_of p.number v.state.windows) h.0.0 refl h.0.1 (all-laid v ps h.1)
 
 -- ---- the session
 

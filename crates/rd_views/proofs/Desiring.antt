@@ -17,7 +17,7 @@ use Rattle.rd_window.specs.declared.again.Laying.{Laying}
 use Rattle.rd_window.specs.declared.layout.Layout.{Layout}
 use Rattle.rd_layout.specs.Redisplays.{AreLaidOut, IsLaidOutBy, allowance_by, allowances}
 use Rattle.rd_layout.specs.Sessions.{SessionValue, layout_of}
-use Rattle.rd_layout.specs.Windows.{views_at, views_by, wanted_of, window_shape, window_source}
+use Rattle.rd_layout.specs.Windows.{of_place, of_window, view_in, wanted_of, window_shape, window_source}
 use Rattle.rd_layout.proofs.Known.{Last}
 use Rattle.rd_state.proofs.ByNumber.{under-there}
 use Rattle.rd_layout.proofs.Placed.{placed-here, placed-there}
@@ -102,8 +102,11 @@ module _ (v : SessionValue) where
       let one = laid-by p (window_of p.number v.state.windows) x e own in
       (one.0, one.1, more))
 
+  abbrev view : Placed → WindowState → WindowView
+  view p w = view_in v.files v.state w p
+
   view-by : (p : Placed) (o : Option WindowState) (x : LaidWindow) (e : Last) (rest more : List WindowView) → IsDesiredBy v.files v.state (layout_of p.number v.layouts) p o x e → rest ≡ more
-      → shown_by x (layout_taken (layout_of e.0 v.layouts) x e.1) ∷ rest ≡ views_by v.files v.state p o ++ more
+      → shown_by x (layout_taken (layout_of e.0 v.layouts) x e.1) ∷ rest ≡ of_window view p o ++ more
   view-by p None x e rest more h is = absurd h
   view-by p (Some w) x e rest more h is =
       let laid = (laid-by p (Some w) x e h).1 in
@@ -111,9 +114,9 @@ module _ (v : SessionValue) where
       λ i. record { anchor = (chosen i).anchor; point = (chosen i).point; rows = laid.rows i; top = laid.top i; bottom = laid.bottom i } ∷ is i
 
   -- the windows show what the rules give
-  pub views-are : (ps : List Placed) (xs : List LaidWindow) (es : List Last) → AreDesired v ps xs es → views_taken v.layouts xs es ≡ flat_map (views_at v.files v.state) ps
-  views-are = each-desired (λ ps xs es. views_taken v.layouts xs es ≡ flat_map (views_at v.files v.state) ps) refl (λ p x e ps xs es own rest same.
-      view-by p (window_of p.number v.state.windows) x e (views_taken v.layouts xs es) (flat_map (views_at v.files v.state) ps) own same)
+  pub views-are : (ps : List Placed) (xs : List LaidWindow) (es : List Last) → AreDesired v ps xs es → views_taken v.layouts xs es ≡ flat_map (of_place view v.state) ps
+  views-are = each-desired (λ ps xs es. views_taken v.layouts xs es ≡ flat_map (of_place view v.state) ps) refl (λ p x e ps xs es own rest same.
+      view-by p (window_of p.number v.state.windows) x e (views_taken v.layouts xs es) (flat_map (of_place view v.state) ps) own same)
 
   pub same-count : (ps : List Placed) (xs : List LaidWindow) (es : List Last) → AreDesired v ps xs es → length es ≡ length xs
   same-count = each-desired (λ ps xs es. length es ≡ length xs) refl (λ p x e ps xs es own rest same. ap suc same)

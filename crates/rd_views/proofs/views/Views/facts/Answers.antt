@@ -1,10 +1,7 @@
-use Rattle.std.proofs.Common.{◌≡◌, Option, Some, None, List, subst, sym, ap, refl, ◌∙◌}
+use Rattle.std.proofs.Common.{◌≡◌, Some, None, subst, sym, ap, ◌∙◌}
 use Rattle.rd_state.specs.Valid.{IsValid}
 use Rattle.rd_state.specs.Windows.{window_of}
-use Rattle.rd_state.specs.declared.window.WindowState.{WindowState}
-use Rattle.rd_tree.specs.declared.placed.Placed.{Placed}
-use Rattle.rd_dump.specs.declared.dump.WindowFacts.{WindowFacts}
-use Rattle.rd_layout.specs.Facts.{cursor_since, facts_by}
+use Rattle.rd_layout.specs.Facts.{cursor_since, fact_of}
 use Rattle.rd_layout.specs.Sessions.{SessionValue, layout_of}
 use Rattle.rd_layout.proofs.Placed.{none-shown, shown-at}
 use Rattle.rd_views.proofs.views.Views.facts.Goals as goal
@@ -14,19 +11,12 @@ use Rattle.rd_views.proofs.views.Views.facts.Goals.{After-windows_are_placed}
 valid : (c : goal.After-windows_are_placed) → IsValid c.args.self.now.state
 valid c = subst (λ (v : SessionValue). IsValid v.state) c.self.view_is c.states_are_valid.ensures
 
--- what is told of a window in its place
-abbrev told : SessionValue → Placed → WindowState → WindowFacts
-told v p w = record { window = p.number; rect = p.rect; start = w.anchor; point = w.point; cursor = cursor_since (layout_of p.number v.layouts) w.point }
-
-abbrev by-window : SessionValue → Placed → Option WindowState → List WindowFacts
-by-window v p o = facts_by (layout_of p.number v.layouts) p o
-
 pub returns-in_err-place-clause-told : goal.returns-in_err-place-clause-told
 returns-in_err-place-clause-told c =
     let here = (goal.at.returns-in_err-place-clause-told c).After-windows_are_placed in
     let none : c.from_residual.result ≡ None = cc in
     let v = c.args.self.now in
-    none ∙ sym (none-shown c.windows_are_placed.ensures v.state (valid here) (by-window v) (told v) (λ p w. refl) c.args.i (sym c.in_err-place.ensures.place))
+    none ∙ sym (none-shown c.windows_are_placed.ensures v.state (valid here) (fact_of v) c.args.i (sym c.in_err-place.ensures.place))
 
 pub returns-clause-told : goal.returns-clause-told
 returns-clause-told c =
@@ -38,4 +28,4 @@ returns-clause-told c =
     let cursor : c.cursor_since-cursor.result ≡ cursor_since (layout_of place.number v.layouts) window.point =
     c.cursor_since-cursor.ensures ∙ ap (λ o. cursor_since o window.point) c.layout.ensures in
     ap (λ k. Some (record { window = place.number; rect = place.rect; start = window.anchor; point = window.point; cursor = k })) cursor
-    ∙ sym (shown-at c.windows_are_placed.ensures v.state (valid here) (by-window v) (told v) (λ p w. refl) c.args.i place window (sym c.in_ok-place.ensures.place) lives)
+    ∙ sym (shown-at c.windows_are_placed.ensures v.state (valid here) (fact_of v) c.args.i place window (sym c.in_ok-place.ensures.place) lives)
