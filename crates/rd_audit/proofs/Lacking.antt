@@ -59,10 +59,10 @@ cut-seam byte (b ∷ bs) back h =
     ∙ ap (option_map (λ parts. (b ∷ parts.0, parts.1))) (cut-seam byte bs back both.1)
 
 all-other : (byte : ℕ) (bytes : List ℕ) → lacks byte bytes ≡ true → All (λ b. (b == byte) ≡ false) bytes
-all-other byte [] h = All-nil _
+all-other byte [] h = All-nil (λ b. (b == byte) ≡ false)
 all-other byte (b ∷ bs) h =
     let both = and_parts (not (b == byte)) (lacks byte bs) h in
-    All-cons _ b bs (not-true (b == byte) both.0) (all-other byte bs both.1)
+    All-cons (λ c. (c == byte) ≡ false) b bs (not-true (b == byte) both.0) (all-other byte bs both.1)
 
 pub pieces-seam : (byte : ℕ) (front back : List ℕ) → lacks byte front ≡ true → pieces byte (front ++ byte ∷ back) ≡ front ∷ pieces byte back
 pieces-seam byte front back h = slice_split_at (λ b. b == byte) front byte back (all-other byte front h) ((Decides-eqb byte byte).1 refl)
