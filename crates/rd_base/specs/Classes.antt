@@ -26,11 +26,11 @@ abbrev pub direction_of : ℕ → Class
 direction_of level = if level % 2 == 0 then L else R
 
 -- the level that a character inside so many isolates decides, by rules P2 and P3
-abbrev pub strong_of : ℕ → Class → Option ℕ
-strong_of zero L = Some 0
-strong_of zero R = Some 1
-strong_of zero AL = Some 1
-strong_of depth c = None
+abbrev pub strong_level : ℕ → Class → Option ℕ
+strong_level zero L = Some 0
+strong_level zero R = Some 1
+strong_level zero AL = Some 1
+strong_level depth c = None
 
 -- inside how many isolates the next character stands: a PDI ends one, where there is one
 abbrev pub depth_after : ℕ → Class → ℕ
@@ -42,6 +42,6 @@ depth_after depth c = depth
 
 -- the level that rules P2 and P3 find in what is left of a line, inside so many isolates: that of the first L, R or AL outside
 -- isolates, where an isolate ends at its matching PDI or else at the end
-abbrev pub strong_level : ℕ → List Class → Option ℕ
-strong_level depth [] = None
-strong_level depth (c ∷ cs) = option_or (strong_of depth c) (strong_level (depth_after depth c) cs)
+abbrev pub first_strong : ℕ → List Class → Option ℕ
+first_strong depth [] = None
+first_strong depth (c ∷ cs) = option_or (strong_level depth c) (first_strong (depth_after depth c) cs)

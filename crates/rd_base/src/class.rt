@@ -1,7 +1,7 @@
 //! The bidirectional classes of UAX 9, table 4.
 
 ghost use Rattle.std.specs.Prelude.{◌≡◌, ◌<◌, ◌≤◌, ◌+◌, if◌then◌else◌};
-ghost use Rattle.rd_base.specs.Classes.{is_initiator, is_removed, direction_of, strong_of, depth_after};
+ghost use Rattle.rd_base.specs.Classes.{is_initiator, is_removed, direction_of, strong_level, depth_after};
 
 /// A bidirectional class.
 #[derive(Clone, Copy, Debug, PartialEq, Eq)]
@@ -65,9 +65,10 @@ impl Class {
     {
         if level % 2 == 0 { Class::L } else { Class::R }
     }
+
     /// The level that it decides inside so many isolates, by rules P2 and P3: L decides 0, R and AL 1, and none does inside an isolate.
     pub fn strong_level(self, depth: u32) -> Option<u8>
-        ensures { result ≡ strong_of depth self }
+        ensures { result ≡ strong_level depth self }
     {
         match self {
             Class::L if depth == 0 => Some(0),

@@ -6,7 +6,7 @@ use Rattle.std.specs.List.{slice_split}
 use Rattle.std.proofs.lemmas.Bool.{cases_lt, cond_both}
 use Rattle.std.proofs.lemmas.List.{get_or_past}
 use Rattle.std.proofs.lemmas.List.Elements.{All-nil, All-append, All-replicate}
-use Rattle.rd_base.specs.Classes.{strong_of, depth_after, strong_level}
+use Rattle.rd_base.specs.Classes.{strong_level, depth_after, first_strong}
 use Rattle.rd_base.specs.declared.class.Class.{Class}
 use Rattle.rd_base.specs.declared.class.Class.TheVariants.{L, R, AL}
 use Rattle.rd_base.specs.declared.settings.Direction.{Direction}
@@ -26,22 +26,22 @@ first-low : (a b : Option ℕ) → IsLow a → IsLow b → IsLow (option_or a b)
 first-low None b h k = k
 first-low (Some level) b h k = h
 
-strong_of-low : (depth : ℕ) (c : Class) → IsLow (strong_of depth c)
-strong_of-low zero L = omega arith
-strong_of-low zero R = omega arith
-strong_of-low zero AL = omega arith
-strong_of-low depth c = tt
+strong_level-low : (depth : ℕ) (c : Class) → IsLow (strong_level depth c)
+strong_level-low zero L = omega arith
+strong_level-low zero R = omega arith
+strong_level-low zero AL = omega arith
+strong_level-low depth c = tt
 
-strong-low : (depth : ℕ) (cs : List Class) → IsLow (strong_level depth cs)
-strong-low depth [] = tt
-strong-low depth (c ∷ cs) =
-    first-low (strong_of depth c) (strong_level (depth_after depth c) cs) (strong_of-low depth c) (strong-low (depth_after depth c) cs)
+first_strong-low : (depth : ℕ) (cs : List Class) → IsLow (first_strong depth cs)
+first_strong-low depth [] = tt
+first_strong-low depth (c ∷ cs) =
+    first-low (strong_level depth c) (first_strong (depth_after depth c) cs) (strong_level-low depth c) (first_strong-low (depth_after depth c) cs)
 
 decided-low : (classes : List Span) (lines : List (List ℕ)) → IsLow (decided classes lines)
 decided-low classes [] = tt
 decided-low classes (line ∷ lines) =
     cond_both (is_separator line) None (option_or (line_level classes line) (decided classes lines)) IsLow (λ _. tt)
-    (λ _. first-low (line_level classes line) (decided classes lines) (strong-low 0 (map (class_of classes) line)) (decided-low classes lines))
+    (λ _. first-low (line_level classes line) (decided classes lines) (first_strong-low 0 (map (class_of classes) line)) (decided-low classes lines))
 
 else-low : (o : Option ℕ) → IsLow o → unwrap_or o 0 ≤ 1
 else-low None h = omega arith

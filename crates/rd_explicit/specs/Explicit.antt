@@ -1,6 +1,6 @@
 -- Explicit levels (UAX 9, rules X1 to X8). Each rule is a definition here; `after` and `given` say which rule a class takes.
 use Rattle.std.specs.Prelude.{ℕ, ◌+◌, ◌-◌, ◌%◌, ◌==◌, ◌<◌, ◌≤◌, nat_le, nat_lt, Bool, true, false, ◌&&◌, if◌then◌else◌, List, [], ◌∷◌, length, map, Option, None, Some}
-use Rattle.rd_base.specs.Classes.{is_removed, strong_level}
+use Rattle.rd_base.specs.Classes.{is_removed, first_strong}
 use Rattle.rd_base.specs.declared.class.Class.{Class}
 use Rattle.rd_base.specs.declared.class.Class.TheVariants.{L, R, B, LRE, LRO, RLE, RLO, PDF, LRI, RLI, FSI, PDI}
 use Rattle.rd_explicit.specs.Isolates.{content}
@@ -72,7 +72,7 @@ is_level_one (Some level) = level == 1
 
 -- for X5c, whether P2 and P3 find the level 1 in what an FSI isolates, of the classes after it
 abbrev pub x5c_starts_right : List Class → Bool
-x5c_starts_right cs = is_level_one (strong_level 0 (content cs))
+x5c_starts_right cs = is_level_one (first_strong 0 (content cs))
 
 -- X5c: FSI, with these classes after it, is taken as RLI where what it isolates starts right, else as LRI
 abbrev pub x5c_first_strong_isolate : State → List Class → State

@@ -6,7 +6,7 @@ ghost use Rattle.rd_props.specs.Appearance.{appearance_at};
 
 use crate::faces::face_under;
 use crate::hiding::{Hidden, hiding_of_value};
-use crate::state::{BufferState, View};
+use crate::state::View;
 use crate::values::value_under;
 use rd_base::{Face, Invisible, Memory, Pos};
 use rd_overlays::Kind;

@@ -92,7 +92,7 @@ finished_row c used cells begins continued ends_block = record {
   ends_block = ends_block;
 }
 
--- the row of the elements that are seen and of their items
+-- the row of elements that were placed, which shows those that are seen, and where the items of all begin that begin here
 abbrev pub row_of : Cutting → ℕ → Bool → List Placed → RowMeaning
 row_of c used continued ps = finished_row c used (flat_map (seen_in c.shape) ps) (flat_map (begin_of c.shape) ps) continued (has_line_end ps)
 

@@ -86,7 +86,8 @@ impl StateParts {
         Ok(inserted(buffer, from, added))
     }
 
-    /// Takes a range away, or else makes it the accessible one. One to which no text reaches is refused.
+    /// Takes a range away if `deletes`, and else makes it the accessible one. An unknown buffer is refused, and a range that the text does
+    /// not hold or, where it is to go, that is not accessible.
     #[tactic(auto, using(crate::proofs::ByName::in_place), unfolding(crate::specs::Steps::step, crate::specs::Effects::effect_of))]
     pub(crate) fn change_range(
         &mut self,
