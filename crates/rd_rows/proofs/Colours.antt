@@ -1,5 +1,5 @@
 -- In the rows of elements whose colours are in their range each cell has such colours.
-use Rattle.std.proofs.Common.{ℕ, zero, suc, ◌+◌, ◌-◌, ◌&&◌, min, max, nat_le, nat_lt, Bool, true, false, List, [], ◌∷◌, ◌++◌, length, flat_map, replicate, All, arith, Option, None, Some}
+use Rattle.std.proofs.Common.{ℕ, zero, ◌+◌, ◌-◌, ◌&&◌, min, max, nat_le, nat_lt, Bool, true, false, List, [], ◌∷◌, ◌++◌, length, flat_map, replicate, All, arith, Option, None, Some}
 use Rattle.std.proofs.lemmas.List.Elements.{All-nil, All-cons, All-tail, All-append, All-replicate}
 use Rattle.std.specs.List.{AllByRecursion}
 use Rattle.rd_base.proofs.Choices.{either}
@@ -14,14 +14,13 @@ use Rattle.rd_base.proofs.Colours.{plain-coloured, blanks-coloured}
 use Rattle.rd_base.proofs.Lists.{all-front, all-back, all-one, each-append}
 use Rattle.rd_rows.specs.declared.cutting.Cutting.{Cutting}
 use Rattle.rd_rows.specs.declared.spot.Placed.{Placed}
-use Rattle.rd_rows.specs.declared.spot.Spot.{Spot}
 use Rattle.rd_rows.specs.Mirrors.{mirror_image, leading_rests}
-use Rattle.rd_rows.specs.Placing.{glyph_in, line_start, next_row, columns_of}
-use Rattle.rd_rows.specs.Rows.{whole_cells, seen, seen_in, mark, front_mark, filled, last_cell, from_edge, row_of, rows_within, rows_of, cutting_of}
+use Rattle.rd_rows.specs.Placing.{glyph_in, next_row, columns_of}
+use Rattle.rd_rows.specs.Rows.{whole_cells, seen, seen_in, mark, front_mark, filled, last_cell, from_edge, row_of, rows_of, cutting_of}
 use Rattle.rd_rows.specs.Shapes.{ShapeValues, room, truncates}
 use Rattle.rd_rows.proofs.Marks.{mark-coloured}
 use Rattle.rd_rows.proofs.Placings.{fitted-each, placed-each}
-use Rattle.rd_rows.proofs.Splits.{placed_in, at-row}
+use Rattle.rd_rows.proofs.Splits.{placed_in, over-rows}
 
 -- placed elements whose colours are in their range
 abbrev HaveColours : List Placed → Type 0
@@ -88,22 +87,15 @@ row-coloured c used continued ps h =
 
 -- the rows of a line
 
-rows-coloured : (n : ℕ) (c : Cutting) (lead : List Placed) (spot : Spot) (es : List Element) → HaveColours c.first → HaveColours c.wrap → HaveColours lead
-    → All (λ e. HasColours e.face) es → All (λ r. All IsColoured r.row.cells) (rows_within n c lead spot es)
-rows-coloured zero c lead spot es first wrap one h = All-nil (λ r. All IsColoured r.row.cells)
-rows-coloured (suc n) c lead spot [] first wrap one h = All-nil (λ r. All IsColoured r.row.cells)
-rows-coloured (suc n) c lead spot (e ∷ es) first wrap one h =
-    at-row n c lead spot e es (λ ys rows. All (λ x. HasColours x.face) ys → All (λ r. All IsColoured r.row.cells) rows) (λ xs rest marked ended lines less both.
-    All-cons (λ r. All IsColoured r.row.cells) _ _
-    (row-coloured c _ marked (lead ++ placed_in c lead spot xs)
-    (each-append _ lead (placed_in c lead spot xs) one (placed-each (λ x. HasColours x.face) c.shape (next_row (columns_of lead) spot) xs (all-front (λ x. HasColours x.face) xs rest both))))
-    (rows-coloured n c _ _ rest first wrap (either HaveColours ended c.first c.wrap first wrap) (all-back (λ x. HasColours x.face) xs rest both)))
-    h
-
 pub line-coloured : (shape : ShapeValues) (base : ℕ) (first wrap : List Element) (truncation continuation : Glyph) (es : List Element)
     → All (λ e. HasColours e.face) first → All (λ e. HasColours e.face) wrap → All (λ e. HasColours e.face) es
     → All (λ r. All IsColoured r.row.cells) (rows_of (cutting_of shape base first wrap truncation continuation) es)
-line-coloured shape base first wrap truncation continuation es h k all =
+line-coloured shape base first wrap truncation continuation es h k =
     let c : Cutting = cutting_of shape base first wrap truncation continuation in
-    let lead = fitted-each (λ e. HasColours e.face) _ 0 first h in
-    rows-coloured (length es) c c.first line_start es lead (fitted-each (λ e. HasColours e.face) _ 0 wrap k) lead all
+    over-rows c HaveColours (λ lead spot ys rows. All (λ e. HasColours e.face) ys → All (λ r. All IsColoured r.row.cells) rows)
+    (fitted-each (λ e. HasColours e.face) _ 0 first h) (fitted-each (λ e. HasColours e.face) _ 0 wrap k) (λ lead spot all. All-nil (λ r. All IsColoured r.row.cells)) (λ n lead spot xs rest marked ended one lines later all.
+    All-cons (λ r. All IsColoured r.row.cells) _ _
+    (row-coloured c _ marked (lead ++ placed_in c lead spot xs)
+    (each-append _ lead (placed_in c lead spot xs) one (placed-each (λ e. HasColours e.face) c.shape (next_row (columns_of lead) spot) xs (all-front (λ e. HasColours e.face) xs rest all))))
+    (later (all-back (λ e. HasColours e.face) xs rest all)))
+    es

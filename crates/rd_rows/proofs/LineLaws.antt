@@ -1,8 +1,7 @@
 -- The laws of rows, row by row.
-use Rattle.std.proofs.Common.{◌≡◌, ℕ, zero, suc, ◌+◌, ◌*◌, ◌≤◌, not, Bool, true, false, if◌then◌else◌, IsTrue, List, [], ◌∷◌, ◌++◌, length, flat_map, map, Option, Some, refl, ap, sym, ◌∙◌, subst, arith, length-append, append_assoc}
+use Rattle.std.proofs.Common.{◌≡◌, ℕ, suc, ◌+◌, ◌*◌, not, Bool, true, false, if◌then◌else◌, IsTrue, List, [], ◌∷◌, ◌++◌, length, flat_map, map, Option, None, Some, refl, ap, sym, ◌∙◌, subst, arith, length-append, append_assoc}
 use Rattle.std.proofs.lemmas.List.{map-append, append-nil}
 use Rattle.std.proofs.lemmas.Grind.{flat_map-append}
-use Rattle.rd_base.proofs.Choices.{either}
 use Rattle.rd_base.specs.Elements.{ends_once, is_line_end}
 use Rattle.rd_base.specs.declared.element.Element.{Element}
 use Rattle.rd_rows.specs.declared.begin.Begin.{Begin}
@@ -11,13 +10,13 @@ use Rattle.rd_rows.specs.declared.spot.Placed.{Placed}
 use Rattle.rd_rows.specs.declared.spot.Spot.{Spot}
 use Rattle.rd_rows.specs.Leads.{HasLeads, IsQuiet, HasQuietLeads}
 use Rattle.rd_rows.specs.Shapes.{ShapeValues}
-use Rattle.rd_rows.specs.Placing.{is_item, placed_at, behind, behind_all, next_row, next_line, line_start, place_all, columns_of, has_line_end}
+use Rattle.rd_rows.specs.Placing.{is_item, placed_at, behind, behind_all, next_row, next_line, place_all, columns_of, has_line_end}
 use Rattle.rd_rows.specs.Prefixes.{begins_none}
 use Rattle.rd_rows.specs.Rows.{RowMeaning, LaidRow, rows_within, rows_of, row_of, begin_of, laid, weight_of}
 use Rattle.rd_rows.specs.Laws.{seen_rows, ends_last, begins_of, range_of, ranges_of, lines_in, IsPlacedOnce}
 use Rattle.rd_rows.proofs.Ends.{line_ends, line_end-ends, standing-ends, ends_once-parts, ends_once-all}
 use Rattle.rd_rows.proofs.Fitting.{begins-none}
-use Rattle.rd_rows.proofs.Splits.{placed_in, spot_behind, at-row, none-left}
+use Rattle.rd_rows.proofs.Splits.{placed_in, spot_behind, lead_behind, next_behind, none-left, over-rows}
 
 pub quiet-leads : (c : Cutting) → HasLeads c → HasQuietLeads c
 quiet-leads c leads = record {
@@ -42,18 +41,11 @@ last-step c lead lead2 start spot2 r xs (f ∷ fs) n none same end rest =
     let parts = ends_once-parts xs f fs end in
     last-cons r _ (same ∙ (standing-ends c.shape lead start xs none ∙ parts.0)) (rest parts.1)
 
-pub last-rows : (n : ℕ) (c : Cutting) (lead : List Placed) (spot : Spot) (es : List Element) → HasQuietLeads c → IsQuiet lead → length es ≤ n → IsTrue (ends_once es)
-    → ends_last (seen_rows (rows_within n c lead spot es)) ≡ true
-last-rows n c lead spot [] leads one few end = cc
-last-rows zero c lead spot (e ∷ es) leads one few end = absurd (omega arith)
-last-rows (suc n) c lead spot (e ∷ es) leads one few end =
-    at-row n c lead spot e es (λ ys rows. IsTrue (ends_once ys) → ends_last (seen_rows rows) ≡ true) (λ xs rest marked ended lines less once.
-    let end = spot_behind c lead spot xs in
-    let lead2 : List Placed = if ended then c.first else c.wrap in
-    let spot2 : Spot = if ended then next_line end else end in
-    last-step c lead lead2 (next_row (columns_of lead) spot) spot2 (row_of c end.used marked (lead ++ placed_in c lead spot xs)) xs rest n one.on refl once
-    (λ more. last-rows n c lead2 spot2 rest leads (either IsQuiet ended c.first c.wrap leads.first leads.wrap) (omega (arith, few, less)) more))
-    end
+pub last-rows : (c : Cutting) (es : List Element) → HasQuietLeads c → IsTrue (ends_once es) → IsTrue (ends_last (seen_rows (rows_of c es)))
+last-rows c es leads =
+    over-rows c IsQuiet (λ lead spot ys rows. IsTrue (ends_once ys) → ends_last (seen_rows rows) ≡ true) leads.first leads.wrap (λ lead spot end. cc) (λ n lead spot xs rest marked ended one lines later once.
+    last-step c lead (lead_behind c ended) (next_row (columns_of lead) spot) (next_behind c lead spot xs ended) (row_of c (spot_behind c lead spot xs).used marked (lead ++ placed_in c lead spot xs)) xs rest n one.on refl once later)
+    es
 
 -- where items begin
 
@@ -91,20 +83,15 @@ before-next : (b : Bool) (spot : Spot) → (if b then next_line spot else spot).
 before-next true spot = refl
 before-next false spot = refl
 
-pub begun-rows : (n : ℕ) (c : Cutting) (lead : List Placed) (spot : Spot) (es : List Element) → HasQuietLeads c → IsQuiet lead → length es ≤ n
-    → map range_of (begins_of (seen_rows (rows_within n c lead spot es))) ≡ ranges_of spot.before es
-begun-rows n c lead spot [] leads one few = rw (none-left n c lead spot) refl
-begun-rows zero c lead spot (e ∷ es) leads one few = absurd (omega arith)
-begun-rows (suc n) c lead spot (e ∷ es) leads one few =
-    at-row n c lead spot e es (λ ys rows. map range_of (begins_of (seen_rows rows)) ≡ ranges_of spot.before ys) (λ xs rest marked ended lines less.
+pub begun-rows : (c : Cutting) (es : List Element) → HasQuietLeads c → map range_of (begins_of (seen_rows (rows_of c es))) ≡ ranges_of None es
+begun-rows c es leads =
+    over-rows c IsQuiet (λ lead spot ys rows. map range_of (begins_of (seen_rows rows)) ≡ ranges_of spot.before ys) leads.first leads.wrap (λ lead spot. refl) (λ n lead spot xs rest marked ended one lines later.
     let start = next_row (columns_of lead) spot in
-    let end = spot_behind c lead spot xs in
-    let lead2 : List Placed = if ended then c.first else c.wrap in
-    let spot2 : Spot = if ended then next_line end else end in
-    let before : spot2.before ≡ before_behind spot.before xs = before-next ended end ∙ before-placed c.shape start xs in
-    let later = begun-rows n c lead2 spot2 rest leads (either IsQuiet ended c.first c.wrap leads.first leads.wrap) (omega (arith, few, less)) in
-    map-append range_of (flat_map (begin_of c.shape) (lead ++ placed_in c lead spot xs)) (begins_of (seen_rows (rows_within n c lead2 spot2 rest)))
+    let next = next_behind c lead spot xs ended in
+    let before : next.before ≡ before_behind spot.before xs = before-next ended (spot_behind c lead spot xs) ∙ before-placed c.shape start xs in
+    map-append range_of (flat_map (begin_of c.shape) (lead ++ placed_in c lead spot xs)) (begins_of (seen_rows (rows_within n c (lead_behind c ended) next rest)))
     ∙ rw (begun-row c.shape lead start xs one.items, later, before) (sym (ranges-append spot.before xs rest)))
+    es
 
 -- how often elements were placed
 
@@ -182,22 +169,17 @@ pub length-placed : (shape : ShapeValues) (spot : Spot) (xs : List Element) → 
 length-placed shape spot [] = refl
 length-placed shape spot (x ∷ xs) = ap suc (length-placed shape (behind spot (placed_at shape spot x)) xs)
 
-counted : (n : ℕ) (c : Cutting) (lead : List Placed) (spot : Spot) (es : List Element) → length es ≤ n → IsTrue (ends_once es)
-    → Counted (rows_within n c lead spot es) (length lead) (length es) (lines_in es) (length c.first) (length c.wrap)
-counted n c lead spot [] few end = cc
-counted zero c lead spot (e ∷ es) few end = absurd (omega arith)
-counted (suc n) c lead spot (e ∷ es) few end =
-    at-row n c lead spot e es (λ ys rows. IsTrue (ends_once ys) → Counted rows (length lead) (length ys) (lines_in ys) (length c.first) (length c.wrap)) (λ xs rest marked ended lines less once.
-    let end = spot_behind c lead spot xs in
+counted : (c : Cutting) (es : List Element) → IsTrue (ends_once es) → Counted (rows_of c es) (length c.first) (length es) (lines_in es) (length c.first) (length c.wrap)
+counted c es =
+    over-rows c (λ lead. Unit {0}) (λ lead spot ys rows. IsTrue (ends_once ys) → Counted rows (length lead) (length ys) (lines_in ys) (length c.first) (length c.wrap)) tt tt (λ lead spot end. cc) (λ n lead spot xs rest marked ended one lines later once.
     let ps = placed_in c lead spot xs in
-    let spot2 : Spot = if ended then next_line end else end in
     let weight : length (lead ++ ps) ≡ length lead + length xs = length-append lead ps ∙ ap (λ k. length lead + k) (length-placed c.shape (next_row (columns_of lead) spot) xs) in
     rw (length-append xs rest, lines-append xs rest)
-    (counted-rest c lead spot2 (laid c end.used marked (lead ++ ps)) xs rest n ended weight lines once (counted n c (if ended then c.first else c.wrap) spot2 rest (omega (arith, few, less)))))
-    end
+    (counted-rest c lead (next_behind c lead spot xs ended) (laid c (spot_behind c lead spot xs).used marked (lead ++ ps)) xs rest n ended weight lines once later))
+    es
 
 pub placed-once : (c : Cutting) (es : List Element) → IsTrue (ends_once es) → IsPlacedOnce c es (rows_of c es)
 placed-once c es end =
-    let all = counted (length es) c c.first line_start es (omega arith) end in
+    let all = counted c es end in
     let weight = all.weight in
     record { continued = all.continued; count = all.count; weight = omega (arith, weight) }

@@ -3,14 +3,15 @@ use Rattle.std.proofs.Common.{◌≡◌, ℕ, zero, suc, ◌<◌, ◌≤◌, ◌
 use Rattle.std.proofs.lemmas.Bool.{and_parts, not-true}
 use Rattle.std.proofs.lemmas.List.{length-drop}
 use Rattle.std.proofs.Math.Seq.{drop-append_seam}
+use Rattle.rd_base.proofs.Choices.{either}
 use Rattle.rd_base.specs.declared.element.Element.{Element}
 use Rattle.rd_rows.specs.declared.cutting.Cutting.{Cutting}
 use Rattle.rd_rows.specs.declared.spot.Placed.{Placed}
 use Rattle.rd_rows.specs.declared.spot.Spot.{Spot}
 use Rattle.rd_rows.specs.Cuts.{is_break, has_break, up_to_break, ends_some, fitting, room_for, RowCut, is_wrapped, cut_row}
 use Rattle.rd_rows.specs.Laws.{lines_in}
-use Rattle.rd_rows.specs.Placing.{ends_row, fits, placed_at, behind, behind_all, next_row, next_line, place_all, columns_of}
-use Rattle.rd_rows.specs.Rows.{LaidRow, laid, rows_within}
+use Rattle.rd_rows.specs.Placing.{ends_row, fits, placed_at, behind, behind_all, next_row, next_line, line_start, place_all, columns_of}
+use Rattle.rd_rows.specs.Rows.{LaidRow, laid, rows_within, rows_of}
 use Rattle.rd_rows.specs.Shapes.{ShapeValues}
 use Rattle.rd_rows.proofs.Ends.{on-lines, on-parts}
 
@@ -142,20 +143,36 @@ placed_in c lead spot xs = place_all c.shape (next_row (columns_of lead) spot) x
 abbrev pub spot_behind : Cutting → List Placed → Spot → List Element → Spot
 spot_behind c lead spot xs = behind_all (next_row (columns_of lead) spot) (placed_in c lead spot xs)
 
+-- the prefix of the next row, and where that begins
+abbrev pub lead_behind : Cutting → Bool → List Placed
+lead_behind c ended = if ended then c.first else c.wrap
+
+abbrev pub next_behind : Cutting → List Placed → Spot → List Element → Bool → Spot
+next_behind c lead spot xs ended = if ended then next_line (spot_behind c lead spot xs) else spot_behind c lead spot xs
+
 -- the row with these elements, and those of what is left
 abbrev pub row_with : ℕ → Cutting → List Placed → Spot → List Element → List Element → Bool → Bool → List LaidRow
 row_with n c lead spot xs rest marked ended =
-    let end = spot_behind c lead spot xs in
-    laid c end.used marked (lead ++ placed_in c lead spot xs)
-    ∷ rows_within n c (if ended then c.first else c.wrap) (if ended then next_line end else end) rest
+    laid c (spot_behind c lead spot xs).used marked (lead ++ placed_in c lead spot xs)
+    ∷ rows_within n c (lead_behind c ended) (next_behind c lead spot xs ended) rest
 
--- what holds of each row with those of what is left holds of the rows
-pub at-row : (n : ℕ) (c : Cutting) (lead : List Placed) (spot : Spot) (e : Element) (es : List Element) (P : List Element → List LaidRow → Type 0)
-    → ((xs rest : List Element) (marked ended : Bool) → lines_in xs ≡ (if ended then 1 else 0) → length rest ≤ length es → P (xs ++ rest) (row_with n c lead spot xs rest marked ended))
-    → P (e ∷ es) (rows_within (suc n) c lead spot (e ∷ es))
-at-row n c lead spot e es P step =
-    let start = next_row (columns_of lead) spot in
-    let cut = cut_row c.shape start (e ∷ es) in
-    let is = cut-is c.shape start e es in
-    subst (λ ys. P ys (rows_within (suc n) c lead spot (e ∷ es))) (sym is.parts)
-    (step cut.elements (drop (length cut.elements) (e ∷ es)) cut.marked cut.ended is.lines (rest-less (length es) e es cut.elements is.some (omega arith)))
+-- what holds where no element is left, and of each row with those of what is left, holds of a line's rows. Each begins with a prefix, of
+-- which something may hold too
+module _ (c : Cutting) (Lead : List Placed → Type 0) (P : List Placed → Spot → List Element → List LaidRow → Type 0) (first : Lead c.first) (wrap : Lead c.wrap) (none : (lead : List Placed) (spot : Spot) → P lead spot [] [])
+    (step : (n : ℕ) (lead : List Placed) (spot : Spot) (xs rest : List Element) (marked ended : Bool) → Lead lead → lines_in xs ≡ (if ended then 1 else 0)
+    → P (lead_behind c ended) (next_behind c lead spot xs ended) rest (rows_within n c (lead_behind c ended) (next_behind c lead spot xs ended) rest)
+    → P lead spot (xs ++ rest) (row_with n c lead spot xs rest marked ended)) where
+  rows-behind : (n : ℕ) (lead : List Placed) (spot : Spot) (es : List Element) → Lead lead → length es ≤ n → P lead spot es (rows_within n c lead spot es)
+  rows-behind n lead spot [] one few = subst (P lead spot []) (sym (none-left n c lead spot)) (none lead spot)
+  rows-behind zero lead spot (e ∷ es) one few = absurd (omega arith)
+  rows-behind (suc n) lead spot (e ∷ es) one few =
+      let start = next_row (columns_of lead) spot in
+      let cut = cut_row c.shape start (e ∷ es) in
+      let is = cut-is c.shape start e es in
+      let rest : List Element = drop (length cut.elements) (e ∷ es) in
+      subst (λ ys. P lead spot ys (rows_within (suc n) c lead spot (e ∷ es))) (sym is.parts)
+      (step n lead spot cut.elements rest cut.marked cut.ended one is.lines
+      (rows-behind n (lead_behind c cut.ended) (next_behind c lead spot cut.elements cut.ended) rest (either Lead cut.ended c.first c.wrap first wrap) (rest-less n e es cut.elements is.some few)))
+
+  pub over-rows : (es : List Element) → P c.first line_start es (rows_of c es)
+  over-rows es = rows-behind (length es) c.first line_start es first (omega arith)

@@ -15,18 +15,17 @@ use Rattle.rd_base.proofs.Lists.{all-front, all-back, each-append}
 use Rattle.rd_base.proofs.Rows.{behind-whole, blanks-whole, rests-whole, glyph-whole}
 use Rattle.rd_rows.specs.declared.cutting.Cutting.{Cutting}
 use Rattle.rd_rows.specs.declared.spot.Placed.{Placed}
-use Rattle.rd_rows.specs.declared.spot.Spot.{Spot}
 use Rattle.rd_rows.specs.Mirrors.{mirror_image, leading_rests}
-use Rattle.rd_rows.specs.Placing.{glyph_in, next_row, line_start, columns_of}
+use Rattle.rd_rows.specs.Placing.{glyph_in, next_row, columns_of}
 use Rattle.rd_rows.specs.Prefixes.{FillsColumns, StandFrom}
-use Rattle.rd_rows.specs.Rows.{whole_cells, seen, seen_in, first_seen, front_mark, filled, last_cell, from_edge, row_of, rows_within, rows_of, cutting_of}
+use Rattle.rd_rows.specs.Rows.{whole_cells, seen, seen_in, first_seen, front_mark, filled, last_cell, from_edge, row_of, rows_of, cutting_of}
 use Rattle.rd_rows.specs.Shapes.{ShapeValues, room, truncates}
 use Rattle.rd_rows.specs.Whole.{IsWhole, AreWhole, IsMark, IsMeasuredPrefix, ArePlacedMeasured, IsMeasuredCutting}
 use Rattle.rd_rows.proofs.Fitting.{cutting-leads}
 use Rattle.rd_rows.proofs.Marks.{mark-whole}
 use Rattle.rd_rows.proofs.Mirroring.{mirror-length, front-length}
 use Rattle.rd_rows.proofs.Placings.{fitted-each, placed-each}
-use Rattle.rd_rows.proofs.Splits.{placed_in, at-row}
+use Rattle.rd_rows.proofs.Splits.{placed_in, over-rows}
 use Rattle.rd_rows.proofs.Stands.{stand-append, stand-placed, room-length}
 
 cells-whole : (look : Look) (columns : ℕ) (face : Attributes) → FillsColumns look columns → IsMeasuredLook look → IsRowAfter 0 (whole_cells columns (glyph_in look) face)
@@ -111,23 +110,18 @@ record IsMeasuredLead (lead : List Placed) : Type 0 where
   stand : StandFrom 0 lead (columns_of lead)
   measured : ArePlacedMeasured lead
 
-whole-rows : (n : ℕ) (c : Cutting) (lead : List Placed) (spot : Spot) (es : List Element) → IsMeasuredCutting c → IsMeasuredLead lead → AreSound es → AreMeasured es
-    → AreWhole c.shape.width (rows_within n c lead spot es)
-whole-rows zero c lead spot es m one sound measured = tt
-whole-rows (suc n) c lead spot [] m one sound measured = tt
-whole-rows (suc n) c lead spot (e ∷ es) m one sound measured =
-    at-row n c lead spot e es (λ ys rows. AreSound ys → AreMeasured ys → AreWhole c.shape.width rows) (λ xs rest marked ended lines less all_sound all_measured.
+pub whole-line : (c : Cutting) (es : List Element) → IsMeasuredCutting c → AreSound es → AreMeasured es → AreWhole c.shape.width (rows_of c es)
+whole-line c es m =
+    over-rows c IsMeasuredLead (λ lead spot ys rows. AreSound ys → AreMeasured ys → AreWhole c.shape.width rows)
+    (record { stand = m.leads.first.stand; measured = m.first }) (record { stand = m.leads.wrap.stand; measured = m.wrap }) (λ lead spot sound measured. tt) (λ n lead spot xs rest marked ended one lines later sound measured.
     let start = next_row (columns_of lead) spot in
     let ps = placed_in c lead spot xs in (
       row-whole c _ marked (lead ++ ps) m
-          (stand-append 0 (columns_of lead) _ lead ps one.stand (stand-placed c.shape start xs (all-front IsSound xs rest all_sound)))
-          (each-append _ lead ps one.measured (placed-each (λ y. IsMeasuredLook y.look) c.shape start xs (all-front (λ y. IsMeasuredLook y.look) xs rest all_measured))),
-      whole-rows n c _ _ rest m (either IsMeasuredLead ended c.first c.wrap (record { stand = m.leads.first.stand; measured = m.first }) (record { stand = m.leads.wrap.stand; measured = m.wrap })) (all-back IsSound xs rest all_sound) (all-back (λ y. IsMeasuredLook y.look) xs rest all_measured),
+          (stand-append 0 (columns_of lead) _ lead ps one.stand (stand-placed c.shape start xs (all-front IsSound xs rest sound)))
+          (each-append _ lead ps one.measured (placed-each (λ y. IsMeasuredLook y.look) c.shape start xs (all-front (λ y. IsMeasuredLook y.look) xs rest measured))),
+      later (all-back IsSound xs rest sound) (all-back (λ y. IsMeasuredLook y.look) xs rest measured),
     ))
-    sound measured
-
-pub whole-line : (c : Cutting) (es : List Element) → IsMeasuredCutting c → AreSound es → AreMeasured es → AreWhole c.shape.width (rows_of c es)
-whole-line c es m sound measured = whole-rows (length es) c c.first line_start es m (record { stand = m.leads.first.stand; measured = m.first }) sound measured
+    es
 
 pub cutting-measured : (shape : ShapeValues) (base : ℕ) (first wrap : List Element) (truncation continuation : Glyph) → 2 ≤ shape.width → shape.width ≤ 400
     → IsMeasuredPrefix first → IsMeasuredPrefix wrap → IsMark truncation → IsMark continuation → IsMeasuredCutting (cutting_of shape base first wrap truncation continuation)
