@@ -10,7 +10,8 @@ use Rattle.std.proofs.lemmas.Option.{cond_some}
 use Rattle.rd_tree.specs.declared.rect.Rect.{Rect}
 use Rattle.rd_tree.specs.declared.side.Side.{Side}
 use Rattle.rd_tree.specs.declared.placed.Placed.{Placed}
-use Rattle.rd_tree.specs.Windows.{Windows, Window, Split, columns_for, rows_for, first_part, second_part, HasRoom, fits, first_size, resized, placed, window_at, holds, replaced, is_leaf_of, is_single, removed}
+use Rattle.rd_tree.specs.Windows.{Windows, Window, Split, columns_for, rows_for, first_part, second_part, HasRoom, fits, first_size, resized, placed, window_at, holds, replaced, is_leaf_of, is_single, sibling, removed}
+use Rattle.rd_tree.specs.Places.{shared_place}
 use Rattle.rd_tree.proofs.Rooms.{of_number-append, parts_fill, resized_room}
 
 -- the test of room is true where each window has room
@@ -109,34 +110,50 @@ pub not_single : (w : ℕ) (windows : Windows) → is_leaf_of w windows ≡ fals
 not_single w (Window n mode margins) p e = absurd (false≢true (sym p ∙ e))
 not_single w (Split side size first second) p e = refl
 
-pub removed_less : (f : Windows → ℕ) (w d : ℕ) → IsSum f → ((n : ℕ) (mode : Bool) (margins : ℕ) → (n == w) ≡ true → f (Window n mode margins) ≡ d) → (windows : Windows) (rect : Rect) → holds w windows ≡ true → is_single windows ≡ false → f (removed w windows rect) + d ≡ f windows
-removed_less f w d sum leaf (Window n mode margins) rect e s = absurd (false≢true (sym s))
-removed_less f w d sum leaf (Split side size first second) rect e s =
+-- a removal from a split goes one of four ways: the first part or the second is the window, and the other part gets the whole rectangle;
+-- or the window is removed from the first part, or else from the second, where it stands if it stands at all. What each way gives of the
+-- windows that are left, of the sibling and of the rectangle that both share is so after every removal from a split.
+pub by_way : (Goal : Windows → Windows → Rect → Type 0) (w : ℕ) (side : Side) (size : ℕ) (first second : Windows) (rect : Rect)
+    → (is_leaf_of w first ≡ true → Goal (resized second rect) second rect)
+    → (is_leaf_of w second ≡ true → Goal (resized first rect) first rect)
+    → (holds w first ≡ true → is_single first ≡ false
+    → let a = first_part side size rect in Goal (Split side size (removed w first a) second) (sibling w first) (shared_place w first a))
+    → (holds w first ≡ false → (holds w (Split side size first second) ≡ true → (holds w second ≡ true) × (is_single second ≡ false))
+    → let b = second_part side size rect in Goal (Split side size first (removed w second b)) (sibling w second) (shared_place w second b))
+    → let windows = Split side size first second in Goal (removed w windows rect) (sibling w windows) (shared_place w windows rect)
+by_way Goal w side size first second rect first_goes second_goes in_first in_second =
     elim (cases_Bool (is_leaf_of w first)) [
-      | inl p ↦ rw p (omega (arith, sum side size first second, resized_same f sum second rect, window_has f w d leaf first p))
+      | inl p ↦ rw p (first_goes p)
       | inr p ↦ elim (cases_Bool (is_leaf_of w second)) [
-        | inl q ↦ rw (p, q) (omega (arith, sum side size first second, resized_same f sum first rect, window_has f w d leaf second q))
+        | inl q ↦ rw (p, q) (second_goes q)
         | inr q ↦ elim (cases_Bool (holds w first)) [
-          | inl h ↦ rw (p, q, h) (omega (arith, sum side size first second, sum side size (removed w first (first_part side size rect)) second, removed_less f w d sum leaf first (first_part side size rect) h (not_single w first p h)))
+          | inl h ↦ rw (p, q, h) (in_first h (not_single w first p h))
           | inr h ↦
-              let k = second-holds (holds w first) (holds w second) h e in
-              rw (p, q, h) (omega (arith, sum side size first second, sum side size first (removed w second (second_part side size rect)), removed_less f w d sum leaf second (second_part side size rect) k (not_single w second q k)))
+              rw (p, q, h) (in_second h (λ e. let k = second-holds (holds w first) (holds w second) h e in (k, not_single w second q k)))
         ]
       ]
     ]
+
+pub removed_less : (f : Windows → ℕ) (w d : ℕ) → IsSum f → ((n : ℕ) (mode : Bool) (margins : ℕ) → (n == w) ≡ true → f (Window n mode margins) ≡ d) → (windows : Windows) (rect : Rect) → holds w windows ≡ true → is_single windows ≡ false → f (removed w windows rect) + d ≡ f windows
+removed_less f w d sum leaf (Window n mode margins) rect e s = absurd (false≢true (sym s))
+removed_less f w d sum leaf (Split side size first second) rect e s =
+    let a = first_part side size rect in
+    let b = second_part side size rect in
+    let whole = sum side size first second in
+    by_way (λ left _ _. f left + d ≡ f (Split side size first second)) w side size first second rect
+    (λ p. omega (arith, whole, resized_same f sum second rect, window_has f w d leaf first p))
+    (λ p. omega (arith, whole, resized_same f sum first rect, window_has f w d leaf second p))
+    (λ h many. omega (arith, whole, sum side size (removed w first a) second, removed_less f w d sum leaf first a h many))
+    (λ h there.
+    omega (arith, whole, sum side size first (removed w second b), removed_less f w d sum leaf second b (there e).0 (there e).1))
 
 -- where a window is removed, each other has room
 pub removed_room : (w : ℕ) (windows : Windows) (rect : Rect) → HasRoom windows rect → HasRoom (removed w windows rect) rect
 removed_room w (Window n mode margins) rect h = h
 removed_room w (Split side size first second) rect h =
     let parts = parts_fill {windows = Split side size first second} rect refl h in
-    elim (cases_Bool (is_leaf_of w first)) [
-      | inl p ↦ rw p (resized_room second rect parts.1.0 parts.1.1)
-      | inr p ↦ elim (cases_Bool (is_leaf_of w second)) [
-        | inl q ↦ rw (p, q) (resized_room first rect parts.0.0 parts.0.1)
-        | inr q ↦ elim (cases_Bool (holds w first)) [
-          | inl k ↦ rw (p, q, k) (removed_room w first (first_part side size rect) h.0, h.1)
-          | inr k ↦ rw (p, q, k) (h.0, removed_room w second (second_part side size rect) h.1)
-        ]
-      ]
-    ]
+    by_way (λ left _ _. HasRoom left rect) w side size first second rect
+    (λ _. resized_room second rect parts.1.0 parts.1.1)
+    (λ _. resized_room first rect parts.0.0 parts.0.1)
+    (λ _ _. (removed_room w first (first_part side size rect) h.0, h.1))
+    (λ _ _. (h.0, removed_room w second (second_part side size rect) h.1))

@@ -6,7 +6,7 @@ use Rattle.std.proofs.Math.Bool.{or_assoc, or-false}
 use Rattle.std.proofs.lemmas.Bool.Decides.{nat_tests}
 use Rattle.std.proofs.lemmas.List.{map-append}
 use Rattle.std.specs.Option.{option_or}
-use Rattle.rd_base.proofs.Choices.{none-chosen, none-of, second-holds}
+use Rattle.rd_base.proofs.Choices.{none-chosen, none-of}
 use Rattle.rd_base.specs.Cells.{bit_of}
 use Rattle.rd_tree.specs.declared.rect.Rect.{Rect}
 use Rattle.rd_tree.specs.declared.side.Side.{Side}
@@ -16,7 +16,7 @@ use Rattle.rd_tree.specs.Windows.{Windows, Window, Split, first_part, second_par
 use Rattle.rd_tree.specs.Calls.{Configuration, IsValid, frame_of, rect_of_placed}
 use Rattle.rd_tree.specs.Places.{is_from, lies_in, windows_with, AllHaveRoom, in_place_of, without, is_among, IsWithin, StandsIn, LiesIn}
 use Rattle.rd_tree.proofs.Rooms.{rows_for-some, room_needs, room_within, of_number-append}
-use Rattle.rd_tree.proofs.Keeping.{found_held, found_in, not_single}
+use Rattle.rd_tree.proofs.Keeping.{found_held, found_in, by_way}
 
 -- a place in a range that is cut is in one of the two parts
 is_from-cut : (first size whole place : ℕ) → size ≤ whole → bit_of (is_from first size place) + bit_of (is_from (first + size) (whole - size) place) ≡ bit_of (is_from first whole place)
@@ -192,26 +192,17 @@ once_in_first n first second once e =
 pub removed_leaves : (n : ℕ) (windows : Windows) (rect : Rect) → times n windows ≤ 1 → holds n windows ≡ true → is_single windows ≡ false → leaves (removed n windows rect) ≡ without n (leaves windows)
 removed_leaves n (Window number mode margins) rect once e s = absurd (cc)
 removed_leaves n (Split side size first second) rect once e s =
-    elim (cases_Bool (is_leaf_of n first)) [
-      | inl p ↦ rw (p, resized_leaves second rect, window_without n first (leaves second) p) refl
-      | inr p ↦ elim (cases_Bool (is_leaf_of n second)) [
-        | inl q ↦
-            let away : is_among n (leaves first) ≡ false = sym (held_among n first) ∙ once_in_first n first second once (window_held n second q) in
-            rw (p, q, resized_leaves first rect, without-back n (leaves first) (leaves second) away)
-            (sym (ap (λ (zs : List ℕ). leaves first ++ zs) (ap (without n) (sym (append-nil (leaves second))) ∙ window_without n second [] q) ∙ append-nil (leaves first)))
-        | inr q ↦ elim (cases_Bool (holds n first)) [
-          | inl h ↦
-              let among : is_among n (leaves first) ≡ true = sym (held_among n first) ∙ h in
-              rw (p, q, h, without-front n (leaves first) (leaves second) among)
-              (ap (λ (zs : List ℕ). zs ++ leaves second) (removed_leaves n first (first_part side size rect) (omega arith) h (not_single n first p h)))
-          | inr h ↦
-              let k = second-holds (holds n first) (holds n second) h e in
-              let away : is_among n (leaves first) ≡ false = sym (held_among n first) ∙ h in
-              rw (p, q, h, without-back n (leaves first) (leaves second) away)
-              (ap (λ (zs : List ℕ). leaves first ++ zs) (removed_leaves n second (second_part side size rect) (omega arith) k (not_single n second q k)))
-        ]
-      ]
-    ]
+    let away : holds n second ≡ true → is_among n (leaves first) ≡ false =
+    λ k. sym (held_among n first) ∙ once_in_first n first second once k in
+    by_way (λ left _ _. leaves left ≡ without n (leaves first ++ leaves second)) n side size first second rect
+    (λ p. rw (resized_leaves second rect, window_without n first (leaves second) p) refl)
+    (λ p. rw (resized_leaves first rect, without-back n (leaves first) (leaves second) (away (window_held n second p)))
+    (sym (ap (λ (zs : List ℕ). leaves first ++ zs) (ap (without n) (sym (append-nil (leaves second))) ∙ window_without n second [] p)
+    ∙ append-nil (leaves first))))
+    (λ h many. rw (without-front n (leaves first) (leaves second) (sym (held_among n first) ∙ h))
+    (ap (λ (zs : List ℕ). zs ++ leaves second) (removed_leaves n first (first_part side size rect) (omega arith) h many)))
+    (λ h there. rw (without-back n (leaves first) (leaves second) (away (there e).0))
+    (ap (λ (zs : List ℕ). leaves first ++ zs) (removed_leaves n second (second_part side size rect) (omega arith) (there e).0 (there e).1)))
 
 pub not_found : (v : ℕ) (windows : Windows) (rect : Rect) → holds v windows ≡ false → window_at v windows rect ≡ None
 not_found v windows rect e = none-of (window_at v windows rect) (found_held v windows rect ∙ e)
@@ -228,28 +219,21 @@ neither_found v side size first second rect p q = not_found v (Split side size f
 
 -- a removal leaves each window that is not in the sibling where it is
 pub removed_others : (v n : ℕ) (windows : Windows) (rect : Rect) → (v == n) ≡ false → holds v (sibling n windows) ≡ false → window_at v (removed n windows rect) rect ≡ window_at v windows rect
-removed_others v n (Window number mode margins) rect d e = refl
-removed_others v n (Split side size first second) rect d e =
+removed_others v n (Window number mode margins) rect d = λ _. refl
+removed_others v n (Split side size first second) rect d =
     let a = first_part side size rect in
     let b = second_part side size rect in
-    elim (cases_Bool (is_leaf_of n first)) [
-      | inl p ↦
-          let away : holds v second ≡ false = rw p at e in
-          rw p (not_found v (resized second rect) rect (resized_held v second rect ∙ away) ∙ sym (neither_found v side size first second rect (other_window v n first p d) away))
-      | inr p ↦ elim (cases_Bool (is_leaf_of n second)) [
-        | inl q ↦
-            let away : holds v first ≡ false = rw (p, q) at e in
-            rw (p, q) (not_found v (resized first rect) rect (resized_held v first rect ∙ away) ∙ sym (neither_found v side size first second rect away (other_window v n second q d)))
-        | inr q ↦ elim (cases_Bool (holds n first)) [
-          | inl h ↦
-              let away : holds v (sibling n first) ≡ false = rw (p, q, h) at e in
-              rw (p, q, h) (two_lists v side size (removed n first a) second rect ∙ (ap (λ (o : Option Placed). option_or o (window_at v second b)) (removed_others v n first a d away) ∙ sym (two_lists v side size first second rect)))
-          | inr h ↦
-              let away : holds v (sibling n second) ≡ false = rw (p, q, h) at e in
-              rw (p, q, h) (two_lists v side size first (removed n second b) rect ∙ (ap (λ (o : Option Placed). option_or (window_at v first a) o) (removed_others v n second b d away) ∙ sym (two_lists v side size first second rect)))
-        ]
-      ]
-    ]
+    let whole = two_lists v side size first second rect in
+    by_way (λ left beside _. holds v beside ≡ false → window_at v left rect ≡ window_at v (Split side size first second) rect)
+    n side size first second rect
+    (λ p e. not_found v (resized second rect) rect (resized_held v second rect ∙ e)
+    ∙ sym (neither_found v side size first second rect (other_window v n first p d) e))
+    (λ p e. not_found v (resized first rect) rect (resized_held v first rect ∙ e)
+    ∙ sym (neither_found v side size first second rect e (other_window v n second p d)))
+    (λ _ _ e. two_lists v side size (removed n first a) second rect
+    ∙ (ap (λ (o : Option Placed). option_or o (window_at v second b)) (removed_others v n first a d e) ∙ sym whole))
+    (λ _ _ e. two_lists v side size first (removed n second b) rect
+    ∙ (ap (option_or (window_at v first a)) (removed_others v n second b d e) ∙ sym whole))
 
 pub first_within : (side : Side) (size : ℕ) (first second : Windows) (rect : Rect) → HasRoom (Split side size first second) rect → IsWithin (first_part side size rect) rect
 first_within Right size first second rect h = let w = room_within Right size first second rect h in (omega arith, omega arith, omega arith, omega arith)
