@@ -102,13 +102,13 @@ impl Groups {
     {
         if is_row(line) {
             Groups {
-                begun: or_else(self.begun, Some(here)),
+                begun: self.begun.or(Some(here)),
                 found: self.found,
             }
         } else if is_cursor(line) {
             Groups {
                 begun: None,
-                found: or_else(self.begun, self.found),
+                found: self.begun.or(self.found),
             }
         } else {
             Groups {
@@ -116,16 +116,6 @@ impl Groups {
                 found: self.found,
             }
         }
-    }
-}
-
-/// The start of a line, or another where there is none.
-fn or_else(start: Option<LineStart>, other: Option<LineStart>) -> Option<LineStart>
-    ensures { result ≡ option_or start other }
-{
-    match start {
-        Some(start) => Some(start),
-        None => other,
     }
 }
 

@@ -88,7 +88,7 @@ absent-from (c ∷ cs) [] ks bs b i p h = record { others = refl; indexes = refl
 absent-from (c ∷ cs) (l ∷ ls) [] bs b i p h = record { others = refl; indexes = refl; ends = λ e. refl }
 absent-from (c ∷ cs) (l ∷ ls) (k ∷ ks) [] b i p h = record { others = refl; indexes = refl; ends = λ e. refl }
 absent-from (c ∷ cs) (l ∷ ls) (k ∷ ks) (true ∷ bs) b i p h =
-    absent-cons (Some p) (chained b i l k ks) _ (ne_eqb p i (λ e. let f : true ≡ false = h 0 (omega (arith, e)) in absurd cc))
+    absent-cons (Some p) (chained i (direction_of (max l b)) k ks) _ (ne_eqb p i (λ e. let f : true ≡ false = h 0 (omega (arith, e)) in absurd cc))
     (absent-from cs ls ks bs (if is_removed c then b else l) (i + 1) p (λ j e. h (suc j) (omega (arith, e))))
 absent-from (c ∷ cs) (l ∷ ls) (k ∷ ks) (false ∷ bs) b i p h = absent-from cs ls ks bs (if is_removed c then b else l) (i + 1) p (λ j e. h (suc j) (omega (arith, e)))
 
@@ -116,7 +116,7 @@ present (c ∷ cs) (l ∷ ls) (k ∷ ks) (true ∷ bs) b i zero p at same_ls sam
 present (c ∷ cs) (l ∷ ls) (k ∷ ks) (true ∷ bs) b i (suc j) p at same_ls same_ks within h =
     let e : (p == i) ≡ false = ne_eqb p i (λ q. omega arith) in
     let r = present cs ls ks bs (if is_removed c then b else l) (i + 1) j p (omega arith) (omega arith) (omega arith) (omega arith) h in
-    record { others = rw e (ap (λ ss. chained b i l k ks ∷ ss) r.others); indexes = rw e r.indexes; ends = λ t. rw e (r.ends t) }
+    record { others = rw e (ap (λ ss. chained i (direction_of (max l b)) k ks ∷ ss) r.others); indexes = rw e r.indexes; ends = λ t. rw e (r.ends t) }
 present (c ∷ cs) (l ∷ ls) (k ∷ ks) (false ∷ bs) b i (suc j) p at same_ls same_ks within h =
     let e : (p == i) ≡ false = ne_eqb p i (λ q. omega arith) in
     let r = present cs ls ks bs (if is_removed c then b else l) (i + 1) j p (omega arith) (omega arith) (omega arith) (omega arith) h in
@@ -233,10 +233,10 @@ gathered-step base before i c cs l ls k ks all f same_ls same_ks ih stays follow
     let ends : x10_eos (x ∷ continued f G) ≡ chain_end k.eos (i + 1) k.next ks =
     continued-end x f G ∙ ap (rest_end (x10_eos (x ∷ [])) f) (sym ih) ∙ g.ends (x10_eos (x ∷ [])) ∙ ap (λ n. chain_end (x10_eos (x ∷ [])) (i + 1) n ks) (sym next)
     ∙ ap (λ e. chain_end e (i + 1) k.next ks) one in
-    let head : sequence (x ∷ continued f G) ≡ chained before i l k ks = same_seq _ _ (direction_of (max l before)) _ _ (ap (λ is. i ∷ is) indexes) ends in
+    let head : sequence (x ∷ continued f G) ≡ chained i (direction_of (max l before)) k ks = same_seq _ _ (direction_of (max l before)) _ _ (ap (λ is. i ∷ is) indexes) ends in
     let tail : map sequence (others f G) ≡ gathered l (i + 1) cs ls ks (drop (i + 1) (without_beginning f all)) =
     others-map f G ∙ ap (others_seq f) (sym ih) ∙ sym g.others in
-    let whole : map sequence (bd13_joined_runs (bd7_level_runs (x ∷ xs))) ≡ chained before i l k ks ∷ gathered l (i + 1) cs ls ks (drop (i + 1) (without_beginning f all)) =
+    let whole : map sequence (bd13_joined_runs (bd7_level_runs (x ∷ xs))) ≡ chained i (direction_of (max l before)) k ks ∷ gathered l (i + 1) cs ls ks (drop (i + 1) (without_beginning f all)) =
     ap (map sequence) (bd13_joined_runs-step x xs) ∙ ap (λ q. map sequence ((x ∷ continued q G) ∷ others q G)) (sym follows) ∙ ap₂ ◌∷◌ head tail in
     rw stays (sym whole)
 

@@ -1,17 +1,14 @@
 -- The matching of isolates (UAX 9 BD9): by nesting alone, over the whole line, whatever levels the explicit rules give.
-use Rattle.std.specs.Prelude.{ℕ, zero, suc, ◌+◌, if◌then◌else◌, nat_lt, List, [], ◌∷◌, length, Option, None, Some}
+use Rattle.std.specs.Prelude.{ℕ, zero, ◌+◌, if◌then◌else◌, nat_lt, List, [], ◌∷◌, length, Option, None, Some}
+use Rattle.rd_base.specs.Classes.{depth_after}
 use Rattle.rd_base.specs.declared.class.Class.{Class}
-use Rattle.rd_base.specs.declared.class.Class.TheVariants.{LRI, RLI, FSI, PDI}
+use Rattle.rd_base.specs.declared.class.Class.TheVariants.{PDI}
 
 -- the classes before the PDI that closes what is open, so many isolates inside it; all classes, where there is no such PDI
 abbrev pub inside : List Class → ℕ → List Class
 inside [] depth = []
 inside (PDI ∷ cs) zero = []
-inside (PDI ∷ cs) (suc depth) = PDI ∷ inside cs depth
-inside (LRI ∷ cs) depth = LRI ∷ inside cs (suc depth)
-inside (RLI ∷ cs) depth = RLI ∷ inside cs (suc depth)
-inside (FSI ∷ cs) depth = FSI ∷ inside cs (suc depth)
-inside (c ∷ cs) depth = c ∷ inside cs depth
+inside (c ∷ cs) depth = c ∷ inside cs (depth_after depth c)
 
 -- what an isolate initiator isolates, of the classes after it
 abbrev pub content : List Class → List Class

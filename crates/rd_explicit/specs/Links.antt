@@ -1,9 +1,9 @@
 -- How the walk from a line's end keeps the isolating run sequences: for each index whether a sequence begins there, and the next
 -- index of the sequence that it is in.
 use Rattle.std.specs.Prelude.{◌≡◌, ℕ, ◌+◌, ◌<◌, ◌==◌, max, Bool, false, if◌then◌else◌, List, [], ◌∷◌, length, map, drop, reverse, Option, None, Some, IfSome, slice_index_or, slice_set}
-use Rattle.rd_base.specs.Classes.{is_removed, direction_of}
+use Rattle.rd_base.specs.Classes.{is_initiator, is_removed, direction_of}
 use Rattle.rd_base.specs.declared.class.Class.{Class}
-use Rattle.rd_base.specs.declared.class.Class.TheVariants.{L, LRI, RLI, FSI, PDI}
+use Rattle.rd_base.specs.declared.class.Class.TheVariants.{L, PDI}
 use Rattle.rd_base.specs.declared.line.Seq.{Seq}
 use Rattle.rd_explicit.specs.Sequences.{Item, x9_items, bd7_level_runs, bd13_joined_runs, sequence}
 use Rattle.rd_explicit.specs.declared.links.Link.{Link}
@@ -22,11 +22,11 @@ chain_end eos i None ks = eos
 chain_end eos i (Some w) [] = eos
 chain_end eos i (Some w) (k ∷ ks) = if w == i then chain_end k.eos (i + 1) k.next ks else chain_end eos (i + 1) (Some w) ks
 
--- the sequence that begins at index i
-abbrev pub chained : ℕ → ℕ → ℕ → Link → List Link → Seq
-chained before i l k ks = record {
+-- the sequence that begins at index i with a type at its start and goes on by this link, along those behind it
+abbrev pub chained : ℕ → Class → Link → List Link → Seq
+chained i sos k ks = record {
   indexes = i ∷ chain (i + 1) k.next ks;
-  sos = direction_of (max l before);
+  sos = sos;
   eos = chain_end k.eos (i + 1) k.next ks;
 }
 
@@ -37,7 +37,7 @@ gathered before i (c ∷ cs) [] ks bs = []
 gathered before i (c ∷ cs) (l ∷ ls) [] bs = []
 gathered before i (c ∷ cs) (l ∷ ls) (k ∷ ks) [] = []
 gathered before i (c ∷ cs) (l ∷ ls) (k ∷ ks) (b ∷ bs) =
-    if b then chained before i l k ks ∷ gathered (if is_removed c then before else l) (i + 1) cs ls ks bs
+    if b then chained i (direction_of (max l before)) k ks ∷ gathered (if is_removed c then before else l) (i + 1) cs ls ks bs
     else gathered (if is_removed c then before else l) (i + 1) cs ls ks bs
 
 -- the sequences of the items from index i on
@@ -52,10 +52,7 @@ tail_of (p ∷ ps) = ps
 abbrev pub unmatched : ℕ → List Class → List ℕ
 unmatched i [] = []
 unmatched i (PDI ∷ cs) = i ∷ unmatched (i + 1) cs
-unmatched i (LRI ∷ cs) = tail_of (unmatched (i + 1) cs)
-unmatched i (RLI ∷ cs) = tail_of (unmatched (i + 1) cs)
-unmatched i (FSI ∷ cs) = tail_of (unmatched (i + 1) cs)
-unmatched i (c ∷ cs) = unmatched (i + 1) cs
+unmatched i (c ∷ cs) = if is_initiator c then tail_of (unmatched (i + 1) cs) else unmatched (i + 1) cs
 
 abbrev pub first_of : List Item → Option First
 first_of [] = None
@@ -68,13 +65,9 @@ LeadsOn n ks = (i : ℕ) (d : Link) → i < length ks → IfSome (slice_index_or
 abbrev pub link_at : List Link → ℕ → Link
 link_at ks i = slice_index_or ks i (record { next = None; eos = L })
 
--- the sequence that begins at index i, with a type at its start
+-- the same of all links of a line
 abbrev pub seq_at : List Link → ℕ → Class → Seq
-seq_at ks i sos = record {
-  indexes = i ∷ chain (i + 1) (link_at ks i).next (drop (i + 1) ks);
-  sos = sos;
-  eos = chain_end (link_at ks i).eos (i + 1) (link_at ks i).next (drop (i + 1) ks);
-}
+seq_at ks i sos = chained i sos (link_at ks i) (drop (i + 1) ks)
 
 -- an index where a sequence begins there
 abbrev pub beginning : Option ℕ → List Bool → Option ℕ

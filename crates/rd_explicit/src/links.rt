@@ -34,7 +34,7 @@ pub struct Links {
 impl Links {
     ghost use Rattle.std.specs.Prelude.{◌≡◌, ℕ, List, IfSome, ◌<◌, ◌+◌, ◌^◌, ◌∷◌, [], length, drop, reverse, OnOk, IfOk, None, is_none, ◌&&◌};
     ghost use Rattle.rd_base.specs.Classes.{is_initiator};
-    ghost use Rattle.rd_explicit.specs.Links.{IsLinkedFrom, LeadsOn, KeepsLinks, chain, chain_end, unmatched, link_at, beginning, without_beginning, gathered, sequences_from};
+    ghost use Rattle.rd_explicit.specs.Links.{IsLinkedFrom, LeadsOn, KeepsLinks, unmatched, seq_at, beginning, without_beginning, gathered, sequences_from};
     ghost use Rattle.rd_explicit.specs.Sequences.{partner_of};
     ghost use Rattle.rd_base.specs.declared.class.Class.{Class};
 
@@ -153,9 +153,7 @@ impl Links {
         requires within { i < length self.now.links }
         requires short { length self.now.links < 2 ^ 32 }
         requires leads { LeadsOn (length self.now.links) self.now.links }
-        ensures indexes { IfOk result (λ s. s.indexes ≡ i ∷ chain (i + 1) (link_at self.now.links i).next (drop (i + 1) self.now.links)) }
-        ensures sos { IfOk result (λ s. s.sos ≡ sos) }
-        ensures eos { IfOk result (λ s. s.eos ≡ chain_end (link_at self.now.links i).eos (i + 1) (link_at self.now.links i).next (drop (i + 1) self.now.links)) }
+        ensures { IfOk result (λ s. s ≡ seq_at self.now.links i sos) }
     {
         let mut indexes = ListOf::new(alloc);
         indexes.push(i as u32)?;

@@ -15,14 +15,11 @@ loop-at-preserved c =
       eos = end-step ks c.loop-at.at c.at.result c.at.ensures c.requires.leads inv.within next _ c.in-Some.is inv.eos;
     }
 
-pub returns-clause-indexes : goal.returns-clause-indexes
-returns-clause-indexes c =
-    let ks = c.args.self.now.links in
-    chain-stop ks c.loop-at.at c.at.result c.at.ensures c.requires.leads c.loop-at.invariant.within c.loop-at.indexes _ c.in_default.is c.loop-at.invariant.indexes
-
-pub returns-clause-eos : goal.returns-clause-eos
-returns-clause-eos c =
+pub returns : goal.returns
+returns c =
     let ks = c.args.self.now.links in
     let inv = c.loop-at.invariant in
     let same : c.at.result ≡ c.at-2.result = same_Some _ _ (sym c.at.ensures ∙ c.at-2.ensures) in
-    end-stop ks c.loop-at.at c.at-2.result c.at-2.ensures c.requires.leads inv.within _ (ap (λ (k : Link). k.next) (sym same) ∙ c.in_default.is) inv.eos
+    let indexes = chain-stop ks c.loop-at.at c.at.result c.at.ensures c.requires.leads inv.within c.loop-at.indexes _ c.in_default.is inv.indexes in
+    let eos = end-stop ks c.loop-at.at c.at-2.result c.at-2.ensures c.requires.leads inv.within _ (ap (λ (k : Link). k.next) (sym same) ∙ c.in_default.is) inv.eos in
+    cc
