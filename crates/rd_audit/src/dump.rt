@@ -1,6 +1,5 @@
 //! The dump of a file.
 ghost use Rattle.std.specs.Prelude.{◌≡◌, ◌≤◌, ◌+◌, [], None, option_map, IfOk, IfSome, length};
-ghost use Rattle.std.specs.Option.{option_or};
 ghost use Rattle.rd_base.specs.declared.limits.TheConstants.{FILE_BYTES};
 ghost use Rattle.rd_io.specs.Lines.{lines_of};
 ghost use Rattle.rd_audit.specs.Dumps.{last_group, picture_from, ended_by, dump_in};
