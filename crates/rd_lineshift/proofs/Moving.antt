@@ -7,6 +7,7 @@ use Rattle.std.proofs.lemmas.List.Elements.{recursion_from_All, All-append, All-
 use Rattle.rd_base.specs.declared.cell.Cell.{Cell}
 use Rattle.rd_term.specs.Pictures.{Picture, IsGrid, blank, blank_row, width_of}
 use Rattle.rd_term.proofs.Cutting.{map-replicate}
+use Rattle.rd_term.proofs.Shapes.{between-all, length-between}
 use Rattle.rd_update.specs.Updates.{differing}
 use Rattle.rd_update.proofs.Spans.{three-parts}
 use Rattle.rd_lineshift.specs.Choices.{cost, shift_by}
@@ -46,13 +47,7 @@ moved-all P (negsuc n) free rows p h =
     All-append P (replicate (suc n) free) (take (length rows - suc n) rows) (All-replicate P (suc n) free p) (All-take P (length rows - suc n) rows h)
 
 pub shifted-all : {A : Type 0} (P : A → Type 0) (s : Shift) (free : A) (rows : List A) → P free → All P rows → All P (shifted_rows s free rows)
-shifted-all P s free rows p h =
-    let end = s.top + s.height in
-    let part = take (end - s.top) (drop s.top rows) in
-    All-append P (take s.top rows) (moved s.by free part ++ drop end rows) (All-take P s.top rows h)
-    (All-append P (moved s.by free part) (drop end rows)
-    (moved-all P s.by free part p (All-take P (end - s.top) (drop s.top rows) (All-drop P s.top rows h)))
-    (All-drop P end rows h))
+shifted-all P s free rows p h = between-all P s.top (s.top + s.height) (moved s.by free) rows (λ part. moved-all P s.by free part p) h
 
 moved-length : {A : Type 0} (by : ℤ) (free : A) (rows : List A) → unsigned_abs by ≤ length rows → length (moved by free rows) ≡ length rows
 moved-length (pos n) free rows le = length-append (drop n rows) (replicate n free) ∙ omega (arith, length-drop n rows, length-replicate n free)
@@ -62,19 +57,8 @@ moved-length (negsuc n) free rows le =
 
 pub shifted-length : {A : Type 0} (s : Shift) (free : A) (rows : List A) → IsShift (length rows) s → length (shifted_rows s free rows) ≡ length rows
 shifted-length s free rows h =
-    let end = s.top + s.height in
-    let part = take (end - s.top) (drop s.top rows) in
-    let n : length part ≡ s.height = length-take-le (end - s.top) (drop s.top rows) (omega (arith, length-drop s.top rows, h.within)) ∙ omega arith in
-    length-append (take s.top rows) (moved s.by free part ++ drop end rows)
-    ∙ omega (
-      arith,
-      h.within,
-      n,
-      length-append (moved s.by free part) (drop end rows),
-      moved-length s.by free part (omega (arith, n, h.left)),
-      length-take-le s.top rows (omega (arith, h.within)),
-      length-drop end rows,
-    )
+    length-between s.top (s.top + s.height) (moved s.by free) rows (λ part n. moved-length s.by free part (omega (arith, n, h.left)))
+    (omega arith) (omega (arith, h.within))
 
 -- ---- costs by numbers
 

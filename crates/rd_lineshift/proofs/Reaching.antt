@@ -94,7 +94,7 @@ shift-fed reads cuts r rows cursor wait latest height s n tall h some =
     let two = move_fed (Some (s.top, end - 1)) rows None false (Some plain) None s.top 0 (omega (arith, n, h.within, order)) some (omega (arith, h.within, tall, order)) (omega arith) in
     let three = moving-fed reads rows None s.top (end - 1) s.by h.some (omega (arith, h.left, h.within, tall)) (omega (arith, order)) in
     let long : length after ≡ height =
-    length-between s.top (end - 1 + 1) (terminal_moved s.by) rows (length-moved s.by) (omega (arith, back)) (omega (arith, back, n, h.within)) ∙ n in
+    length-between s.top (end - 1 + 1) (terminal_moved s.by) rows (λ part _. length-moved s.by part) (omega (arith, back)) (omega (arith, back, n, h.within)) ∙ n in
     let four = region-fed reads (Some (s.top, end - 1)) after None false (Some plain) None 0 height (omega (arith, h.within, order)) (omega (arith, long)) (omega (arith, tall)) in
     cuts t0 (region (s.top + 1) end) (move ++ (moving s.by ++ region 1 height))
     ∙ ap (λ t. feed_bytes t (move ++ (moving s.by ++ region 1 height))) one

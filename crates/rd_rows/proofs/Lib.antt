@@ -10,7 +10,7 @@ pub mod Marks
 pub mod Mirroring
 mod Placings
 pub mod SameShapes
-mod Splits
+pub mod Splits
 mod Stands
 mod Waiting
 mod Walk

@@ -1,5 +1,5 @@
 -- Rows that keep their number and their width, and what a terminal then keeps.
-use Rattle.std.proofs.Common.{◌≡◌, ℕ, ◌-◌, ◌<◌, ◌≤◌, List, [], ◌∷◌, ◌++◌, length, get_or, set, take, drop, map, Option, None, Some, ◌∙◌, arith}
+use Rattle.std.proofs.Common.{◌≡◌, ℕ, ◌-◌, ◌<◌, ◌≤◌, List, [], ◌∷◌, ◌++◌, length, get_or, set, take, drop, map, Option, None, Some, ◌∙◌, arith, All}
 use Rattle.std.proofs.lemmas.List.{length-append, length-take, length-take-le, length-drop, length-map, length-replicate, length-set}
 use Rattle.std.proofs.lemmas.List.Elements.{All-append, All-take, All-drop, All-map, All-set}
 use Rattle.rd_base.specs.declared.cell.Cell.{Cell}
@@ -78,26 +78,20 @@ length-moved Down n rows = length-down n rows
 length-moved Up n rows = length-up n rows
 
 -- rows of which a part is changed
-pub grid-between : (w from end : ℕ) (change : Rows → Rows) (rows : Rows) → ((xs : Rows) → IsGrid w xs → IsGrid w (change xs)) → IsGrid w rows → IsGrid w (changed_between from end change rows)
-grid-between w from end change rows keeps h =
-    let part = take (end - from) (drop from rows) in
-    All-append (λ row. length row ≡ w) (take from rows) (change part ++ drop end rows)
-    (All-take (λ row. length row ≡ w) from rows h)
-    (All-append (λ row. length row ≡ w) (change part) (drop end rows)
-    (keeps part (All-take (λ row. length row ≡ w) (end - from) (drop from rows) (All-drop (λ row. length row ≡ w) from rows h)))
-    (All-drop (λ row. length row ≡ w) end rows h))
+pub between-all : {A : Type 0} (P : A → Type 0) (from end : ℕ) (change : List A → List A) (xs : List A) → ((part : List A) → All P part → All P (change part))
+    → All P xs → All P (changed_between from end change xs)
+between-all P from end change xs keeps h =
+    let part = take (end - from) (drop from xs) in
+    All-append P (take from xs) (change part ++ drop end xs) (All-take P from xs h)
+    (All-append P (change part) (drop end xs) (keeps part (All-take P (end - from) (drop from xs) (All-drop P from xs h))) (All-drop P end xs h))
 
-pub length-between : (from end : ℕ) (change : Rows → Rows) (rows : Rows) → ((xs : Rows) → length (change xs) ≡ length xs) → from ≤ end → end ≤ length rows → length (changed_between from end change rows) ≡ length rows
-length-between from end change rows keeps order within =
-    length-append (take from rows) (change (take (end - from) (drop from rows)) ++ drop end rows)
-    ∙ omega (
-      arith,
-      length-append (change (take (end - from) (drop from rows))) (drop end rows),
-      keeps (take (end - from) (drop from rows)),
-      length-take-le from rows (omega arith),
-      length-take-le (end - from) (drop from rows) (omega (arith, length-drop from rows)),
-      length-drop end rows,
-    )
+pub length-between : {A : Type 0} (from end : ℕ) (change : List A → List A) (xs : List A) → ((part : List A) → length part ≡ end - from → length (change part) ≡ length part)
+    → from ≤ end → end ≤ length xs → length (changed_between from end change xs) ≡ length xs
+length-between from end change xs keeps order within =
+    let part = take (end - from) (drop from xs) in
+    let n : length part ≡ end - from = length-take-le (end - from) (drop from xs) (omega (arith, length-drop from xs)) in
+    length-append (take from xs) (change part ++ drop end xs)
+    ∙ omega (arith, length-append (change part) (drop end xs), keeps part n, n, length-take-le from xs (omega arith), length-drop end xs)
 
 -- ---- all of a terminal
 
@@ -115,8 +109,8 @@ pub whole-moved : {tall : ℕ} (rows : Rows) (cursor latest region : Option (ℕ
     → ((xs : Rows) → length (change xs) ≡ length xs) → ((xs : Rows) → IsGrid (width_of rows) xs → IsGrid (width_of rows) (change xs))
     → length rows ≡ tall → (from ≤ end) × (end ≤ tall) → IsWhole (changed_between from end change rows) None latest region
 whole-moved rows cursor latest region from end change h long wide total part =
-    whole-kept rows (changed_between from end change rows) cursor None latest region h (length-between from end change rows long part.0 (omega (arith, part.1, total)))
-    (grid-between (width_of rows) from end change rows wide h.0.each) tt
+    whole-kept rows (changed_between from end change rows) cursor None latest region h (length-between from end change rows (λ xs _. long xs) part.0 (omega (arith, part.1, total)))
+    (between-all (λ row. length row ≡ width_of rows) from end change rows wide h.0.each) tt
 
 -- another row with the latest character and the cursor in it
 pub put-whole : (rows : Rows) (cursor latest region : Option (ℕ × ℕ)) (row column next : ℕ) (new : List (Option Cell)) → IsWhole rows cursor latest region

@@ -5,7 +5,7 @@ use Rattle.std.specs.Option.{option_map}
 use Rattle.std.proofs.lemmas.Bool.{and_parts, cases_lt}
 use Rattle.std.proofs.lemmas.Bool.Decides.{nat_tests}
 use Rattle.std.proofs.lemmas.List.Elements.{All-head, All-tail}
-use Rattle.rd_base.proofs.Lists.{count-append, count-cons}
+use Rattle.rd_base.proofs.Lists.{all-at, count-append, count-cons}
 use Rattle.rd_matrix.proofs.Passing.{found-one, place-counted}
 use Rattle.rd_matrix.specs.Blocks.{IsAmong, StandFrom, first_start}
 use Rattle.rd_matrix.specs.Columns.{covers, shown_column}
@@ -19,7 +19,7 @@ use Rattle.rd_rows.specs.Rows.{RowMeaning}
 use Rattle.rd_rows.specs.Shapes.{ShapeValues, IsShape}
 use Rattle.rd_rows.specs.declared.begin.Begin.{Begin}
 use Rattle.rd_visual.specs.Hits.{AreInPositions, AreRowsAt, Fits, begins_at, covers_some, hit_in, item_at, item_of_cell, least_at, reading_column}
-use Rattle.rd_visual.proofs.Items.{found-none, held-at, item-again, item-alone, item-column, item-member}
+use Rattle.rd_visual.proofs.Items.{found-none, item-again, item-alone, item-column, item-member}
 
 -- how many items of these rows cover a position
 abbrev pub count_at : ℕ → List EntryMeaning → ℕ
@@ -211,7 +211,7 @@ item-fits start row column b fits found =
     let one = item-member (reading_column row column) row.begins b at in
     let some = (item-column (reading_column row column) row.begins b at).0 in
     let order : b.from < b.to = grind (arith, nat_tests) in
-    let end : start + b.to < 4294967296 = held-at (Fits start) row.begins one.place b fits one.there in
+    let end : start + b.to < 4294967296 = all-at (Fits start) row.begins one.place b fits one.there in
     omega (arith, order, end)
 
 -- a reading column and the cell in which it is shown

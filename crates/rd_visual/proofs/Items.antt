@@ -1,9 +1,8 @@
 -- The item of a reading column.
-use Rattle.std.proofs.Common.{◌≡◌, ℕ, zero, suc, ◌+◌, ◌≤◌, ◌&&◌, nat_le, nat_eq, Bool, true, false, cond, List, [], ◌∷◌, All, Option, None, Some, refl, ap, ◌∙◌, subst, arith}
+use Rattle.std.proofs.Common.{◌≡◌, ℕ, zero, suc, ◌+◌, ◌≤◌, ◌&&◌, nat_le, nat_eq, Bool, true, false, cond, List, [], ◌∷◌, Option, None, Some, refl, ap, ◌∙◌, subst, arith}
 use Rattle.std.specs.Prelude.{count_by, find, slice_get}
 use Rattle.std.proofs.lemmas.Bool.{and_parts}
 use Rattle.std.proofs.lemmas.Bool.Decides.{nat_tests}
-use Rattle.std.proofs.lemmas.Option.{get_or_from_slice_get, slice_get_within}
 use Rattle.rd_base.proofs.Lists.{count-cons}
 use Rattle.rd_matrix.proofs.Passing.{place-counted}
 use Rattle.rd_rows.specs.declared.begin.Begin.{Begin}
@@ -11,10 +10,6 @@ use Rattle.rd_visual.specs.Hits.{covers_some, reaches, nearer, item_at, begins_a
 
 abbrev pub column_of : Begin → ℕ
 column_of b = b.column
-
--- what holds of each of a list holds of the one at a place
-pub held-at : {X : Type 0} (P : X → Type 0) (xs : List X) (k : ℕ) (x : X) → All P xs → slice_get xs k ≡ Some x → P x
-held-at P xs k x all there = subst P (get_or_from_slice_get xs k x x there) (all k x (slice_get_within xs k x there))
 
 -- an item of a list at some place, of which a test holds
 pub record IsOneOf (p : Begin → Bool) (bs : List Begin) (b : Begin) : Type 0 where

@@ -1,42 +1,37 @@
 -- The items of a row begin in columns of its window.
 use Rattle.std.proofs.Common.{◌≡◌, ℕ, zero, suc, ◌+◌, ◌-◌, ◌<◌, ◌≤◌, ◌&&◌, min, max, nat_le, nat_lt, Bool, true, false, List, [], ◌∷◌, ◌++◌, All, Option, None, Some, refl, subst, arith, length-append}
-use Rattle.std.specs.Prelude.{flat_map, drop, length, if◌then◌else◌, replicate, slice_get}
-use Rattle.std.specs.List.{AllByRecursion}
+use Rattle.std.specs.Prelude.{flat_map, length, if◌then◌else◌, replicate, slice_get}
 use Rattle.std.proofs.lemmas.List.{length-replicate}
-use Rattle.std.proofs.lemmas.List.Elements.{All-append, All-cons, All-nil, All-from_recursion}
+use Rattle.std.proofs.lemmas.List.Elements.{All-append, All-cons, All-map, All-nil}
 use Rattle.rd_base.proofs.Choices.{either}
-use Rattle.rd_base.proofs.Lists.{each-append, each-back, each-front}
+use Rattle.rd_base.proofs.Lists.{all-at, all-back, all-front}
 use Rattle.rd_base.specs.Faces.{Attributes, plain}
 use Rattle.rd_base.specs.Glyphs.{blanks, is_space}
 use Rattle.rd_base.specs.declared.cell.Cell.{Cell}
 use Rattle.rd_base.specs.declared.cell.Cell.TheVariants.{Blank, First, Rest}
 use Rattle.rd_base.specs.declared.cell.Glyph.{Glyph}
 use Rattle.rd_base.specs.declared.element.Element.{Element}
-use Rattle.rd_visual.proofs.Items.{held-at}
+use Rattle.rd_matrix.proofs.EachRow.{rows-each}
 use Rattle.rd_rows.proofs.Mirroring.{mirror-length}
-use Rattle.rd_rows.specs.Cuts.{cut_row}
+use Rattle.rd_rows.proofs.Splits.{over-rows, placed_in}
 use Rattle.rd_ucd.specs.Data.{Data}
 use Rattle.rd_objects.specs.Things.{ObjectLists}
 use Rattle.rd_props.specs.Buffers.{BufferValue}
 use Rattle.rd_items.specs.Pieces.{scene_in}
 use Rattle.rd_items.specs.Readings.{reading}
 use Rattle.rd_stack.specs.Lines.{line_elements}
-use Rattle.rd_matrix.specs.Entries.{EntryMeaning, all_rows, entries_of, numbered}
+use Rattle.rd_matrix.specs.Entries.{EntryMeaning}
 use Rattle.rd_matrix.specs.declared.block.Block.{Block}
-use Rattle.rd_blocks.specs.Bases.{blocks_in}
 use Rattle.rd_blocks.specs.Rows.{block_cutting}
 use Rattle.rd_blocks.specs.Sources.{text_source}
 use Rattle.rd_visual.specs.Hits.{AreRowsAt}
-use Rattle.rd_rows.specs.Laws.{seen_rows}
 use Rattle.rd_rows.specs.Mirrors.{leading_rests}
-use Rattle.rd_rows.specs.Placing.{glyph_in, next_row, next_line, place_all, behind_all, columns_of}
-use Rattle.rd_rows.specs.Rows.{LaidRow, RowMeaning, begin_of, filled, first_seen, from_edge, front_mark, laid, last_cell, mark, row_of, rows_of, rows_within, seen, seen_in, whole_cells}
-use Rattle.rd_rows.specs.Placing.{line_start}
+use Rattle.rd_rows.specs.Placing.{glyph_in}
+use Rattle.rd_rows.specs.Rows.{LaidRow, RowMeaning, begin_of, filled, first_seen, from_edge, front_mark, laid, last_cell, mark, row_of, rows_of, seen, seen_in, whole_cells}
 use Rattle.rd_rows.specs.Shapes.{IsShape, ShapeValues, room, truncates}
 use Rattle.rd_rows.specs.declared.begin.Begin.{Begin}
 use Rattle.rd_rows.specs.declared.cutting.Cutting.{Cutting}
 use Rattle.rd_rows.specs.declared.spot.Placed.{Placed}
-use Rattle.rd_rows.specs.declared.spot.Spot.{Spot}
 
 abbrev pub IsLow : ℕ → Begin → Type 0
 IsLow width b = b.column < width
@@ -52,21 +47,14 @@ begins-low : (shape : ShapeValues) (ps : List Placed) → 1 ≤ shape.width → 
 begins-low shape [] some = All-nil (IsLow shape.width)
 begins-low shape (p ∷ ps) some = All-append (IsLow shape.width) (begin_of shape p) (flat_map (begin_of shape) ps) (begin-low shape p _ refl some) (begins-low shape ps some)
 
-within-low : (n : ℕ) (c : Cutting) (lead : List Placed) (spot : Spot) (es : List Element) → 1 ≤ c.shape.width → All (AreLow c.shape.width) (rows_within n c lead spot es)
-within-low zero c lead spot es some = All-nil (AreLow c.shape.width)
-within-low (suc n) c lead spot [] some = All-nil (AreLow c.shape.width)
-within-low (suc n) c lead spot (e ∷ es) some =
-    let start = next_row (columns_of lead) spot in
-    let cut = cut_row c.shape start (e ∷ es) in
-    let ps = place_all c.shape start cut.elements in
-    let end = behind_all start ps in
-    All-cons (AreLow c.shape.width) (laid c end.used cut.marked (lead ++ ps))
-    (rows_within n c (if cut.ended then c.first else c.wrap) (if cut.ended then next_line end else end) (drop (length cut.elements) (e ∷ es)))
-    (begins-low c.shape (lead ++ ps) some)
-    (within-low n c (if cut.ended then c.first else c.wrap) (if cut.ended then next_line end else end) (drop (length cut.elements) (e ∷ es)) some)
+-- what holds of each row that may be laid out holds of the rows of a line
+each-row : (P : LaidRow → Type 0) (c : Cutting) (es : List Element) → ((used : ℕ) (marked : Bool) (ps : List Placed) → P (laid c used marked ps)) → All P (rows_of c es)
+each-row P c es own =
+    over-rows c (λ lead. Unit {0}) (λ lead spot ys rows. All P rows) tt tt (λ lead spot. All-nil P)
+    (λ n lead spot xs rest marked ended one lines later. All-cons P _ _ (own _ marked (lead ++ placed_in c lead spot xs)) later) es
 
 pub rows-low : (c : Cutting) (es : List Element) → 1 ≤ c.shape.width → All (λ r. All (λ b. b.column < c.shape.width) r.row.begins) (rows_of c es)
-rows-low c es some = within-low (length es) c c.first line_start es some
+rows-low c es some = each-row (AreLow c.shape.width) c es (λ used marked ps. begins-low c.shape ps some)
 
 -- no row has fewer cells than the window has columns
 
@@ -142,46 +130,30 @@ row-fits c used continued ps some =
     let wide = row-wide c used continued ps in
     λ k b inside. let low = begins-low c.shape ps some k b inside in omega (arith, wide, low)
 
+block-fits : (s : BufferValue) (objects : ObjectLists) (files : Data) (shape : ShapeValues) (b : Block) → 1 ≤ shape.width → All Fits ((text_source s objects files).rows_of b shape)
+block-fits s objects files shape b some =
+    let es = reading s objects b.start in
+    let scene = scene_in s.settings objects files in
+    let cutting = block_cutting scene b.base shape es in
+    let line = line_elements scene b.base es in
+    All-map Fits (λ (r : LaidRow). r.row) (rows_of cutting line)
+    (each-row (λ r. Fits r.row) cutting line (λ used marked ps. row-fits cutting used marked ps some))
+
 -- the rows of a buffer, each with its place
 
 abbrev FitsIn : EntryMeaning → Type 0
 FitsIn e = Fits e.row
 
-abbrev FitsEach : List EntryMeaning → Type 0
-FitsEach es = AllByRecursion FitsIn es
-
-line-fits : (n start number : ℕ) (c : Cutting) (lead : List Placed) (spot : Spot) (es : List Element) → 1 ≤ c.shape.width → FitsEach (numbered start number (seen_rows (rows_within n c lead spot es)))
-line-fits zero start number c lead spot es some = tt
-line-fits (suc n) start number c lead spot [] some = tt
-line-fits (suc n) start number c lead spot (e ∷ es) some =
-    let from = next_row (columns_of lead) spot in
-    let cut = cut_row c.shape from (e ∷ es) in
-    let ps = place_all c.shape from cut.elements in
-    let end = behind_all from ps in (
-      row-fits c end.used cut.marked (lead ++ ps) some,
-      line-fits n start (number + 1) c (if cut.ended then c.first else c.wrap) (if cut.ended then next_line end else end) (drop (length cut.elements) (e ∷ es)) some,
-    )
-
-blocks-fit : (s : BufferValue) (objects : ObjectLists) (files : Data) (shape : ShapeValues) (bs : List Block) → 1 ≤ shape.width
-    → FitsEach (all_rows (λ b. (text_source s objects files).rows_of b shape) bs)
-blocks-fit s objects files shape [] some = tt
-blocks-fit s objects files shape (b ∷ bs) some =
-    let es = reading s objects b.start in
-    let scene = scene_in s.settings objects files in
-    let cutting = block_cutting scene b.base shape es in
-    let line = line_elements scene b.base es in
-    each-append FitsIn (entries_of (λ x. (text_source s objects files).rows_of x shape) b) (all_rows (λ x. (text_source s objects files).rows_of x shape) bs)
-    (line-fits (length line) b.start 0 cutting cutting.first line_start line some) (blocks-fit s objects files shape bs some)
-
 pub entry-fits : (s : BufferValue) (objects : ObjectLists) (files : Data) (shape : ShapeValues) (es : List EntryMeaning) (k : ℕ) (e : EntryMeaning) → IsShape shape
     → AreRowsAt (text_source s objects files) shape es → slice_get es k ≡ Some e → Fits e.row
 entry-fits s objects files shape es k e is rows there =
     let least = is.least in
-    let all = blocks-fit s objects files shape (blocks_in files.classes s) (omega (arith, least)) in
-    let mine = subst FitsEach rows.rows all in
-    held-at FitsIn es k e (All-from_recursion FitsIn es (each-front FitsIn es rows.below (each-back FitsIn rows.above (es ++ rows.below) mine))) there
+    let source = text_source s objects files in
+    let all = rows-each Fits (λ b. source.rows_of b shape) source.blocks (λ b. block-fits s objects files shape b (omega (arith, least))) in
+    let mine = subst (All FitsIn) rows.rows all in
+    all-at FitsIn es k e (all-front FitsIn es rows.below (all-back FitsIn rows.above (es ++ rows.below) mine)) there
 
 pub item-fits : (s : BufferValue) (objects : ObjectLists) (files : Data) (shape : ShapeValues) (es : List EntryMeaning) (row : ℕ) (e : EntryMeaning) (k : ℕ) (b : Begin) → IsShape shape
     → AreRowsAt (text_source s objects files) shape es → slice_get es row ≡ Some e → slice_get e.row.begins k ≡ Some b → b.column < length e.row.cells
 item-fits s objects files shape es row e k b is rows there place =
-    held-at (λ (x : Begin). x.column < length e.row.cells) e.row.begins k b (entry-fits s objects files shape es row e is rows there) place
+    all-at (λ (x : Begin). x.column < length e.row.cells) e.row.begins k b (entry-fits s objects files shape es row e is rows there) place
