@@ -10,8 +10,9 @@ use Rattle.std.proofs.lemmas.List.{length-map}
 use Rattle.std.proofs.lemmas.List.Elements.{All-from_get_or}
 use Rattle.std.proofs.lemmas.List.FromFn.{length-range_with_len, get_or-range_with_len}
 use Rattle.std.proofs.lemmas.List.Sorted.{All-permutation}
-use Rattle.std.proofs.lemmas.Option.{slice_get_within, slice_get-get_or, get_or_from_slice_get}
+use Rattle.std.proofs.lemmas.Option.{slice_get_within, slice_get-get_or, slice_get-map, get_or_from_slice_get}
 use Rattle.std.proofs.Math.Nat.{le-min}
+use Rattle.rd_base.proofs.Choices.{map-some}
 use Rattle.rd_base.proofs.Lists.{get-first}
 use Rattle.rd_overlays.specs.declared.overlay.Overlay.{Overlay}
 use Rattle.rd_overlays.specs.declared.overlay.Meeting.{Meeting}
@@ -63,13 +64,6 @@ shrunk-holds from to b (Some o) p h = record {
   to_high = deletion-rises from to o.to b.high p h.to_high;
 }
 
-map-from : {X Y : Type 0} (f : X → Y) (xs : List X) (k : ℕ) (y : Y) → slice_get (map f xs) k ≡ Some y → (x : X) × (slice_get xs k ≡ Some x) × (f x ≡ y)
-map-from {X} {Y} f [] k y e =
-    let p : k < 0 = slice_get_within [] k y e in
-    absurd (omega arith)
-map-from {X} {Y} f (x ∷ xs) zero y e = (x, refl, ap (λ (o : Option Y). unwrap_or o y) e)
-map-from {X} {Y} f (x ∷ xs) (suc k) y e = map-from f xs k y e
-
 pub overlay_at-map : (f : Option Overlay → Option Overlay) (slots : List (Option Overlay)) (number : ℕ) → f None ≡ None
     → overlay_at (map f slots) number ≡ f (overlay_at slots number)
 overlay_at-map f [] number e = sym e
@@ -95,7 +89,9 @@ moved-bounded f g slots order bounds h none step =
     let room = h.room in
     record {
       room = omega (arith, bounds_size, room);
-      holds = λ place number b at d. both-moved f g slots order bounds place number b h none step at (map-from g bounds (place / 256) b d);
+      holds = λ place number b at d.
+          let old = map-some g (slice_get bounds (place / 256)) b (sym (slice_get-map g bounds (place / 256)) ∙ d) in
+          both-moved f g slots order bounds place number b h none step at old;
     }
 
 -- each edit keeps what is moved within bounds that are moved

@@ -1,12 +1,13 @@
 -- All numbers, in the order in which a look-up comes to them.
-use Rattle.std.proofs.Common.{◌≡◌, ℕ, zero, suc, ◌+◌, ◌-◌, ◌<◌, ◌≤◌, List, [], ◌∷◌, ◌++◌, length, map, get_or, drop, Option, Some, refl, sym, ap, subst, ◌∙◌, arith, length-append}
+use Rattle.std.proofs.Common.{◌≡◌, ℕ, ◌+◌, ◌-◌, ◌<◌, ◌≤◌, List, [], ◌∷◌, ◌++◌, length, map, get_or, drop, Option, Some, refl, sym, ap, subst, ◌∙◌, arith, length-append}
 use Rattle.std.specs.Prelude.{slice_get}
 use Rattle.std.specs.List.{range_with_len}
 use Rattle.std.specs.List.Sorted.{IsPermutation}
+use Rattle.std.proofs.lemmas.List.{drop-drop}
 use Rattle.std.proofs.lemmas.List.FromFn.{length-range_with_len, get_or-range_with_len}
 use Rattle.std.proofs.lemmas.List.Sorted.{IsPermutation-append_left, IsPermutation-map, length_permutation}
 use Rattle.std.proofs.lemmas.Option.{slice_get-get_or}
-use Rattle.rd_base.proofs.Lists.{get-second, range-split, range-more}
+use Rattle.rd_base.proofs.Lists.{get-drop, get-second, range-split, range-more}
 use Rattle.rd_overlays.specs.declared.overlay.Overlay.{Overlay}
 use Rattle.rd_overlays.specs.declared.bounds.Bounds.{Bounds}
 use Rattle.rd_overlays.specs.declared.way.Way.{Way}
@@ -48,15 +49,7 @@ passed-whole slots order size whole =
     subst P parts (IsPermutation-append_left (range_with_len m (n - m)) (range_with_len 0 m) order whole)
 
 pub drop-cons : {X : Type 0} (xs : List X) (a : ℕ) (x : X) (rest : List X) → drop a xs ≡ x ∷ rest → (slice_get xs a ≡ Some x) × (drop (a + 1) xs ≡ rest)
-drop-cons {X} [] zero x rest e = absurd (omega (arith, ap length e))
-drop-cons {X} [] (suc a) x rest e = absurd (omega (arith, ap length e))
-drop-cons {X} (y ∷ ys) zero x rest e =
-    let n : 0 + 1 ≡ 1 = omega arith in
-    (ap (λ (l : List X). slice_get l 0) e, ap (λ (k : ℕ). drop k (y ∷ ys)) n ∙ ap (drop 1) e)
-drop-cons {X} (y ∷ ys) (suc a) x rest e =
-    let (at, next) = drop-cons ys a x rest e in
-    let n : suc a + 1 ≡ suc (a + 1) = omega arith in
-    (at, ap (λ (k : ℕ). drop k (y ∷ ys)) n ∙ next)
+drop-cons {X} xs a x rest e = (sym (get-drop a xs a 0 (omega arith)) ∙ ap (λ (l : List X). slice_get l 0) e, sym (drop-drop 1 a xs) ∙ ap (drop 1) e)
 
 -- by number they are all overlays
 all-by : (all : List (Option Overlay)) (a : ℕ) (rest : List (Option Overlay)) → drop a all ≡ rest → map (overlay_at all) (range_with_len a (length rest)) ≡ rest

@@ -55,9 +55,7 @@ pub(crate) fn change_each<T: Copy, F: Fn(T) -> T>(list: &mut ListOf<T>, change: 
     requires { (k : ℕ) (x : T) → slice_get list.old k ≡ Some x → F.pre change x }
     ensures { (changed : T → T) → ((x y : T) → F.post change x y → y ≡ changed x) → list.new ≡ map changed list.old }
 {
-    let mut i = list.len();
-    while 0 < i {
-        i -= 1;
+    for i in 0..list.len() {
         let each = list.at(i);
         list.set(i, change(each));
     }
