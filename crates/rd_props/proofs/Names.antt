@@ -1,13 +1,16 @@
 -- Edits name no object that was not made.
 use Rattle.std.proofs.Common.{◌≡◌, ◌⊎◌, inl, inr, ℕ, zero, suc, ◌+◌, ◌-◌, ◌<◌, Bool, true, false, ◌&&◌, if◌then◌else◌, List, [], ◌∷◌, ◌++◌, length, map, set, get_or, Option, None, Some, refl, sym, ap, subst, ◌∙◌, arith}
-use Rattle.std.specs.Prelude.{nat_lt, nat_le, ◌==◌, IfSome}
+use Rattle.std.specs.Prelude.{nat_lt, nat_le, ◌==◌, IfSome, slice_get}
+use Rattle.std.specs.Option.{unwrap_or}
 use Rattle.std.proofs.lemmas.Bool.Decides.{nat_tests}
 use Rattle.std.proofs.lemmas.List.{length-append}
+use Rattle.std.proofs.lemmas.Option.{same_Some, unwrap_or-slice_get, get_or_from_slice_get}
+use Rattle.rd_base.proofs.Lists.{get-end, get-set}
 use Rattle.rd_overlays.specs.declared.overlay.Overlay.{Overlay}
 use Rattle.rd_overlays.specs.declared.overlay.Kind.{Kind}
 use Rattle.rd_overlays.specs.declared.overlay.Kind.TheVariants.{Face, Display, Invisible, LinePrefix, WrapPrefix, Before, After}
 use Rattle.rd_overlays.proofs.Bounding.{overlay_at-map}
-use Rattle.rd_overlays.specs.Overlays.{overlay_at, place_of, slot_changed, grown, shrunk, moved, dropped, given}
+use Rattle.rd_overlays.specs.Overlays.{live, overlay_at, place_of, slot_changed, grown, shrunk, moved, dropped, given}
 use Rattle.rd_objects.specs.Things.{ObjectLists}
 use Rattle.rd_objects.specs.Sound.{GoesOn, Extends}
 use Rattle.rd_props.specs.Buffers.{BufferValue}
@@ -79,20 +82,23 @@ changed-made objects change keeps slots made number v kind p is h =
     let found = kept-by change keeps (overlay_at slots number) p kind v (sym (overlay_at-map (slot_changed change) slots number refl) ∙ is) h in
     made number v kind found.0 found.1 found.2
 
+-- what lives stands at its number
+living : (slot : Option (Option Overlay)) (p : Overlay) → live slot ≡ Some p → slot ≡ Some (Some p)
+living None p h = absurd (cc)
+living (Some slot) p h = ap Some h
+
 pub after-set : (slots : List (Option Overlay)) (i : ℕ) (slot : Option Overlay) (number : ℕ) (p : Overlay) → overlay_at (set slots i slot) number ≡ Some p
     → (overlay_at slots number ≡ Some p) ⊎ (slot ≡ Some p)
-after-set [] i slot number p h = inl h
-after-set (s ∷ slots) zero slot zero p h = inr h
-after-set (s ∷ slots) zero slot (suc number) p h = inl h
-after-set (s ∷ slots) (suc i) slot zero p h = inl h
-after-set (s ∷ slots) (suc i) slot (suc number) p h = after-set slots i slot number p h
+after-set slots i slot number p h =
+    elim (get-set slots i number slot (Some p) (living (slice_get (set slots i slot) number) p h)) [ inl here ↦ inr (sym here.1) | inr old ↦ inl (ap live old.1) ]
 
 pub after-end : (slots : List (Option Overlay)) (o : Overlay) (number : ℕ) (p : Overlay) → overlay_at (slots ++ Some o ∷ []) number ≡ Some p
     → (overlay_at slots number ≡ Some p) ⊎ (o ≡ p)
-after-end [] o zero p h = inr (cc)
-after-end [] o (suc number) p h = absurd (cc)
-after-end (slot ∷ slots) o zero p h = inl h
-after-end (slot ∷ slots) o (suc number) p h = after-end slots o number p h
+after-end slots o number p h =
+    elim (get-end slots (Some o) number (Some p) (living (slice_get (slots ++ Some o ∷ []) number) p h)) [
+      | inl old ↦ inl (ap live old)
+      | inr here ↦ inr (same_Some o p (sym here.1))
+    ]
 
 set-made : (objects : ObjectLists) (slots : List (Option Overlay)) (i : ℕ) (slot : Option Overlay) → AreOverlaysMade objects slots
     → ((p : Overlay) (kind : Kind) (v : ℕ) → slot ≡ Some p → value_of kind (Some p) ≡ Some v → IsMade objects kind v) → AreOverlaysMade objects (set slots i slot)
@@ -107,12 +113,10 @@ end-made objects slots o made new number v kind p is h =
       | inr same ↦ let Q : Overlay → Type 0 = λ q. value_of kind (Some q) ≡ Some v in new kind v (subst Q (sym same) h)
     ]
 
-get-set : (xs : List (Option ℕ)) (i j v : ℕ) (value : Option ℕ) → get_or (set xs i value) j None ≡ Some v → ((j ≡ i) × (value ≡ Some v)) ⊎ (get_or xs j None ≡ Some v)
-get-set [] i j v value h = inr h
-get-set (x ∷ xs) zero zero v value h = inl (refl, h)
-get-set (x ∷ xs) zero (suc j) v value h = inr h
-get-set (x ∷ xs) (suc i) zero v value h = inr h
-get-set (x ∷ xs) (suc i) (suc j) v value h = elim (get-set xs i j v value h) [ inl both ↦ inl (ap suc both.0, both.1) | inr old ↦ inr old ]
+-- a value that is read stands at its place
+stands : (read : Option (Option ℕ)) (v : ℕ) → unwrap_or read None ≡ Some v → read ≡ Some (Some v)
+stands None v h = absurd (cc)
+stands (Some value) v h = ap Some h
 
 given-made : (objects : ObjectLists) (slots : List (Option Overlay)) (number : ℕ) (chosen : Kind) (value : Option ℕ) → AreOverlaysMade objects slots
     → ((w : ℕ) → value ≡ Some w → IsMade objects chosen w) → AreOverlaysMade objects (given slots number chosen value)
@@ -128,10 +132,11 @@ given-made objects slots number chosen value made new =
     by (Some o) lives p kind v is h =
         let same : record o { values = set o.values (place_of chosen) value } ≡ p = cc in
         let values : set o.values (place_of chosen) value ≡ p.values = ap (λ (q : Overlay). q.values) same in
-        let has : get_or (set o.values (place_of chosen) value) (place_of kind) None ≡ Some v = ap (λ (xs : List (Option ℕ)). get_or xs (place_of kind) None) values ∙ h in
-        elim (get-set o.values (place_of chosen) (place_of kind) v value has) [
-          | inl both ↦ let P : Kind → Type 0 = λ l. IsMade objects l v in subst P (sym (same-kind kind chosen both.0)) (new v both.1)
-          | inr old ↦ made number v kind o lives old
+        let now = set o.values (place_of chosen) value in
+        let has : get_or now (place_of kind) None ≡ Some v = ap (λ (xs : List (Option ℕ)). get_or xs (place_of kind) None) values ∙ h in
+        elim (get-set o.values (place_of chosen) (place_of kind) value (Some v) (stands (slice_get now (place_of kind)) v (unwrap_or-slice_get now (place_of kind) None ∙ has))) [
+          | inl both ↦ let P : Kind → Type 0 = λ l. IsMade objects l v in subst P (sym (same-kind kind chosen both.0)) (new v (sym both.1))
+          | inr old ↦ made number v kind o lives (get_or_from_slice_get o.values (place_of kind) (Some v) None old.1)
         ]
 
 moved-made : (objects : ObjectLists) (slots : List (Option Overlay)) (number from to : ℕ) → AreOverlaysMade objects slots → AreOverlaysMade objects (moved slots number from to)

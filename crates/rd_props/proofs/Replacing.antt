@@ -110,72 +110,42 @@ unstarted low high x o lies away = let first = lies.0 in let middle = lies.1 in 
 unended : (low high x : ℕ) (o : Overlay) → (low ≤ o.from) × (o.from ≤ o.to) × (o.to ≤ high) → (x < low) ⊎ (high < x) → ends x o ≡ false
 unended low high x o lies away = let first = lies.0 in let middle = lies.1 in let last = lies.2 in grind (arith, nat_tests)
 
--- two lists have the same overlay at each number but one, and those at this one lie between two positions
-record DifferAt (number low high : ℕ) (a b : List (Option Overlay)) : Type 0 where
-  others : (n : ℕ) → (n ≡ number → ⊥) → overlay_at a n ≡ overlay_at b n
-  old : LiesIn low high (overlay_at a number)
-  new : LiesIn low high (overlay_at b number)
+-- two lists whose overlays are the same but for some that lie between two positions: what no such overlay passes finds the same in both
+abbrev DifferIn : ℕ → ℕ → List (Option Overlay) → List (Option Overlay) → Type 0
+DifferIn low high a b = (f : Overlay → Bool) → ((o : Overlay) → (low ≤ o.from) × (o.from ≤ o.to) × (o.to ≤ high) → f o ≡ false) → AreAlike f f a b
 
-module _ (number low high : ℕ) (a b : List (Option Overlay)) (differ : DifferAt number low high a b) where
-  alike-by : (f : Overlay → Bool) (n : ℕ) (t : Bool) → (n == number) ≡ t → picked f (overlay_at a number) ≡ None → picked f (overlay_at b number) ≡ None
-      → picked f (overlay_at a n) ≡ picked f (overlay_at b n)
-  alike-by f n true same left right =
-      let here : n ≡ number = grind (arith, nat_tests) in
-      let P : ℕ → Type 0 = λ k. picked f (overlay_at a k) ≡ picked f (overlay_at b k) in
-      subst P (sym here) (left ∙ sym right)
-  alike-by f n false same left right =
-      let away : n ≡ number → ⊥ = grind (arith, nat_tests) in
-      ap (picked f) (differ.others n away)
+see-elsewhere : (low high : ℕ) (a b : List (Option Overlay)) → DifferIn low high a b → (x : ℕ) → (x < low) ⊎ (high < x) → SeeSame x x a b
+see-elsewhere low high a b differ x away = record {
+  covers = differ (covers x) (λ o lies. uncovered low high x o lies away);
+  starts = differ (starts x) (λ o lies. unstarted low high x o lies away);
+  ends = differ (ends x) (λ o lies. unended low high x o lies away);
+}
 
-  alike-where : (f : Overlay → Bool) → ((o : Overlay) → (low ≤ o.from) × (o.from ≤ o.to) × (o.to ≤ high) → f o ≡ false) → AreAlike f f a b
-  alike-where f none n =
-      alike-by f n (n == number) refl
-      (unmet f (overlay_at a number) (λ o h. none o (differ.old o h)))
-      (unmet f (overlay_at b number) (λ o h. none o (differ.new o h)))
-
-  see-elsewhere : (x : ℕ) → (x < low) ⊎ (high < x) → SeeSame x x a b
-  see-elsewhere x away = record {
-    covers = alike-where (covers x) (λ o lies. uncovered low high x o lies away);
-    starts = alike-where (starts x) (λ o lies. unstarted low high x o lies away);
-    ends = alike-where (ends x) (λ o lies. unended low high x o lies away);
-  }
-
-overlays-stay : (old new : BufferValue) (slots : List (Option Overlay)) (number low high x : ℕ) → HasOverlays old new slots → DifferAt number low high old.overlays slots
+overlays-stay : (old new : BufferValue) (slots : List (Option Overlay)) (low high x : ℕ) → HasOverlays old new slots → DifferIn low high old.overlays slots
     → (x < low) ⊎ (high < x) → StaysSame old x new x
-overlays-stay old new slots number low high x edit differ away =
+overlays-stay old new slots low high x edit differ away =
     let Q : List (Option Overlay) → Type 0 = λ others. SeeSame x x old.overlays others in
     record {
       text = itself old.text new.text x edit.text;
       properties = λ kind. sym (edit.properties kind x);
-      overlays = subst Q (sym edit.overlays) (see-elsewhere number low high old.overlays slots differ x away);
+      overlays = subst Q (sym edit.overlays) (see-elsewhere low high old.overlays slots differ x away);
     }
 
--- overlays in lists
-other-set : (slots : List (Option Overlay)) (i n : ℕ) (slot : Option Overlay) → (n ≡ i → ⊥) → overlay_at slots n ≡ overlay_at (set slots i slot) n
-other-set [] i n slot away = refl
-other-set (s ∷ slots) zero zero slot away = absurd (away refl)
-other-set (s ∷ slots) zero (suc n) slot away = refl
-other-set (s ∷ slots) (suc i) zero slot away = refl
-other-set (s ∷ slots) (suc i) (suc n) slot away = other-set slots i n slot (λ e. away (ap suc e))
+-- one that isn't found in place of another, or as one more
+found-set : (f : Overlay → Bool) (slots : List (Option Overlay)) (i n : ℕ) (slot : Option Overlay) → picked f (overlay_at slots i) ≡ None → picked f slot ≡ None
+    → picked f (overlay_at slots n) ≡ picked f (overlay_at (set slots i slot) n)
+found-set f [] i n slot old new = refl
+found-set f (s ∷ slots) zero zero slot old new = old ∙ sym new
+found-set f (s ∷ slots) zero (suc n) slot old new = refl
+found-set f (s ∷ slots) (suc i) zero slot old new = refl
+found-set f (s ∷ slots) (suc i) (suc n) slot old new = found-set f slots i n slot old new
 
-at-set : (slots : List (Option Overlay)) (i : ℕ) (slot : Option Overlay) (o : Overlay) → overlay_at (set slots i slot) i ≡ Some o → slot ≡ Some o
-at-set [] i slot o h = absurd (cc)
-at-set (s ∷ slots) zero slot o h = h
-at-set (s ∷ slots) (suc i) slot o h = at-set slots i slot o h
-
-other-end : (slots : List (Option Overlay)) (n : ℕ) (o : Overlay) → (n ≡ length slots → ⊥) → overlay_at slots n ≡ overlay_at (slots ++ Some o ∷ []) n
-other-end [] zero o away = absurd (away refl)
-other-end [] (suc n) o away = refl
-other-end (s ∷ slots) zero o away = refl
-other-end (s ∷ slots) (suc n) o away = other-end slots n o (λ e. away (ap suc e))
-
-no-end : (slots : List (Option Overlay)) (o : Overlay) → overlay_at slots (length slots) ≡ Some o → ⊥
-no-end [] o h = absurd (cc)
-no-end (s ∷ slots) o h = no-end slots o h
-
-at-end : (slots : List (Option Overlay)) (o p : Overlay) → overlay_at (slots ++ Some o ∷ []) (length slots) ≡ Some p → o ≡ p
-at-end [] o p h = cc
-at-end (s ∷ slots) o p h = at-end slots o p h
+found-end : (f : Overlay → Bool) (slots : List (Option Overlay)) (n : ℕ) (slot : Option Overlay) → picked f slot ≡ None
+    → picked f (overlay_at slots n) ≡ picked f (overlay_at (slots ++ slot ∷ []) n)
+found-end f [] zero slot new = sym new
+found-end f [] (suc n) slot new = refl
+found-end f (s ∷ slots) zero slot new = refl
+found-end f (s ∷ slots) (suc n) slot new = found-end f slots n slot new
 
 same-lies : (low high : ℕ) (slot : Option Overlay) (o p : Overlay) → slot ≡ Some o → (low ≤ o.from) × (o.from ≤ o.to) × (o.to ≤ high) → slot ≡ Some p
     → (low ≤ p.from) × (p.from ≤ p.to) × (p.to ≤ high)
@@ -186,22 +156,13 @@ same-lies low high slot o p is lies h =
 
 -- an overlay of a number that became another, or went
 set-differs : (slots : List (Option Overlay)) (number low high : ℕ) (o : Overlay) (slot : Option Overlay) → overlay_at slots number ≡ Some o → (low ≤ o.from) × (o.from ≤ o.to) × (o.to ≤ high)
-    → LiesIn low high slot → DifferAt number low high slots (set slots number slot)
-set-differs slots number low high o slot is lies next = record {
-  others = λ n away. other-set slots number n slot away;
-  old = λ p h. same-lies low high (overlay_at slots number) o p is lies h;
-  new = λ p h. next p (at-set slots number slot p h);
-}
+    → LiesIn low high slot → DifferIn low high slots (set slots number slot)
+set-differs slots number low high o slot is lies next = λ f none n.
+    found-set f slots number n slot (unmet f (overlay_at slots number) (λ p h. none p (same-lies low high (overlay_at slots number) o p is lies h)))
+    (unmet f slot (λ p h. none p (next p h)))
 
-end-differs : (slots : List (Option Overlay)) (low high : ℕ) (o : Overlay) → (low ≤ o.from) × (o.from ≤ o.to) × (o.to ≤ high) → DifferAt (length slots) low high slots (slots ++ Some o ∷ [])
-end-differs slots low high o lies = record {
-  others = λ n away. other-end slots n o away;
-  old = λ p h. absurd (no-end slots p h);
-  new = λ p h.
-      let same : o ≡ p = at-end slots o p h in
-      let P : Overlay → Type 0 = λ q. (low ≤ q.from) × (q.from ≤ q.to) × (q.to ≤ high) in
-      subst P same lies;
-}
+end-differs : (slots : List (Option Overlay)) (low high : ℕ) (o : Overlay) → (low ≤ o.from) × (o.from ≤ o.to) × (o.to ≤ high) → DifferIn low high slots (slots ++ Some o ∷ [])
+end-differs slots low high o lies = λ f none n. found-end f slots n (Some o) (unmet f (Some o) (λ p h. none p (same-lies low high (Some o) o p refl lies h)))
 
 changed-lies : (change : Overlay → Overlay) (low high : ℕ) (slot : Option Overlay) (o p : Overlay) → slot ≡ Some o → (low ≤ (change o).from) × ((change o).from ≤ (change o).to) × ((change o).to ≤ high)
     → slot_changed change slot ≡ Some p → (low ≤ p.from) × (p.from ≤ p.to) × (p.to ≤ high)
@@ -213,27 +174,27 @@ changed-lies change low high (Some q) o p is lies h =
     subst P same lies
 
 module _ (listings : AreListings) (old new : BufferValue) (objects : ObjectLists) where
-  one-edits : (slots : List (Option Overlay)) (number from to : ℕ) → HasOverlays old new slots → DifferAt number from (from + (to - from)) old.overlays slots
+  one-edits : (slots : List (Option Overlay)) (from to : ℕ) → HasOverlays old new slots → DifferIn from (from + (to - from)) old.overlays slots
       → IsEdited old objects new objects from (to - from) (to - from)
-  one-edits slots number from to edit differ =
+  one-edits slots from to edit differ =
       unmoved listings old new objects (ap (λ (t : TextValue). t.begin) edit.text) from (from + (to - from)) (pos (to - from) -ℤ pos (to - from)) (no-more (to - from))
-      (λ x away. overlays-stay old new slots number from (from + (to - from)) x edit differ away)
+      (λ x away. overlays-stay old new slots from (from + (to - from)) x edit differ away)
 
   pub making-edits : (o : Overlay) → o.from ≤ o.to → HasOverlays old new (old.overlays ++ Some o ∷ []) → IsEdited old objects new objects o.from (o.to - o.from) (o.to - o.from)
   making-edits o ordered edit =
-      one-edits (old.overlays ++ Some o ∷ []) (length old.overlays) o.from o.to edit
+      one-edits (old.overlays ++ Some o ∷ []) o.from o.to edit
       (end-differs old.overlays o.from (o.from + (o.to - o.from)) o (omega arith, ordered, omega arith))
 
   module _ (number : ℕ) (o : Overlay) (is : overlay_at old.overlays number ≡ Some o) (ordered : o.from ≤ o.to) where
     pub dropping-edits : HasOverlays old new (dropped old.overlays number) → IsEdited old objects new objects o.from (o.to - o.from) (o.to - o.from)
     dropping-edits edit =
-        one-edits (dropped old.overlays number) number o.from o.to edit
+        one-edits (dropped old.overlays number) o.from o.to edit
         (set-differs old.overlays number o.from (o.from + (o.to - o.from)) o None is (omega arith, ordered, omega arith) (λ p h. absurd (cc)))
 
     pub giving-edits : (kind : Kind) (value : Option ℕ) → HasOverlays old new (given old.overlays number kind value) → IsEdited old objects new objects o.from (o.to - o.from) (o.to - o.from)
     giving-edits kind value edit =
         let change : Overlay → Overlay = λ overlay. record overlay { values = set overlay.values (place_of kind) value } in
-        one-edits (given old.overlays number kind value) number o.from o.to edit
+        one-edits (given old.overlays number kind value) o.from o.to edit
         (set-differs old.overlays number o.from (o.from + (o.to - o.from)) o (slot_changed change (overlay_at old.overlays number)) is (omega arith, ordered, omega arith)
         (λ p h. changed-lies change o.from (o.from + (o.to - o.from)) (overlay_at old.overlays number) o p is (omega arith, ordered, omega arith) h))
 
@@ -244,7 +205,7 @@ module _ (listings : AreListings) (old new : BufferValue) (objects : ObjectLists
         let differ = set-differs old.overlays number (min o.from from) (max o.to to) o (slot_changed change (overlay_at old.overlays number)) is (omega arith, ordered, omega arith)
         (λ p h. changed-lies change (min o.from from) (max o.to to) (overlay_at old.overlays number) o p is (omega arith, less, omega arith) h) in
         unmoved listings old new objects (ap (λ (t : TextValue). t.begin) edit.text) (min o.from from) (max o.to to) (pos 0) refl
-        (λ x away. overlays-stay old new (moved old.overlays number from to) number (min o.from from) (max o.to to) x edit differ away)
+        (λ x away. overlays-stay old new (moved old.overlays number from to) (min o.from from) (max o.to to) x edit differ away)
 
 -- ---- objects that are made
 
