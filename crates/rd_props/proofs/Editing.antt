@@ -28,7 +28,7 @@ same-by listings s t objects x y stays reach =
     ]
 
 -- the same where what the texts and the overlays become is known
-stays-by : (s t : BufferValue) (x y : ℕ) (text : TextValue) (slots : List (Option Overlay)) → t.text ≡ text → t.overlays ≡ slots → ReadsAlike s.text x text y → ((kind : ℕ) → s.properties kind x ≡ t.properties kind y) → SeeSame x y s.overlays slots
+pub stays-by : (s t : BufferValue) (x y : ℕ) (text : TextValue) (slots : List (Option Overlay)) → t.text ≡ text → t.overlays ≡ slots → ReadsAlike s.text x text y → ((kind : ℕ) → s.properties kind x ≡ t.properties kind y) → SeeSame x y s.overlays slots
     → StaysSame s x t y
 stays-by s t x y text slots is are reads properties sees = record {
   text = subst (λ (u : TextValue). ReadsAlike s.text x u y) (sym is) reads;

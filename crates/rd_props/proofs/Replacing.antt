@@ -23,17 +23,18 @@ use Rattle.rd_props.specs.Edits.{IsPut, HasOverlays}
 use Rattle.rd_props.specs.Made.{AreMade}
 use Rattle.rd_props.proofs.Alike.{AreListings, AreAlike, SeeSame, mark_of, picked}
 use Rattle.rd_props.proofs.Texts.{ReadsAlike}
-use Rattle.rd_props.proofs.Editing.{StaysSame, same-by}
+use Rattle.rd_props.proofs.Editing.{StaysSame, same-by, stays-by}
 
-itself : (t u : TextValue) (x : ℕ) → u ≡ t → ReadsAlike t x u x
-itself t u x same =
-    let P : TextValue → Type 0 = λ v. ReadsAlike t x v x in
-    subst P (sym same) (record { inside = refl; character = refl; to = λ h. h; from = λ h. h })
+itself : (t : TextValue) (x : ℕ) → ReadsAlike t x t x
+itself t x = record { inside = refl; character = refl; to = λ h. h; from = λ h. h }
+
+see-itself : (x : ℕ) (slots : List (Option Overlay)) → SeeSame x x slots slots
+see-itself x slots = record { covers = λ n. refl; starts = λ n. refl; ends = λ n. refl }
 
 -- two states of one length that see the same before one position and behind another
 module _ (listings : AreListings) (old new : BufferValue) (objects : ObjectLists) (begin : new.text.begin ≡ old.text.begin) where
-  pub unmoved : (head last : ℕ) (added : ℤ) → added ≡ pos 0 → ((x : ℕ) → (x < head) ⊎ (last < x) → StaysSame old x new x) → Unchanged old objects new objects head (last + 1) added
-  unmoved head last added none stays = record {
+  kept : (head tail : ℕ) (added : ℤ) → added ≡ pos 0 → ((x : ℕ) → (x < head) ⊎ (tail ≤ x) → StaysSame old x new x) → Unchanged old objects new objects head tail added
+  kept head tail added none stays = record {
     begin = begin;
     before = λ x low less reach. same-by listings old new objects x x (stays x (inl less)) reach;
     behind = λ x y low more is reach.
@@ -43,6 +44,9 @@ module _ (listings : AreListings) (old new : BufferValue) (objects : ObjectLists
         subst P (sym here) (same-by listings old new objects y y (stays y (inr (omega arith))) (subst Q here reach));
   }
 
+  unmoved : (head last : ℕ) (added : ℤ) → added ≡ pos 0 → ((x : ℕ) → (x < head) ⊎ (last < x) → StaysSame old x new x) → Unchanged old objects new objects head (last + 1) added
+  unmoved head last added none stays = kept head (last + 1) added none (λ x away. stays x (elim away [ inl low ↦ inl low | inr high ↦ inr (omega (arith, high)) ]))
+
 no-more : (n : ℕ) → pos n -ℤ pos n ≡ pos 0
 no-more n = omega (arith, ints)
 
@@ -50,23 +54,8 @@ no-more n = omega (arith, ints)
 
 pub settings-edit : AreListings → (old new : BufferValue) (objects : ObjectLists) (head tail : ℕ) → HasOverlays old new old.overlays → Unchanged old objects new objects head tail (pos 0)
 settings-edit listings old new objects head tail edit =
-    record {
-      begin = ap (λ (t : TextValue). t.begin) edit.text;
-      before = λ x low less reach. same-by listings old new objects x x (all-stays old new x edit) reach;
-      behind = λ x y low more is reach.
-          let here : x ≡ y = omega (arith, ints, is) in
-          let R : ℕ → Type 0 = λ z. StaysSame old z new y in
-          same-by listings old new objects x y (subst R (sym here) (all-stays old new y edit)) reach;
-    }
-  where
-    all-stays : (old new : BufferValue) (x : ℕ) → HasOverlays old new old.overlays → StaysSame old x new x
-    all-stays old new x edit =
-        let Q : List (Option Overlay) → Type 0 = λ slots. SeeSame x x old.overlays slots in
-        record {
-          text = itself old.text new.text x edit.text;
-          properties = λ kind. sym (edit.properties kind x);
-          overlays = subst Q (sym edit.overlays) (record { covers = λ n. refl; starts = λ n. refl; ends = λ n. refl });
-        }
+    kept listings old new objects (ap (λ (t : TextValue). t.begin) edit.text) head tail (pos 0) refl
+    (λ x away. stays-by old new x x _ _ edit.text edit.overlays (itself old.text x) (λ kind. sym (edit.properties kind x)) (see-itself x old.overlays))
 
 -- ---- a property that is put
 
@@ -77,13 +66,9 @@ put-outside false u value other out = refl
 
 put-stays : (old new : BufferValue) (kind : Kind) (from to x : ℕ) (value : Option ℕ) → IsPut old new kind from to value → (x < from) ⊎ (from + (to - from) < x) → StaysSame old x new x
 put-stays old new kind from to x value edit away =
-    let Q : List (Option Overlay) → Type 0 = λ slots. SeeSame x x old.overlays slots in
     let out : (nat_le from x && nat_lt x to) ≡ false = grind (arith, nat_tests) in
-    record {
-      text = itself old.text new.text x edit.text;
-      properties = λ k. put-outside (k == place_of kind) (nat_le from x && nat_lt x to) value (old.properties k x) out ∙ sym (edit.properties k x);
-      overlays = subst Q (sym edit.overlays) (record { covers = λ n. refl; starts = λ n. refl; ends = λ n. refl });
-    }
+    stays-by old new x x _ _ edit.text edit.overlays (itself old.text x)
+    (λ k. put-outside (k == place_of kind) (nat_le from x && nat_lt x to) value (old.properties k x) out ∙ sym (edit.properties k x)) (see-itself x old.overlays)
 
 pub put-edits : AreListings → (old new : BufferValue) (objects : ObjectLists) (kind : Kind) (from to : ℕ) (value : Option ℕ) → IsPut old new kind from to value
     → IsEdited old objects new objects from (to - from) (to - from)
@@ -124,12 +109,7 @@ see-elsewhere low high a b differ x away = record {
 overlays-stay : (old new : BufferValue) (slots : List (Option Overlay)) (low high x : ℕ) → HasOverlays old new slots → DifferIn low high old.overlays slots
     → (x < low) ⊎ (high < x) → StaysSame old x new x
 overlays-stay old new slots low high x edit differ away =
-    let Q : List (Option Overlay) → Type 0 = λ others. SeeSame x x old.overlays others in
-    record {
-      text = itself old.text new.text x edit.text;
-      properties = λ kind. sym (edit.properties kind x);
-      overlays = subst Q (sym edit.overlays) (see-elsewhere low high old.overlays slots differ x away);
-    }
+    stays-by old new x x _ _ edit.text edit.overlays (itself old.text x) (λ kind. sym (edit.properties kind x)) (see-elsewhere low high old.overlays slots differ x away)
 
 -- one that isn't found in place of another, or as one more
 found-set : (f : Overlay → Bool) (slots : List (Option Overlay)) (i n : ℕ) (slot : Option Overlay) → picked f (overlay_at slots i) ≡ None → picked f slot ≡ None
