@@ -37,7 +37,7 @@ later-start from (suc k) (a ∷ bs) b h i =
     let some = h.1 in
     (omega (arith, low, start, some), rest.1)
 
-same-holder : (from k j : ℕ) (bs : List Block) (a b : Block) → StandFrom from bs → slice_get bs k ≡ Some a → slice_get bs j ≡ Some b → a.start ≤ b.start → b.start < a.end → k ≡ j
+pub same-holder : (from k j : ℕ) (bs : List Block) (a b : Block) → StandFrom from bs → slice_get bs k ≡ Some a → slice_get bs j ≡ Some b → a.start ≤ b.start → b.start < a.end → k ≡ j
 same-holder from k j [] a b h i g low high = absurd cc
 same-holder from zero zero (c ∷ bs) a b h i g low high = refl
 same-holder from zero (suc j) (c ∷ bs) a b h i g low high =

@@ -2,10 +2,11 @@
 use Rattle.std.proofs.Common.{◌≡◌, ℕ, zero, suc, ◌+◌, ◌-◌, ◌<◌, ◌≤◌, inl, inr, true, List, [], ◌∷◌, ◌++◌, length, option_map, Option, None, Some, refl, sym, ap, ◌∙◌, subst, arith}
 use Rattle.std.proofs.lemmas.Bool.{cases_lt}
 use Rattle.std.proofs.lemmas.List.{length-append}
+use Rattle.std.proofs.lemmas.Option.{same_Some}
 use Rattle.std.specs.List.{slice_get}
 use Rattle.rd_base.proofs.Lists.{get-first, get-second, at-seam}
 use Rattle.rd_base.specs.declared.settings.Anchor.{Anchor}
-use Rattle.rd_matrix.proofs.HeldLemmas.{end-behind, later-start}
+use Rattle.rd_matrix.proofs.HeldLemmas.{end-behind, later-start, same-holder}
 use Rattle.rd_matrix.proofs.Counting.{all-append, count-cons, length-numbered}
 use Rattle.rd_matrix.specs.Blocks.{IsWithin, StandFrom, first_start}
 use Rattle.rd_matrix.specs.Entries.{EntryMeaning, all_rows, entries_of, numbered}
@@ -90,17 +91,10 @@ anchor-found rows bs k anchor is = found-of rows bs k anchor (slice_get (all_row
 -- only one block holds a position
 pub holding : (from place : ℕ) (before after : List Block) (b d : Block) (j : ℕ) → StandFrom from (before ++ b ∷ after) → b.start ≡ place
     → slice_get (before ++ b ∷ after) j ≡ Some d → d.start ≤ place → place < d.end → d ≡ b
-holding from place [] after b d zero stand starts at low high = let same : b ≡ d = cc in sym same
-holding from place [] after b d (suc j) stand starts at low high =
-    let later = (later-start b.end j after d stand.2 at).0 in
-    let some = stand.1 in
-    absurd (omega (arith, later, some, starts, low))
-holding from place (x ∷ before) after b d zero stand starts at low high =
-    let same : x ≡ d = cc in
-    let ends = ap (λ (y : Block). y.end) same in
-    let later = (later-start x.end (length before) (before ++ b ∷ after) b stand.2 (at-seam before b after)).0 in
-    absurd (omega (arith, ends, later, starts, high))
-holding from place (x ∷ before) after b d (suc j) stand starts at low high = holding x.end place before after b d j stand.2 starts at low high
+holding from place before after b d j stand starts at low high =
+    let seam = at-seam before b after in
+    let same = same-holder from j (length before) (before ++ b ∷ after) d b stand at seam (omega (arith, starts, low)) (omega (arith, starts, high)) in
+    same_Some _ _ (sym at ∙ ap (slice_get (before ++ b ∷ after)) same ∙ seam)
 
 -- the position of an anchor that names a row is one of its source's
 pub within : (m : SourceValues) (shape : ShapeValues) (anchor : Anchor) (k : ℕ) → IsSource m → Names anchor (rows_at m shape) k → IsWithin anchor.pos m.blocks

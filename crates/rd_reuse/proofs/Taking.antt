@@ -1,8 +1,9 @@
 -- The older rows of a block, one after the other.
-use Rattle.std.proofs.Common.{◌≡◌, ℕ, zero, suc, ◌+◌, ◌-◌, ◌<◌, ◌&&◌, Bool, true, false, if◌then◌else◌, List, [], ◌∷◌, ◌++◌, length, drop, find, slice_get, Option, None, Some, refl, sym, ap, ◌∙◌, arith}
+use Rattle.std.proofs.Common.{◌≡◌, ℕ, suc, ◌+◌, ◌-◌, ◌<◌, ◌&&◌, Bool, true, false, if◌then◌else◌, List, [], ◌∷◌, ◌++◌, length, drop, find, slice_get, Option, None, Some, refl, sym, ap, ◌∙◌, arith}
 use Rattle.std.proofs.lemmas.Bool.{and_right}
 use Rattle.std.proofs.lemmas.List.{append_assoc}
 use Rattle.std.specs.List.{list_all}
+use Rattle.rd_base.proofs.Lists.{drop-at}
 use Rattle.rd_matrix.specs.declared.matrix.Entry.{Entry}
 use Rattle.rd_reuse.specs.Keeping.{are_whole, copied_rows, entry_under, has_base, taken_from, up_to_end}
 use Rattle.rd_reuse.specs.declared.change.Change.{Change}
@@ -13,17 +14,11 @@ use Rattle.rd_rows.specs.Shapes.{ShapeValues}
 
 -- an element that passes a test, and one that does not
 pub find-here : {X : Type 0} (test : X → Bool) (xs : List X) (k : ℕ) (x : X) → slice_get xs k ≡ Some x → test x ≡ true → find test (drop k xs) ≡ Some x
-find-here test [] k x i e = absurd cc
-find-here test (y ∷ xs) zero x i e = let same : y ≡ x = cc in rw (same, e) refl
-find-here test (y ∷ xs) (suc k) x i e = find-here test xs k x i e
+find-here test xs k x i e = rw (drop-at xs k x i, e) refl
 
 pub find-behind : {X : Type 0} (test : X → Bool) (xs : List X) (k : ℕ) (x : X) → slice_get xs k ≡ Some x → test x ≡ false
     → find test (drop k xs) ≡ find test (drop (k + 1) xs)
-find-behind test [] k x i e = absurd cc
-find-behind test (y ∷ xs) zero x i e = let same : y ≡ x = cc in rw (same, e) refl
-find-behind test (y ∷ xs) (suc k) x i e =
-    let next : suc (k + 1) ≡ suc k + 1 = omega arith in
-    find-behind test xs k x i e ∙ ap (λ n. find test (drop n (y ∷ xs))) next
+find-behind test xs k x i e = rw (drop-at xs k x i, e) refl
 
 -- rows that are of no such base are not whole
 based-not : (base : ℕ) (r : RowMeaning) (rs : List RowMeaning) → has_base base r ≡ false → are_whole base (r ∷ rs) ≡ false
