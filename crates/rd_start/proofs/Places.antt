@@ -1,5 +1,5 @@
 -- The rows of a strip as rows of its source.
-use Rattle.std.proofs.Common.{◌≡◌, ℕ, ◌+◌, ◌-◌, ◌<◌, ◌≤◌, inl, inr, min, List, ◌++◌, length, take, drop, Option, None, Some, sym, ap, ◌∙◌, arith}
+use Rattle.std.proofs.Common.{◌≡◌, ℕ, ◌+◌, ◌-◌, ◌<◌, ◌≤◌, inl, inr, min, List, ◌++◌, length, take, drop, Option, None, Some, sym, ap, ap₂, ◌∙◌, arith}
 use Rattle.std.proofs.Math.Seq.{drop-append-add}
 use Rattle.std.proofs.lemmas.List.{drop-append-le, drop-take, length-drop, take-append-le, take_all}
 use Rattle.std.proofs.lemmas.Bool.{cases_lt}
@@ -38,34 +38,33 @@ anchor-strip_row m s place strip_row h inside at =
     let mapped = sym (slice_get-map (strip_row_of s.sweep.point) z.middle place) ∙ (ap (λ (ys : List StripRow). slice_get ys place) (sym z.strip_rows) ∙ at) in
     anchor-same s.sweep.point (slice_get z.middle place) strip_row mapped ∙ ap anchor_from (sym here)
 
--- the rows of a strip from one place up to another
-pub rows-between : (front middle back : List EntryMeaning) (first from to : ℕ) → length front ≡ first → from ≤ to → to ≤ length middle
-    → drop from (take to middle) ≡ take (to - from) (drop (first + from) (front ++ (middle ++ back)))
-rows-between front middle back first from to size low high =
+-- the rows of a strip from one place up to another, among all rows
+pub rows-between : (m : SourceValues) (s : Strip) (from to : ℕ) → IsStrip m s → from ≤ to → to ≤ length s.strip_rows.items
+    → drop from (take to (all_rows (rows_in m s.sweep) s.blocks.items)) ≡ take (to - from) (drop (first_row m s + from) (all_rows (rows_in m s.sweep) m.blocks))
+rows-between m s from to h low high =
+    let z = rows_around m s.sweep s.blocks.items s.strip_rows.items s.home h in
+    let home = z.from in
+    let count = z.count in
+    let first : first_row m s + from ≡ length z.front + from = omega arith in
     let apart : from + (to - from) ≡ to = omega arith in
-    let left = length-drop from middle in
-    ap (λ n. drop from (take n middle)) (sym apart)
-    ∙ (drop-take from (to - from) middle
-    ∙ sym (ap (λ n. take (to - from) (drop (n + from) (front ++ (middle ++ back)))) (sym size)
-    ∙ (ap (take (to - from)) (drop-append-add front (middle ++ back) from ∙ drop-append-le from middle back (omega arith))
-    ∙ take-append-le (to - from) (drop from middle) back (omega arith))))
+    let left = length-drop from z.middle in
+    ap (λ n. drop from (take n z.middle)) (sym apart)
+    ∙ (drop-take from (to - from) z.middle
+    ∙ sym (ap₂ (λ (n : ℕ) (ys : List EntryMeaning). take (to - from) (drop n ys)) first z.whole
+    ∙ (ap (take (to - from)) (drop-append-add z.front (z.middle ++ z.back) from ∙ drop-append-le from z.middle z.back (omega arith))
+    ∙ take-append-le (to - from) (drop from z.middle) z.back (omega arith))))
 
 pub span-strip_rows : (m : SourceValues) (s : Strip) (from to place : ℕ) (span : Option Span) → to ≤ length s.strip_rows.items → place ≡ to → span ≡ spans None (drop from (take place s.strip_rows.items)) → IsStrip m s → from ≤ to
     → span ≡ span_of (first_positions (take (to - from) (drop (first_row m s + from) (all_rows (rows_in m s.sweep) m.blocks))))
 span-strip_rows m s from to place span inside end e h low =
-    let z = rows_around m s.sweep s.blocks.items s.strip_rows.items s.home h in
-    let start = z.from in
-    let count = z.count in
     let f = strip_row_of s.sweep.point in
-    let all = all_rows (rows_in m s.sweep) m.blocks in
+    let rows = all_rows (rows_in m s.sweep) s.blocks.items in
     e ∙ (ap (λ n. spans None (drop from (take n s.strip_rows.items))) end
-    ∙ (ap (λ (ys : List StripRow). spans None (drop from (take to ys))) z.strip_rows
-    ∙ (ap (λ (ys : List StripRow). spans None (drop from ys)) (take-map f to z.middle)
-    ∙ (ap (spans None) (drop-map f from (take to z.middle))
-    ∙ (spans-strip_rows s.sweep.point None (drop from (take to z.middle))
-    ∙ ap (λ (ys : List EntryMeaning). span_of (first_positions ys))
-    (rows-between z.front z.middle z.back (first_row m s) from to (omega arith) low (omega arith)
-    ∙ ap (λ (ys : List EntryMeaning). take (to - from) (drop (first_row m s + from) ys)) (sym z.whole)))))))
+    ∙ (ap (λ (ys : List StripRow). spans None (drop from (take to ys))) h.strip_rows
+    ∙ (ap (λ (ys : List StripRow). spans None (drop from ys)) (take-map f to rows)
+    ∙ (ap (spans None) (drop-map f from (take to rows))
+    ∙ (spans-strip_rows s.sweep.point None (drop from (take to rows))
+    ∙ ap (λ (ys : List EntryMeaning). span_of (first_positions ys)) (rows-between m s from to h low inside))))))
 
 whole-height : (start height count end : ℕ) → end ≡ min (start + height) count → start + height ≤ count → end - start ≡ height
 whole-height start height count end is within = omega arith

@@ -20,7 +20,7 @@ use Rattle.rd_start.specs.declared.strip.Sweep.{Sweep}
 use Rattle.rd_start.proofs.Blocks.{count-append}
 use Rattle.rd_start.proofs.Growth.{affords, affords-pieces, before-none, before-some, first-place, head-of, last-place, length-joined, length-strip_rows, paid-above, paid-below, pieces-above, pieces-below, some-of, strip-joined}
 use Rattle.rd_start.proofs.Results.{of-err}
-use Rattle.rd_start.proofs.Rows.{total-is}
+use Rattle.rd_start.proofs.Rows.{rows_around}
 
 pub strip-same : (m : SourceValues) (sweep sweep' : Sweep) (bs bs' : List Block) (ls ls' : List StripRow) (at at' : ℕ) → sweep' ≡ sweep → bs' ≡ bs → ls' ≡ ls → at' ≡ at
     → IsStripOf m sweep bs ls at → IsStripOf m sweep' bs' ls' at'
@@ -66,10 +66,9 @@ no-next : (m : SourceValues) (s : Strip) (last : Block) → IsStrip m s → slic
 no-next m s last h at gives =
     let p = last-place m.blocks h.before s.blocks.items h.after last h.pieces h.some at in
     let e = none-left h.after 0 (sym p.next ∙ sym (gives p.place p.here)) in
-    let none = ap (λ ys. length (all_rows (rows_in m s.sweep) ys)) e in
-    let home = h.home in
-    let total = total-is m s.sweep s.blocks.items s.strip_rows.items s.home h in
-    omega arith
+    let z = rows_around m s.sweep s.blocks.items s.strip_rows.items s.home h in
+    let none : length z.back ≡ 0 = ap (λ ys. length (all_rows (rows_in m s.sweep) ys)) e in
+    omega (arith, none, z.from, z.total)
 
 pub next-beyond : (r : Result (Option Block) Memory) (m : SourceValues) (s : Strip) (last : Block) → IsStrip m s → slice_get s.blocks.items (length s.blocks.items - 1) ≡ Some last
     → IfOk r (λ next. GivesNext m last next) → IfOk r (λ next. IsBeyond m s Bottom next)

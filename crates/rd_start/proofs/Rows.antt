@@ -23,12 +23,6 @@ use Rattle.rd_start.proofs.Blocks.{Fit, any-fit, end-append, fit, fit-back, fit-
 use Rattle.rd_start.proofs.Tests.{above-range, below-range, in-range}
 use Rattle.rd_start.proofs.Lists.{first-among, first-behind, position-mapped, position-none, position-some}
 
-pub whole-rows : (m : SourceValues) (sweep : Sweep) (bs before after : List Block) → m.blocks ≡ before ++ (bs ++ after)
-    → all_rows (rows_in m sweep) m.blocks ≡ all_rows (rows_in m sweep) before ++ (all_rows (rows_in m sweep) bs ++ all_rows (rows_in m sweep) after)
-whole-rows m sweep bs before after pieces =
-    let rows = λ (b : Block). rows_in m sweep b in
-    ap (all_rows rows) pieces ∙ (all-append rows before (bs ++ after) ∙ ap (λ ys. all_rows rows before ++ ys) (all-append rows bs after))
-
 -- all rows are those before a strip, its own and those behind it
 pub record RowsAround (m : SourceValues) (sweep : Sweep) (bs : List Block) (ls : List StripRow) (at : ℕ) : Type 0 where
   pub front : List EntryMeaning
@@ -40,13 +34,13 @@ pub record RowsAround (m : SourceValues) (sweep : Sweep) (bs : List Block) (ls :
   pub count : length ls ≡ length middle
   pub total : length front + (length ls + length back) ≡ count_in m sweep m.blocks
 
-pub rows_around : (m : SourceValues) (sweep : Sweep) (bs : List Block) (ls : List StripRow) (at : ℕ) → IsStripOf m sweep bs ls at → RowsAround m sweep bs ls at
+abbrev pub rows_around : (m : SourceValues) (sweep : Sweep) (bs : List Block) (ls : List StripRow) (at : ℕ) → IsStripOf m sweep bs ls at → RowsAround m sweep bs ls at
 rows_around m sweep bs ls at h =
     let rows = λ (b : Block). rows_in m sweep b in
     let front = all_rows rows h.before in
     let middle = all_rows rows bs in
     let back = all_rows rows h.after in
-    let whole = whole-rows m sweep bs h.before h.after h.pieces in
+    let whole = ap (all_rows rows) h.pieces ∙ (all-append rows h.before (bs ++ h.after) ∙ ap (λ ys. front ++ ys) (all-append rows bs h.after)) in
     let count = ap length h.strip_rows ∙ length-map middle (strip_row_of sweep.point) in
     record {
       front = front;
@@ -58,15 +52,6 @@ rows_around m sweep bs ls at h =
       count = count;
       total = omega (arith, count, ap length whole, length-append front (middle ++ back), length-append middle back);
     }
-
--- and how many rows stand behind a strip's
-pub total-is : (m : SourceValues) (sweep : Sweep) (bs : List Block) (ls : List StripRow) (at : ℕ) → (h : IsStripOf m sweep bs ls at)
-    → home_row m sweep + (length ls + length (all_rows (rows_in m sweep) h.after)) ≡ count_in m sweep m.blocks + at
-total-is m sweep bs ls at h =
-    let rows = λ (b : Block). rows_in m sweep b in
-    let whole = whole-rows m sweep bs h.before h.after h.pieces in
-    let count = ap length h.strip_rows ∙ length-map (all_rows rows bs) (strip_row_of sweep.point) in
-    omega (arith, count, h.home, ap length whole, length-append (all_rows rows h.before) (all_rows rows bs ++ all_rows rows h.after), length-append (all_rows rows bs) (all_rows rows h.after))
 
 -- a strip's rows are rows of its source
 pub all-inside : (m : SourceValues) (s : Strip) → IsStrip m s → first_row m s + length s.strip_rows.items ≤ count_in m s.sweep m.blocks
@@ -176,15 +161,11 @@ whereabouts m sweep bs ls at h =
     let begins = begins_item p in
     let w = bounds m sweep bs ls at h in
     let z = rows_around m sweep bs ls at h in
-    let front = all_rows rows h.before in
-    let middle = all_rows rows bs in
-    let back = all_rows rows h.after in
-    let whole = whole-rows m sweep bs h.before h.after h.pieces in
-    let row = ap (position_or_len begins) whole in
+    let row = ap (position_or_len begins) z.whole in
     let in_front = any-fit rows w.start p h.before w.front in
     let in_middle = any-fit rows w.first p bs w.middle in
     let in_back = any-fit rows w.last p h.after w.back in
-    let size = ap length h.strip_rows ∙ length-map middle (strip_row_of p) in
+    let size = z.count in
     let head = first-of rows w.first bs h.some w.middle in
     let start_low = w.low in
     let end_high = w.high in
@@ -197,15 +178,15 @@ whereabouts m sweep bs ls at h =
           let t = in-range w.start (end_from w.start h.before) p w.low (omega (arith, low, e1)) in
           let u = below-range w.first (end_from w.first bs) p low in
           let some = in_front ∙ t in
-          let place = row ∙ first-among begins front (middle ++ back) some in
-          let inside = first-inside begins front some in
+          let place = row ∙ first-among begins z.front (z.middle ++ z.back) some in
+          let inside = first-inside begins z.front some in
           let start = head.start in
           inl (record {
             first = head.first;
             here = head.here;
             low = omega (arith, low, start);
-            none = ap find_point h.strip_rows ∙ not-found p middle (in_middle ∙ u);
-            row = omega (arith, place, inside, h.home);
+            none = ap find_point h.strip_rows ∙ not-found p z.middle (in_middle ∙ u);
+            row = omega (arith, place, inside, z.from);
           })
       | inl from ↦ elim (cases_Bool (ltb p w.last)) [
         | inl here ↦
@@ -214,13 +195,13 @@ whereabouts m sweep bs ls at h =
             let t = above-range w.start (end_from w.start h.before) p (omega (arith, low, e1)) in
             let u = in-range w.first (end_from w.first bs) p low (omega (arith, high, e2)) in
             let some = in_middle ∙ u in
-            let place = row ∙ (first-behind begins front (middle ++ back) (in_front ∙ t) ∙ ap (λ n. length front + n) (first-among begins middle back some)) in
-            let inside = first-inside begins middle some in
+            let place = row ∙ (first-behind begins z.front (z.middle ++ z.back) (in_front ∙ t) ∙ ap (λ n. length z.front + n) (first-among begins z.middle z.back some)) in
+            let inside = first-inside begins z.middle some in
             inr (inl (record {
-              row = position_or_len begins middle;
-              here = ap find_point h.strip_rows ∙ found p middle some;
+              row = position_or_len begins z.middle;
+              here = ap find_point h.strip_rows ∙ found p z.middle some;
               inside = omega (arith, inside, size);
-              place = omega (arith, place, h.home);
+              place = omega (arith, place, z.from);
             }))
         | inr after ↦
             let high = leb-true w.first p from in
@@ -228,16 +209,16 @@ whereabouts m sweep bs ls at h =
             let t = above-range w.start (end_from w.start h.before) p (omega (arith, high, e1)) in
             let u = above-range w.first (end_from w.first bs) p (omega (arith, past, e2)) in
             let v = in-range w.last (end_from w.last h.after) p past (omega (arith, end_high, e3)) in
-            let place = row ∙ (first-behind begins front (middle ++ back) (in_front ∙ t) ∙ ap (λ n. length front + n) (first-behind begins middle back (in_middle ∙ u))) in
-            let inside = first-inside begins back (in_back ∙ v) in
+            let place = row ∙ (first-behind begins z.front (z.middle ++ z.back) (in_front ∙ t) ∙ ap (λ n. length z.front + n) (first-behind begins z.middle z.back (in_middle ∙ u))) in
+            let inside = first-inside begins z.back (in_back ∙ v) in
             let start = head.start in
             inr (inr (record {
               first = head.first;
               here = head.here;
               high = omega (arith, high, start);
-              none = ap find_point h.strip_rows ∙ not-found p middle (in_middle ∙ u);
-              row = omega (arith, place, size, h.home);
-              inside = omega (arith, place, inside, size, z.total, ap length whole, length-append front (middle ++ back), length-append middle back);
+              none = ap find_point h.strip_rows ∙ not-found p z.middle (in_middle ∙ u);
+              row = omega (arith, place, size, z.from);
+              inside = omega (arith, place, inside, size, z.total);
             }))
       ]
     ]

@@ -1,6 +1,5 @@
 -- Positions that items of a strip cover are positions of its blocks.
 use Rattle.std.proofs.Common.{◌≡◌, ℕ, ◌+◌, ◌-◌, ◌^◌, ◌<◌, ◌≤◌, min, max, List, [], ◌∷◌, length, take, drop, Some, sym, ap, ◌∙◌, arith}
-use Rattle.std.proofs.lemmas.List.{length-map}
 use Rattle.std.proofs.lemmas.List.Elements.{All-drop, All-from_recursion, All-take}
 use Rattle.std.specs.List.{AllByRecursion, fold}
 use Rattle.rd_base.proofs.Lists.{all-at}
@@ -8,13 +7,13 @@ use Rattle.rd_matrix.specs.Entries.{EntryMeaning, all_rows}
 use Rattle.rd_matrix.specs.Sources.{SourceValues}
 use Rattle.rd_matrix.specs.declared.block.Block.{Block}
 use Rattle.rd_start.specs.Chosen.{first_positions}
-use Rattle.rd_start.specs.Strips.{IsStrip, first_row, rows_in, span_of, strip_row_of}
+use Rattle.rd_start.specs.Strips.{IsStrip, first_row, rows_in, span_of}
 use Rattle.rd_start.specs.declared.span.Span.{Span}
 use Rattle.rd_start.specs.declared.strip.Strip.{Strip}
 use Rattle.rd_start.proofs.Lists.{fold-keeps}
 use Rattle.rd_start.proofs.Places.{Spans, rows-between}
 use Rattle.rd_start.proofs.Positions.{OfRow, positions-each, rows-cover}
-use Rattle.rd_start.proofs.Rows.{strip-among, whole-rows}
+use Rattle.rd_start.proofs.Rows.{strip-among}
 
 abbrev Below : ℕ → ℕ → Type 0
 Below n p = p < n
@@ -33,17 +32,13 @@ pub span-small : (m : SourceValues) (s : Strip) (from to : ℕ) (span : Span) �
 span-small m s from to span h low high e =
     let rows = λ (b : Block). rows_in m s.sweep b in
     let middle = all_rows rows s.blocks.items in
-    let count = ap length h.strip_rows ∙ length-map middle (strip_row_of s.sweep.point) in
-    let home = h.home in
     let ends = All-from_recursion (λ (b : Block). b.end < 2 ^ 32) s.blocks.items h.small in
     let all = rows-cover (Below (2 ^ 32)) rows s.blocks.items
     (λ b among. h.source.rows b s.sweep.shape (strip-among m s.sweep s.blocks.items s.strip_rows.items s.home b h among) h.shape)
     (λ b among p least most. let end = all-at (λ (c : Block). c.end < 2 ^ 32) s.blocks.items among.0 b ends among.1 in omega (arith, most, end)) in
     let part = All-drop (OfRow (Below (2 ^ 32))) from (take to middle) (All-take (OfRow (Below (2 ^ 32))) to middle all) in
-    let same = rows-between (all_rows rows h.before) middle (all_rows rows h.after) (first_row m s) from to (omega arith) low (omega arith)
-    ∙ ap (λ (ys : List EntryMeaning). take (to - from) (drop (first_row m s + from) ys)) (sym (whole-rows m s.sweep s.blocks.items h.before h.after h.pieces)) in
     span-below (2 ^ 32) (first_positions (drop from (take to middle))) span (positions-each (Below (2 ^ 32)) (drop from (take to middle)) part)
-    (e ∙ ap (λ (ys : List EntryMeaning). span_of (first_positions ys)) (sym same))
+    (e ∙ ap (λ (ys : List EntryMeaning). span_of (first_positions ys)) (sym (rows-between m s from to h low high)))
 
 pub view-small : (m : SourceValues) (s : Strip) (start height end : ℕ) (span : Span) → IsStrip m s → start < length s.strip_rows.items → end ≡ min (start + height) (length s.strip_rows.items) → Spans s start end (Some span)
     → (span.first < 2 ^ 32) × (span.last < 2 ^ 32)
