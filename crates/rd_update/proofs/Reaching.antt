@@ -11,15 +11,14 @@ use Rattle.rd_term.specs.Pictures.{Picture, blank, blank_row, IsOfSize}
 use Rattle.rd_base.specs.Cells.{IsColoured}
 use Rattle.rd_term.specs.Terminals.{Tty, feed_bytes, known}
 use Rattle.rd_term.specs.Shifts.{cleared}
-use Rattle.rd_term.specs.declared.reading.Reading.TheVariants.{Between}
-use Rattle.rd_update.specs.Updates.{move, repaint, rows_bytes, rows_after, blank_like, start, opening, update, is_done, differing}
+use Rattle.rd_update.specs.Updates.{move, repaint, rows_bytes, rows_after, blank_like, start, opening, Update, update, is_done, differing}
 use Rattle.rd_update.specs.Laws.{IsReady, IsUpdated}
 use Rattle.rd_term.proofs.Cutting.{map-replicate}
 use Rattle.rd_term.proofs.Encoded.{Rows, standing}
 use Rattle.rd_term.proofs.Feeding.{feed_bytes-append}
 use Rattle.rd_update.proofs.Feeding.{repaint_fed}
 use Rattle.rd_update.proofs.Sequences.{move_fed}
-use Rattle.rd_update.proofs.Rows.{rows_fed}
+use Rattle.rd_update.proofs.Rows.{Stands, rows_fed}
 use Rattle.rd_update.proofs.Sequences.{tty-same}
 use Rattle.rd_update.proofs.Soundness.{after-all, length-after}
 
@@ -42,13 +41,7 @@ cleared-like (row ∷ rows) (l ∷ like) w n h k =
     cc
 
 -- what stands before the first row's bytes: the current screen, by a plain pen
-pub record Opens (region : Option (ℕ × ℕ)) (old : List (List Cell)) (t : Tty) : Type 0 where
-  pub cursor : Option (ℕ × ℕ)
-  pub wait : Bool
-  pub latest : Option (ℕ × ℕ)
-  pub is : t ≡ standing region (known old) cursor wait (Some plain) latest
-
-opened : (width height : ℕ) (current : Option Picture) (target : Picture) (t : Tty) → IsReady width height current target t → Opens t.region (start current target).rows (feed_bytes t (opening current))
+opened : (width height : ℕ) (current : Option Picture) (target : Picture) (t : Tty) → IsReady width height current target t → Stands t.region (known (start current target).rows) (feed_bytes t (opening current))
 opened width height None target t h =
     let is = tty-same t.rows t.region t.cursor t.wait t.pen t.latest t.reading t.confused t.rows t.pen refl refl h.between h.sure in
     let blanks = cleared-like t.rows target.rows width (h.rows ∙ sym h.size.rows) (recursion_from_All (λ row. length row ≡ width) t.rows h.each) (recursion_from_All (λ row. length row ≡ width) target.rows h.size.each) in
@@ -83,22 +76,16 @@ coloured-rows [] h = tt
 coloured-rows (row ∷ rows) h = (recursion_from_All IsColoured row h.0, coloured-rows rows h.1)
 
 -- the terminal after the rows, and then after the cursor's move where all rows were sent
-pub record Ended (rows : List (List Cell)) (done : Bool) (row column : ℕ) (t : Tty) : Type 0 where
-  pub sure : t.confused ≡ false
-  pub between : t.reading ≡ Between
-  pub cells : t.rows ≡ known rows
-  pub pen : t.pen ≡ Some plain
-  pub cursor : done ≡ true → t.cursor ≡ Some (row, column)
-
-ended : (region : Option (ℕ × ℕ)) → (rows : List (List Cell)) (done : Bool) (row column : ℕ) (cursor : Option (ℕ × ℕ)) (wait : Bool) (latest : Option (ℕ × ℕ)) → row < length rows → column < length (get_or rows row []) → row < 65535 → column < 65535
-    → Ended rows done row column (feed_bytes (standing region (known rows) cursor wait (Some plain) latest) (if done then move row column else []))
-ended region rows false row column cursor wait latest r c few narrow = record { sure = refl; between = refl; cells = refl; pen = refl; cursor = λ e. absurd (cc) }
-ended region rows true row column cursor wait latest r c few narrow =
-    let n : row < length (known rows) = omega (arith, length-map rows (map Some)) in
-    let at : get_or (known rows) row [] ≡ map Some (get_or rows row []) = get_or-map (map Some) rows row [] [] r in
-    let within : column < length (get_or (known rows) row []) = rw at (omega (arith, length-map (get_or rows row []) Some)) in
-    let is = move_fed region (known rows) cursor wait (Some plain) latest row column n within few narrow in
-    rw is (record { sure = refl; between = refl; cells = refl; pen = refl; cursor = λ e. refl })
+ended : (region : Option (ℕ × ℕ)) → (width height : ℕ) (u : Update) (done : Bool) (target : Picture) (cursor : Option (ℕ × ℕ)) (wait : Bool) (latest : Option (ℕ × ℕ)) → u.done ≡ done → IsOfSize width height u.screen
+    → target.row < length u.screen.rows → target.column < length (get_or u.screen.rows target.row []) → target.row < 65535 → target.column < 65535
+    → IsUpdated width height u target (feed_bytes (standing region (known u.screen.rows) cursor wait (Some plain) latest) (if done then move target.row target.column else []))
+ended region width height u false target cursor wait latest e size r c few narrow = record { sure = refl; between = refl; size = size; cells = refl; pen = refl; cursor = λ f. absurd (let g : true ≡ false = sym f ∙ e in cc) }
+ended region width height u true target cursor wait latest e size r c few narrow =
+    let n : target.row < length (known u.screen.rows) = omega (arith, length-map u.screen.rows (map Some)) in
+    let at : get_or (known u.screen.rows) target.row [] ≡ map Some (get_or u.screen.rows target.row []) = get_or-map (map Some) u.screen.rows target.row [] [] r in
+    let within : target.column < length (get_or (known u.screen.rows) target.row []) = rw at (omega (arith, length-map (get_or u.screen.rows target.row []) Some)) in
+    let is = move_fed region (known u.screen.rows) cursor wait (Some plain) latest target.row target.column n within few narrow in
+    rw is (record { sure = refl; between = refl; size = size; cells = refl; pen = refl; cursor = λ f. refl })
 
 pub updated : (width height : ℕ) (current : Option Picture) (target : Picture) (limit : Option ℕ) (t : Tty) → IsReady width height current target t
     → IsUpdated width height (update current target limit) target (feed_bytes t (update current target limit).bytes)
@@ -120,18 +107,11 @@ updated width height current target limit t h =
     let each = All-from_recursion (λ row. length row ≡ width) after (after-all (λ row. length row ≡ width) limit old.rows target.rows old_wide new_wide) in
     let row : target.row < length after = omega (arith, h.size.row) in
     let column : target.column < length (get_or after target.row []) = omega (arith, h.size.column, each target.row [] row) in
-    let end = ended t.region after done target.row target.column sent.cursor sent.wait sent.latest row column (omega (arith, h.size.row, h.tall)) (omega (arith, h.size.column, h.wide)) in
+    let wide : IsOfSize width height (update current target limit).screen = record { rows = n; each = each; row = either (λ k. k < height) done target.row old.row h.size.row size.row; column = either (λ k. k < width) done target.column old.column h.size.column size.column } in
     let is : feed_bytes t (update current target limit).bytes ≡ feed_bytes (standing t.region (known after) sent.cursor sent.wait (Some plain) sent.latest) last =
     feed_bytes-append t (opening current ++ rows_bytes 0 limit old.rows target.rows) last
     ∙ ap (λ x. feed_bytes x last) (
     feed_bytes-append t (opening current) (rows_bytes 0 limit old.rows target.rows)
     ∙ ap (λ x. feed_bytes x (rows_bytes 0 limit old.rows target.rows)) begun.is
     ∙ sent.is) in
-    rw is (record {
-      sure = end.sure;
-      between = end.between;
-      size = record { rows = n; each = each; row = either (λ k. k < height) done target.row old.row h.size.row size.row; column = either (λ k. k < width) done target.column old.column h.size.column size.column };
-      cells = end.cells;
-      pen = end.pen;
-      cursor = end.cursor;
-    })
+    rw is (ended t.region width height (update current target limit) done target sent.cursor sent.wait sent.latest refl wide row column (omega (arith, h.size.row, h.tall)) (omega (arith, h.size.column, h.wide)))

@@ -1,9 +1,10 @@
 -- What is prepared for an update, so that any number of its rows can be sent.
-use Rattle.std.specs.Prelude.{◌≡◌, ℕ, ◌+◌, ◌<◌, ◌≤◌, nat_lt, Bool, true, false, if◌then◌else◌, List, [], ◌∷◌, length, All, Option, None, Some, slice_index_or}
+use Rattle.std.specs.Prelude.{◌≡◌, ℕ, ◌+◌, ◌<◌, ◌≤◌, nat_lt, Bool, true, false, if◌then◌else◌, List, [], ◌∷◌, length, All, Option, None, Some, Result, IfOk, slice_index_or}
 use Rattle.std.specs.Borrow.{Bor}
 use Rattle.rd_base.specs.Cells.{row_at}
 use Rattle.rd_base.specs.declared.limits.TheConstants.{FRAME_ROWS}
 use Rattle.rd_base.specs.declared.cell.Cell.{Cell}
+use Rattle.rd_io.specs.Devices.{Writes}
 use Rattle.rd_term.specs.Pictures.{Picture, width_of}
 use Rattle.rd_update.specs.Updates.{differs, row_bytes, start, opening, Update, update}
 use Rattle.rd_update.specs.declared.plan.ChangedRow.{ChangedRow}
@@ -40,6 +41,11 @@ HaveOneSize (Some current) target = (length current.rows ≡ length target.rows)
 -- what a sent update answers
 abbrev pub sent_of : Update → Sent
 sent_of u = record { rows = u.rows; done = u.done }
+
+-- the bytes of an update were sent, and that is answered; after a failure a front of them was sent
+pub record Sends {E : Type 0} (old new : Option (List ℕ)) (u : Update) (result : Result Sent E) : Type 0 where
+  pub bytes : Writes old new u.bytes result
+  pub sent : IfOk result (λ sent. sent ≡ sent_of u)
 
 -- the row of the current screen, where an unknown one has this row everywhere
 abbrev pub old_row : Option Picture → List Cell → ℕ → List Cell

@@ -1,11 +1,11 @@
 //! An update that is prepared before any of it is sent, so that sending takes no memory.
 ghost use Rattle.std.specs.Prelude.{◌≡◌, ℕ, ◌<◌, ◌≤◌, ◌++◌, ◌-◌, length, Option, All, IfSome, IfOk, OnOk, OnErr, take, drop, replicate, slice_index_or};
 ghost use Rattle.rd_base.specs.Cells.{IsSmall, row_at};
-ghost use Rattle.rd_io.specs.Devices.{Writes, Rose};
+ghost use Rattle.rd_io.specs.Devices.{Rose};
 ghost use Rattle.rd_term.specs.Pictures.{Picture, IsScreen, blank_row, width_of};
-ghost use Rattle.rd_update.specs.Updates.{update, opening as opening_of, start, row_bytes, rows_bytes, blank_like, differs};
+ghost use Rattle.rd_update.specs.Updates.{Update, update, opening as opening_of, start, row_bytes, rows_bytes, blank_like, differs};
 ghost use Rattle.rd_update.specs.Laws.{IsSound};
-ghost use Rattle.rd_update.specs.Plans.{Prepared, planned, shown, HaveOneSize, sent_of, parts_from, old_row as old_row_of, IsRowOf, no_part, front_within, part_if, bytes_if};
+ghost use Rattle.rd_update.specs.Plans.{Prepared, planned, shown, HaveOneSize, Sends, sent_of, parts_from, old_row as old_row_of, IsRowOf, no_part, front_within, part_if, bytes_if};
 
 use crate::bytes::{push_move, push_row};
 use crate::span::differences;
@@ -92,10 +92,8 @@ impl Plan {
     /// these were all. It takes no memory. A fault comes only where the sink's count of faults rose, and a front of the bytes
     /// was then written.
     pub fn send<K: Sink>(&self, sink: &mut K, rows_at_most: Option<u32>) -> Result<Sent, WriteFault>
-        ensures bytes { (current : Option Picture) (target : Picture) → self.now ≡ planned current target
-            → Writes (K.written sink.old) (K.written sink.new) (update current target rows_at_most).bytes result }
-        ensures sent { (current : Option Picture) (target : Picture) → self.now ≡ planned current target
-            → IfOk result (λ sent. sent ≡ sent_of (update current target rows_at_most)) }
+        ensures sends { (current : Option Picture) (target : Picture) → self.now ≡ planned current target
+            → Sends (K.written sink.old) (K.written sink.new) (update current target rows_at_most) result }
         ensures never_falls { K.faults sink.old ≤ K.faults sink.new }
         ensures failed { OnErr result (Rose (K.faults sink.old) (K.faults sink.new)) }
     {
@@ -245,10 +243,9 @@ fn push_parts(
     Ok(())
 }
 
-/// Sends these bytes, and answers this where all were written.
+/// Sends the bytes of an update, and answers this where all were written.
 fn send_front<K: Sink>(sink: &mut K, bytes: &[u8], sent: Sent) -> Result<Sent, WriteFault>
-    ensures bytes { Writes (K.written sink.old) (K.written sink.new) bytes.now result }
-    ensures sent { IfOk result (λ told. told ≡ sent) }
+    ensures sends { (u : Update) → bytes.now ≡ u.bytes → sent ≡ sent_of u → Sends (K.written sink.old) (K.written sink.new) u result }
     ensures never_falls { K.faults sink.old ≤ K.faults sink.new }
     ensures failed { OnErr result (Rose (K.faults sink.old) (K.faults sink.new)) }
 {
