@@ -55,6 +55,10 @@ moved-length (negsuc n) free rows le =
     length-append (replicate (suc n) free) (take (length rows - suc n) rows)
     ∙ omega (arith, length-take-le (length rows - suc n) rows (omega arith), length-replicate (suc n) free)
 
+-- the rows of a band
+pub part-length : {A : Type 0} (xs : List A) (top height : ℕ) → top + height ≤ length xs → length (take (top + height - top) (drop top xs)) ≡ height
+part-length xs top height le = length-take-le (top + height - top) (drop top xs) (omega (arith, length-drop top xs)) ∙ omega arith
+
 pub shifted-length : {A : Type 0} (s : Shift) (free : A) (rows : List A) → IsShift (length rows) s → length (shifted_rows s free rows) ≡ length rows
 shifted-length s free rows h =
     length-between s.top (s.top + s.height) (moved s.by free) rows (λ part n. moved-length s.by free part (omega (arith, n, h.left)))
@@ -72,21 +76,6 @@ cost-told current target w s old new e =
     ∙ counted w target.rows after target.rows (recursion_from_All (λ r. length r ≡ w) target.rows new) (recursion_from_All (λ r. length r ≡ w) after wide)
     (recursion_from_All (λ r. length r ≡ w) target.rows new) (all-in target.rows)
     ∙ ap (λ k. differing (shifted_rows s (blank_row k) current.rows) target.rows) (sym e)
-
-part-length : (xs : List ℕ) (top height : ℕ) → top + height ≤ length xs → length (take (top + height - top) (drop top xs)) ≡ height
-part-length xs top height le = length-take-le (top + height - top) (drop top xs) (omega (arith, length-drop top xs)) ∙ omega arith
-
--- the cost in four parts: above the band, in what is moved and what comes in, and below
-in-parts : (old new change : List ℕ) (top height : ℕ) → length old ≡ length new → top + height ≤ length new → length change ≡ height
-    → unlike (take top old ++ (change ++ drop (top + height) old)) new
-    ≡ unlike (take top old) (take top new) + (unlike change (take (top + height - top) (drop top new)) + unlike (drop (top + height) old) (drop (top + height) new))
-in-parts old new change top height same le n =
-    let part = take (top + height - top) (drop top new) in
-    let below = drop (top + height) new in
-    let long : length (take top old) ≡ length (take top new) = length-take-le top old (omega arith) ∙ sym (length-take-le top new (omega arith)) in
-    ap (unlike (take top old ++ (change ++ drop (top + height) old))) (sym (three-parts top (top + height) new (omega arith)))
-    ∙ unlike-append (take top old) (change ++ drop (top + height) old) (take top new) (part ++ below) long
-    ∙ ap (λ k. unlike (take top old) (take top new) + k) (unlike-append change (drop (top + height) old) part below (n ∙ sym (part-length new top height le)))
 
 -- a part of a part
 inner : (xs : List ℕ) (t k a m : ℕ) → a + m ≤ k → take m (drop a (take k (drop t xs))) ≡ take m (drop (t + a) xs)
@@ -106,8 +95,26 @@ back-of xs t h a m le e =
     let n : length (drop a part) ≤ m = omega (arith, length-drop a part, part-length xs t h le) in
     sym (take_all m (drop a part) n) ∙ inner xs t (t + h - t) a m (omega arith)
 
-four-parts : (a b c d m n : ℕ) → n ≡ a + (m + d) → m ≡ b + c → a + b + c + d ≡ n
-four-parts a b c d m n whole split = omega arith
+-- the cost in four parts: above the band, in the two parts that it becomes, and below
+in-parts : (old new a b : List ℕ) (t h m k : ℕ) → length old ≡ length new → t + h ≤ length new → length a ≡ m → length b ≡ k → m + k ≡ h
+    → unlike (take t old ++ ((a ++ b) ++ drop (t + h) old)) new
+    ≡ unlike (take t old) (take t new) + unlike a (take m (drop t new)) + unlike b (take k (drop (t + m) new)) + unlike (drop (t + h) old) (drop (t + h) new)
+in-parts old new a b t h m k same le first second sum =
+    let part = take (t + h - t) (drop t new) in
+    let above = unlike (take t old) (take t new) in
+    let below = drop (t + h) new in
+    let size = part-length new t h le in
+    let high : length (take t old) ≡ length (take t new) = length-take-le t old (omega arith) ∙ sym (length-take-le t new (omega arith)) in
+    let change : length (a ++ b) ≡ length (take (t + h - t) (drop t new)) = omega (arith, length-append a b, size) in
+    let front : length a ≡ length (take m (take (t + h - t) (drop t new))) = omega (arith, length-take-le m part (omega (arith, size))) in
+    ap (unlike (take t old ++ ((a ++ b) ++ drop (t + h) old))) (sym (three-parts t (t + h) new (omega arith)))
+    ∙ unlike-append (take t old) ((a ++ b) ++ drop (t + h) old) (take t new) (part ++ below) high
+    ∙ ap (λ n. above + n) (unlike-append (a ++ b) (drop (t + h) old) part below change)
+    ∙ ap (λ n. above + (n + unlike (drop (t + h) old) below)) (
+    ap (unlike (a ++ b)) (sym (take-append-drop m part))
+    ∙ unlike-append a b (take m part) (drop m part) front
+    ∙ ap₂ (λ x y. unlike a x + unlike b y) (front-of new t h m (omega arith)) (back-of new t h m k le sum))
+    ∙ omega arith
 
 -- a cost where rows move up
 pub up-cost : (old new : List ℕ) (blank : ℕ) (band : Band) (n : ℕ) → length old ≡ length new → band.top + band.height ≤ length new → n ≤ band.height
@@ -116,23 +123,14 @@ up-cost old new blank band n same le fits =
     let t = band.top in
     let h = band.height in
     let P = take (t + h - t) (drop t old) in
-    let Q = take (t + h - t) (drop t new) in
     let free = replicate n blank in
-    let inside : t + h ≤ length old = omega arith in
-    let kept = back-of old t h n (h - n) inside (omega arith) in
-    let rest = back-of new t h (h - n) n le (omega arith) in
-    let first = front-of new t h (h - n) (omega arith) in
-    let lp = part-length old t h inside in
-    let lq = part-length new t h le in
-    let long : length (drop n P) ≡ length (take (h - n) Q) = omega (arith, length-drop n P, lp, length-take-le (h - n) Q (omega (arith, lq))) in
-    let change : length (drop n P ++ free) ≡ h = omega (arith, length-append (drop n P) free, length-drop n P, lp, length-replicate n blank) in
-    let split : unlike (drop n P ++ free) Q ≡ unlike (take (h - n) (drop (t + n) old)) (take (h - n) (drop t new)) + unlike free (take n (drop (t + (h - n)) new)) =
-    ap (unlike (drop n P ++ free)) (sym (take-append-drop (h - n) Q))
-    ∙ unlike-append (drop n P) free (take (h - n) Q) (drop (h - n) Q) long
-    ∙ ap₂ (λ x y. x + y) (ap₂ unlike kept first) (ap (unlike free) rest) in
-    four-parts (unlike (take t old) (take t new)) (unlike (take (h - n) (drop (t + n) old)) (take (h - n) (drop t new))) (unlike free (take n (drop (t + (h - n)) new)))
-    (unlike (drop (t + h) old) (drop (t + h) new)) (unlike (drop n P ++ free) Q) (number_cost old new blank (shift_by band (pos n)))
-    (in-parts old new (drop n P ++ free) t h same le change) split
+    let kept = back-of old t h n (h - n) (omega arith) (omega arith) in
+    let left : length (drop n (take (t + h - t) (drop t old))) ≡ h - n = length-drop n P ∙ ap (λ k. k - n) (part-length old t h (omega arith)) in
+    ap (λ xs. unlike (take t old) (take t new) + unlike xs (take (h - n) (drop t new)) + unlike free (take n (drop (t + (h - n)) new)) + unlike (drop (t + h) old) (drop (t + h) new)) (sym kept)
+    ∙ sym (in-parts old new (drop n P) free t h (h - n) n same le left (length-replicate n blank) (omega arith))
+
+swapped : (a b c d : ℕ) → a + b + c + d ≡ a + c + b + d
+swapped a b c d = omega arith
 
 -- and where they move down
 pub down-cost : (old new : List ℕ) (blank : ℕ) (band : Band) (n : ℕ) → length old ≡ length new → band.top + band.height ≤ length new → 1 ≤ n → n ≤ band.height
@@ -143,31 +141,15 @@ down-cost old new blank band (suc k) same le some fits =
     let h = band.height in
     let n = suc k in
     let P = take (t + h - t) (drop t old) in
-    let Q = take (t + h - t) (drop t new) in
-    let free = replicate (suc k) blank in
-    let inside : t + h ≤ length old = omega arith in
-    let lp = part-length old t h inside in
-    let lq = part-length new t h le in
-    let kept = ap (λ j. take (j - n) P) lp ∙ front-of old t h (h - n) (omega arith) in
-    let rest = back-of new t h n (h - n) le (omega arith) in
-    let first = front-of new t h n fits in
-    let moved_rows = take (length P - n) P in
-    let ml : length (take (length P - suc k) P) ≡ h - suc k = length-take-le (length P - n) P (omega arith) ∙ omega (arith, lp) in
-    let change : length (free ++ moved_rows) ≡ h = omega (arith, length-append free moved_rows, ml, length-replicate (suc k) blank) in
-    let long : length free ≡ length (take n Q) = length-replicate (suc k) blank ∙ sym (length-take-le n Q (omega (arith, lq))) in
-    let split : unlike (free ++ moved_rows) Q ≡ unlike (take (h - n) (drop t old)) (take (h - n) (drop (t + n) new)) + unlike free (take n (drop t new)) =
-    ap (unlike (free ++ moved_rows)) (sym (take-append-drop n Q))
-    ∙ unlike-append free moved_rows (take n Q) (drop n Q) long
-    ∙ ap₂ (λ x y. x + y) (ap (unlike free) first) (ap₂ unlike kept rest)
-    ∙ omega arith in
-    four-parts (unlike (take t old) (take t new)) (unlike (take (h - n) (drop t old)) (take (h - n) (drop (t + n) new))) (unlike free (take n (drop t new)))
-    (unlike (drop (t + h) old) (drop (t + h) new)) (unlike (free ++ moved_rows) Q) (number_cost old new blank (shift_by band (neg_ℤ (pos n))))
-    (in-parts old new (free ++ moved_rows) t h same le change) split
+    let free = replicate n blank in
+    let size = part-length old t h (omega arith) in
+    let kept = ap (λ j. take (j - n) P) size ∙ front-of old t h (h - n) (omega arith) in
+    let left : length (take (length P - n) P) ≡ h - n = length-take-le (length P - n) P (omega arith) ∙ ap (λ j. j - n) size in
+    swapped (unlike (take t old) (take t new)) (unlike (take (h - n) (drop t old)) (take (h - n) (drop (t + n) new))) (unlike free (take n (drop t new))) (unlike (drop (t + h) old) (drop (t + h) new))
+    ∙ ap (λ xs. unlike (take t old) (take t new) + unlike free (take n (drop t new)) + unlike xs (take (h - n) (drop (t + n) new)) + unlike (drop (t + h) old) (drop (t + h) new)) (sym kept)
+    ∙ sym (in-parts old new free (take (length P - n) P) t h n (h - n) same le (length-replicate n blank) left (omega arith))
 
 -- ---- the rows after a shift, one by one
-
-row-part : (s : Shift) (rows : List (List Cell)) → s.top + s.height ≤ length rows → length (take (s.top + s.height - s.top) (drop s.top rows)) ≡ s.height
-row-part s rows within = length-take-le (s.top + s.height - s.top) (drop s.top rows) (omega (arith, length-drop s.top rows)) ∙ omega arith
 
 row-behind : (s : Shift) (free : List Cell) (rows : List (List Cell)) (row : ℕ) → s.top + s.height ≤ length rows → s.top ≤ row
     → get_or (shifted_rows s free rows) row [] ≡ get_or (moved s.by free (take (s.top + s.height - s.top) (drop s.top rows)) ++ drop (s.top + s.height) rows) (row - s.top) []
@@ -177,7 +159,7 @@ row-behind s free rows row within le =
 
 moved-long : (s : Shift) (free : List Cell) (rows : List (List Cell)) → IsShift (length rows) s → length (moved s.by free (take (s.top + s.height - s.top) (drop s.top rows))) ≡ s.height
 moved-long s free rows h =
-    let n = row-part s rows h.within in
+    let n = part-length rows s.top s.height h.within in
     moved-length s.by free (take (s.top + s.height - s.top) (drop s.top rows)) (omega (arith, n, h.left)) ∙ n
 
 row-within : (s : Shift) (free : List Cell) (rows : List (List Cell)) (row : ℕ) → IsShift (length rows) s → s.top ≤ row → row < s.top + s.height
@@ -221,7 +203,7 @@ moved-free (negsuc n) free P k few less (inr below) = absurd (omega (arith, ints
 pub row-kept : (s : Shift) (free : List Cell) (rows : List (List Cell)) (row j : ℕ) → IsShift (length rows) s → s.top ≤ row → row < s.top + s.height
     → s.top ≤ j → j < s.top + s.height → pos row +ℤ s.by ≡ pos j → get_or rows j [] ≡ get_or (shifted_rows s free rows) row []
 row-kept s free rows row j h le lt from to origin =
-    let n = row-part s rows h.within in
+    let n = part-length rows s.top s.height h.within in
     let same : pos (row - s.top) +ℤ s.by ≡ pos (j - s.top) = omega (arith, ints, origin) in
     let place : s.top + (j - s.top) ≡ j = omega arith in
     sym (
@@ -234,7 +216,7 @@ pub row-free : (s : Shift) (free : List Cell) (rows : List (List Cell)) (row : �
     → ((pos row +ℤ s.by) <ℤ pos s.top) ⊎ (pos (s.top + s.height) ≤ℤ (pos row +ℤ s.by)) → free ≡ get_or (shifted_rows s free rows) row []
 row-free s free rows row h le lt origin =
     let P = take (s.top + s.height - s.top) (drop s.top rows) in
-    let n = row-part s rows h.within in
+    let n = part-length rows s.top s.height h.within in
     let outside : ((pos (row - s.top) +ℤ s.by) <ℤ pos 0) ⊎ (pos (length P) ≤ℤ (pos (row - s.top) +ℤ s.by)) = elim origin [
       | inl above ↦ inl (omega (arith, ints, above))
       | inr below ↦ inr (omega (arith, ints, below, n))

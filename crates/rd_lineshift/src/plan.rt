@@ -1,9 +1,9 @@
 //! An update that may begin with a shift, prepared before any of it is sent, so that sending takes no memory.
 ghost use Rattle.std.specs.Prelude.{◌≡◌, ℕ, ◌≤◌, List, length, Option, None, Some, IfOk, IfSome, OnErr};
-ghost use Rattle.rd_io.specs.Devices.{Writes, Rose};
+ghost use Rattle.rd_io.specs.Devices.{Rose};
 ghost use Rattle.rd_term.specs.Pictures.{Picture};
 ghost use Rattle.rd_update.specs.Laws.{IsSound};
-ghost use Rattle.rd_update.specs.Plans.{HaveOneSize, sent_of, shown};
+ghost use Rattle.rd_update.specs.Plans.{HaveOneSize, Sends, sent_of, shown};
 ghost use Rattle.rd_lineshift.specs.Choices.{AreWithin};
 ghost use Rattle.rd_lineshift.specs.Laws.{IsShift};
 ghost use Rattle.rd_lineshift.specs.Plans.{shifted_planned, shifted_update, shifting};
@@ -114,10 +114,8 @@ impl Shifted {
     /// Sends the bytes of the shift, whatever the limit is, and then, as `Plan::send` does, the update from there: of the rows that
     /// differ after the shift at most so many. A fault is as there.
     pub fn send<K: Sink>(&self, sink: &mut K, rows_at_most: Option<u32>) -> Result<Sent, WriteFault>
-        ensures bytes { (current : Option Picture) (target : Picture) (bands : List Band) → self.now ≡ shifted_planned current target bands
-            → Writes (K.written sink.old) (K.written sink.new) (shifted_update current target bands rows_at_most).bytes result }
-        ensures sent { (current : Option Picture) (target : Picture) (bands : List Band) → self.now ≡ shifted_planned current target bands
-            → IfOk result (λ sent. sent ≡ sent_of (shifted_update current target bands rows_at_most)) }
+        ensures sends { (current : Option Picture) (target : Picture) (bands : List Band) → self.now ≡ shifted_planned current target bands
+            → Sends (K.written sink.old) (K.written sink.new) (shifted_update current target bands rows_at_most) result }
         ensures never_falls { K.faults sink.old ≤ K.faults sink.new }
         ensures failed { OnErr result (Rose (K.faults sink.old) (K.faults sink.new)) }
     {
