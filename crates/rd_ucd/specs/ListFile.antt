@@ -1,5 +1,5 @@
 -- Files that list codes with something each: lines in the form of `BidiMirroring.txt` and `BidiBrackets.txt`.
-use Rattle.std.specs.Prelude.{ℕ, suc, nat_lt, ◌<◌, ◌==◌, Bool, if◌then◌else◌, List, [], ◌∷◌, length, slice_index_or, Option, Some, Result, Ok, Err}
+use Rattle.std.specs.Prelude.{ℕ, suc, nat_lt, ◌==◌, Bool, if◌then◌else◌, List, [], ◌∷◌, length, slice_index_or, Option, Some, Result, Ok, Err}
 use Rattle.rd_ucd.specs.declared.fault.UcdFault.{UcdFault}
 use Rattle.rd_ucd.specs.declared.fault.UcdFault.TheVariants.{BadLine, BadCode, NotAscending}
 use Rattle.rd_ucd.specs.declared.listing.Codes.{Codes}
@@ -45,7 +45,3 @@ listed_from key of_fields least lines = ascending_from key least (entries_in is_
 -- what a file of such lines stands for, or its first fault
 abbrev pub listed_in : {E : Type 0} → (E → ℕ) → (ℕ → List (List ℕ) → Result E UcdFault) → List ℕ → Result (List E) UcdFault
 listed_in key of_fields bytes = listed_from key of_fields 0 (lines_of bytes)
-
--- each entry's code is below this one
-abbrev pub AreBelow : {E : Type 0} → (E → ℕ) → ℕ → List E → Type 0
-AreBelow {E} key code entries = (i : ℕ) (d : E) → i < length entries → key (slice_index_or entries i d) < code

@@ -1,23 +1,20 @@
 -- Reading a class file line by line, against what the whole file stands for.
-use Rattle.std.specs.Prelude.{◌≡◌, ℕ, ◌<◌, List, ◌∷◌, length, slice_index_or, IfSome, Result, Ok, Err}
+use Rattle.std.specs.Prelude.{◌≡◌, ℕ, ◌<◌, List, ◌∷◌, IfSome, Result, Ok, Err}
 use Rattle.rd_ucd.specs.declared.fault.UcdFault.{UcdFault}
 use Rattle.rd_ucd.specs.declared.fault.UcdFault.TheVariants.{Memory}
 use Rattle.rd_ucd.specs.declared.spans.Span.{Span}
 use Rattle.rd_ucd.specs.declared.entries.DataEntry.{DataEntry}
 use Rattle.rd_ucd.specs.declared.reader.Reader.{Reader}
-use Rattle.rd_ucd.specs.Lookup.{IsAscending}
+use Rattle.rd_ucd.specs.Lookup.{IsAscending, AreBelow}
 use Rattle.rd_ucd.specs.Lines.{entries_in}
 use Rattle.rd_ucd.specs.ClassFile.{is_empty_line, entry_of, spans_from}
 use Rattle.rd_ucd.specs.Results.{behind}
 
-abbrev pub AreSpansBelow : ℕ → List Span → Type 0
-AreSpansBelow code spans = (i : ℕ) (d : Span) → i < length spans → (slice_index_or spans i d).last < code
-
 -- the ranges that were read ascend, below the code of a First that waits and below `least`
 pub record IsReading (reader : Reader) : Type 0 where
-  pub ascending : IsAscending reader.spans
-  pub below : AreSpansBelow reader.least reader.spans
-  pub opened : IfSome reader.opened (λ o. (o.code < reader.least) × AreSpansBelow o.code reader.spans)
+  pub ascending : IsAscending (λ s. s.first) (λ s. s.last) reader.spans
+  pub below : AreBelow (λ s. s.last) reader.least reader.spans
+  pub opened : IfSome reader.opened (λ o. (o.code < reader.least) × AreBelow (λ s. s.last) o.code reader.spans)
 
 -- what the file stands for, where these entries are left, or these lines
 abbrev pub whole : Reader → List (ℕ × Result DataEntry UcdFault) → Result (List Span) UcdFault

@@ -1,6 +1,5 @@
 //! The bidirectional classes of all characters.
 ghost use Rattle.std.specs.Prelude.{◌≡◌};
-ghost use Rattle.rd_ucd.specs.Lookup.{IsAscending, class_in};
 ghost use Rattle.rd_ucd.specs.ClassFile.{ended};
 ghost use Rattle.rd_ucd.specs.Results.{behind, Answers};
 ghost use Rattle.rd_ucd.specs.Reading.{IsReading};
@@ -8,7 +7,7 @@ ghost use Rattle.rd_ucd.specs.Reading.{IsReading};
 use crate::fault::UcdFault;
 use crate::lines::read_lines;
 use crate::reader::Reader;
-use crate::search::count_up_to;
+use crate::search::entry_at;
 use crate::spans::Span;
 use rd_base::{Ch, Class, ListOf};
 use std::alloc::Global;
@@ -29,7 +28,7 @@ impl Model for Classes {
 
     ghost view = { λ classes. classes.spans };
 
-    ghost invariant = { λ classes. IsAscending classes.spans };
+    ghost invariant = { λ classes. IsAscending (λ s. s.first) (λ s. s.last) classes.spans };
 }
 
 impl Classes {
@@ -59,24 +58,7 @@ impl Classes {
         if code >= 1_114_112 {
             return Class::L;
         }
-        class_at(self.spans.as_slice(), code)
-    }
-}
-
-/// The class of a code in ascending ranges.
-fn class_at(spans: &[Span], code: u32) -> Class
-    requires { IsAscending spans.now }
-    ensures { result ≡ class_in spans.now code }
-{
-    let count = count_up_to(spans, code);
-    if count == 0 {
-        return Class::L;
-    }
-    let span = spans[count - 1];
-    if code <= span.last {
-        span.class
-    } else {
-        Class::L
+        entry_at(self.spans.as_slice(), code).map_or(Class::L, |span| span.class)
     }
 }
 

@@ -20,10 +20,10 @@ pub trait Listed: Keyed + Copy {
 
     ghost of_fields: { ℕ → List (List ℕ) → Result Self UcdFault };
 
-    /// Reads the line of a number, without its comment.
+    /// Reads the line of a number, without its comment. The entry covers one code.
     fn read(line: &[u8], number: u64) -> Result<Self, UcdFault>
         ensures value { result ≡ of_fields number (fields_of line.now) }
-        ensures bound { IfOk result (λ entry. Self.key entry ≤ 1114111) };
+        ensures bound { IfOk result (λ entry. (Self.first entry ≤ 1114111) × (Self.last entry ≡ Self.first entry)) };
 }
 
 /// What was read so far: the entries, and one more than the code of the last of them.
@@ -34,15 +34,15 @@ struct ListingReader<E> {
 }
 
 impl<E: Listed> LineReader for ListingReader<E> {
-    ghost use Rattle.rd_ucd.specs.Lookup.{AreAscending};
-    ghost use Rattle.rd_ucd.specs.ListFile.{AreBelow, listed_from};
+    ghost use Rattle.rd_ucd.specs.Lookup.{AreBelow, IsAscending};
+    ghost use Rattle.rd_ucd.specs.ListFile.{listed_from};
     ghost use Rattle.rd_ucd.specs.Results.{behind};
 
     type Value = E;
 
-    ghost is_reading = { λ s. AreAscending E.key s.entries × AreBelow E.key s.least s.entries };
+    ghost is_reading = { λ s. IsAscending E.first E.last s.entries × AreBelow E.last s.least s.entries };
 
-    ghost whole = { λ s lines. behind s.entries (listed_from E.key E.of_fields s.least lines) };
+    ghost whole = { λ s lines. behind s.entries (listed_from E.first E.of_fields s.least lines) };
 
     fn read_line(&mut self, number: u64, line: &[u8]) -> Result<(), UcdFault> {
         let line = before_comment(without_return(line));
@@ -50,7 +50,7 @@ impl<E: Listed> LineReader for ListingReader<E> {
             return Ok(());
         }
         let entry = E::read(line, number)?;
-        let code = entry.key();
+        let code = entry.first();
         if code < self.least {
             return Err(UcdFault::NotAscending(number));
         }
@@ -68,13 +68,13 @@ pub struct Listing<E: Keyed> {
 
 impl<E: Keyed> Model for Listing<E> {
     ghost use Rattle.std.specs.Prelude.{List};
-    ghost use Rattle.rd_ucd.specs.Lookup.{AreAscending};
+    ghost use Rattle.rd_ucd.specs.Lookup.{IsAscending};
 
     ghost Value = { List E };
 
     ghost view = { λ listing. listing.entries };
 
-    ghost invariant = { λ listing. AreAscending E.key listing.entries };
+    ghost invariant = { λ listing. IsAscending E.first E.last listing.entries };
 }
 
 impl<E: Listed> Listing<E> {
@@ -98,7 +98,7 @@ impl<E: Listed> Listing<E> {
     /// exactly at the first line that has one, with its number from 1, and in a line in the order of `UcdFault`. Want of memory may
     /// come at any line. The cost is linear in the file, and so is the memory.
     pub fn read(alloc: Global, bytes: &[u8]) -> Result<Listing<E>, UcdFault>
-        ensures { Answers result (listed_in E.key E.of_fields bytes.now) }
+        ensures { Answers result (listed_in E.first E.of_fields bytes.now) }
     {
         let empty = ListingReader {
             entries: ListOf::new(alloc),
@@ -108,9 +108,9 @@ impl<E: Listed> Listing<E> {
         Ok(Listing { entries })
     }
 
-    /// The entry that is listed under a code, if there is one. It costs the logarithm of their number.
+    /// The entry that covers a code, if there is one. It costs the logarithm of their number.
     pub(crate) fn entry(&self, code: u32) -> Option<E>
-        ensures { result ≡ entry_in E.key self.now code }
+        ensures { result ≡ entry_in E.first E.last self.now code }
     {
         entry_at(self.entries.as_slice(), code)
     }

@@ -12,10 +12,16 @@ pub struct Span {
 }
 
 impl Keyed for Span {
-    ghost key = { λ span. span.first };
+    ghost first = { λ span. span.first };
 
-    fn key(&self) -> u32 {
+    ghost last = { λ span. span.last };
+
+    fn first(&self) -> u32 {
         self.first
+    }
+
+    fn last(&self) -> u32 {
+        self.last
     }
 }
 
@@ -27,9 +33,15 @@ pub struct Pair {
 }
 
 impl Keyed for Pair {
-    ghost key = { λ pair. pair.code };
+    ghost first = { λ pair. pair.code };
 
-    fn key(&self) -> u32 {
+    ghost last = { λ pair. pair.code };
+
+    fn first(&self) -> u32 {
+        self.code
+    }
+
+    fn last(&self) -> u32 {
         self.code
     }
 }
@@ -51,9 +63,15 @@ pub struct BracketEntry {
 }
 
 impl Keyed for BracketEntry {
-    ghost key = { λ entry. entry.code };
+    ghost first = { λ entry. entry.code };
 
-    fn key(&self) -> u32 {
+    ghost last = { λ entry. entry.code };
+
+    fn first(&self) -> u32 {
+        self.code
+    }
+
+    fn last(&self) -> u32 {
         self.code
     }
 }
