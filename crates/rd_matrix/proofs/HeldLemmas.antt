@@ -1,4 +1,4 @@
--- Blocks with their lines, as a source.
+-- Blocks with their lines, as a source; and when rows are those of a block.
 use Rattle.std.proofs.Common.{◌≡◌, ℕ, zero, suc, ◌+◌, ◌-◌, ◌<◌, ◌≤◌, ◌&&◌, nat_le, nat_lt, nat_eq, Bool, true, false, IsTrue, List, [], ◌∷◌, ◌++◌, length, get_or, map, All, inl, inr, Option, None, Some, refl, ap, sym, ◌∙◌, subst, arith}
 use Rattle.std.specs.Prelude.{count_by, slice_get, option_map}
 use Rattle.std.proofs.lemmas.Bool.Decides.{nat_tests}
@@ -22,7 +22,7 @@ use Rattle.rd_rows.specs.Copies.{shown_rows, made_rows}
 use Rattle.rd_rows.specs.Laws.{seen_rows, ends_last, begins_of, range_of, ranges_of}
 use Rattle.rd_rows.specs.Leads.{HasLeads}
 use Rattle.rd_rows.specs.Prefixes.{IsPrefix}
-use Rattle.rd_rows.specs.Rows.{LaidRow, cutting_of, rows_of}
+use Rattle.rd_rows.specs.Rows.{RowMeaning, LaidRow, cutting_of, rows_of}
 use Rattle.rd_rows.specs.Shapes.{ShapeValues}
 
 -- places of blocks that stand one behind the other
@@ -86,7 +86,7 @@ laid-there from (suc k) (g ∷ hs) h shape stand i =
 
 -- the items of a block
 
-pub count-same : (p : Begin → Bool) (q : ℕ × ℕ → Bool) (bs : List Begin) → ((b : Begin) → p b ≡ q (range_of b)) → count_by p bs ≡ count_by q (map range_of bs)
+count-same : (p : Begin → Bool) (q : ℕ × ℕ → Bool) (bs : List Begin) → ((b : Begin) → p b ≡ q (range_of b)) → count_by p bs ≡ count_by q (map range_of bs)
 count-same p q [] h = refl
 count-same p q (b ∷ bs) h = count-cons p b bs ∙ (rw (h b, count-same p q bs h) refl ∙ sym (count-cons q (range_of b) (map range_of bs)))
 
@@ -98,7 +98,7 @@ moved-lt : (b : Bool) (start k t : ℕ) → nat_lt k t ≡ b → nat_lt (start +
 moved-lt true start k t h = grind (arith, nat_tests)
 moved-lt false start k t h = grind (arith, nat_tests)
 
-pub covers-moved : (start k : ℕ) (b : Begin) → covers start (start + k) b ≡ in_range k (range_of b)
+covers-moved : (start k : ℕ) (b : Begin) → covers start (start + k) b ≡ in_range k (range_of b)
 covers-moved start k b = rw (moved-le (nat_le b.from k) start b.from k refl, moved-lt (nat_lt k b.to) start k b.to refl) refl
 
 covered-at : (n k : ℕ) (rs : List (ℕ × ℕ)) → covers_each n rs ≡ true → k < n → count_by (in_range k) rs ≡ 1
@@ -119,22 +119,19 @@ inside-all start end size (b ∷ bs) e h =
     let within : b.to ≤ size = let o = parts.1 in grind (arith, nat_tests) in
     All-cons (IsInBlock start end) b bs (order, omega (arith, e, within)) (inside-all start end size bs e both.1)
 
-pub rows-right : (h : HeldBlock) (shape : ShapeValues) → IsHeld h → IsTrue (ends_last (seen_rows (laid_at shape h))) → map range_of (begins_of (seen_rows (laid_at shape h))) ≡ ranges_of None h.elements
-    → AreRowsOf h.block.start h.block.end (seen_rows (laid_at shape h))
-rows-right h shape held last begun =
-    let some = held.some in
-    let size : h.block.start + (h.block.end - h.block.start) ≡ h.block.end = omega (arith, some) in
-    let bs : List Begin = begins_of (seen_rows (laid_at shape h)) in
-    record {
-      ends = last;
-      inside = inside-all h.block.start h.block.end (h.block.end - h.block.start) bs size (ap (are_inside (h.block.end - h.block.start)) begun ∙ held.inside);
-      once = λ point low high.
-          let k : ℕ = point - h.block.start in
-          let at : h.block.start + k ≡ point = omega (arith, low) in
-          let one : count_by (in_range k) (ranges_of None h.elements) ≡ 1 = covered-at (h.block.end - h.block.start) k (ranges_of None h.elements) held.covers (omega (arith, low, high)) in
-          subst (λ (p : ℕ). count_by (covers h.block.start p) bs ≡ 1) at
-          (count-same (covers h.block.start (h.block.start + k)) (in_range k) bs (covers-moved h.block.start k) ∙ (ap (count_by (in_range k)) begun ∙ one));
-    }
+-- rows are those of a block of this size where the items that begin in them have these ranges, which lie within it and hold each of its
+-- offsets once
+pub are-rows : (start end size : ℕ) (rows : List RowMeaning) (rs : List (ℕ × ℕ)) → start + size ≡ end → IsTrue (ends_last rows) → map range_of (begins_of rows) ≡ rs
+    → are_inside size rs ≡ true → ((k : ℕ) → k < size → count_by (in_range k) rs ≡ 1) → AreRowsOf start end rows
+are-rows start end size rows rs whole last begun inside once = record {
+  ends = last;
+  inside = inside-all start end size (begins_of rows) whole (ap (are_inside size) begun ∙ inside);
+  once = λ point low high.
+      let k : ℕ = point - start in
+      let at : start + k ≡ point = omega (arith, low) in
+      subst (λ (p : ℕ). count_by (covers start p) (begins_of rows) ≡ 1) at
+      (count-same (covers start (start + k)) (in_range k) (begins_of rows) (covers-moved start k) ∙ (ap (count_by (in_range k)) begun ∙ once k (omega (arith, low, high, whole))));
+}
 
 bases-of : (hs : List HeldBlock) → All IsHeld hs → All (λ b. b.base ≤ 1) (blocks_held hs)
 bases-of [] all = All-nil (λ (b : Block). b.base ≤ 1)
@@ -157,8 +154,12 @@ source-right hs held some last begun leads = record {
       let is = all-at IsHeld hs among.0 h held.lines found.there in
       let lead = leads shape h.block.base h.first h.wrap h.truncation h.continuation good.most is.first is.wrap in
       let there = laid-there (first_start (blocks_held hs)) among.0 hs h shape held.stand found.there in
+      let size : ℕ = h.block.end - h.block.start in
+      let some = is.some in
       subst (λ (x : Block). AreRowsOf x.start x.end (seen_rows (laid_from shape x.start hs))) found.block
-      (subst (λ (rs : List LaidRow). AreRowsOf h.block.start h.block.end (seen_rows rs)) (sym there) (rows-right h shape is (last _ h.elements lead is.end) (begun _ h.elements lead is.end)));
+      (subst (λ (rs : List LaidRow). AreRowsOf h.block.start h.block.end (seen_rows rs)) (sym there)
+      (are-rows h.block.start h.block.end size (seen_rows (laid_at shape h)) (ranges_of None h.elements) (omega (arith, some)) (last _ h.elements lead is.end) (begun _ h.elements lead is.end)
+      is.inside (λ k. covered-at size k (ranges_of None h.elements) is.covers)));
 }
 
 -- one more block
