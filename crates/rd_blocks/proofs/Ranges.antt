@@ -3,7 +3,7 @@ use Rattle.std.proofs.Common.{◌≡◌, ℕ, zero, suc, ◌+◌, ◌<◌, ◌�
 use Rattle.std.specs.Prelude.{if◌then◌else◌, slice_get, count_by}
 use Rattle.std.specs.List.{flat_map, range_with_len, AllByRecursion}
 use Rattle.std.proofs.lemmas.Bool.Decides.{nat_tests}
-use Rattle.std.proofs.lemmas.Bool.{and_parts, cases_lt, lt-ltb, not-true}
+use Rattle.std.proofs.lemmas.Bool.{and_parts, cases_lt, le-leb, lt-ltb, not-true}
 use Rattle.std.proofs.lemmas.List.{length-map}
 use Rattle.std.proofs.lemmas.List.Elements.{All-cons, All-nil, All-append, All-tail, All-from_recursion}
 use Rattle.rd_base.specs.declared.element.Element.{Element}
@@ -14,7 +14,7 @@ use Rattle.rd_items.specs.Covers.{Tile, CoverWhereTheyGive}
 use Rattle.rd_items.specs.declared.item.Item.{Item}
 use Rattle.rd_levels.proofs.Turns.{total_in, each-turn}
 use Rattle.rd_levels.specs.declared.turn.Turn.{Turn}
-use Rattle.rd_matrix.specs.Held.{in_range}
+use Rattle.rd_matrix.specs.Held.{in_range, are_inside}
 use Rattle.rd_order.proofs.Once.{is_place, once-at-most}
 use Rattle.rd_rows.specs.Laws.{ranges_of}
 use Rattle.rd_rows.specs.Placing.{is_item}
@@ -191,7 +191,7 @@ tiled-once k since to (x ∷ xs) (inr next) low high =
     ])
 
 -- each range begins where it ends or before, and ends within the block
-abbrev pub LiesWithin : ℕ → ℕ × ℕ → Type 0
+abbrev LiesWithin : ℕ → ℕ × ℕ → Type 0
 LiesWithin size r = (r.0 ≤ r.1) × (r.1 ≤ size)
 
 tile-order : (since to : ℕ) (items : List Item) → Tile since to items → All (λ (x : Item). x.from ≤ x.to) items
@@ -203,12 +203,12 @@ module _ (size : ℕ) where
   abbrev LiesIn : Element → Type 0
   LiesIn e = LiesWithin size (e.origin.from, e.origin.to)
 
-  range-in : (b : Bool) (r : ℕ × ℕ) (rs : List (ℕ × ℕ)) → LiesWithin size r → All (LiesWithin size) rs → All (LiesWithin size) ((if b then [] else r ∷ []) ++ rs)
+  range-in : (b : Bool) (r : ℕ × ℕ) (rs : List (ℕ × ℕ)) → LiesWithin size r → are_inside size rs ≡ true → are_inside size ((if b then [] else r ∷ []) ++ rs) ≡ true
   range-in true r rs h all = all
-  range-in false r rs h all = All-cons (LiesWithin size) r rs h all
+  range-in false r rs h all = rw (le-leb r.0 r.1 h.0, le-leb r.1 size h.1) all
 
-  ranges-in : (before : Option ℕ) (es : List Element) → All LiesIn es → All (LiesWithin size) (ranges_of before es)
-  ranges-in before [] all = All-nil (LiesWithin size)
+  ranges-in : (before : Option ℕ) (es : List Element) → All LiesIn es → are_inside size (ranges_of before es) ≡ true
+  ranges-in before [] all = refl
   ranges-in before (e ∷ es) all =
       range-in (is_item before e.origin.item) (e.origin.from, e.origin.to) (ranges_of (Some e.origin.item) es) (all 0 e (omega arith)) (ranges-in (Some e.origin.item) es (All-tail LiesIn e es all))
 
@@ -251,7 +251,7 @@ line-once law s base size k items tile give below =
     ∙ hits (in_range k) items
     ∙ tiled-once k 0 size items tile (omega arith) below
 
-pub line-within : (s : Scene) (base size : ℕ) (items : List Item) → Tile 0 size items → All (λ (x : Item). x.to ≤ size) items → All (LiesWithin size) (ranges_of None (line_of_items s base items))
+pub line-within : (s : Scene) (base size : ℕ) (items : List Item) → Tile 0 size items → All (λ (x : Item). x.to ≤ size) items → are_inside size (ranges_of None (line_of_items s base items)) ≡ true
 line-within s base size items tile ends =
     let order = tile-order 0 size items tile in
     ranges-in size None (line_of_items s base items) (turns-in size s base items (item_turns s base items) (λ k d inside. (order k d inside, ends k d inside)))

@@ -1,7 +1,7 @@
 -- Each buffer is a source of blocks.
-use Rattle.std.proofs.Common.{◌≡◌, ℕ, zero, suc, ◌+◌, ◌-◌, ◌<◌, ◌≤◌, true, IsTrue, List, [], ◌∷◌, length, get_or, map, All, None, Some, refl, ap, sym, ◌∙◌, subst, arith}
-use Rattle.std.specs.Prelude.{count_by, slice_get}
-use Rattle.std.proofs.lemmas.List.Elements.{All-map, All-cons, All-nil, All-tail}
+use Rattle.std.proofs.Common.{◌≡◌, ℕ, zero, suc, ◌+◌, ◌-◌, ◌<◌, ◌≤◌, true, IsTrue, List, [], ◌∷◌, length, get_or, map, None, Some, refl, sym, subst, arith}
+use Rattle.std.specs.Prelude.{slice_get}
+use Rattle.std.proofs.lemmas.List.Elements.{All-map}
 use Rattle.std.proofs.lemmas.Option.{same_Some}
 use Rattle.rd_base.specs.Elements.{ends_once}
 use Rattle.rd_base.specs.declared.element.Element.{Element}
@@ -16,13 +16,10 @@ use Rattle.rd_items.specs.Readings.{reading, IsReading}
 use Rattle.rd_items.specs.Pieces.{Scene, scene_in}
 use Rattle.rd_items.specs.Items.{items_of}
 use Rattle.rd_items.specs.Covers.{Tile, CoverWhereTheyGive}
-use Rattle.rd_matrix.proofs.HeldLemmas.{count-same, covers-moved}
+use Rattle.rd_matrix.proofs.HeldLemmas.{are-rows}
 use Rattle.rd_matrix.specs.Blocks.{StandFrom, first_start, end_from}
-use Rattle.rd_matrix.specs.Columns.{covers}
-use Rattle.rd_matrix.specs.Held.{in_range}
-use Rattle.rd_matrix.specs.Sources.{IsSource, AreRowsOf, IsInBlock}
+use Rattle.rd_matrix.specs.Sources.{IsSource, AreRowsOf}
 use Rattle.rd_matrix.specs.declared.block.Block.{Block}
-use Rattle.rd_rows.specs.declared.begin.Begin.{Begin}
 use Rattle.rd_rows.specs.declared.cutting.Cutting.{Cutting}
 use Rattle.rd_rows.specs.Laws.{seen_rows, ends_last, begins_of, range_of, ranges_of}
 use Rattle.rd_rows.specs.Leads.{HasQuietLeads}
@@ -34,7 +31,7 @@ use Rattle.rd_blocks.specs.Rows.{block_cutting, block_rows}
 use Rattle.rd_blocks.specs.Sources.{text_source}
 use Rattle.rd_blocks.proofs.Gives.{ItemsGive}
 use Rattle.rd_blocks.proofs.Within.{items-within}
-use Rattle.rd_blocks.proofs.Ranges.{LiesWithin, line-once, line-within}
+use Rattle.rd_blocks.proofs.Ranges.{line-once, line-within}
 use Rattle.rd_blocks.proofs.Bases.{base-low}
 use Rattle.rd_blocks.proofs.Quiet.{PrefixesOpen, quiet-cutting}
 
@@ -89,17 +86,6 @@ pair-at classes s (p ∷ ps) (suc k) b h = pair-at classes s ps k b h
 pub listed-at : (classes : List Span) (s : BufferValue) (k : ℕ) (b : Block) → slice_get (blocks_in classes s) k ≡ Some b → IsListed classes s k b
 listed-at classes s k b h = let found = pair-at classes s (blocks_of s) k b h in record { pair = found.0; at = found.1; is = found.2 }
 
--- the rows
-
-inside-all : (start end size : ℕ) (bs : List Begin) → start + size ≡ end → All (LiesWithin size) (map range_of bs) → All (IsInBlock start end) bs
-inside-all start end size [] e all = All-nil (IsInBlock start end)
-inside-all start end size (b ∷ bs) e all =
-    let here = all 0 (range_of b) (omega arith) in
-    let order : b.from ≤ b.to = here.0 in
-    let within : b.to ≤ size = here.1 in
-    All-cons (IsInBlock start end) b bs (order, omega (arith, e, within))
-    (inside-all start end size bs e (All-tail (LiesWithin size) (range_of b) (map range_of bs) all))
-
 -- the rows of what is read of a block
 rows-right : Lower → (scene : Scene) (base start end : ℕ) (shape : ShapeValues) (es : List Seen) → IsReading scene.parts.settings.invisible es → start + length es ≡ end
     → AreRowsOf start end (seen_rows (block_rows scene base shape es))
@@ -108,21 +94,11 @@ rows-right low scene base start end shape es is size =
     let line = line_elements scene base es in
     let quiet = quiet-cutting low.prefixes scene base shape es in
     let ends = low.ends scene base es is in
-    let begun = low.begun cutting line quiet ends in
+    let items = items_of scene es in
     let tile = low.tile scene es is in
-    let give = low.give scene es is in
-    let begins = begins_of (seen_rows (rows_of cutting line)) in
-    record {
-      ends = low.last cutting line quiet ends;
-      inside = inside-all start end (length es) begins size (subst (All (LiesWithin (length es))) (sym begun) (line-within scene base (length es) (items_of scene es) tile (items-within (length es) scene es (omega arith))));
-      once = λ point from below.
-          let at : point ≡ start + (point - start) = omega (arith, from) in
-          let less : point - start < length es = omega (arith, from, below, size) in
-          ap (λ p. count_by (covers start p) begins) at
-          ∙ count-same (covers start (start + (point - start))) (in_range (point - start)) begins (covers-moved start (point - start))
-          ∙ ap (count_by (in_range (point - start))) begun
-          ∙ line-once low.items scene base (length es) (point - start) (items_of scene es) tile give less;
-    }
+    are-rows start end (length es) (seen_rows (rows_of cutting line)) (ranges_of None line) size (low.last cutting line quiet ends) (low.begun cutting line quiet ends)
+    (line-within scene base (length es) items tile (items-within (length es) scene es (omega arith)))
+    (λ k. line-once low.items scene base (length es) k items tile (low.give scene es is))
 
 pub source-right : Lower → (s : BufferValue) (objects : ObjectLists) (files : Data) → IsText s.text → IsSource (text_source s objects files)
 source-right low s objects files right =
