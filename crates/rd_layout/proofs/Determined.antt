@@ -21,20 +21,10 @@ one-fresh : (v : SessionValue) (last : Option Layout) (p : Placed) (o : Option W
     → (number, uncopied l) ∷ rest ≡ of_window (fresh_layout v.files v.state) p o ++ rest
 one-fresh v last p None number l rest is laid = absurd laid
 one-fresh v last p (Some w) number l rest is laid =
-    let matrix = made-anew l.matrix ∙ ap (map made_entry) laid.rows in
-    λ i. (
-      is i,
-      record {
-        matrix = matrix i;
-        shape = laid.shape_is i;
-        height = laid.height i;
-        margin = laid.margin i;
-        conservatively = laid.conservatively i;
-        top = laid.top i;
-        bottom = laid.bottom i;
-        change = laid.change i;
-      },
-    ) ∷ rest
+    let anew : uncopied l ≡ (fresh_layout v.files v.state p w).1 =
+    ap uncopied laid.is
+    ∙ ap (λ (es : List Entry). record (fresh_layout v.files v.state p w).1 { matrix = es }) (made-anew l.matrix ∙ ap (map made_entry) laid.rows) in
+    λ i. (is i, anew i) ∷ rest
 
 all-fresh : (v : SessionValue) (ps : List Placed) (es : List (ℕ × Layout)) → AreLaidOut v ps es → map (λ (e : ℕ × Layout). (e.0, uncopied e.1)) es ≡ flat_map (of_place (fresh_layout v.files v.state) v.state) ps
 all-fresh v [] [] h = refl

@@ -144,6 +144,8 @@ module _ (laws : SendLaws) (files : Data) (s : StateValue) (valid : IsValid s) w
       let b = element-at s.buffers x.buffer window.made in
       let m = window_source files s x in
       let shape = window_shape s x p in
+      let shaped : l.shape ≡ shape = ap (λ (y : Layout). y.shape) laid.is in
+      let anew : l.change ≡ none = ap (λ (y : Layout). y.change) laid.is in
       let content = valid.buffers.contents x.buffer b.0 b.1 in
       let named : AreMade (seen (shown_content s x)) s.objects = subst (λ (c : ContentValue). AreMade (seen c) s.objects) (sym (shown-is laws.views s valid x b.0 b.1)) content.names in
       let here : shown_content (settled_state files s) w ≡ shown_content s x = ap (λ k. content_in (slice_get s.buffers k)) same in
@@ -151,13 +153,13 @@ module _ (laws : SendLaws) (files : Data) (s : StateValue) (valid : IsValid s) w
         old = seen (shown_content s x);
         made = s.objects;
         text = shown-text laws.views s valid x b.0 b.1;
-        shape = subst IsShape (sym laid.shape_is) (is-shape laws.views s valid p.number x p at);
-        rows = subst (λ (y : ShapeValues). AreRowsAt m y l.matrix) (sym laid.shape_is) (laws.rows m shape l.matrix (start_row m shape (wanted_of s x p)) (body_height p) laid.rows);
-        change = subst IsChange (sym laid.change) new-change;
+        shape = subst IsShape (sym shaped) (is-shape laws.views s valid p.number x p at);
+        rows = subst (λ (y : ShapeValues). AreRowsAt m y l.matrix) (sym shaped) (laws.rows m shape l.matrix (start_row m shape (wanted_of s x p)) (body_height p) laid.rows);
+        change = subst IsChange (sym anew) new-change;
         stands = λ unchanged forced. subst₂ (λ (c : ContentValue) (a : Anchor). Stands (text_source (seen c) s.objects files) a l) (sym here) (ap (λ (y : WindowState). y.anchor) settled)
             (laws.stand last m shape (wanted_of s x p) l (laws.views.source (seen (shown_content s x)) s.objects files (shown-text laws.views s valid x b.0 b.1)) (is-shape laws.views s valid p.number x p at)
             (point-within laws.views files s valid x b.0 b.1 window) laid);
-        leads = subst₂ (λ (c : ContentValue) (change : Change). LeadsTo (seen (shown_content s x)) s.objects (seen c) s.objects change) (sym here) (sym laid.change)
+        leads = subst₂ (λ (c : ContentValue) (change : Change). LeadsTo (seen (shown_content s x)) s.objects (seen c) s.objects change) (sym here) (sym anew)
             (laws.grown (seen (shown_content s x)) s.objects s.objects valid.closed named (laws.itself s.objects));
       }
 

@@ -3,16 +3,15 @@ use Rattle.std.specs.Prelude.{ℕ, List, map, Option, Some}
 use Rattle.rd_ucd.specs.Data.{Data}
 use Rattle.rd_matrix.specs.Entries.{made_entry}
 use Rattle.rd_matrix.specs.declared.matrix.Entry.{Entry}
-use Rattle.rd_reuse.specs.Changes.{none}
 use Rattle.rd_state.specs.States.{StateValue}
 use Rattle.rd_state.specs.declared.window.WindowState.{WindowState}
-use Rattle.rd_frame.specs.Panes.{body_height}
 use Rattle.rd_tree.specs.declared.placed.Placed.{Placed}
+use Rattle.rd_window.specs.Layouts.{made_layout}
 use Rattle.rd_window.specs.declared.layout.Layout.{Layout}
 use Rattle.rd_layout.specs.Redisplays.{update_of}
 use Rattle.rd_layout.specs.Screens.{laid_out}
 use Rattle.rd_layout.specs.Sessions.{SessionValue}
-use Rattle.rd_layout.specs.Windows.{of_windows, view_in, window_shape}
+use Rattle.rd_layout.specs.Windows.{of_windows, view_in, wanted_of, window_shape, window_source}
 
 -- a row that was never copied
 abbrev pub uncopied_entry : Entry → Entry
@@ -27,19 +26,9 @@ without_copies v = record v { layouts = map (λ e. (e.0, uncopied e.1)) v.layout
 
 -- the layout of a window from nothing
 abbrev pub fresh_layout : Data → StateValue → Placed → WindowState → ℕ × Layout
-fresh_layout files s place w = (
-  place.number,
-  record {
-    matrix = map made_entry (view_in files s w place).rows;
-    shape = window_shape s w place;
-    height = body_height place;
-    margin = s.margin;
-    conservatively = s.conservatively;
-    top = (view_in files s w place).top;
-    bottom = (view_in files s w place).bottom;
-    change = none;
-  },
-)
+fresh_layout files s place w =
+    let entries = map made_entry (view_in files s w place).rows in
+    (place.number, made_layout entries (window_source files s w) (window_shape s w place) (wanted_of s w place))
 
 -- the layouts of all windows from nothing, in leaf order
 abbrev pub fresh_layouts : Data → StateValue → List (ℕ × Layout)

@@ -46,13 +46,7 @@ fresh-laid : (files : Data) (s : StateValue) (w : WindowState) (p : Placed)
     → IsLaidOut None (window_source files s w) (window_shape s w p) (wanted_of s w p) (fresh_layout files s p w).1
 fresh-laid files s w p = record {
   rows = shown-made (view_in files s w p).rows;
-  shape_is = refl;
-  height = refl;
-  margin = refl;
-  conservatively = refl;
-  top = refl;
-  bottom = refl;
-  change = refl;
+  is = refl;
   stays = λ rests. absurd (cc);
   copies = λ rests k d less b o among at kept under. absurd (none-some o under);
 }

@@ -111,7 +111,7 @@ module _ (v : SessionValue) where
   view-by p (Some w) x e rest more h is =
       let laid = (laid-by p (Some w) x e h).1 in
       let chosen = h.chosen in
-      λ i. record { anchor = (chosen i).anchor; point = (chosen i).point; rows = laid.rows i; top = laid.top i; bottom = laid.bottom i } ∷ is i
+      λ i. record { anchor = (chosen i).anchor; point = (chosen i).point; rows = laid.rows i; top = (laid.is i).top; bottom = (laid.is i).bottom } ∷ is i
 
   -- the windows show what the rules give
   pub views-are : (ps : List Placed) (xs : List LaidWindow) (es : List Last) → AreDesired v ps xs es → views_taken v.layouts xs es ≡ flat_map (of_place view v.state) ps

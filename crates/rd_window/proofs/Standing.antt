@@ -93,23 +93,6 @@ above-known w l i known = ap (λ b. if b then 0 else margin_of w) known
 pub below-known : (w : Wanted) (l : Layout) (count i : ℕ) → l.height ≡ w.height → l.bottom ≡ leb count (i + l.height) → (if l.bottom then 0 else margin_of w) ≡ wanted_below w count i
 below-known w l count i height known = ap (λ b. if b then 0 else margin_of w) (known ∙ ap (λ n. leb count (i + n)) height)
 
--- ---- what is seen from the row at which a window starts
-
--- a layout that has the window's shape and height sees this from a start that is that row
-module _ (m : SourceValues) (shape : ShapeValues) (w : Wanted) (anchor : Anchor) (l : Layout) (shapes : l.shape ≡ shape) (heights : l.height ≡ w.height)
-    (place : anchor_row (λ b. m.rows_of b shape) anchor m.blocks ≡ start_row m shape w) where
-  start-seen : anchor_row (λ b. m.rows_of b l.shape) anchor m.blocks ≡ start_row m shape w
-  start-seen = ap (λ (s : ShapeValues). anchor_row (λ b. m.rows_of b s) anchor m.blocks) shapes ∙ place
-
-  rows-seen : take l.height (drop (anchor_row (λ b. m.rows_of b l.shape) anchor m.blocks) (rows_at m l.shape)) ≡ rows_in_view m shape w
-  rows-seen = λ i. take (heights i) (drop (start-seen i) (rows_at m (shapes i)))
-
-  top-seen : (anchor_row (λ b. m.rows_of b l.shape) anchor m.blocks == 0) ≡ has_first_row m shape w
-  top-seen = λ i. start-seen i == 0
-
-  bottom-seen : leb (length (rows_at m l.shape)) (anchor_row (λ b. m.rows_of b l.shape) anchor m.blocks + l.height) ≡ has_last_row m shape w
-  bottom-seen = λ i. leb (length (rows_at m (shapes i))) (start-seen i + heights i)
-
 -- ---- a window that rests
 
 pub record Rests (l : Layout) (m : SourceValues) (shape : ShapeValues) (w : Wanted) : Type 0 where
@@ -124,55 +107,63 @@ rests-parts l m shape w e stands =
     let now = current l shape w both.0 in
     record { current = now; fits = both.1; stands = stands now.unchanged now.free; is = e }
 
--- it starts where it started
-start-stays : (l : Layout) (m : SourceValues) (shape : ShapeValues) (w : Wanted) → Rests l m shape w → start_row m shape w ≡ (places_of m shape w).old
-start-stays l m shape w r =
-    let at = places_of m shape w in
-    ap (λ (b : Bool). if b then scrolled w at else following w at) r.current.free ∙ ap (λ o. unwrap_or o (centred w at)) (find-first (suits w at) at.old w.conservatively r.fits)
+module _ {l : Layout} {m : SourceValues} {shape : ShapeValues} {w : Wanted} (r : Rests l m shape w) where
+  abbrev at : Places
+  at = places_of m shape w
 
-rows-stay : (l : Layout) (m : SourceValues) (shape : ShapeValues) (w : Wanted) → Rests l m shape w → shown_entries l.matrix ≡ rows_in_view m shape w
-rows-stay l m shape w r = r.stands.rows ∙ rows-seen m shape w w.anchor l (same-shape l.shape shape r.current.shapes) r.current.height (sym (start-stays l m shape w r))
+  -- it starts where it started
+  start-stays : start_row m shape w ≡ at.old
+  start-stays =
+      ap (λ (b : Bool). if b then scrolled w at else following w at) r.current.free ∙ ap (λ o. unwrap_or o (centred w at)) (find-first (suits w at) at.old w.conservatively r.fits)
 
-top-stays : (l : Layout) (m : SourceValues) (shape : ShapeValues) (w : Wanted) → Rests l m shape w → l.top ≡ has_first_row m shape w
-top-stays l m shape w r = r.stands.top ∙ top-seen m shape w w.anchor l (same-shape l.shape shape r.current.shapes) r.current.height (sym (start-stays l m shape w r))
+  shapes : l.shape ≡ shape
+  shapes = same-shape l.shape shape r.current.shapes
 
-bottom-stays : (l : Layout) (m : SourceValues) (shape : ShapeValues) (w : Wanted) → Rests l m shape w → l.bottom ≡ has_last_row m shape w
-bottom-stays l m shape w r = r.stands.bottom ∙ bottom-seen m shape w w.anchor l (same-shape l.shape shape r.current.shapes) r.current.height (sym (start-stays l m shape w r))
+  start-seen : anchor_row (λ b. m.rows_of b l.shape) w.anchor m.blocks ≡ start_row m shape w
+  start-seen = ap (λ (s : ShapeValues). anchor_row (λ b. m.rows_of b s) w.anchor m.blocks) shapes ∙ sym start-stays
 
--- it has a row
-pub some-stay : (l : Layout) (m : SourceValues) (shape : ShapeValues) (w : Wanted) → 1 ≤ w.height → Rests l m shape w → 0 < length l.matrix
-some-stay l m shape w some r =
-    let at = places_of m shape w in
-    let start = start-stays l m shape w r in
-    let inside = ltb-true at.old at.count (and_parts (ltb at.old at.count) (is_inside w.height (wanted_above w at.old) (wanted_below w at.count at.old) at.old at.point) r.fits).0 in
-    some-laid m shape w l.matrix some (omega (arith, start, inside)) (rows-stay l m shape w r)
+  rows-stay : shown_entries l.matrix ≡ rows_in_view m shape w
+  rows-stay = r.stands.rows ∙ (λ i. take (r.current.height i) (drop (start-seen i) (rows_at m (shapes i))))
 
--- the start is that of its first row, and point stays
-pub chosen-stays : (l : Layout) (m : SourceValues) (shape : ShapeValues) (w : Wanted) → 1 ≤ w.height → Rests l m shape w
-    → record { anchor = anchor_at (shown_entries l.matrix) 0; point = w.point } ≡ chosen_of m shape w
-chosen-stays l m shape w some r =
-    let at = places_of m shape w in
-    let rows = rows_at m shape in
-    let start = start_row m shape w in
-    let same : start + 0 ≡ start = omega arith in
-    let first : anchor_at (shown_entries l.matrix) 0 ≡ anchor_at rows start =
-    ap (λ (es : List EntryMeaning). anchor_at es 0) (rows-stay l m shape w r) ∙ ap anchor_from (in-view rows start w.height 0 (omega (arith, some)) ∙ ap (slice_get rows) same) in
-    let point : w.point ≡ point_from w at start rows = sym (ap (λ (b : Bool). point_from (record w { forced = b }) at start rows) r.current.free) in
-    ap₂ (λ (a : Anchor) (p : ℕ). record { anchor = a; point = p }) first point
+  top-stays : l.top ≡ has_first_row m shape w
+  top-stays = r.stands.top ∙ (λ i. start-seen i == 0)
 
-pub laid-resting : (l : Layout) (m : SourceValues) (shape : ShapeValues) (w : Wanted) → Rests l m shape w → IsLaidOut (Some l) m shape w l
-laid-resting l m shape w r = record {
-  rows = rows-stay l m shape w r;
-  shape_is = same-shape l.shape shape r.current.shapes;
-  height = r.current.height;
-  margin = r.current.margin;
-  conservatively = r.current.conservatively;
-  top = top-stays l m shape w r;
-  bottom = bottom-stays l m shape w r;
-  change = none-is l.change r.current.unchanged;
-  stays = λ e. sym (ap (λ (b : Bool). if b then l.matrix else []) r.current.shapes);
-  copies = λ e. let never : true ≡ false = sym r.is ∙ e in absurd cc;
-}
+  bottom-stays : l.bottom ≡ has_last_row m shape w
+  bottom-stays = r.stands.bottom ∙ (λ i. leb (length (rows_at m (shapes i))) (start-seen i + r.current.height i))
+
+  -- it has a row
+  pub some-stay : 1 ≤ w.height → 0 < length l.matrix
+  some-stay some =
+      let start = start-stays in
+      let inside = ltb-true at.old at.count (and_parts (ltb at.old at.count) (is_inside w.height (wanted_above w at.old) (wanted_below w at.count at.old) at.old at.point) r.fits).0 in
+      some-laid m shape w l.matrix some (omega (arith, start, inside)) rows-stay
+
+  -- the start is that of its first row, and point stays
+  pub chosen-stays : 1 ≤ w.height → record { anchor = anchor_at (shown_entries l.matrix) 0; point = w.point } ≡ chosen_of m shape w
+  chosen-stays some =
+      let rows = rows_at m shape in
+      let start = start_row m shape w in
+      let same : start + 0 ≡ start = omega arith in
+      let first : anchor_at (shown_entries l.matrix) 0 ≡ anchor_at rows start =
+      ap (λ (es : List EntryMeaning). anchor_at es 0) rows-stay ∙ ap anchor_from (in-view rows start w.height 0 (omega (arith, some)) ∙ ap (slice_get rows) same) in
+      let point : w.point ≡ point_from w at start rows = sym (ap (λ (b : Bool). point_from (record w { forced = b }) at start rows) r.current.free) in
+      ap₂ (λ (a : Anchor) (p : ℕ). record { anchor = a; point = p }) first point
+
+  pub laid-resting : IsLaidOut (Some l) m shape w l
+  laid-resting = record {
+    rows = rows-stay;
+    is = λ i. record l {
+      shape = shapes i;
+      height = r.current.height i;
+      margin = r.current.margin i;
+      conservatively = r.current.conservatively i;
+      top = top-stays i;
+      bottom = bottom-stays i;
+      change = none-is l.change r.current.unchanged i;
+    };
+    stays = λ e. sym (ap (λ (b : Bool). if b then l.matrix else []) r.current.shapes);
+    copies = λ e. let never : true ≡ false = sym r.is ∙ e in absurd cc;
+  }
 
 -- ---- a new layout stands
 
@@ -197,11 +188,11 @@ pub stands-new : (last : Option Layout) (m : SourceValues) (shape : ShapeValues)
 stands-new last m shape w new source low laid =
     let anchor = (chosen_of m shape w).anchor in
     let place = anchor-place m shape anchor (start_row m shape w) source (start-named m shape w low) in
-    record {
-      rows = laid.rows ∙ sym (rows-seen m shape w anchor new laid.shape_is laid.height place);
-      top = laid.top ∙ sym (top-seen m shape w anchor new laid.shape_is laid.height place);
-      bottom = laid.bottom ∙ sym (bottom-seen m shape w anchor new laid.shape_is laid.height place);
-    }
+    subst (Stands m anchor) (sym laid.is) (record {
+      rows = laid.rows ∙ sym (ap (λ (i : ℕ). take w.height (drop i (rows_at m shape))) place);
+      top = sym (ap (λ (i : ℕ). i == 0) place);
+      bottom = sym (ap (λ (i : ℕ). leb (length (rows_at m shape)) (i + w.height)) place);
+    })
 
 -- ---- a source with equal rows
 

@@ -1,11 +1,12 @@
 -- Three lines and their layouts, for worked examples.
-use Rattle.std.specs.Prelude.{ℕ, ◌+◌, ◌-◌, true, if◌then◌else◌, List, [], ◌∷◌, ◌++◌, map}
+use Rattle.std.specs.Prelude.{ℕ, ◌+◌, ◌-◌, if◌then◌else◌, List, [], ◌∷◌, ◌++◌, map}
 use Rattle.rd_matrix.specs.Entries.{made_entry}
 use Rattle.rd_matrix.specs.Sources.{SourceValues, rows_at}
 use Rattle.rd_matrix.specs.declared.block.Block.{Block}
 use Rattle.rd_reuse.specs.Keeping.{copied_rows, is_kept, taken}
 use Rattle.rd_reuse.specs.declared.change.Change.{Change}
-use Rattle.rd_start.specs.Examples.{items_from, last_row, short_lines, twelve_columns}
+use Rattle.rd_start.specs.Examples.{items_from, last_row, short_lines, twelve_columns, window}
+use Rattle.rd_window.specs.Layouts.{made_layout}
 use Rattle.rd_window.specs.declared.layout.Layout.{Layout}
 
 -- the lines `a` and `b`, and a third one of so many positions, its end too; each is one row, of as many elements as it has positions
@@ -18,16 +19,9 @@ three_lines count = record {
 
 -- the layout of a window of three rows that shows `a`, `b` and `c`, since which so much changed
 abbrev pub three_rows : Change → Layout
-three_rows change = record {
-  matrix = map made_entry (rows_at (three_lines 2) twelve_columns);
-  shape = twelve_columns;
-  height = 3;
-  margin = 0;
-  conservatively = 0;
-  top = true;
-  bottom = true;
-  change = change;
-}
+three_rows change =
+    let entries = map made_entry (rows_at (three_lines 2) twelve_columns) in
+    record (made_layout entries (three_lines 2) twelve_columns (window 3 1 1)) { change = change }
 
 -- how often the rows of a block were copied that keeps those of this layout, since which so much changed: none of a block that keeps
 -- none

@@ -64,16 +64,23 @@ abbrev pub layout_after : Option Layout → Option Layout → Option Layout
 layout_after last None = last
 layout_after last (Some new) = Some new
 
+-- the layout of a window with these rows, as it is made
+abbrev pub made_layout : List Entry → SourceValues → ShapeValues → Wanted → Layout
+made_layout matrix m shape w = record {
+  matrix = matrix;
+  shape = shape;
+  height = w.height;
+  margin = w.margin;
+  conservatively = w.conservatively;
+  top = has_first_row m shape w;
+  bottom = has_last_row m shape w;
+  change = none;
+}
+
 -- a window's new layout: its rows in view, and how they were laid out. Where the cursor alone moves the rows stay, their copies too,
 -- and else each row of a block that keeps its rows was copied once more
 pub record IsLaidOut (last : Option Layout) (m : SourceValues) (shape : ShapeValues) (w : Wanted) (new : Layout) : Type 0 where
   pub rows : shown_entries new.matrix ≡ rows_in_view m shape w
-  pub shape_is : new.shape ≡ shape
-  pub height : new.height ≡ w.height
-  pub margin : new.margin ≡ w.margin
-  pub conservatively : new.conservatively ≡ w.conservatively
-  pub top : new.top ≡ has_first_row m shape w
-  pub bottom : new.bottom ≡ has_last_row m shape w
-  pub change : new.change ≡ none
+  pub is : new ≡ made_layout new.matrix m shape w
   pub stays : rests last m shape w ≡ true → new.matrix ≡ older_rows last shape
   pub copies : rests last m shape w ≡ false → All (IsCopied (older_rows last shape) (change_since last) m.blocks) new.matrix

@@ -16,10 +16,10 @@ rested g c =
     rests-parts c.in-Some.layout.now m c.args.shape w (sym (c.rests.ensures m c.requires.source c.requires.point stands) ∙ c.if-rests.true) stands
 
 pub chosen-requires : goal.chosen-requires
-chosen-requires g c = some-stay _ _ _ _ c.requires.height (rested g c)
+chosen-requires g c = some-stay (rested g c) c.requires.height
 
 pub returns-then-rests-clause-chosen : goal.returns-then-rests-clause-chosen
-returns-then-rests-clause-chosen g c = c.chosen.ensures ∙ chosen-stays _ _ _ _ c.requires.height (rested g (goal.at.returns-then-rests-clause-chosen g c).Then-rests)
+returns-then-rests-clause-chosen g c = c.chosen.ensures ∙ chosen-stays (rested g (goal.at.returns-then-rests-clause-chosen g c).Then-rests) c.requires.height
 
 pub returns-then-rests-clause-layout : goal.returns-then-rests-clause-layout
 returns-then-rests-clause-layout g c =
@@ -27,4 +27,4 @@ returns-then-rests-clause-layout g c =
     let shape = c.args.shape in
     let l = c.in-Some.layout.now in
     subst (λ (o : Option (Bor Layout)). IfSome (layout_after (option_map (λ b. b.now) o) None) (λ new. IsLaidOut (option_map (λ b. b.now) o) m shape c.args.wanted new)) (sym c.in-Some.is)
-    (laid-resting l m shape c.args.wanted (rested g (goal.at.returns-then-rests-clause-layout g c).Then-rests))
+    (laid-resting (rested g (goal.at.returns-then-rests-clause-layout g c).Then-rests))
