@@ -11,7 +11,7 @@ mod Over
 pub mod Placed
 mod Placing
 mod Positions
-mod Sending
+pub mod Sending
 mod Settling
 mod Soundness
 pub mod Standing

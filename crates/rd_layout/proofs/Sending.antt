@@ -77,41 +77,40 @@ abbrev pub shows : ℕ → ℕ → Option Picture → Tty
 shows width height None = unknown width height
 shows width height (Some screen) = record (unknown width height) { rows = known screen.rows; pen = Some plain }
 
-module _ (laws : SendLaws) (width height : ℕ) (target : Picture) (bands : List Band) (limit : Option ℕ) (wide : width ≤ 400) (tall : height ≤ 200)
-    (size : IsOfSize width height target) (sound : IsSound target) (within : AreWithin height bands) where
-  abbrev pub Fits : Option Picture → Type 0
-  Fits None = Unit {0}
-  Fits (Some screen) = IsOfSize width height screen × IsSound screen
+-- a terminal of this size that reads nothing is ready to be brought to a sound target
+pub is-ready : (width height : ℕ) (current : Option Picture) (target : Picture) (t : Tty) → t.confused ≡ false → t.reading ≡ Between → length t.rows ≡ height → IsGrid width t.rows
+    → IsCurrent width height current t → width ≤ 400 → height ≤ 200 → IsOfSize width height target → IsSound target → IsReady width height current target t
+is-ready width height current target t sure between rows each now wide tall size sound = record {
+  sure = sure;
+  between = between;
+  rows = rows;
+  each = each;
+  wide = wide;
+  tall = tall;
+  size = size;
+  whole = sound.whole;
+  colours = sound.colours;
+  now = now;
+}
 
-  ready-by : (current : Option Picture) (t : Tty) → t.confused ≡ false → t.reading ≡ Between → length t.rows ≡ height → IsGrid width t.rows → IsCurrent width height current t
-      → IsReady width height current target t
-  ready-by current t sure between rows each now = record {
-    sure = sure;
-    between = between;
-    rows = rows;
-    each = each;
-    wide = wide;
-    tall = tall;
-    size = size;
-    whole = sound.whole;
-    colours = sound.colours;
-    now = now;
-  }
-
-  ready : (current : Option Picture) → Fits current → IsReady width height current target (shows width height current)
+module _ (laws : SendLaws) (s : StateValue) (target : Picture) (bands : List Band) (limit : Option ℕ) (wide : s.width ≤ 400) (tall : s.height ≤ 200)
+    (size : IsOfSize s.width s.height target) (sound : IsSound target) (within : AreWithin s.height bands) where
+  ready : (current : Option Picture) → FitsFrame current s → IsReady s.width s.height current target (shows s.width s.height current)
   ready None fits =
-      let row : List (Option Cell) = replicate width None in
-      ready-by None (unknown width height) refl refl (length-replicate height row) (All-replicate (λ (r : List (Option Cell)). length r ≡ width) height row (length-replicate width None)) tt
+      let row : List (Option Cell) = replicate s.width None in
+      is-ready s.width s.height None target (unknown s.width s.height) refl refl (length-replicate s.height row)
+      (All-replicate (λ (r : List (Option Cell)). length r ≡ s.width) s.height row (length-replicate s.width None)) tt wide tall size sound
   ready (Some screen) fits =
-      ready-by (Some screen) (shows width height (Some screen)) refl refl (length-map screen.rows (map Some) ∙ fits.0.rows) (grid-known width screen.rows fits.0.each) (fits.0, refl, refl)
+      is-ready s.width s.height (Some screen) target (shows s.width s.height (Some screen)) refl refl (length-map screen.rows (map Some) ∙ fits.0.rows)
+      (grid-known s.width screen.rows fits.0.each) (fits.0, refl, refl) wide tall size sound
 
-  sized : (current : Option Picture) → Fits current → HaveOneSize current target × IfSome current (λ screen. IsScreen screen × IsSound screen)
+  sized : (current : Option Picture) → FitsFrame current s → HaveOneSize current target × IfSome current (λ screen. IsScreen screen × IsSound screen)
   sized None fits = (tt, tt)
-  sized (Some screen) fits = (one-size width height screen target fits.0 size, (is-screen width height screen wide tall fits.0, fits.1))
+  sized (Some screen) fits = (one-size s.width s.height screen target fits.0 size, (is-screen s.width s.height screen wide tall fits.0, fits.1))
 
-  new-screen : (current : Option Picture) → Fits current → Fits (Some (shifted_update current target bands limit).screen)
+  new-screen : (current : Option Picture) → FitsFrame current s → FitsFrame (Some (shifted_update current target bands limit).screen) s
   new-screen current fits = (
-    (laws.read width height current target bands limit (shows width height current) (ready current fits) within).size,
+    (laws.read s.width s.height current target bands limit (shows s.width s.height current) (ready current fits) within).size,
     laws.sound current target bands limit (sized current fits).0 (sized current fits).1 (subst (λ (n : ℕ). AreWithin n bands) (sym size.rows) within) sound,
   )
 
@@ -181,13 +180,8 @@ module _ (laws : SendLaws) (rows : ℕ) (done : Bool) (stop : Option ℕ) (old n
   sent-screen =
       subst (λ (c : Option Picture). FitsFrame c new.state) (sym sent.current)
       (subst (λ (x : StateValue). FitsFrame (Some (update_of old stop).screen) x) (sym now)
-      (new-screen laws s.width s.height (laid_out old.files s).picture (bands_of s) stop session.state.frame.narrow session.state.frame.low size sound
-      (bands-within laws.views.places s session.state) old.current (fits old.current session.screen)))
-    where
-      fits : (c : Option Picture) → FitsFrame c s → Fits laws s.width s.height (laid_out old.files s).picture (bands_of s) stop session.state.frame.narrow session.state.frame.low size sound
-          (bands-within laws.views.places s session.state) c
-      fits None h = h
-      fits (Some screen) h = h
+      (new-screen laws s (laid_out old.files s).picture (bands_of s) stop session.state.frame.narrow session.state.frame.low size sound
+      (bands-within laws.views.places s session.state) old.current session.screen))
 
   sent-made : (number : ℕ) (l : Layout) → layout_of number new.layouts ≡ Some l → number < new.state.tree.made
   sent-made number l at =
