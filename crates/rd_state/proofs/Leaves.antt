@@ -1,13 +1,13 @@
 -- What a window tree says of its windows, and how it changes.
 use Rattle.std.proofs.Common.{◌≡◌, ◌≢◌, ℕ, ◌≤◌, ◌==◌, ◌||◌, Bool, true, false, is_some, if◌then◌else◌, Option, None, Some, sym, ap, refl, ◌∙◌, arith}
-use Rattle.std.proofs.lemmas.Bool.{eqb-true, false_from_ne_true, cond-false, cond-true, eq-eqb, ne_eqb}
+use Rattle.std.proofs.lemmas.Bool.{eqb-true, false_from_ne_true, cond-false, cond-true, eq-eqb, ne_eqb, or_left, or_right}
 use Rattle.std.proofs.lemmas.Iterator.Adapters.{option_map_id}
-use Rattle.rd_base.proofs.Choices.{none-both, or-first, map-or, map-some, second-holds, none-of}
+use Rattle.rd_base.proofs.Choices.{none-both, or-first, map-or, map-some, none-of}
 use Rattle.std.specs.Prelude.{option_map}
 use Rattle.std.specs.Option.{option_or}
-use Rattle.rd_tree.proofs.Keeping.{is_some-if, is_some-or, not_single}
+use Rattle.rd_tree.proofs.Keeping.{is_some-if, is_some-or, by_way, removed_less}
 use Rattle.rd_tree.proofs.Rooms.{of_number-append}
-use Rattle.rd_tree.proofs.Standing.{held_times, once_in_first, window_held}
+use Rattle.rd_tree.proofs.Standing.{held_times, resized_held}
 use Rattle.rd_tree.specs.declared.placed.Placed.{Placed}
 use Rattle.rd_tree.specs.declared.rect.Rect.{Rect}
 use Rattle.rd_tree.specs.declared.side.Side.{Side}
@@ -17,7 +17,7 @@ use Rattle.rd_state.specs.States.{StateValue}
 use Rattle.rd_state.specs.Valid.{IsValid}
 use Rattle.rd_state.specs.Windows.{leaf_at, leaf_of, window_of}
 use Rattle.rd_state.specs.declared.window.WindowState.{WindowState}
-use Rattle.rd_state.proofs.Options.{or-none, some-or}
+use Rattle.rd_state.proofs.Options.{or-none}
 
 abbrev pub Leaf : Type 0
 Leaf = Bool × ℕ
@@ -162,77 +162,37 @@ alone-other n k (Split side size first second) h ne = absurd (cc)
 pub removed-other : (n k : ℕ) (ws : Windows) (rect : Rect) → k ≢ n → leaf_at k (removed n ws rect) ≡ leaf_at k ws
 removed-other n k (Window m mode margins) rect ne = refl
 removed-other n k (Split side size first second) rect ne =
-    let whole = option_or (leaf_at k first) (leaf_at k second) in
-    let in_first = Split side size (removed n first (first_part side size rect)) second in
-    let in_second = Split side size first (removed n second (second_part side size rect)) in
-    let inner = if holds n first then in_first else in_second in
-    let outer = if is_leaf_of n second then resized first rect else inner in
-    either-leaf k (is_leaf_of n first) (resized second rect) outer whole
+    by_way (λ left _ _. leaf_at k left ≡ option_or (leaf_at k first) (leaf_at k second)) n side size first second rect
     (λ h. leaf-resized k second rect ∙ sym (ap (λ (o : Option Leaf). option_or o (leaf_at k second)) (alone-other n k first h ne)))
-    (λ h. either-leaf k (is_leaf_of n second) (resized first rect) inner whole
-    (λ g. leaf-resized k first rect ∙ (sym (or-none (leaf_at k first)) ∙ sym (ap (option_or (leaf_at k first)) (alone-other n k second g ne))))
-    (λ g. either-leaf k (holds n first) in_first in_second whole
-    (λ f. ap (λ (o : Option Leaf). option_or o (leaf_at k second)) (removed-other n k first (first_part side size rect) ne))
-    (λ f. ap (option_or (leaf_at k first)) (removed-other n k second (second_part side size rect) ne))))
+    (λ h. leaf-resized k first rect
+    ∙ (sym (or-none (leaf_at k first)) ∙ sym (ap (option_or (leaf_at k first)) (alone-other n k second h ne))))
+    (λ _ _. ap (λ (o : Option Leaf). option_or o (leaf_at k second)) (removed-other n k first (first_part side size rect) ne))
+    (λ _ _. ap (option_or (leaf_at k first)) (removed-other n k second (second_part side size rect) ne))
 
 pub removed-same : (n : ℕ) (ws : Windows) (rect : Rect) → times n ws ≤ 1 → holds n ws ≡ true → is_single ws ≡ false → leaf_at n (removed n ws rect) ≡ None
-removed-same n (Window m mode margins) rect once held many = absurd (cc)
-removed-same n (Split side size first second) rect once held many =
-    let in_first = Split side size (removed n first (first_part side size rect)) second in
-    let in_second = Split side size first (removed n second (second_part side size rect)) in
-    let inner = if holds n first then in_first else in_second in
-    let outer = if is_leaf_of n second then resized first rect else inner in
-    let not_second : holds n first ≡ true → leaf_at n second ≡ None = λ f. leaf-none n second (once_in_first n second first (omega arith) f) in
-    let not_first : holds n second ≡ true → leaf_at n first ≡ None = λ f. leaf-none n first (once_in_first n first second once f) in
-    either-leaf n (is_leaf_of n first) (resized second rect) outer None
-    (λ h. leaf-resized n second rect ∙ not_second (window_held n first h))
-    (λ h. either-leaf n (is_leaf_of n second) (resized first rect) inner None
-    (λ g. leaf-resized n first rect ∙ not_first (window_held n second g))
-    (λ g. either-leaf n (holds n first) in_first in_second None
-    (λ f. ap (λ (o : Option Leaf). option_or o (leaf_at n second)) (removed-same n first (first_part side size rect) (omega arith) f (not_single n first h f)) ∙ not_second f)
-    (λ f.
-    let other = second-holds (holds n first) (holds n second) f held in
-    ap (λ (o : Option Leaf). option_or o (leaf_at n (removed n second (second_part side size rect)))) (not_first other)
-    ∙ removed-same n second (second_part side size rect) (omega arith) other (not_single n second g other))))
+removed-same n ws rect once held many =
+    let less = removed_less (times n) n 1 (λ _ _ _ _. refl) (λ m _ _ e. rw e refl) ws rect held many in
+    leaf-times n (removed n ws rect) (omega (arith, once, less))
 
 -- ---- the heir
 
-first-held : (ws : Windows) → is_some (leaf_at (first_leaf ws) ws) ≡ true
-first-held (Window m mode margins) = ap (λ (o : Option Leaf). is_some o) (leaf-here m m mode margins refl)
-first-held (Split side size first second) =
-    ap (λ (o : Option Leaf). is_some o) (or-first (leaf_at (first_leaf first) first) (leaf_at (first_leaf first) second) (first-held first)) ∙ first-held first
+first-held : (ws : Windows) → holds (first_leaf ws) ws ≡ true
+first-held (Window m mode margins) = eq-eqb m m refl
+first-held (Split side size first second) = or_left (holds (first_leaf first) first) (holds (first_leaf first) second) (first-held first)
 
-resized-held : (ws : Windows) (rect : Rect) → is_some (leaf_at (first_leaf ws) (resized ws rect)) ≡ true
-resized-held ws rect = ap (λ (o : Option Leaf). is_some o) (leaf-resized (first_leaf ws) ws rect) ∙ first-held ws
-
-or-held : (o p : Option Leaf) → is_some p ≡ true → is_some (option_or o p) ≡ true
-or-held None p h = h
-or-held (Some x) p h = refl
-
-heir-by : (t : Bool) (a b : Windows) (x y : Windows) → (t ≡ true → is_some (leaf_at (first_leaf x) a) ≡ true) → (t ≡ false → is_some (leaf_at (first_leaf y) b) ≡ true)
-    → is_some (leaf_at (first_leaf (if t then x else y)) (if t then a else b)) ≡ true
-heir-by true a b x y h g = h refl
-heir-by false a b x y h g = g refl
-
-pub heir-held : (n : ℕ) (ws : Windows) (rect : Rect) → holds n ws ≡ true → is_single ws ≡ false → is_some (leaf_at (first_leaf (sibling n ws)) (removed n ws rect)) ≡ true
-heir-held n (Window m mode margins) rect held many = absurd (cc)
-heir-held n (Split side size first second) rect held many =
-    let in_first = Split side size (removed n first (first_part side size rect)) second in
-    let in_second = Split side size first (removed n second (second_part side size rect)) in
-    let inner = if holds n first then in_first else in_second in
-    let outer = if is_leaf_of n second then resized first rect else inner in
-    let far = if holds n first then sibling n first else sibling n second in
-    heir-by (is_leaf_of n first) (resized second rect) outer second (if is_leaf_of n second then first else far)
-    (λ h. resized-held second rect)
-    (λ h. heir-by (is_leaf_of n second) (resized first rect) inner first far
-    (λ g. resized-held first rect)
-    (λ g. heir-by (holds n first) in_first in_second (sibling n first) (sibling n second)
-    (λ f. some-or (leaf_at (first_leaf (sibling n first)) (removed n first (first_part side size rect))) (leaf_at (first_leaf (sibling n first)) second)
-    (heir-held n first (first_part side size rect) f (not_single n first h f)))
-    (λ f.
-    let other = second-holds (holds n first) (holds n second) f held in
-    or-held (leaf_at (first_leaf (sibling n second)) first) (leaf_at (first_leaf (sibling n second)) (removed n second (second_part side size rect)))
-    (heir-held n second (second_part side size rect) other (not_single n second g other)))))
+-- the first window of the sibling is among those that are left
+pub heir-held : (n : ℕ) (ws : Windows) (rect : Rect) → holds (first_leaf (sibling n ws)) (removed n ws rect) ≡ true
+heir-held n (Window m mode margins) rect = eq-eqb m m refl
+heir-held n (Split side size first second) rect =
+    let a = first_part side size rect in
+    let b = second_part side size rect in
+    let in_first = first_leaf (sibling n first) in
+    let in_second = first_leaf (sibling n second) in
+    by_way (λ left beside _. holds (first_leaf beside) left ≡ true) n side size first second rect
+    (λ _. resized_held (first_leaf second) second rect ∙ first-held second)
+    (λ _. resized_held (first_leaf first) first rect ∙ first-held first)
+    (λ _ _. or_left (holds in_first (removed n first a)) (holds in_first second) (heir-held n first a))
+    (λ _ _. or_right (holds in_second first) (holds in_second (removed n second b)) (heir-held n second b))
 
 -- ---- the windows of a valid state
 

@@ -29,7 +29,7 @@ use Rattle.rd_state.specs.Steps.{with_found, in_window, changing, on_tree, split
 use Rattle.rd_state.proofs.Below.{TreeLaws}
 use Rattle.rd_state.proofs.ByNumber.{NumberedWindow, window-end, apart-end, window-gone, window-left, apart-without, get-without, get-window, some-none}
 use Rattle.rd_state.proofs.Keeping.{window-placed, windows-changed}
-use Rattle.rd_state.proofs.Leaves.{Leaf, leaf-resized, leaf-same, leaf-other, split-same, split-other, split-new, removed-same, removed-other, heir-held, unmade}
+use Rattle.rd_state.proofs.Leaves.{Leaf, leaf-resized, leaf-same, leaf-other, split-same, split-other, split-new, removed-same, removed-other, heir-held, is_some-leaf, unmade}
 use Rattle.rd_state.proofs.Tests.{found-value, if-ok, if-not, is_accessible-means}
 use Rattle.rd_state.proofs.Options.{map-map, one-value, or-none, some-or}
 
@@ -374,7 +374,8 @@ removed-windows s d number w v valid there many is found =
       apart = apart-without number s.windows v.windows.apart;
       each = λ k e h. let at = get-without number s.windows k e h in v.windows.each at.0 e at.1;
       selected = selected-after (s.selected == number) heir s.selected left
-          (λ h. some-window (window_of heir left) (sym (ap (λ (o : Option Leaf). is_some o) (leaves heir)) ∙ (ap (λ (x : Windows). is_some (leaf_at heir x)) is ∙ heir-held number s.tree.windows (frame_of s.tree) there many)))
+          (λ h. some-window (window_of heir left) (sym (ap (λ (o : Option Leaf). is_some o) (leaves heir))
+          ∙ (is_some-leaf heir d.windows ∙ (ap (holds heir) is ∙ heir-held number s.tree.windows (frame_of s.tree)))))
           (λ h. subst IsSome (sym (window-left number s.selected s.windows (eqb-false s.selected number h))) v.windows.selected);
     }
 

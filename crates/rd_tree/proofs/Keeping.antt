@@ -106,7 +106,7 @@ window_has : (f : Windows → ℕ) (w d : ℕ) → ((n : ℕ) (mode : Bool) (mar
 window_has f w d leaf (Window n mode margins) e = leaf n mode margins e
 window_has f w d leaf (Split side size first second) e = absurd (false≢true e)
 
-pub not_single : (w : ℕ) (windows : Windows) → is_leaf_of w windows ≡ false → holds w windows ≡ true → is_single windows ≡ false
+not_single : (w : ℕ) (windows : Windows) → is_leaf_of w windows ≡ false → holds w windows ≡ true → is_single windows ≡ false
 not_single w (Window n mode margins) p e = absurd (false≢true (sym p ∙ e))
 not_single w (Split side size first second) p e = refl
 

@@ -168,7 +168,7 @@ window_without : (n : ℕ) (windows : Windows) (numbers : List ℕ) → is_leaf_
 window_without n (Window number mode margins) numbers e = rw e refl
 window_without n (Split side size first second) numbers e = absurd (cc)
 
-pub window_held : (n : ℕ) (windows : Windows) → is_leaf_of n windows ≡ true → holds n windows ≡ true
+window_held : (n : ℕ) (windows : Windows) → is_leaf_of n windows ≡ true → holds n windows ≡ true
 window_held n (Window number mode margins) e = e
 window_held n (Split side size first second) e = absurd (cc)
 
