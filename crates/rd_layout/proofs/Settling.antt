@@ -23,6 +23,7 @@ use Rattle.rd_ucd.specs.declared.spans.Span.{Span}
 use Rattle.rd_layout.specs.Laws.{ViewLaws}
 use Rattle.rd_layout.specs.Screens.{settled_at, settled_by, settled_state}
 use Rattle.rd_layout.specs.Windows.{place_of, view_in, wanted_of, window_shape, window_source}
+use Rattle.rd_state.proofs.WithParts.{with_parts}
 use Rattle.rd_state.proofs.ByNumber.{NumberedWindow, under-became}
 use Rattle.rd_layout.proofs.Chosen.{chosen-anchor, chosen-point}
 
@@ -151,13 +152,5 @@ module _ (laws : ViewLaws) (files : Data) (s : StateValue) (valid : IsValid s) w
   }
 
   pub state-stays : IsValid (settled_state files s)
-  state-stays = record {
-    buffers = valid.buffers;
-    objects = valid.objects;
-    closed = valid.closed;
-    windows = windows-stay;
-    frame = valid.frame;
-    margin = valid.margin;
-    conservatively = valid.conservatively;
-    echo = valid.echo;
-  }
+  state-stays =
+      with_parts s s.buffers s.objects s.tree (map (settled_at files s) s.windows) s.selected s.width s.height valid valid.buffers valid.objects valid.closed windows-stay valid.frame

@@ -14,6 +14,7 @@ mod Naming
 mod Opening
 pub mod Options
 mod Outcomes
+pub mod WithParts
 mod Reaching
 mod Sharing
 mod Showing

@@ -37,7 +37,8 @@ use Rattle.rd_state.specs.Steps.{with_objects, making}
 use Rattle.rd_state.proofs.Below.{MadeLaws, ObjectLaws}
 use Rattle.rd_state.proofs.ByNumber.{some-none}
 use Rattle.rd_state.proofs.Keeping.{buffers-appended, windows-appended}
-use Rattle.rd_state.proofs.Stepping.{Keeps, text-kept, with_parts}
+use Rattle.rd_state.proofs.Stepping.{Keeps, text-kept}
+use Rattle.rd_state.proofs.WithParts.{with_parts}
 use Rattle.rd_state.proofs.Tables.{nothing-within}
 use Rattle.rd_state.proofs.Tests.{both-ok, if-not, made-ok}
 
@@ -139,12 +140,12 @@ content-extended made o p c more v =
 objects-done : (made : MadeLaws) (s t : StateValue) (p : ObjectLists) → IsValid s → AreObjects p → IsClosed p → Extends s.objects t.objects → record s { objects = p } ≡ t → IsValid t
 objects-done made s t p v sound closed more same =
     let extends : Extends s.objects p = subst (λ (x : StateValue). Extends s.objects x.objects) (sym same) more in
-    subst IsValid same (with_parts s s.buffers p s.windows v (record {
+    subst IsValid same (with_parts s s.buffers p s.tree s.windows s.selected s.width s.height v (record {
       few = v.buffers.few;
       told = v.buffers.told;
       names = v.buffers.names;
       contents = λ k b h. content-extended made s.objects p b.content extends (v.buffers.contents k b h);
-    }) sound closed v.windows)
+    }) sound closed v.windows v.frame)
 
 pub made-none : (fault : Option ObjectFault) (made p : ObjectLists) → unless_fault fault made ≡ Ok p → (fault ≡ None) × (made ≡ p)
 made-none None made p h = (refl, cc)
@@ -238,5 +239,5 @@ making-valid s t name v form h =
     let free = ltb-false (number_of name s.buffers) (length s.buffers) outer.0 in
     let room = leb-false most_buffers (length s.buffers) inner.0 in
     let same : made ≡ t = cc (inner.1) in
-    subst IsValid same (with_parts s made.buffers s.objects s.windows v (buffers-appended s.objects s.buffers name v.buffers (new-valid s.objects) form room free)
-    v.objects v.closed (windows-appended s.buffers name s.tree s.windows s.selected v.windows))
+    subst IsValid same (with_parts s made.buffers s.objects s.tree s.windows s.selected s.width s.height v (buffers-appended s.objects s.buffers name v.buffers (new-valid s.objects) form room free)
+    v.objects v.closed (windows-appended s.buffers name s.tree s.windows s.selected v.windows) v.frame)

@@ -23,9 +23,10 @@ use Rattle.rd_state.specs.declared.refused.Refused.TheVariants.{NoWindow, NoBuff
 use Rattle.rd_state.specs.declared.window.WindowState.{WindowState}
 use Rattle.rd_state.specs.States.{BufferValue, StateValue, number_of}
 use Rattle.rd_state.specs.Windows.{window_of, with_window, without_window, leaf_at, leaf_of}
-use Rattle.rd_state.specs.Valid.{IsWindow, AreWindows, IsFrame, IsGoodFormat, IsValid}
+use Rattle.rd_state.specs.Valid.{IsWindow, AreWindows, IsGoodFormat, IsValid}
 use Rattle.rd_state.specs.Edits.{is_accessible}
 use Rattle.rd_state.specs.Steps.{with_found, in_window, changing, on_tree, splitting, removing, showing, placing, setting, held, format_fault, unless_bad, mode_lining, margining}
+use Rattle.rd_state.proofs.WithParts.{with_parts}
 use Rattle.rd_state.proofs.Below.{TreeLaws}
 use Rattle.rd_state.proofs.ByNumber.{NumberedWindow, window-end, apart-end, window-gone, window-left, apart-without, get-without, get-window, some-none}
 use Rattle.rd_state.proofs.Keeping.{window-placed, windows-changed}
@@ -81,23 +82,10 @@ resize-means c d width height h =
 
 -- ---- states with other windows, and in another frame
 
-with_frame : (s : StateValue) (c : Configuration) (ws : List NumberedWindow) (n width height : ℕ) → IsValid s → AreWindows s.buffers c ws n → IsFrame c width height
-    → IsValid (record s { tree = c; windows = ws; selected = n; width = width; height = height })
-with_frame s c ws n width height v w frame = record {
-  buffers = v.buffers;
-  objects = v.objects;
-  closed = v.closed;
-  windows = w;
-  frame = frame;
-  margin = v.margin;
-  conservatively = v.conservatively;
-  echo = v.echo;
-}
-
--- the same in the frame that there is
+-- in the frame that there is
 pub with_windows : (s : StateValue) (c : Configuration) (ws : List NumberedWindow) (n : ℕ) → IsValid s → AreWindows s.buffers c ws n → c.width ≡ s.tree.width → c.height ≡ s.tree.height
     → IsValid (record s { tree = c; windows = ws; selected = n })
-with_windows s c ws n v w wide high = with_frame s c ws n s.width s.height v w (record {
+with_windows s c ws n v w wide high = with_parts s s.buffers s.objects c ws n s.width s.height v v.buffers v.objects v.closed w (record {
   wide = v.frame.wide;
   narrow = v.frame.narrow;
   high = v.frame.high;
@@ -400,7 +388,7 @@ resizing-valid laws s t width height v wide narrow high low h =
     let columns : d.0.width ≡ width = sym (ap (λ (x : Configuration). x.width) is) in
     let rows : d.0.height ≡ height - 1 = sym (ap (λ (x : Configuration). x.height) is) in
     let shapes : d.0.windows ≡ resized s.tree.windows (tree.frame width (height - 1)) = sym (ap (λ (x : Configuration). x.windows) is) in
-    subst IsValid d.2 (with_frame s d.0 s.windows s.selected width height v (record {
+    subst IsValid d.2 (with_parts s s.buffers s.objects d.0 s.windows s.selected width height v v.buffers v.objects v.closed (record {
       tree = valid;
       leaves = λ k. ap (leaf_at k) shapes ∙ (leaf-resized k s.tree.windows (tree.frame width (height - 1)) ∙ v.windows.leaves k);
       apart = v.windows.apart;

@@ -13,21 +13,21 @@ use Rattle.rd_overlays.specs.declared.overlay.Kind.{Kind}
 use Rattle.rd_overlays.specs.Overlays as overlays
 use Rattle.rd_overlays.specs.Overlays.{overlay_at, new_overlay, after_deletion}
 use Rattle.rd_objects.specs.Things.{ObjectLists}
-use Rattle.rd_objects.specs.Sound.{AreCodes, AreObjects, IsClosed}
+use Rattle.rd_objects.specs.Sound.{AreCodes}
 use Rattle.rd_script.specs.Forms.{is_text_kind, IsRawByte}
 use Rattle.rd_state.specs.declared.moves.Move.{Move}
 use Rattle.rd_state.specs.declared.moves.Move.TheVariants.{Inserted, Deleted, Narrowed}
 use Rattle.rd_state.specs.declared.refused.Refused.{Refused}
 use Rattle.rd_state.specs.declared.refused.Refused.TheVariants.{NoBuffer, NoObject, NoOverlay, OutOfRange, TextTooLarge, TooManyOverlays}
-use Rattle.rd_state.specs.declared.window.WindowState.{WindowState}
 use Rattle.rd_state.specs.States.{BufferValue, ContentValue, StateValue, number_of}
-use Rattle.rd_state.specs.Valid.{AreBuffers, AreWindows, IsContent, IsValid}
+use Rattle.rd_state.specs.Valid.{AreWindows, IsContent, IsValid}
 use Rattle.rd_state.specs.Edits.{is_accessible, is_accessible_range, is_range_of_all, has_room, is_value_made, most_overlays, grown, shrunk, insertion, deletion, narrowing, widening, property_putting, overlay_making, overlay_moving, overlay_dropping, overlay_putting}
 use Rattle.rd_state.specs.Moves.{point_after_insertion, brought_into, place_after, moved_in}
 use Rattle.rd_state.specs.Steps.{replaced, moving, edited, edited_moving, raw_text}
 use Rattle.rd_state.proofs.Below.{TextLaws, MadeLaws}
 use Rattle.rd_state.proofs.Contents.{grown-valid, shrunk-valid, narrowed-valid, widened-valid, put-valid, made-valid, moved-valid, dropped-valid, given-valid, with_property, with_overlays}
 use Rattle.rd_state.proofs.ByNumber.{NumberedWindow}
+use Rattle.rd_state.proofs.WithParts.{with_parts}
 use Rattle.rd_state.proofs.Keeping.{holding, buffers-replaced, windows-replaced, windows-moved}
 use Rattle.rd_state.proofs.Tests.{both-ok, found-value, if-ok, if-not, made-ok, is_accessible-means, is_accessible_range-means, is_range_of_all-means}
 
@@ -65,20 +65,6 @@ moved_back false false low high p from to ht hu a b c d e =
 -- what an edit of a buffer of a valid state leaves: a valid buffer, in which positions that went on are accessible
 abbrev pub Keeps : ObjectLists → (ℕ → ℕ) → (ContentValue → Result ContentValue Refused) → Type 0
 Keeps o f edit = (c d : ContentValue) → IsContent o c → edit c ≡ Ok d → IsContent o d × ((p : ℕ) → IsAccessible c.text p → IsAccessible d.text (f p))
-
--- a state with other buffers, objects and windows
-pub with_parts : (s : StateValue) (bs : List BufferValue) (objects : ObjectLists) (ws : List (ℕ × WindowState)) → IsValid s → AreBuffers objects bs → AreObjects objects → IsClosed objects
-    → AreWindows bs s.tree ws s.selected → IsValid (record s { buffers = bs; objects = objects; windows = ws })
-with_parts s bs objects ws v a sound closed b = record {
-  buffers = a;
-  objects = sound;
-  closed = closed;
-  windows = b;
-  frame = v.frame;
-  margin = v.margin;
-  conservatively = v.conservatively;
-  echo = v.echo;
-}
 
 -- a state in which one buffer was edited
 pub record IsEditOf (s t : StateValue) (i : ℕ) (edit : ContentValue → Result ContentValue Refused) : Type 0 where
@@ -129,8 +115,8 @@ edit-valid s t i edit f ws v k e windows =
     let d = e.0.content in
     let bs = slice_set s.buffers i (holding b d) in
     let kept = k b.content d (v.buffers.contents i b e.0.at) e.0.gives in
-    subst IsValid e.0.is (with_parts s bs s.objects t.windows v (buffers-replaced s.objects s.buffers i b d v.buffers e.0.at kept.0) v.objects v.closed
-    (subst (λ (vs : List NumberedWindow). AreWindows bs s.tree vs s.selected) (sym e.1) (windows kept.1)))
+    subst IsValid e.0.is (with_parts s bs s.objects s.tree t.windows s.selected s.width s.height v (buffers-replaced s.objects s.buffers i b d v.buffers e.0.at kept.0) v.objects v.closed
+    (subst (λ (vs : List NumberedWindow). AreWindows bs s.tree vs s.selected) (sym e.1) (windows kept.1)) v.frame)
 
 pub edited-valid : (s t : StateValue) (name : List ℕ) (edit : ContentValue → Result ContentValue Refused) → IsValid s → Keeps s.objects (λ p. p) edit → edited s name edit ≡ Ok t → IsValid t
 edited-valid s t name edit v k h =
