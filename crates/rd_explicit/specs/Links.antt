@@ -65,7 +65,7 @@ LeadsOn n ks = (i : ℕ) (d : Link) → i < length ks → IfSome (slice_index_or
 abbrev pub link_at : List Link → ℕ → Link
 link_at ks i = slice_index_or ks i (record { next = None; eos = L })
 
--- the same of all links of a line
+-- the sequence that begins at index i with a type at its start, along the links of a line
 abbrev pub seq_at : List Link → ℕ → Class → Seq
 seq_at ks i sos = chained i sos (link_at ks i) (drop (i + 1) ks)
 

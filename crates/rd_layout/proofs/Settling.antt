@@ -23,8 +23,8 @@ use Rattle.rd_ucd.specs.declared.spans.Span.{Span}
 use Rattle.rd_layout.specs.Laws.{ViewLaws}
 use Rattle.rd_layout.specs.Screens.{settled_at, settled_by, settled_state}
 use Rattle.rd_layout.specs.Windows.{place_of, view_in, wanted_of, window_shape, window_source}
-use Rattle.rd_state.proofs.WithParts.{with_parts}
 use Rattle.rd_state.proofs.ByNumber.{NumberedWindow, under-became}
+use Rattle.rd_state.proofs.WithParts.{with_parts}
 use Rattle.rd_layout.proofs.Chosen.{chosen-anchor, chosen-point}
 
 -- ---- positions of the blocks are accessible

@@ -1,5 +1,5 @@
--- What several proofs of this crate take from the laws of the layers below; what one alone takes stands beside it. The proofs of rd_views,
--- rd_paint and rd_run take `PlaceLaws` too, which `windows_are_placed` promises.
+-- What several proofs of this crate take from the laws of the layers below; what one alone takes stands beside it. Proofs of crates
+-- above take `PlaceLaws` too, which `windows_are_placed` promises.
 use Rattle.std.specs.Prelude.{◌≡◌, ℕ, ◌+◌, ◌^◌, ◌<◌, ◌≤◌, List, Some, length, map, slice_get, IsTrue}
 use Rattle.std.specs.List.{All}
 use Rattle.rd_base.specs.Chars.{is_code}

@@ -95,7 +95,8 @@ unstarted low high x o lies away = let first = lies.0 in let middle = lies.1 in 
 unended : (low high x : ℕ) (o : Overlay) → (low ≤ o.from) × (o.from ≤ o.to) × (o.to ≤ high) → (x < low) ⊎ (high < x) → ends x o ≡ false
 unended low high x o lies away = let first = lies.0 in let middle = lies.1 in let last = lies.2 in grind (arith, nat_tests)
 
--- two lists whose overlays are the same but for some that lie between two positions: what no such overlay passes finds the same in both
+-- two lists whose overlays are the same but for some that lie between two positions: a test that no such overlay passes finds
+-- the same in both
 abbrev DifferIn : ℕ → ℕ → List (Option Overlay) → List (Option Overlay) → Type 0
 DifferIn low high a b = (f : Overlay → Bool) → ((o : Overlay) → (low ≤ o.from) × (o.from ≤ o.to) × (o.to ≤ high) → f o ≡ false) → AreAlike f f a b
 

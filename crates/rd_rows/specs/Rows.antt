@@ -92,7 +92,8 @@ finished_row c used cells begins continued ends_block = record {
   ends_block = ends_block;
 }
 
--- the row of elements that were placed, which shows those that are seen, and where the items of all begin that begin here
+-- the row of these placed elements, which take so many columns: it shows those that are seen, and has each item that begins among them,
+-- seen or not; continued where its line goes on
 abbrev pub row_of : Cutting → ℕ → Bool → List Placed → RowMeaning
 row_of c used continued ps = finished_row c used (flat_map (seen_in c.shape) ps) (flat_map (begin_of c.shape) ps) continued (has_line_end ps)
 

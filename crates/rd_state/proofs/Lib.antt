@@ -14,7 +14,6 @@ mod Naming
 mod Opening
 pub mod Options
 mod Outcomes
-pub mod WithParts
 mod Reaching
 mod Sharing
 mod Showing
@@ -25,4 +24,5 @@ mod Tables
 pub mod Tests
 mod Typing
 mod Viewing
+pub mod WithParts
 mod Within

@@ -38,9 +38,9 @@ use Rattle.rd_state.proofs.Below.{MadeLaws, ObjectLaws}
 use Rattle.rd_state.proofs.ByNumber.{some-none}
 use Rattle.rd_state.proofs.Keeping.{buffers-appended, windows-appended}
 use Rattle.rd_state.proofs.Stepping.{Keeps, text-kept}
-use Rattle.rd_state.proofs.WithParts.{with_parts}
 use Rattle.rd_state.proofs.Tables.{nothing-within}
 use Rattle.rd_state.proofs.Tests.{both-ok, if-not, made-ok}
+use Rattle.rd_state.proofs.WithParts.{with_parts}
 
 -- ---- settings
 

@@ -26,13 +26,13 @@ use Rattle.rd_state.specs.Windows.{window_of, with_window, without_window, leaf_
 use Rattle.rd_state.specs.Valid.{IsWindow, AreWindows, IsGoodFormat, IsValid}
 use Rattle.rd_state.specs.Edits.{is_accessible}
 use Rattle.rd_state.specs.Steps.{with_found, in_window, changing, on_tree, splitting, removing, showing, placing, setting, held, format_fault, unless_bad, mode_lining, margining}
-use Rattle.rd_state.proofs.WithParts.{with_parts}
 use Rattle.rd_state.proofs.Below.{TreeLaws}
 use Rattle.rd_state.proofs.ByNumber.{NumberedWindow, window-end, apart-end, window-gone, window-left, apart-without, get-without, get-window, some-none}
 use Rattle.rd_state.proofs.Keeping.{window-placed, windows-changed}
 use Rattle.rd_state.proofs.Leaves.{Leaf, leaf-resized, leaf-same, leaf-other, split-same, split-other, split-new, removed-same, removed-other, heir-held, is_some-leaf, unmade}
 use Rattle.rd_state.proofs.Tests.{found-value, if-ok, if-not, is_accessible-means}
 use Rattle.rd_state.proofs.Options.{map-map, one-value, or-none, some-or}
+use Rattle.rd_state.proofs.WithParts.{with_parts}
 
 -- ---- what the calls of the tree mean
 
@@ -80,9 +80,8 @@ resize-means c d width height h =
     let parts = if-ok (nat_le (columns_needed c.windows) width && nat_le (rows_needed c.windows) height) (Ok new) tree_faults.TooSmall d h in
     cc (parts.1)
 
--- ---- states with other windows, and in another frame
+-- ---- a state with other windows, in the frame that there is
 
--- in the frame that there is
 pub with_windows : (s : StateValue) (c : Configuration) (ws : List NumberedWindow) (n : ℕ) → IsValid s → AreWindows s.buffers c ws n → c.width ≡ s.tree.width → c.height ≡ s.tree.height
     → IsValid (record s { tree = c; windows = ws; selected = n })
 with_windows s c ws n v w wide high = with_parts s s.buffers s.objects c ws n s.width s.height v v.buffers v.objects v.closed w (record {

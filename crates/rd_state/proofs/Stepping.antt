@@ -27,9 +27,9 @@ use Rattle.rd_state.specs.Steps.{replaced, moving, edited, edited_moving, raw_te
 use Rattle.rd_state.proofs.Below.{TextLaws, MadeLaws}
 use Rattle.rd_state.proofs.Contents.{grown-valid, shrunk-valid, narrowed-valid, widened-valid, put-valid, made-valid, moved-valid, dropped-valid, given-valid, with_property, with_overlays}
 use Rattle.rd_state.proofs.ByNumber.{NumberedWindow}
-use Rattle.rd_state.proofs.WithParts.{with_parts}
 use Rattle.rd_state.proofs.Keeping.{holding, buffers-replaced, windows-replaced, windows-moved}
 use Rattle.rd_state.proofs.Tests.{both-ok, found-value, if-ok, if-not, made-ok, is_accessible-means, is_accessible_range-means, is_range_of_all-means}
+use Rattle.rd_state.proofs.WithParts.{with_parts}
 
 -- ---- texts
 

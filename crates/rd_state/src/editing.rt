@@ -86,8 +86,8 @@ impl StateParts {
         Ok(inserted(buffer, from, added))
     }
 
-    /// Takes a range away if `deletes`, and else makes it the accessible one. An unknown buffer is refused, and a range that the text does
-    /// not hold or, where it is to go, that is not accessible.
+    /// Takes a range away if `deletes`, and else makes it the accessible one. An unknown buffer is refused, and so is a
+    /// range that the text does not hold, or that is not accessible where it is to be deleted.
     #[tactic(auto, using(crate::proofs::ByName::in_place), unfolding(crate::specs::Steps::step, crate::specs::Effects::effect_of))]
     pub(crate) fn change_range(
         &mut self,

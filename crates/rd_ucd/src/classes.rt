@@ -1,5 +1,4 @@
 //! The bidirectional classes of all characters.
-ghost use Rattle.std.specs.Prelude.{◌≡◌};
 ghost use Rattle.rd_ucd.specs.ClassFile.{ended};
 ghost use Rattle.rd_ucd.specs.Results.{behind, Answers};
 ghost use Rattle.rd_ucd.specs.Reading.{IsReading};

@@ -7,13 +7,13 @@ use crate::codes::read_code;
 use crate::fault::UcdFault;
 use crate::lines::{LineReader, read_lines};
 use crate::pieces::{before_comment, field, trim, without_return};
-use crate::search::{Keyed, entry_at};
+use crate::search::{Covers, entry_at};
 use rd_base::ListOf;
 use std::alloc::Global;
 use std::marker::Model;
 
 /// An entry of such a file, which is made of the fields of a line.
-pub trait Listed: Keyed + Copy {
+pub trait Listed: Covers + Copy {
     ghost use Rattle.std.specs.Prelude.{◌≡◌, ◌≤◌, ℕ, List, Result, IfOk};
     ghost use Rattle.rd_ucd.specs.declared.fault.UcdFault.{UcdFault};
     ghost use Rattle.rd_ucd.specs.Lines.{fields_of};
@@ -62,11 +62,11 @@ impl<E: Listed> LineReader for ListingReader<E> {
 
 /// The entries that a file gives. Contracts see them in ascending order of their codes.
 #[derive(Drop)]
-pub struct Listing<E: Keyed> {
+pub struct Listing<E: Covers> {
     entries: ListOf<E>,
 }
 
-impl<E: Keyed> Model for Listing<E> {
+impl<E: Covers> Model for Listing<E> {
     ghost use Rattle.std.specs.Prelude.{List};
     ghost use Rattle.rd_ucd.specs.Lookup.{IsAscending};
 

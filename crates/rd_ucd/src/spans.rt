@@ -1,6 +1,6 @@
 //! What the files stand for: ranges of codes with a class, codes with their mirrored characters, and codes with their brackets.
 
-use crate::search::Keyed;
+use crate::search::Covers;
 use rd_base::Class;
 
 /// The codes from `first` to `last` have this class.
@@ -11,7 +11,7 @@ pub struct Span {
     pub class: Class,
 }
 
-impl Keyed for Span {
+impl Covers for Span {
     ghost first = { λ span. span.first };
 
     ghost last = { λ span. span.last };
@@ -32,7 +32,7 @@ pub struct Pair {
     pub mirror: u32,
 }
 
-impl Keyed for Pair {
+impl Covers for Pair {
     ghost first = { λ pair. pair.code };
 
     ghost last = { λ pair. pair.code };
@@ -62,7 +62,7 @@ pub struct BracketEntry {
     pub bracket: Bracket,
 }
 
-impl Keyed for BracketEntry {
+impl Covers for BracketEntry {
     ghost first = { λ entry. entry.code };
 
     ghost last = { λ entry. entry.code };

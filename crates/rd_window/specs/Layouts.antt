@@ -64,7 +64,7 @@ abbrev pub layout_after : Option Layout → Option Layout → Option Layout
 layout_after last None = last
 layout_after last (Some new) = Some new
 
--- the layout of a window with these rows, as it is made
+-- the layout of a window that was just laid out with these rows over a source, by this shape and what it wanted: nothing has changed since
 abbrev pub made_layout : List Entry → SourceValues → ShapeValues → Wanted → Layout
 made_layout matrix m shape w = record {
   matrix = matrix;

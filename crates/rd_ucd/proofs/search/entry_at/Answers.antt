@@ -9,10 +9,10 @@ use Rattle.rd_ucd.proofs.search.entry_at.Goals.{After-partition_point-below}
 
 -- so many entries end below the code
 point : (g : given.Over) (c : After-partition_point-below g)
-    → IsPartitionPoint (λ e. ltb (g.T.Keyed.last e) c.args.code ≡ true) (λ e. ltb (g.T.Keyed.last e) c.args.code ≡ false) c.args.entries.now c.partition_point-below.result
+    → IsPartitionPoint (λ e. ltb (g.T.Covers.last e) c.args.code ≡ true) (λ e. ltb (g.T.Covers.last e) c.args.code ≡ false) c.args.entries.now c.partition_point-below.result
 point g c =
-    let last = g.T.Keyed.last in
-    let parted = IsPartitionedBy-ltb last c.args.entries.now c.args.code (not_falling g.T.Keyed.first last c.args.entries.now c.requires) in
+    let last = g.T.Covers.last in
+    let parted = IsPartitionedBy-ltb last c.args.entries.now c.args.code (not_falling g.T.Covers.first last c.args.entries.now c.requires) in
     IsPartitionPoint-from_clause (λ e. ltb (last e) c.args.code) _ _ c.partition_point-below.ensures.partitioned parted (λ a r q k. search rules)
 
 pub returns-then-below-entries : goal.returns-then-below-entries
@@ -23,7 +23,7 @@ returns-then-below-entries g c =
 pub returns-then-first-code : goal.returns-then-first-code
 returns-then-first-code g c =
     let x = c.index-entries-below.result in
-    let from = subst (λ n. n ≤ c.args.code) (c.first.ensures ∙ ap g.T.Keyed.first c.index-entries-below.is) c.if-first-code.true in
+    let from = subst (λ n. n ≤ c.args.code) (c.first.ensures ∙ ap g.T.Covers.first c.index-entries-below.is) c.if-first-code.true in
     ap Some c.index-entries-below.is
     ∙ sym (entry_in-hit _ _ _ _ _ c.requires (point g (goal.at.returns-then-first-code g c).After-partition_point-below) x (omega arith) from)
 
@@ -32,4 +32,4 @@ returns-else-first-code g c =
     let x = c.index-entries-below.result in
     sym (entry_in-miss _ _ _ _ _ c.requires (point g (goal.at.returns-else-first-code g c).After-partition_point-below)
     (λ d within. subst (λ n. c.args.code < n)
-    (c.first.ensures ∙ ap g.T.Keyed.first (c.index-entries-below.is ∙ get_or_default c.args.entries.now c.partition_point-below.result x d within)) c.if-first-code.false))
+    (c.first.ensures ∙ ap g.T.Covers.first (c.index-entries-below.is ∙ get_or_default c.args.entries.now c.partition_point-below.result x d within)) c.if-first-code.false))
