@@ -17,7 +17,7 @@
 //!    reversed.
 //!
 //! A line at base 0 of classes that can raise no level is looked through once, and steps 1 to 4 are passed over: all its levels are
-//! 0, as `lines_read_from_the_left` says. Levels are kept from one line to the next in the room that the longest one took.
+//! 0, as `lines_read_from_the_left` says. A `LevelCache` that is filled again uses its room again.
 //!
 //! The definitions have each rule as a pass over a whole list; `specs/Levels` puts them together. docs/THEOREMS.md says where each rule is
 //! stated, coded and proved.

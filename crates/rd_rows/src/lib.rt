@@ -5,9 +5,10 @@
 //! line ends in it, and how often it was copied.
 //!
 //! What goes in: a `Shape`, which is a window's width, what becomes of long lines (truncate, continue or word) and by how many columns it
-//! is scrolled sideways; the line's base level; the elements of two prefixes, one for the first row and one for the rows that go on with
-//! it; the truncation mark and the continuation mark; and then the line's elements, from `rd_stack::Walker` or any other. What comes
-//! out: one row after the other (`RowMaker::next_row`), or all that are left (`make_all`). Each element that is placed counts as a step.
+//! is scrolled sideways; the line's base level; the elements of two prefixes, one for the first row and each row behind a row's end, one
+//! for the rows that go on; the truncation mark and the continuation mark; and then the line's elements, from `rd_stack::Walker` or any
+//! other. What comes out: one row after the other (`RowMaker::next_row`), or all that are left (`make_all`). Each element that is placed
+//! counts as a step.
 //!
 //! 1. `prefix`: each prefix is cut to the elements that fit whole in half of the window's width.
 //! 2. `filling`: a row begins with its prefix. `spot` is where the next element comes: how many columns of the row are taken, and which
@@ -15,10 +16,11 @@
 //! 3. `making`: elements are placed while they fit before the last column, which is kept for a mark. A blank stretch that is too long is
 //!    cut short, where a column is left for it. In a truncated line every element up to the row's end is placed, and `draft` makes cells of
 //!    the columns that are seen.
-//! 4. An element that does not fit ends the row. The row gets the continuation mark, and the element waits for the next row. Where lines
-//!    are wrapped between words the row ends behind its last break instead, without a mark, and all elements behind that break wait.
-//! 5. `draft`: blanks fill the row, and the truncation mark stands in the last column where the row goes on, in the first where it
-//!    is scrolled sideways.
+//! 4. An element that does not fit ends the row. The row asks for the continuation mark (`leave`), and the element waits for the next row.
+//!    Where lines are wrapped between words the row ends behind its last break instead, without a mark, and all elements behind that break
+//!    wait.
+//! 5. `draft`: blanks fill the row. Into the last column `last_cell` puts the continuation mark, or in a truncated row that goes on the
+//!    truncation mark, which stands in the first column too where the window is scrolled sideways.
 //! 6. `mirror`: until then columns count from the reading edge. A row of base level 1 is turned round, glyph by glyph.
 //!
 //! In Emacs `display_line` does all this: it asks the iterator for elements, `produce_glyphs` (term.c) puts them in the row, and

@@ -2,8 +2,8 @@
 //!
 //! What goes in: the Unicode data at the beginning, then one op after the other (`Session::apply`), and for a redisplay a sink and, where
 //! it is to stop early, the most rows that it may send (`Session::redisplay`). What comes out: the bytes in the sink, and an `Outcome`,
-//! which says whether the frame was shown or the redisplay stopped, and how many rows were sent. In between the session lends what it knows
-//! (`lending`): starts, points, rows and cursors of windows, and the current screen.
+//! which says whether the frame was shown or the redisplay stopped, and how many rows were sent, or that memory was wanting or the sink
+//! failed. In between the session lends what it knows (`lending`): starts, points, rows and cursors of windows, and the current screen.
 //!
 //! A redisplay takes these steps, as Emacs's `redisplay_internal` and, from step 2 on, `update_frame` do:
 //!

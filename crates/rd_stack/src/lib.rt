@@ -7,8 +7,8 @@
 //! the line, one by one, from the edge at which reading begins; each names the item and the range of the block that it comes from.
 //! `string_line` gives the elements of a prefix, all at once.
 //!
-//! 1. `rd_items::Items::new` lists the items of the block. `line` gathers their classes and codes, and `order` puts the whole line in
-//!    visual order by rd_levels, before any row is cut. Where the setting `reorder` is off every level is 0.
+//! 1. `rd_items::Items::new` lists the items of the block. `line` says which class and code each has; `order` gathers these, and has
+//!    rd_levels put the whole line in visual order, before any row is cut. Where the setting `reorder` is off every level is 0.
 //! 2. The walk takes one step after the other in the innermost frame (`step`, `line_steps`, `string_steps`). A step gives one element, or
 //!    lists the few of a character or of an ellipsis (`few`), or enters a string, or finds that the frame has ended, which then is left.
 //! 3. `showing` gives a character's elements as rd_glyphs has them: its entry in the display table, a tab's stretch, the `^A` of a control

@@ -75,7 +75,7 @@ impl State {
         })
     }
 
-    /// Applies one op other than `redisplay`, `go` and `hit`, which the session has calls of its own for, and answers what the op can
+    /// Applies one op other than `redisplay`, `go` and `hit`, which need the last layouts or the data files, and answers what the op can
     /// have changed of what is shown. A refusal is the first that the op meets, and leaves the state as it was: NoBuffer, NoWindow,
     /// NoOverlay and NoObject where the op names what is not there, OutOfRange for a position or a range that is not where the op asks
     /// it to be, TextTooLarge, ObjectTooLong, NameTaken, LastWindow, TooSmall where a window would have fewer columns or rows than it
