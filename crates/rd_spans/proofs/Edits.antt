@@ -7,7 +7,7 @@ use Rattle.std.proofs.lemmas.List.{length-replicate, get_or_append_left, get_or-
 use Rattle.rd_spans.specs.declared.run.ValueRun.{ValueRun}
 use Rattle.rd_spans.specs.Values.{value_at, values_put, values_opened, values_closed, CanMove, IsTrimmed}
 use Rattle.rd_spans.specs.Sides.{values_of, Rises, size_of, top, meet, needs, values_of_both, AtGap, IsCut}
-use Rattle.rd_spans.proofs.Sides.{size-values, few-runs, values_of_both-front, values_of_both-back, values_of_both-past, length-values_of_both, one-at-most}
+use Rattle.rd_spans.proofs.Sides.{size-values, few-runs, values_of_both-front, values_of_both-back, values_of_both-past, length-values_of_both, nothing-more, one-at-most}
 
 -- where a position stands to an edit
 put-low : (values : List (Option ℕ)) (from to : ℕ) (value : Option ℕ) (p : ℕ) → p < from → values_put (value_at values) from to value p ≡ value_at values p
@@ -39,87 +39,68 @@ close-high : (values : List (Option ℕ)) (from to p : ℕ) → from ≤ p → v
 close-high values from to p l = let t : nat_lt p from ≡ false = grind (arith, nat_tests) in rw t refl
 
 -- what positions that were taken away leave
-cut-value : (b c : List ValueRun) (n i : ℕ) → IsCut b c n → i < size_of c → value_at (values_of c) i ≡ value_at (values_of b) i
-cut-value b c n i k l = ap (λ (vs : List (Option ℕ)). value_at vs i) k.values ∙ get_or-take (size_of b - n) (values_of b) i None (omega (arith, k.size))
+cut-value : (b c : List ValueRun) (n : ℕ) → IsCut b c n → (i : ℕ) → i < size_of c → value_at (values_of c) i ≡ value_at (values_of b) i
+cut-value b c n k i l = ap (λ (vs : List (Option ℕ)). value_at vs i) k.values ∙ get_or-take (size_of b - n) (values_of b) i None (omega (arith, k.size))
 
-same-place : (b : List ValueRun) (i j : ℕ) → i ≡ j → value_at (values_of b) i ≡ value_at (values_of b) j
-same-place b i j e = ap (value_at (values_of b)) e
+-- what stands before the gap is in front of it
+before-gap : (a b : List ValueRun) (pos p : ℕ) → AtGap a b pos → p < pos → value_at (values_of_both a b) p ≡ value_at (values_of a) p
+before-gap a b pos p g l =
+    elim (cases_lt p (size_of a)) [
+      | inl m ↦ values_of_both-front a b p g.front_rises m
+      | inr m ↦
+          values_of_both-past a b p g.front_rises g.back_rises (omega (arith, g.gap))
+          ∙ sym (get_or_past (values_of a) p None (omega (arith, size-values a g.front_rises)))
+    ]
+
+-- what stands behind an edit is as far from the end as before
+back-same : (a b c d : List ValueRun) (p q : ℕ) → Rises 0 a → Rises 0 b → Rises 0 c → Rises 0 d → ((i : ℕ) → i < size_of d → value_at (values_of d) i ≡ value_at (values_of b) i) → size_of c ≤ p → size_of a ≤ q
+    → size_of c + size_of d - p ≡ size_of a + size_of b - q → value_at (values_of_both c d) p ≡ value_at (values_of_both a b) q
+back-same a b c d p q ha hb hc hd same low was e =
+    elim (cases_lt p (size_of c + size_of d)) [
+      | inl l ↦
+          let place : size_of c + size_of d - 1 - p ≡ size_of a + size_of b - 1 - q = omega arith in
+          values_of_both-back c d p hc hd low l
+          ∙ (same (size_of c + size_of d - 1 - p) (omega arith) ∙ (ap (value_at (values_of b)) place ∙ sym (values_of_both-back a b q ha hb was (omega arith))))
+      | inr l ↦ values_of_both-past c d p hc hd l ∙ sym (values_of_both-past a b q ha hb (omega arith))
+    ]
 
 -- a value is put: the front is filled up to the end of its range
-filled-low : (a c : List ValueRun) (from to : ℕ) (value : Option ℕ) (p : ℕ) → Rises 0 a → size_of a ≤ from → values_of c ≡ (values_of a ++ replicate (from - size_of a) None) ++ replicate (to - from) value → p < size_of a → value_at (values_of c) p ≡ value_at (values_of a) p
-filled-low a c from to value p h low e l =
-    let xs = values_of a in
-    let none : Option ℕ = None in
-    let pad = replicate (from - size_of a) none in
-    let long : length xs ≡ size_of a = size-values a h in
-    ap (λ (vs : List (Option ℕ)). value_at vs p) e
-    ∙ (get_or_append_left (xs ++ pad) (replicate (to - from) value) None p (omega (arith, length-append xs pad)) ∙ get_or_append_left xs pad None p (omega arith))
-
-filled-gap : (a c : List ValueRun) (from to : ℕ) (value : Option ℕ) (p : ℕ) → Rises 0 a → size_of a ≤ from → values_of c ≡ (values_of a ++ replicate (from - size_of a) None) ++ replicate (to - from) value → size_of a ≤ p → p < from → value_at (values_of c) p ≡ None
-filled-gap a c from to value p h low e l m =
-    let xs = values_of a in
-    let none : Option ℕ = None in
-    let pad = replicate (from - size_of a) none in
-    let long : length xs ≡ size_of a = size-values a h in
-    ap (λ (vs : List (Option ℕ)). value_at vs p) e
-    ∙ (get_or_append_left (xs ++ pad) (replicate (to - from) value) None p (omega (arith, length-append xs pad, length-replicate (from - size_of a) none))
-    ∙ (get_or-append_right xs pad (size_of a) p None long l ∙ get_or-replicate (from - size_of a) (p - size_of a) None None (omega arith)))
-
-filled-here : (a c : List ValueRun) (from to : ℕ) (value : Option ℕ) (p : ℕ) → Rises 0 a → size_of a ≤ from → values_of c ≡ (values_of a ++ replicate (from - size_of a) None) ++ replicate (to - from) value → from ≤ p → p < to → value_at (values_of c) p ≡ value
-filled-here a c from to value p h low e l m =
-    let xs = values_of a in
-    let none : Option ℕ = None in
-    let pad = replicate (from - size_of a) none in
-    let long : length xs ≡ size_of a = size-values a h in
-    let front : length (xs ++ pad) ≡ from = omega (arith, length-append xs pad, length-replicate (from - size_of a) none) in
-    ap (λ (vs : List (Option ℕ)). value_at vs p) e
-    ∙ (get_or-append_right (xs ++ pad) (replicate (to - from) value) from p None front l ∙ get_or-replicate (to - from) (p - from) value None (omega arith))
-
 pub put-filled : (a b c d : List ValueRun) (from to : ℕ) (value : Option ℕ) → AtGap a b from → from < to → Rises 0 c → size_of c ≡ to
     → values_of c ≡ (values_of a ++ replicate (from - size_of a) None) ++ replicate (to - from) value → IsCut b d (to - from)
     → (p : ℕ) → value_at (values_of_both c d) p ≡ values_put (value_at (values_of_both a b)) from to value p
 put-filled a b c d from to value g some h long e k p =
-    let ha = g.front_rises in
-    let hb = g.back_rises in
-    let hd = k.rises in
-    let low : size_of a ≤ from = omega (arith, g.gap) in
+    let none : Option ℕ = None in
+    let front = values_of a ++ replicate (from - size_of a) none in
+    let size : length front ≡ from =
+    omega (arith, g.gap, size-values a g.front_rises, length-append (values_of a) (replicate (from - size_of a) none), length-replicate (from - size_of a) none) in
+    let filled = ap (λ (vs : List (Option ℕ)). value_at vs p) e in
     elim (cases_lt p from) [
       | inl l ↦
           values_of_both-front c d p h (omega arith)
-          ∙ (elim (cases_lt p (size_of a)) [
-            | inl m ↦ filled-low a c from to value p ha low e m ∙ sym (values_of_both-front a b p ha m)
-            | inr m ↦ filled-gap a c from to value p ha low e m l ∙ sym (values_of_both-past a b p ha hb (omega (arith, g.gap)))
-          ] ∙ sym (put-low (values_of_both a b) from to value p l))
+          ∙ (filled
+          ∙ (get_or_append_left front (replicate (to - from) value) None p (omega arith)
+          ∙ (nothing-more (values_of a) (from - size_of a) None p refl ∙ (sym (before-gap a b from p g l) ∙ sym (put-low (values_of_both a b) from to value p l)))))
       | inr l ↦ elim (cases_lt p to) [
-        | inl m ↦ values_of_both-front c d p h (omega arith) ∙ (filled-here a c from to value p ha low e l m ∙ sym (put-here (values_of_both a b) from to value p l m))
-        | inr m ↦ elim (cases_lt p (to + size_of d)) [
-          | inl o ↦
-              values_of_both-back c d p h hd (omega arith) (omega arith)
-              ∙ (cut-value b d (to - from) (size_of c + size_of d - 1 - p) k (omega arith)
-              ∙ (same-place b (size_of c + size_of d - 1 - p) (size_of a + size_of b - 1 - p) (omega (arith, g.gap, k.size))
-              ∙ (sym (values_of_both-back a b p ha hb (omega arith) (omega (arith, g.gap, k.size))) ∙ sym (put-high (values_of_both a b) from to value p l m))))
-          | inr o ↦
-              values_of_both-past c d p h hd (omega arith)
-              ∙ (sym (values_of_both-past a b p ha hb (omega (arith, g.gap, k.size))) ∙ sym (put-high (values_of_both a b) from to value p l m))
-        ]
+        | inl m ↦
+            values_of_both-front c d p h (omega arith)
+            ∙ (filled
+            ∙ (get_or-append_right front (replicate (to - from) value) from p None size l
+            ∙ (get_or-replicate (to - from) (p - from) value None (omega arith) ∙ sym (put-here (values_of_both a b) from to value p l m))))
+        | inr m ↦
+            back-same a b c d p p g.front_rises g.back_rises h k.rises (cut-value b d (to - from) k) (omega arith) (omega (arith, g.gap)) (omega (arith, g.gap, k.size))
+            ∙ sym (put-high (values_of_both a b) from to value p l m)
       ]
     ]
 
 pub put-nothing : (a b d : List ValueRun) (from to : ℕ) → AtGap a b from → from < to → IsCut b d (to - from) → size_of d ≡ 0 → (p : ℕ) → value_at (values_of a) p ≡ values_put (value_at (values_of_both a b)) from to None p
 put-nothing a b d from to g some k none p =
-    let ha = g.front_rises in
-    let hb = g.back_rises in
-    let long : length (values_of a) ≡ size_of a = size-values a ha in
-    elim (cases_lt p (size_of a)) [
-      | inl l ↦ sym (values_of_both-front a b p ha l) ∙ sym (put-low (values_of_both a b) from to None p (omega (arith, g.gap)))
+    elim (cases_lt p from) [
+      | inl l ↦ sym (before-gap a b from p g l) ∙ sym (put-low (values_of_both a b) from to None p l)
       | inr l ↦
-          get_or_past (values_of a) p None (omega arith)
-          ∙ (elim (cases_lt p from) [
-            | inl m ↦ sym (values_of_both-past a b p ha hb (omega (arith, g.gap))) ∙ sym (put-low (values_of_both a b) from to None p m)
-            | inr m ↦ elim (cases_lt p to) [
-              | inl o ↦ sym (put-here (values_of_both a b) from to None p m o)
-              | inr o ↦ sym (values_of_both-past a b p ha hb (omega (arith, g.gap, k.size))) ∙ sym (put-high (values_of_both a b) from to None p m o)
-            ]
+          get_or_past (values_of a) p None (omega (arith, g.gap, size-values a g.front_rises))
+          ∙ (elim (cases_lt p to) [
+            | inl m ↦ sym (put-here (values_of_both a b) from to None p l m)
+            | inr m ↦ sym (values_of_both-past a b p g.front_rises g.back_rises (omega (arith, g.gap, k.size))) ∙ sym (put-high (values_of_both a b) from to None p l m)
           ])
     ]
 
@@ -127,50 +108,35 @@ put-nothing a b d from to g some k none p =
 pub close-values : (a b d : List ValueRun) (from to : ℕ) → AtGap a b from → from ≤ to → IsCut b d (to - from) → (p : ℕ) → value_at (values_of_both a d) p ≡ values_closed (value_at (values_of_both a b)) from to p
 close-values a b d from to g some k p =
     let ha = g.front_rises in
-    let hb = g.back_rises in
-    let hd = k.rises in
     elim (cases_lt p from) [
       | inl l ↦
-          elim (cases_lt p (size_of a)) [
-            | inl m ↦ values_of_both-front a d p ha m ∙ sym (values_of_both-front a b p ha m)
-            | inr m ↦ values_of_both-past a d p ha hd (omega (arith, g.gap, k.size)) ∙ sym (values_of_both-past a b p ha hb (omega (arith, g.gap)))
-          ] ∙ sym (close-low (values_of_both a b) from to p l)
+          before-gap a d from p (record { front_rises = ha; back_rises = k.rises; gap = omega (arith, g.gap, k.size) }) l
+          ∙ (sym (before-gap a b from p g l) ∙ sym (close-low (values_of_both a b) from to p l))
       | inr l ↦
-          elim (cases_lt p (size_of a + size_of d)) [
-            | inl m ↦
-                values_of_both-back a d p ha hd (omega (arith, g.gap)) m
-                ∙ (cut-value b d (to - from) (size_of a + size_of d - 1 - p) k (omega (arith, g.gap))
-                ∙ (same-place b (size_of a + size_of d - 1 - p) (size_of a + size_of b - 1 - (p + (to - from))) (omega (arith, g.gap, k.size))
-                ∙ sym (values_of_both-back a b (p + (to - from)) ha hb (omega (arith, g.gap)) (omega (arith, g.gap, k.size)))))
-            | inr m ↦ values_of_both-past a d p ha hd m ∙ sym (values_of_both-past a b (p + (to - from)) ha hb (omega (arith, g.gap, k.size)))
-          ] ∙ sym (close-high (values_of_both a b) from to p l)
+          back-same a b a d p (p + (to - from)) ha g.back_rises ha k.rises (cut-value b d (to - from) k) (omega (arith, g.gap)) (omega (arith, g.gap)) (omega (arith, k.size))
+          ∙ sym (close-high (values_of_both a b) from to p l)
     ]
 
 -- positions are opened
 pub open-values : (a b c : List ValueRun) (pos n : ℕ) → AtGap a b pos → 0 < size_of b → Rises 0 c → size_of c ≡ size_of a + n → values_of c ≡ values_of a ++ replicate n None → (p : ℕ) → value_at (values_of_both c b) p ≡ values_opened (value_at (values_of_both a b)) pos n p
 open-values a b c pos n g some h long e p =
     let ha = g.front_rises in
-    let hb = g.back_rises in
     let size : length (values_of a) ≡ size_of a = size-values a ha in
     let at : size_of a ≡ pos = omega (arith, g.gap) in
     elim (cases_lt p pos) [
       | inl l ↦
           values_of_both-front c b p h (omega arith)
           ∙ (ap (λ (vs : List (Option ℕ)). value_at vs p) e
-          ∙ (get_or_append_left (values_of a) (replicate n None) None p (omega arith) ∙ (sym (values_of_both-front a b p ha (omega arith)) ∙ sym (open-low (values_of_both a b) pos n p l))))
+          ∙ (nothing-more (values_of a) n None p refl ∙ (sym (before-gap a b pos p g l) ∙ sym (open-low (values_of_both a b) pos n p l))))
       | inr l ↦ elim (cases_lt p (pos + n)) [
         | inl m ↦
             values_of_both-front c b p h (omega arith)
             ∙ (ap (λ (vs : List (Option ℕ)). value_at vs p) e
             ∙ (get_or-append_right (values_of a) (replicate n None) (size_of a) p None size (omega arith)
             ∙ (get_or-replicate n (p - size_of a) None None (omega arith) ∙ sym (open-here (values_of_both a b) pos n p l m))))
-        | inr m ↦ elim (cases_lt p (pos + n + size_of b)) [
-          | inl o ↦
-              values_of_both-back c b p h hb (omega arith) (omega arith)
-              ∙ (same-place b (size_of c + size_of b - 1 - p) (size_of a + size_of b - 1 - (p - n)) (omega arith)
-              ∙ (sym (values_of_both-back a b (p - n) ha hb (omega arith) (omega arith)) ∙ sym (open-high (values_of_both a b) pos n p m)))
-          | inr o ↦ values_of_both-past c b p h hb (omega arith) ∙ (sym (values_of_both-past a b (p - n) ha hb (omega arith)) ∙ sym (open-high (values_of_both a b) pos n p m))
-        ]
+        | inr m ↦
+            back-same a b c b p (p - n) ha g.back_rises h g.back_rises (λ i l. refl) (omega arith) (omega arith) (omega arith)
+            ∙ sym (open-high (values_of_both a b) pos n p m)
       ]
     ]
 
