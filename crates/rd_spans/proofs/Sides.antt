@@ -231,6 +231,22 @@ one-at-most false = omega arith
 pub needs-swap : (a b : List ValueRun) → needs a b ≡ needs b a
 needs-swap a b = rw (meet-swap (top a) (top b)) (omega arith)
 
+-- the last run is cut
+cut-needs : (old rs new : List ValueRun) (r : ValueRun) (n : ℕ) → old ≡ rs ++ r ∷ [] → (n ≡ 0 → new ≡ rs) → length new ≤ length rs + (if has_value (top rs) r.value then 0 else 1)
+    → (0 < n → has_value (top new) r.value ≡ true) → (other : List ValueRun) → needs other new ≤ needs other old
+cut-needs old rs new r n e none count has other =
+    let before : needs other old ≡ length other + (length rs + 1) + (if has_value (top other) r.value then 0 else 1) =
+    rw (e, top-push rs r, length_push rs r) refl in
+    elim (cases_lt 0 n) [
+      | inl some ↦
+          let after : needs other new ≡ length other + length new + (if has_value (top other) r.value then 0 else 1) =
+          rw (meet-value (top other) (top new) r.value (has some)) refl in
+          omega (arith, before, after, count, one-at-most (has_value (top rs) r.value))
+      | inr all ↦
+          let long : length new ≡ length rs = ap length (none (omega arith)) in
+          omega (arith, before, long, one-at-most (meet (top other) (top new)))
+    ]
+
 -- the gap moves by a part of a run
 pub moved-needs : (old rs to from_new to_new : List ValueRun) (r : ValueRun) (rest moved : ℕ) → old ≡ rs ++ r ∷ [] → 0 < moved
     → (rest ≡ 0 → from_new ≡ rs) → length from_new ≤ length rs + (if has_value (top rs) r.value then 0 else 1) → (0 < rest → has_value (top from_new) r.value ≡ true)
@@ -239,16 +255,8 @@ pub moved-needs : (old rs to from_new to_new : List ValueRun) (r : ValueRun) (re
 moved-needs old rs to from_new to_new r rest moved e some none from_count from_top to_count to_top =
     let before : needs old to ≡ length rs + 1 + length to + (if has_value (top to) r.value then 0 else 1) =
     rw (e, top-push rs r, meet-run r (top to), length_push rs r) refl in
-    elim (cases_lt 0 rest) [
-      | inl part ↦
-          let both : meet (top from_new) (top to_new) ≡ true = meet-value (top from_new) (top to_new) r.value (to_top some) ∙ from_top part in
-          let after : needs from_new to_new ≡ length from_new + length to_new + 0 = rw both refl in
-          omega (arith, before, after, from_count, one-at-most (has_value (top rs) r.value), to_count)
-      | inr all ↦
-          let same : from_new ≡ rs = none (omega arith) in
-          let long : length from_new ≡ length rs = ap length same in
-          omega (arith, before, long, to_count, one-at-most (meet (top from_new) (top to_new)))
-    ]
+    let between : needs to_new old ≡ length to_new + (length rs + 1) + 0 = rw (e, top-push rs r, length_push rs r, to_top some) refl in
+    omega (arith, before, between, cut-needs old rs from_new r rest e none from_count from_top to_new, needs-swap from_new to_new, to_count)
 
 reverse-same : (n : ℕ) (a : Option ℕ) → reverse (replicate n a) ≡ replicate n a
 reverse-same zero a = refl
@@ -286,22 +294,6 @@ moved-swap front back front_new back_new m = record {
   to_rises = m.from_rises;
   needs = rw (needs-swap front_new back_new, needs-swap front back) m.needs;
 }
-
--- the last run is cut
-cut-needs : (old rs new : List ValueRun) (r : ValueRun) (n : ℕ) → old ≡ rs ++ r ∷ [] → (n ≡ 0 → new ≡ rs) → length new ≤ length rs + (if has_value (top rs) r.value then 0 else 1)
-    → (0 < n → has_value (top new) r.value ≡ true) → (other : List ValueRun) → needs other new ≤ needs other old
-cut-needs old rs new r n e none count has other =
-    let before : needs other old ≡ length other + (length rs + 1) + (if has_value (top other) r.value then 0 else 1) =
-    rw (e, top-push rs r, length_push rs r) refl in
-    elim (cases_lt 0 n) [
-      | inl some ↦
-          let after : needs other new ≡ length other + length new + (if has_value (top other) r.value then 0 else 1) =
-          rw (meet-value (top other) (top new) r.value (has some)) refl in
-          omega (arith, before, after, count, one-at-most (has_value (top rs) r.value))
-      | inr all ↦
-          let long : length new ≡ length rs = ap length (none (omega arith)) in
-          omega (arith, before, long, one-at-most (meet (top other) (top new)))
-    ]
 
 pub cut-lighter : (old rs new : List ValueRun) (r : ValueRun) (n : ℕ) → old ≡ rs ++ r ∷ [] → (n ≡ 0 → new ≡ rs) → length new ≤ length rs + (if has_value (top rs) r.value then 0 else 1)
     → (0 < n → has_value (top new) r.value ≡ true) → IsLighter old new
