@@ -24,7 +24,7 @@ use Rattle.rd_rows.specs.Left.{MakerValues, IsLine, lead_of, rows_behind}
 use Rattle.rd_rows.specs.Makers.{IsNoted, IsMaking, IsFilling, Leaves, Ends, Cuts, standing, reached, can_wrap, is_empty, has_room, room_behind, kept_of, row_standing}
 use Rattle.rd_rows.specs.Placing.{ends_row, next_row, next_line, columns_of, has_line_end}
 use Rattle.rd_rows.specs.Prefixes.{IsLead}
-use Rattle.rd_rows.specs.Rows.{RowMeaning, LaidRow, laid, row_of, rows_within, first_seen}
+use Rattle.rd_rows.specs.Rows.{RowMeaning, LaidRow, laid, rows_within, first_seen}
 use Rattle.rd_rows.specs.Shapes.{ShapeValues, room, is_word}
 use Rattle.rd_rows.proofs.Ends.{line_ends, on-parts, on-append, on-line_ends, ends-append, standing-ends, ends_once-parts}
 use Rattle.rd_rows.proofs.Few.{IsFew, few-none, few-more, few-wait}
@@ -209,38 +209,55 @@ row-parts r row weight rs qs h k i =
     = ap (λ (x : RowMeaning). let y : LaidRow = record { row = x; weight = r.weight } in y) h ∙ ap (λ (n : ℕ). let y : LaidRow = record { row = row.shown; weight = n } in y) k in
     ap (λ (x : LaidRow). x ∷ rs) same ∙ ap (λ (xs : List LaidRow). (record { row = row.shown; weight = weight }) ∷ xs) i
 
--- a row is cut from the elements of a line, of which there is one
-pub cuts-by : (m p : MakerValues) (es gs : List Element) (row : RowValues) (weight : ℕ) (x : Element) (others kept : List Element) (b marked fin : Bool) → m.finished ≡ false
-    → m.held ++ es ≡ x ∷ others → cut_row m.cutting.shape (start_of m) (x ∷ others) ≡ record { elements = kept; ended = b; marked = marked } → x ∷ others ≡ kept ++ (p.held ++ gs) → 0 < length kept
+-- behind the end of a line nothing stands
+once-over : (xs rest : List Element) → line_ends xs ≡ true → IsTrue (ends_once (xs ++ rest)) → rest ≡ []
+once-over xs [] h end = refl
+once-over xs (f ∷ fs) h end = let none = (ends_once-parts xs f fs end).0 in absurd (cc)
+
+low-column : (b : Bool) (s : Spot) → (next_spot b s).column ≤ s.column
+low-column true s = omega arith
+low-column false s = omega arith
+
+first-cut : (n : ℕ) (c : Cutting) (lead : List Placed) (spot : Spot) (cut : RowCut) (all : List Element) → 0 < length all → cut_row c.shape (next_row (columns_of lead) spot) all ≡ cut
+    → (let start = next_row (columns_of lead) spot in rows_within (suc n) c lead spot all ≡ line_row c lead start cut ∷ rows_within n c (next_lead c cut.ended) (next_spot cut.ended (reached c.shape start cut.elements)) (drop (length cut.elements) all))
+first-cut n c lead spot cut [] some is = absurd (omega arith)
+first-cut n c lead spot cut (x ∷ xs) some is = rw (sym is) refl
+
+-- a row is cut from the elements of a line
+cuts-by : (m p : MakerValues) (es gs : List Element) (row : RowValues) (weight : ℕ) (kept : List Element) (b marked fin : Bool) → m.finished ≡ false → IsLine m.spot.column (m.held ++ es) → HasLeads m.cutting
+    → cut_row m.cutting.shape (start_of m) (m.held ++ es) ≡ record { elements = kept; ended = b; marked = marked } → m.held ++ es ≡ kept ++ (p.held ++ gs) → 0 < length kept
     → p ≡ record { cutting = m.cutting; spot = next_spot b (reached m.cutting.shape (start_of m) kept); continued = not b; held = p.held; finished = fin }
-    → (fin ≡ true → p.held ++ gs ≡ [])
-    → row ≡ record { shown = row_of m.cutting (reached m.cutting.shape (start_of m) kept).used marked (standing m.cutting.shape (lead_of m) (start_of m) kept); copies = 0 }
-    → weight ≡ length (lead_of m) + length kept → fin ≡ has_line_end (standing m.cutting.shape (lead_of m) (start_of m) kept)
-    → ends_some p.held ≡ false → (fin ≡ false → IsLine p.spot.column (p.held ++ gs))
+    → row ≡ row_standing m.cutting (lead_of m) (start_of m) kept marked fin → weight ≡ length (lead_of m) + length kept → line_ends kept ≡ fin → ends_some p.held ≡ false
     → Cuts m p es gs row weight
-cuts-by m p es gs row weight x others kept b marked fin on all cut parts some next over row_is weight_is last waits line =
+cuts-by m p es gs row weight kept b marked fin on line leads cut parts some next row_is weight_is ends waits =
     let c : Cutting = m.cutting in
     let lead : List Placed = lead_of m in
     let start : Spot = start_of m in
     let made : RowCut = record { elements = kept; ended = b; marked = marked } in
+    let all : List Element = m.held ++ es in
     let rest : List Element = p.held ++ gs in
-    let behind : drop (length kept) (x ∷ others) ≡ rest = ap (drop (length kept)) parts ∙ drop-append_seam kept rest in
+    let behind : drop (length kept) all ≡ rest = ap (drop (length kept)) parts ∙ drop-append_seam kept rest in
     let size = ap length parts ∙ length-append kept rest in
-    let left : rows_behind m es ≡ rows_within (suc (length others)) c lead m.spot (x ∷ others) = rw on (ap (λ (ys : List Element). rows_within (length ys) c lead m.spot ys) all) in
-    let step : rows_within (suc (length others)) c lead m.spot (x ∷ others) ≡ line_row c lead start made ∷ rows_within (length others) c (next_lead c b) (next_spot b (reached c.shape start kept)) (drop (length kept) (x ∷ others))
-    = ap (λ (k : RowCut). line_row c lead start k ∷ rows_within (length others) c (next_lead c k.ended) (next_spot k.ended (reached c.shape start k.elements)) (drop (length k.elements) (x ∷ others))) cut in
-    let later : rows_within (length others) c (next_lead c b) (next_spot b (reached c.shape start kept)) (drop (length kept) (x ∷ others)) ≡ rows_behind p gs
-    = ap (rows_within (length others) c (next_lead c b) (next_spot b (reached c.shape start kept))) behind
-    ∙ (same-rows fin (length others) c b (next_spot b (reached c.shape start kept)) rest rest over (omega (arith, size, some)) refl
+    let n : ℕ = length all - 1 in
+    let long : length all ≡ suc n = omega (arith, size, some) in
+    let left : rows_behind m es ≡ line_row c lead start made ∷ rows_within n c (next_lead c b) (next_spot b (reached c.shape start kept)) (drop (length kept) all)
+    = rw on (ap (λ (k : ℕ). rows_within k c lead m.spot all) long ∙ first-cut n c lead m.spot made all (omega (arith, long)) cut) in
+    let over : fin ≡ true → rest ≡ [] = λ h. once-over kept rest (ends ∙ h) (subst (λ ys. IsTrue (ends_once ys)) parts line.end) in
+    let later : rows_within n c (next_lead c b) (next_spot b (reached c.shape start kept)) (drop (length kept) all) ≡ rows_behind p gs
+    = ap (rows_within n c (next_lead c b) (next_spot b (reached c.shape start kept))) behind
+    ∙ (same-rows fin n c b (next_spot b (reached c.shape start kept)) rest rest over (omega (arith, size, some, long)) refl
     ∙ ap (λ (y : MakerValues). rows_behind y gs) (sym next)) in
     let fin_is : p.finished ≡ fin = ap (λ (y : MakerValues). y.finished) next in
-    let shown = ap (λ (r : RowValues). r.shown) row_is in
+    let last : fin ≡ has_line_end (standing c.shape lead start kept) = sym (standing-ends c.shape lead start kept (lead-is m leads).on ∙ ends) in
+    let shown = ap (λ (r : RowValues). r.shown) (row_is ∙ ap (row_standing c lead start kept marked) last) in
+    let column : p.spot.column ≤ m.spot.column + columns_at_most kept
+    = let here = reached-column c.shape start kept in let spot = ap (λ (y : MakerValues). y.spot.column) next in omega (arith, here, spot, low-column b (reached c.shape start kept)) in
     record {
-      row_is = left ∙ (step ∙ row-parts (line_row c lead start made) row weight _ (rows_behind p gs) (sym shown) (standing-length c.shape lead start kept ∙ sym weight_is) later);
+      row_is = left ∙ row-parts (line_row c lead start made) row weight _ (rows_behind p gs) (sym shown) (standing-length c.shape lead start kept ∙ sym weight_is) later;
       fresh = ap (λ (r : RowValues). r.copies) row_is;
-      last = fin_is ∙ (last ∙ sym (ap (λ (r : RowMeaning). r.ends_block) shown));
+      last = fin_is ∙ sym (ap (λ (r : RowValues). r.shown.ends_block) row_is);
       on = waits;
-      line = λ h. line (sym fin_is ∙ h);
+      line = λ h. line-behind m.spot.column p.spot.column kept rest (ends ∙ (sym fin_is ∙ h)) column (subst (IsLine m.spot.column) parts line);
     }
 
 -- a row that is left
@@ -264,15 +281,6 @@ not-empty : (xs : List Element) → is_empty xs ≡ false → 0 < length xs
 not-empty [] h = cc
 not-empty (x ∷ xs) h = omega arith
 
-pub record IsCons (all : List Element) : Type 0 where
-  pub first : Element
-  pub rest : List Element
-  pub is : all ≡ first ∷ rest
-
-pub cons-of : (all : List Element) → 0 < length all → IsCons all
-cons-of [] h = absurd (omega (arith, h))
-cons-of (x ∷ xs) h = record { first = x; rest = xs; is = refl }
-
 left-cuts : (m p : MakerValues) (es hs gs xs : List Element) (e : Element) (row : RowValues) (weight : ℕ) → m.finished ≡ false → IsLine m.spot.column (m.held ++ es) → HasLeads m.cutting
     → m.held ++ es ≡ xs ++ e ∷ (hs ++ gs) → room_for m.cutting.shape (start_of m) (m.held ++ es) ≡ xs → ends_some xs ≡ false → 0 < length xs → ends_row e.look ≡ false → ends_some hs ≡ false
     → Leaves (record m { held = hs }) p (lead_of m) (start_of m) xs e row weight → Cuts m p es gs row weight
@@ -280,26 +288,15 @@ left-cuts m p es hs gs xs e row weight on line leads parts full ends some unende
     let shape = m.cutting.shape in
     let wrap : Bool = can_wrap shape xs in
     let kept : List Element = kept_of shape xs in
-    let size = ap length parts ∙ length-append xs (e ∷ (hs ++ gs)) in
-    let first = cons-of (m.held ++ es) (omega (arith, size, some)) in
-    let cut : cut_row shape (start_of m) (first.first ∷ first.rest) ≡ record { elements = kept; ended = false; marked = not wrap }
-    = ap (λ (ys : List Element). cut_of shape (room_for shape (start_of m) ys)) (sym first.is) ∙ (ap (cut_of shape) full ∙ left-cut shape xs ends) in
     let all : m.held ++ es ≡ kept ++ (p.held ++ gs)
     = parts ∙ (sym (append_assoc xs (e ∷ hs) gs) ∙ (ap (λ ys. ys ++ gs) (sym leaves.waits) ∙ append_assoc kept p.held gs)) in
     let front = kept-front wrap xs in
     let kept_on : ends_some kept ≡ false = (on-parts kept front.rest (sym (ap ends_some front.parts) ∙ ends)).0 in
-    let lead = lead-is m leads in
-    let last : has_line_end (standing shape (lead_of m) (start_of m) kept) ≡ false = standing-ends shape (lead_of m) (start_of m) kept lead.on ∙ on-line_ends kept kept_on in
     let next : p ≡ record { cutting = m.cutting; spot = reached shape (start_of m) kept; continued = true; held = p.held; finished = false }
     = leaves.next ∙ ap (λ (b : Bool). let y : MakerValues = record { cutting = m.cutting; spot = reached shape (start_of m) kept; continued = true; held = p.held; finished = b } in y) on in
-    let column : p.spot.column ≤ m.spot.column + columns_at_most kept
-    = let here = reached-column shape (start_of m) kept in let spot = ap (λ (y : MakerValues). y.spot.column) next in omega (arith, here, spot) in
-    cuts-by m p es gs row weight first.first first.rest kept false (not wrap) false on first.is cut (sym first.is ∙ all) (kept-some shape xs wrap refl some) next
-    (λ h. absurd (cc))
-    (leaves.row_is ∙ ap (row_standing m.cutting (lead_of m) (start_of m) kept (not wrap)) (sym last))
-    leaves.weight_is (sym last)
+    cuts-by m p es gs row weight kept false (not wrap) false on line leads (ap (cut_of shape) full ∙ left-cut shape xs ends) all (kept-some shape xs wrap refl some) next
+    leaves.row_is leaves.weight_is (on-line_ends kept kept_on)
     (on-parts kept p.held (ap ends_some leaves.waits ∙ on-append xs (e ∷ hs) ends (rw (unended, held) refl))).1
-    (λ h. line-behind m.spot.column p.spot.column kept (p.held ++ gs) (on-line_ends kept kept_on) column (subst (IsLine m.spot.column) all line))
 
 pub leave-cuts : (result : Result MadeRow Memory) (m n k p : MakerValues) (held : ends_some k.held ≡ false) (es fs gs : List Element) (f : Filling) (w : Walks m es n fs f) (e : Element) → n.held ++ fs ≡ e ∷ (k.held ++ gs) → k ≡ record n { held = k.held }
     → has_room m.cutting.shape w.xs (reached m.cutting.shape (start_of m) w.xs) e ≡ false
@@ -317,10 +314,6 @@ leave-cuts (Ok made) m n k p held es fs gs f w e more rest unfit h =
 
 -- a row that is ended
 
-last-end : (xs : List Element) (e : Element) → is_line_end e.look ≡ true → line_ends (xs ++ e ∷ []) ≡ false → ⊥
-last-end [] e h none = let k : true ≡ false = rw h at none in cc
-last-end (x ∷ xs) e h none = last-end xs e h (or_parts (is_line_end x.look) _ none).1
-
 ended-cut : (shape : ShapeValues) (row : List Element) → ends_some row ≡ true → cut_of shape row ≡ record { elements = row; ended = true; marked = false }
 ended-cut shape row h = rw h (rw (and-false (can_wrap shape row)) refl)
 
@@ -331,37 +324,18 @@ line-ends-more (x ∷ xs) e h = let parts = or_parts (is_line_end x.look) (line_
 some-last : (xs : List Element) (e : Element) → ends_row e.look ≡ true → ends_some (xs ++ e ∷ []) ≡ true
 some-last xs e h = ends-append xs (e ∷ []) ∙ rw h (or-true (ends_some xs))
 
-once-over : (xs : List Element) (e : Element) (rest : List Element) → is_line_end e.look ≡ true → IsTrue (ends_once (xs ++ e ∷ rest)) → rest ≡ []
-once-over xs e [] h end = refl
-once-over xs e (f ∷ fs) h end =
-    let all : (xs ++ e ∷ []) ++ f ∷ fs ≡ xs ++ e ∷ f ∷ fs = append_assoc xs (e ∷ []) (f ∷ fs) in
-    let none = (ends_once-parts (xs ++ e ∷ []) f fs (subst (λ ys. IsTrue (ends_once ys)) (sym all) end)).0 in
-    absurd (last-end xs e h none)
-
 ended-cuts : (m p : MakerValues) (es hs gs xs : List Element) (e : Element) (fin : Bool) (row : RowValues) (weight : ℕ) → m.finished ≡ false → IsLine m.spot.column (m.held ++ es) → HasLeads m.cutting
     → m.held ++ es ≡ xs ++ e ∷ (hs ++ gs) → room_for m.cutting.shape (start_of m) (m.held ++ es) ≡ xs ++ e ∷ [] → ends_some xs ≡ false → ends_row e.look ≡ true → fin ≡ is_line_end e.look → ends_some hs ≡ false
     → Ends (record m { held = hs }) p (lead_of m) (start_of m) (xs ++ e ∷ []) fin row weight → Cuts m p es gs row weight
 ended-cuts m p es hs gs xs e fin row weight on line leads parts full none close fin_is waits ends =
     let shape = m.cutting.shape in
     let kept : List Element = xs ++ e ∷ [] in
-    let size = ap length parts ∙ length-append xs (e ∷ (hs ++ gs)) in
-    let kept_size = length-append xs (e ∷ []) in
-    let first = cons-of (m.held ++ es) (omega (arith, size)) in
-    let cut : cut_row shape (start_of m) (first.first ∷ first.rest) ≡ record { elements = kept; ended = true; marked = false }
-    = ap (λ (ys : List Element). cut_of shape (room_for shape (start_of m) ys)) (sym first.is) ∙ (ap (cut_of shape) full ∙ ended-cut shape kept (some-last xs e close)) in
     let held : p.held ≡ hs = ap (λ (y : MakerValues). y.held) ends.next in
     let all : m.held ++ es ≡ kept ++ (p.held ++ gs) = parts ∙ (sym (append_assoc xs (e ∷ []) (hs ++ gs)) ∙ ap (λ ys. kept ++ (ys ++ gs)) (sym held)) in
-    let lead = lead-is m leads in
-    let last : has_line_end (standing shape (lead_of m) (start_of m) kept) ≡ fin
-    = standing-ends shape (lead_of m) (start_of m) kept lead.on ∙ (line-ends-more xs e (on-line_ends xs none) ∙ sym fin_is) in
     let next : p ≡ record { cutting = m.cutting; spot = next_line (reached shape (start_of m) kept); continued = false; held = p.held; finished = fin }
     = ends.next ∙ ap (λ (ys : List Element). let y : MakerValues = record { cutting = m.cutting; spot = next_line (reached shape (start_of m) kept); continued = false; held = ys; finished = fin } in y) (sym held) in
-    let column : p.spot.column ≡ 0 = ap (λ (y : MakerValues). y.spot.column) next in
-    cuts-by m p es gs row weight first.first first.rest kept true false fin on first.is cut (sym first.is ∙ all) (omega (arith, kept_size)) next
-    (λ h. let over = once-over xs e (hs ++ gs) (sym fin_is ∙ h) (subst (λ ys. IsTrue (ends_once ys)) parts line.end) in ap (λ ys. ys ++ gs) held ∙ over)
-    (ends.row_is ∙ ap (row_standing m.cutting (lead_of m) (start_of m) kept false) (sym last))
-    ends.weight_is (sym last) (ap ends_some held ∙ waits)
-    (λ h. line-behind m.spot.column p.spot.column kept (p.held ++ gs) (line-ends-more xs e (on-line_ends xs none) ∙ (sym fin_is ∙ h)) (omega (arith, column)) (subst (IsLine m.spot.column) all line))
+    cuts-by m p es gs row weight kept true false fin on line leads (ap (cut_of shape) full ∙ ended-cut shape kept (some-last xs e close)) all (omega (arith, length-append xs (e ∷ []))) next
+    ends.row_is ends.weight_is (line-ends-more xs e (on-line_ends xs none) ∙ sym fin_is) (ap ends_some held ∙ waits)
 
 pub end-cuts : (result : Result MadeRow Memory) (m n k p : MakerValues) (held : ends_some k.held ≡ false) (es fs gs : List Element) (f g : Filling) (w : Walks m es n fs f) (e : Element) (shape : ShapeValues) (fin : Bool) → n.held ++ fs ≡ e ∷ (k.held ++ gs) → k ≡ record n { held = k.held }
     → has_room m.cutting.shape w.xs (reached m.cutting.shape (start_of m) w.xs) e ≡ true → ends_row e.look ≡ true → fin ≡ is_line_end e.look → shape ≡ m.cutting.shape
