@@ -197,11 +197,10 @@ next_lead c b = if b then c.first else c.wrap
 abbrev pub next_spot : Bool → Spot → Spot
 next_spot b spot = if b then next_line spot else spot
 
-same-rows : (fin : Bool) (n : ℕ) (c : Cutting) (b : Bool) (spot : Spot) (rest all : List Element) → (fin ≡ true → rest ≡ []) → length rest ≤ n → all ≡ rest
-    → rows_within n c (next_lead c b) spot rest ≡ (if fin then [] else rows_within (length all) c (if not b then c.wrap else c.first) spot all)
-same-rows true n c b spot rest all over few same = rw (over refl) (none-left n c (next_lead c b) spot)
-same-rows false n c b spot rest all over few same =
-    rw (same, lead-same c b) (rows-same n (length rest) c (next_lead c b) spot rest few (omega arith))
+same-rows : (fin : Bool) (n : ℕ) (c : Cutting) (b : Bool) (spot : Spot) (rest : List Element) → (fin ≡ true → rest ≡ []) → length rest ≤ n
+    → rows_within n c (next_lead c b) spot rest ≡ (if fin then [] else rows_within (length rest) c (if not b then c.wrap else c.first) spot rest)
+same-rows true n c b spot rest over few = rw (over refl) (none-left n c (next_lead c b) spot)
+same-rows false n c b spot rest over few = rw (lead-same c b) (rows-same n (length rest) c (next_lead c b) spot rest few (omega arith))
 
 row-parts : (r : LaidRow) (row : RowValues) (weight : ℕ) (rs qs : List LaidRow) → r.row ≡ row.shown → r.weight ≡ weight → rs ≡ qs → r ∷ rs ≡ record { row = row.shown; weight = weight } ∷ qs
 row-parts r row weight rs qs h k i =
@@ -233,6 +232,7 @@ cuts-by m p es gs row weight kept b marked fin on line leads cut parts some next
     let c : Cutting = m.cutting in
     let lead : List Placed = lead_of m in
     let start : Spot = start_of m in
+    let spot : Spot = next_spot b (reached c.shape start kept) in
     let made : RowCut = record { elements = kept; ended = b; marked = marked } in
     let all : List Element = m.held ++ es in
     let rest : List Element = p.held ++ gs in
@@ -240,18 +240,16 @@ cuts-by m p es gs row weight kept b marked fin on line leads cut parts some next
     let size = ap length parts ∙ length-append kept rest in
     let n : ℕ = length all - 1 in
     let long : length all ≡ suc n = omega (arith, size, some) in
-    let left : rows_behind m es ≡ line_row c lead start made ∷ rows_within n c (next_lead c b) (next_spot b (reached c.shape start kept)) (drop (length kept) all)
-    = rw on (ap (λ (k : ℕ). rows_within k c lead m.spot all) long ∙ first-cut n c lead m.spot made all (omega (arith, long)) cut) in
+    let left : rows_behind m es ≡ line_row c lead start made ∷ rows_within n c (next_lead c b) spot rest
+    = rw (on, sym behind) (ap (λ (k : ℕ). rows_within k c lead m.spot all) long ∙ first-cut n c lead m.spot made all (omega (arith, long)) cut) in
     let over : fin ≡ true → rest ≡ [] = λ h. once-over kept rest (ends ∙ h) (subst (λ ys. IsTrue (ends_once ys)) parts line.end) in
-    let later : rows_within n c (next_lead c b) (next_spot b (reached c.shape start kept)) (drop (length kept) all) ≡ rows_behind p gs
-    = ap (rows_within n c (next_lead c b) (next_spot b (reached c.shape start kept))) behind
-    ∙ (same-rows fin n c b (next_spot b (reached c.shape start kept)) rest rest over (omega (arith, size, some, long)) refl
-    ∙ ap (λ (y : MakerValues). rows_behind y gs) (sym next)) in
+    let later : rows_within n c (next_lead c b) spot rest ≡ rows_behind p gs
+    = same-rows fin n c b spot rest over (omega (arith, size, some, long)) ∙ ap (λ (y : MakerValues). rows_behind y gs) (sym next) in
     let fin_is : p.finished ≡ fin = ap (λ (y : MakerValues). y.finished) next in
     let last : fin ≡ has_line_end (standing c.shape lead start kept) = sym (standing-ends c.shape lead start kept (lead-is m leads).on ∙ ends) in
     let shown = ap (λ (r : RowValues). r.shown) (row_is ∙ ap (row_standing c lead start kept marked) last) in
     let column : p.spot.column ≤ m.spot.column + columns_at_most kept
-    = let here = reached-column c.shape start kept in let spot = ap (λ (y : MakerValues). y.spot.column) next in omega (arith, here, spot, low-column b (reached c.shape start kept)) in
+    = let here = reached-column c.shape start kept in let at = ap (λ (y : MakerValues). y.spot.column) next in omega (arith, here, at, low-column b (reached c.shape start kept)) in
     record {
       row_is = left ∙ row-parts (line_row c lead start made) row weight _ (rows_behind p gs) (sym shown) (standing-length c.shape lead start kept ∙ sym weight_is) later;
       fresh = ap (λ (r : RowValues). r.copies) row_is;
