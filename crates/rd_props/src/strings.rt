@@ -61,8 +61,8 @@ fn add_strings(
     }
 }
 
-/// Adds the strings of these overlays, from the first to the last.
-fn add_forward(
+/// Adds the strings of each of these overlays.
+fn add_each(
     strings: &mut ListOf<u32>,
     part: StringPlace,
     overlays: &Overlays,
@@ -72,23 +72,6 @@ fn add_forward(
 {
     for number in numbers {
         add_strings(strings, part, overlays, *number)?;
-    }
-    Ok(())
-}
-
-/// Adds the strings of these overlays, from the last to the first.
-fn add_backward(
-    strings: &mut ListOf<u32>,
-    part: StringPlace,
-    overlays: &Overlays,
-    numbers: &[u32],
-) -> Result<(), Memory>
-    ensures { OnOk result (strings.new ≡ strings.old ++ strings_of part overlays.now (reverse numbers.now)) }
-{
-    let mut i = numbers.len();
-    while 0 < i {
-        i -= 1;
-        add_strings(strings, part, overlays, numbers[i])?;
     }
     Ok(())
 }
@@ -107,19 +90,19 @@ pub fn strings_at(alloc: Global, view: &View, pos: Pos) -> Result<ListOf<u32>, M
     let ending = overlays.ending(pos)?;
     let starting = overlays.starting(pos)?;
     let mut strings = ListOf::new(alloc);
-    add_backward(
-        &mut strings,
-        StringPlace::Closing,
-        overlays,
-        ending.as_slice(),
-    )?;
-    add_forward(
+    let ending = ending.as_slice();
+    let mut i = ending.len();
+    while 0 < i {
+        i -= 1;
+        add_strings(&mut strings, StringPlace::Closing, overlays, ending[i])?;
+    }
+    add_each(
         &mut strings,
         StringPlace::Between,
         overlays,
         starting.as_slice(),
     )?;
-    add_forward(
+    add_each(
         &mut strings,
         StringPlace::Opening,
         overlays,
