@@ -54,6 +54,11 @@ grown-holds pos n b (Some o) small fits h =
 pub deletion-rises : (from to a b : ℕ) → from ≤ to → a ≤ b → after_deletion from to a ≤ after_deletion from to b
 deletion-rises from to a b p q = grind (arith, nat_tests)
 
+-- a place between two bounds around a deleted range stays between them; the upper one goes down by the range
+pub deletion-within : (low high from to a : ℕ) → low ≤ from → from ≤ to → to ≤ high → low ≤ a → a ≤ high
+    → (low ≤ after_deletion from to a) × (after_deletion from to a ≤ high - (to - from))
+deletion-within low high from to a b c d e f = (grind (arith, nat_tests), grind (arith, nat_tests))
+
 pub shrunk-holds : (from to : ℕ) (b : Bounds) (slot : Option Overlay) → from ≤ to → SlotHolds b slot
     → SlotHolds (bounds_shrunk from to b) (slot_shrunk from to slot)
 shrunk-holds from to b None p h = tt

@@ -153,54 +153,26 @@ grown-before place n x slots ordered less =
 
 -- ---- deletions
 
--- where an edge stands after a deletion
-record IsBack (from to edge new : ℕ) : Type 0 where
-  before : edge < from → new ≡ edge
-  inside : from ≤ edge → edge < to → new ≡ from
-  behind : to ≤ edge → new ≡ edge - (to - from)
+-- an edge and where a deletion leaves it stand alike to a position behind the deletion, and to one before it
+back-alike : (from to x y edge : ℕ) → from ≤ to → from < y → y + (to - from) ≡ x → StandsAlike x y edge (after_deletion from to edge)
+back-alike from to x y edge ordered less is = record { at = grind (arith, nat_tests); below = grind (arith, nat_tests); above = grind (arith, nat_tests) }
 
-back-by : (from to edge : ℕ) (t u : Bool) → nat_lt edge from ≡ t → nat_lt edge to ≡ u → from ≤ to → IsBack from to edge (if t then edge else (if u then from else edge - (to - from)))
-back-by from to edge true u ht hu ordered =
-    let less : edge < from = grind (arith, nat_tests) in
-    record { before = λ h. refl; inside = λ h k. omega arith; behind = λ h. omega arith }
-back-by from to edge false true ht hu ordered =
-    let less : edge < to = grind (arith, nat_tests) in
-    let more : from ≤ edge = grind (arith, nat_tests) in
-    record { before = λ h. omega arith; inside = λ h k. refl; behind = λ h. omega arith }
-back-by from to edge false false ht hu ordered =
-    let more : to ≤ edge = grind (arith, nat_tests) in
-    record { before = λ h. omega arith; inside = λ h k. omega arith; behind = λ h. refl }
-
-back-alike : (from to x y edge new : ℕ) → from ≤ to → from < y → y + (to - from) ≡ x → IsBack from to edge new → StandsAlike x y edge new
-back-alike from to x y edge new ordered less is back =
-    let before = back.before in
-    let inside = back.inside in
-    let behind = back.behind in
-    record { at = grind (arith, nat_tests); below = grind (arith, nat_tests); above = grind (arith, nat_tests) }
-
-kept-alike : (from to x edge new : ℕ) → from ≤ to → x < from → IsBack from to edge new → StandsAlike x x edge new
-kept-alike from to x edge new ordered less back =
-    let before = back.before in
-    let inside = back.inside in
-    let behind = back.behind in
-    record { at = grind (arith, nat_tests); below = grind (arith, nat_tests); above = grind (arith, nat_tests) }
+kept-alike : (from to x edge : ℕ) → from ≤ to → x < from → StandsAlike x x edge (after_deletion from to edge)
+kept-alike from to x edge ordered less = record { at = grind (arith, nat_tests); below = grind (arith, nat_tests); above = grind (arith, nat_tests) }
 
 shrunk-keeps : (from to : ℕ) → KeepsValues (shrunk from to)
 shrunk-keeps from to = record { priority = λ o. refl; values = λ o. refl }
-
-edge-back : (from to edge : ℕ) → from ≤ to → IsBack from to edge (after_deletion from to edge)
-edge-back from to edge ordered = back-by from to edge (nat_lt edge from) (nat_lt edge to) refl refl ordered
 
 pub shrunk-behind : (from to x y : ℕ) (slots : List (Option Overlay)) → from ≤ to → from < y → y + (to - from) ≡ x → SeeSame x y slots (map (slot_shrunk from to) slots)
 shrunk-behind from to x y slots ordered less is =
     changed-seen (shrunk from to) (shrunk-keeps from to) slots x y (λ k o h.
     edges-see x y o (shrunk from to o)
-    (back-alike from to x y o.from (after_deletion from to o.from) ordered less is (edge-back from to o.from ordered))
-    (back-alike from to x y o.to (after_deletion from to o.to) ordered less is (edge-back from to o.to ordered)))
+    (back-alike from to x y o.from ordered less is)
+    (back-alike from to x y o.to ordered less is))
 
 pub shrunk-before : (from to x : ℕ) (slots : List (Option Overlay)) → from ≤ to → x < from → SeeSame x x slots (map (slot_shrunk from to) slots)
 shrunk-before from to x slots ordered less =
     changed-seen (shrunk from to) (shrunk-keeps from to) slots x x (λ k o h.
     edges-see x x o (shrunk from to o)
-    (kept-alike from to x o.from (after_deletion from to o.from) ordered less (edge-back from to o.from ordered))
-    (kept-alike from to x o.to (after_deletion from to o.to) ordered less (edge-back from to o.to ordered)))
+    (kept-alike from to x o.from ordered less)
+    (kept-alike from to x o.to ordered less))

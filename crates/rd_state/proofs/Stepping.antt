@@ -1,6 +1,6 @@
 -- A step leads from a valid state to a valid one: the ops on buffers and on objects.
-use Rattle.std.proofs.Common.{◌≡◌, ℕ, ◌+◌, ◌-◌, ◌≤◌, ◌&&◌, Bool, true, false, is_some, if◌then◌else◌, nat_lt, nat_le, ℤ, Option, Some, Result, Ok, Err, List, [], ◌∷◌, ◌++◌, length, map, min, max, subst, sym, ap, refl, ◌∙◌, arith, IsTrue}
-use Rattle.std.proofs.lemmas.Bool.{ltb-true, ltb-false, leb-true, or_right}
+use Rattle.std.proofs.Common.{◌≡◌, ℕ, ◌+◌, ◌≤◌, ◌&&◌, Bool, true, false, is_some, if◌then◌else◌, nat_lt, nat_le, ℤ, Option, Some, Result, Ok, Err, List, [], ◌∷◌, ◌++◌, length, map, min, max, subst, sym, ap, refl, ◌∙◌, arith, IsTrue}
+use Rattle.std.proofs.lemmas.Bool.{leb-true, or_right}
 use Rattle.std.proofs.lemmas.Bool.Decides.{nat_tests}
 use Rattle.std.proofs.lemmas.List.Elements.{All-map, All-weaker}
 use Rattle.std.specs.Prelude.{All, slice_get, slice_set}
@@ -10,6 +10,7 @@ use Rattle.rd_text.specs.Answers.{IsAccessibleRange, IsRangeOfAll}
 use Rattle.rd_base.proofs.Choices.{some-of}
 use Rattle.rd_overlays.specs.declared.overlay.Overlay.{Overlay}
 use Rattle.rd_overlays.specs.declared.overlay.Kind.{Kind}
+use Rattle.rd_overlays.proofs.Bounding.{deletion-within}
 use Rattle.rd_overlays.specs.Overlays as overlays
 use Rattle.rd_overlays.specs.Overlays.{overlay_at, new_overlay, after_deletion}
 use Rattle.rd_objects.specs.Things.{ObjectLists}
@@ -49,16 +50,6 @@ raw-codes bytes h =
 moved_by : (t : Bool) (low high p n : ℕ) → low ≤ p → p ≤ high → (low ≤ (if t then p + n else p)) × ((if t then p + n else p) ≤ high + n)
 moved_by true low high p n a b = (omega arith, omega arith)
 moved_by false low high p n a b = (omega arith, omega arith)
-
-moved_back : (t u : Bool) (low high p from to : ℕ) → nat_lt p from ≡ t → nat_lt p to ≡ u → low ≤ from → from ≤ to → to ≤ high → low ≤ p → p ≤ high
-    → let q = if t then p else (if u then from else p - (to - from)) in (low ≤ q) × (q ≤ high - (to - from))
-moved_back true u low high p from to ht hu a b c d e =
-    let before = ltb-true p from ht in
-    (d, omega arith)
-moved_back false true low high p from to ht hu a b c d e = (a, omega arith)
-moved_back false false low high p from to ht hu a b c d e =
-    let behind = ltb-false p to hu in
-    (omega arith, omega arith)
 
 -- ---- one buffer
 
@@ -157,13 +148,10 @@ deletion-means from to c d h =
 pub deletion-keeps : (texts : TextLaws) (made : MadeLaws) (o : ObjectLists) (from to : ℕ) → Keeps o (place_after (Deleted from to)) (deletion from to)
 deletion-keeps texts made o from to c d v h =
     let m = deletion-means from to c d h in
-    let at = m.0 in
-    let low = at.first in
-    let ordered = at.ordered in
-    let high = at.last in (
+    let at = m.0 in (
       subst (IsContent o) m.1 (shrunk-valid texts made o c from to v at),
       λ p a. subst (λ (x : ContentValue). IsAccessible x.text (after_deletion from to p)) m.1
-          (moved_back (nat_lt p from) (nat_lt p to) c.text.begin c.text.end p from to refl refl low ordered high a.0 a.1),
+          (deletion-within c.text.begin c.text.end from to p at.first at.ordered at.last a.0 a.1),
     )
 
 brought : (from to p : ℕ) → from ≤ to → (from ≤ max from (min p to)) × (max from (min p to) ≤ to)

@@ -6,7 +6,7 @@ use Rattle.std.proofs.lemmas.List.{length-map, length-set}
 use Rattle.rd_text.specs.Texts.{TextValue, IsText, IsAccessible, inserted, deleted}
 use Rattle.rd_text.specs.Answers.{IsAccessibleRange}
 use Rattle.rd_text.proofs.Keeping.{length-grown, length-shrunk}
-use Rattle.rd_overlays.proofs.Bounding.{deletion-rises, overlay_at-map}
+use Rattle.rd_overlays.proofs.Bounding.{deletion-rises, deletion-within, overlay_at-map}
 use Rattle.rd_overlays.specs.declared.overlay.Kind.{Kind}
 use Rattle.rd_overlays.specs.declared.overlay.Overlay.{Overlay}
 use Rattle.rd_overlays.specs.Overlays.{live, overlay_at, make_fault, moved, given, place_of, slot_changed, slot_grown, slot_shrunk, grown, shrunk, AllFit, SlotFits}
@@ -59,26 +59,11 @@ grown-in size pos n o h =
     let last = h.last in
     record { first = omega arith; ordered = omega arith; last = omega arith }
 
-moved_back : (t u : Bool) (from to p : ℕ) → nat_lt p from ≡ t → nat_lt p to ≡ u → from ≤ to
-    → let q = if t then p else (if u then from else p - (to - from)) in (q ≤ p) × (p ≤ q + (to - from))
-moved_back true u from to p ht hu h = (omega arith, omega arith)
-moved_back false true from to p ht hu h =
-    let behind = ltb-false p from ht in
-    let before = ltb-true p to hu in
-    (omega arith, omega arith)
-moved_back false false from to p ht hu h = (omega arith, omega arith)
-
 shrunk-in : (size from to : ℕ) (o : Overlay) → 1 ≤ from → from ≤ to → to ≤ size + 1 → IsOverlayIn size o → IsOverlayIn (size - (to - from)) (shrunk from to o)
 shrunk-in size from to o one h within is =
-    let first = is.first in
-    let ordered = is.ordered in
-    let last = is.last in
-    let start = moved_back (nat_lt o.from from) (nat_lt o.from to) from to o.from refl refl h in
-    record {
-      first = grind (arith, nat_tests);
-      ordered = deletion-rises from to o.from o.to h ordered;
-      last = grind (arith, nat_tests);
-    }
+    let start = deletion-within 1 (size + 1) from to o.from one h within is.first (omega (arith, is.ordered, is.last)) in
+    let end = deletion-within 1 (size + 1) from to o.to one h within (omega (arith, is.first, is.ordered)) is.last in
+    record { first = start.0; ordered = deletion-rises from to o.from o.to h is.ordered; last = omega (arith, end.1, one, within) }
 
 -- ---- values
 
