@@ -184,13 +184,14 @@ pub other-step : (order : List ℕ) (bounds : List Bounds) (number : ℕ) (slot 
 other-step order bounds number slot place other h =
     from_before order bounds number slot place (λ c there at. absurd (other (get_or_from_slice_get order (place - 1) number 0 there))) h
 
-set-holds : (slots : List (Option Overlay)) (number : ℕ) (slot : Option Overlay) (k : ℕ) (b : Bounds) → (k ≡ number → SlotHolds b slot)
-    → SlotHolds b (overlay_at slots k) → SlotHolds b (overlay_at (slice_set slots number slot) k)
-set-holds [] number slot k b f h = h
-set-holds (s ∷ slots) zero slot zero b f h = f refl
-set-holds (s ∷ slots) zero slot (suc k) b f h = h
-set-holds (s ∷ slots) (suc number) slot zero b f h = h
-set-holds (s ∷ slots) (suc number) slot (suc k) b f h = set-holds slots number slot k b (λ e. f (ap suc e)) h
+-- what holds of a slot, and of what is put at a number where that is the slot's, holds of the slot afterwards
+pub set-holds : (P : Option Overlay → Type 0) (slots : List (Option Overlay)) (number : ℕ) (slot : Option Overlay) (k : ℕ) → (k ≡ number → P slot)
+    → P (overlay_at slots k) → P (overlay_at (slice_set slots number slot) k)
+set-holds P [] number slot k f h = h
+set-holds P (s ∷ slots) zero slot zero f h = f refl
+set-holds P (s ∷ slots) zero slot (suc k) f h = h
+set-holds P (s ∷ slots) (suc number) slot zero f h = h
+set-holds P (s ∷ slots) (suc number) slot (suc k) f h = set-holds P slots number slot k (λ e. f (ap suc e)) h
 
 -- what has no other edges can come in place of an overlay
 pub kept-bounded : (slots : List (Option Overlay)) (order : List ℕ) (bounds : List Bounds) (number : ℕ) (before after : Option Overlay)
@@ -200,7 +201,7 @@ kept-bounded slots order bounds number before after step at h = record {
   room = h.room;
   holds = λ place k b there at_bounds.
       let held = h.holds place k b there at_bounds in
-      set-holds slots number after k b
+      set-holds (SlotHolds b) slots number after k
       (λ e. step b (subst (λ (s : Option Overlay). SlotHolds b s) (ap (overlay_at slots) e ∙ ap live at) held)) held;
 }
 
@@ -215,7 +216,7 @@ widened-bounded slots order old new number slot size kept holds h =
     record {
       room = omega (arith, size, room);
       holds = λ place k c there at.
-          set-holds slots number slot k c (λ e. holds place c (there ∙ ap Some e) at)
+          set-holds (SlotHolds c) slots number slot k (λ e. holds place c (there ∙ ap Some e) at)
           (kept (place / 256) c (overlay_at slots k) (λ b at_old. h.holds place k b there at_old) at);
     }
 

@@ -10,6 +10,7 @@ use Rattle.rd_text.specs.Texts.{TextValue}
 use Rattle.rd_overlays.specs.declared.overlay.Overlay.{Overlay}
 use Rattle.rd_overlays.specs.declared.overlay.Kind.{Kind}
 use Rattle.rd_overlays.specs.declared.overlay.Kind.TheVariants.{Face}
+use Rattle.rd_overlays.proofs.Bounding.{set-holds}
 use Rattle.rd_overlays.specs.Overlays.{overlay_at, place_of, covers, starts, ends, covering, slot_changed, moved, dropped, given}
 use Rattle.rd_objects.specs.Things.{ObjectLists}
 use Rattle.rd_objects.specs.Sound.{Extends}
@@ -112,15 +113,7 @@ overlays-stay : (old new : BufferValue) (slots : List (Option Overlay)) (low hig
 overlays-stay old new slots low high x edit differ away =
     stays-by old new x x _ _ edit.text edit.overlays (itself old.text x) (λ kind. sym (edit.properties kind x)) (see-elsewhere low high old.overlays slots differ x away)
 
--- one that isn't found in place of another, or as one more
-found-set : (f : Overlay → Bool) (slots : List (Option Overlay)) (i n : ℕ) (slot : Option Overlay) → picked f (overlay_at slots i) ≡ None → picked f slot ≡ None
-    → picked f (overlay_at slots n) ≡ picked f (overlay_at (set slots i slot) n)
-found-set f [] i n slot old new = refl
-found-set f (s ∷ slots) zero zero slot old new = old ∙ sym new
-found-set f (s ∷ slots) zero (suc n) slot old new = refl
-found-set f (s ∷ slots) (suc i) zero slot old new = refl
-found-set f (s ∷ slots) (suc i) (suc n) slot old new = found-set f slots i n slot old new
-
+-- one more that isn't found
 found-end : (f : Overlay → Bool) (slots : List (Option Overlay)) (n : ℕ) (slot : Option Overlay) → picked f slot ≡ None
     → picked f (overlay_at slots n) ≡ picked f (overlay_at (slots ++ slot ∷ []) n)
 found-end f [] zero slot new = sym new
@@ -139,8 +132,9 @@ same-lies low high slot o p is lies h =
 set-differs : (slots : List (Option Overlay)) (number low high : ℕ) (o : Overlay) (slot : Option Overlay) → overlay_at slots number ≡ Some o → (low ≤ o.from) × (o.from ≤ o.to) × (o.to ≤ high)
     → LiesIn low high slot → DifferIn low high slots (set slots number slot)
 set-differs slots number low high o slot is lies next = λ f none n.
-    found-set f slots number n slot (unmet f (overlay_at slots number) (λ p h. none p (same-lies low high (overlay_at slots number) o p is lies h)))
-    (unmet f slot (λ p h. none p (next p h)))
+    let old = unmet f (overlay_at slots number) (λ p h. none p (same-lies low high (overlay_at slots number) o p is lies h)) in
+    let new = unmet f slot (λ p h. none p (next p h)) in
+    set-holds (λ s. picked f (overlay_at slots n) ≡ picked f s) slots number slot n (λ e. ap (λ k. picked f (overlay_at slots k)) e ∙ old ∙ sym new) refl
 
 end-differs : (slots : List (Option Overlay)) (low high : ℕ) (o : Overlay) → (low ≤ o.from) × (o.from ≤ o.to) × (o.to ≤ high) → DifferIn low high slots (slots ++ Some o ∷ [])
 end-differs slots low high o lies = λ f none n. found-end f slots n (Some o) (unmet f (Some o) (λ p h. none p (same-lies low high (Some o) o p refl lies h)))
