@@ -1,5 +1,5 @@
 -- What each window of a valid state shows has the sizes of its rectangle.
-use Rattle.std.proofs.Common.{◌≡◌, ℕ, suc, ◌+◌, ◌-◌, ◌^◌, ◌<◌, ◌≤◌, Bool, true, false, is_some, if◌then◌else◌, cond, Option, None, Some, Result, Ok, Err, List, [], ◌∷◌, length, drop, sym, ap, refl, subst, ◌∙◌, arith, length-take, length-drop}
+use Rattle.std.proofs.Common.{◌≡◌, ℕ, suc, ◌-◌, ◌^◌, ◌<◌, ◌≤◌, Bool, true, false, is_some, if◌then◌else◌, cond, Option, None, Some, Result, Ok, Err, List, [], ◌∷◌, length, drop, sym, ap, refl, subst, ◌∙◌, arith, length-take, length-drop}
 use Rattle.std.proofs.lemmas.List.{length-map}
 use Rattle.std.proofs.lemmas.List.Sums.{count_by-le-length}
 use Rattle.std.proofs.lemmas.List.Elements.{All-from_recursion, All-map, All-take, All-drop, recursion_from_All}
@@ -10,7 +10,7 @@ use Rattle.std.specs.Prelude.{IfSome, IsTrue, option_map, slice_get, slice_index
 use Rattle.rd_base.proofs.Choices.{some-of}
 use Rattle.rd_base.specs.Chars.{is_code}
 use Rattle.rd_base.specs.declared.element.Element.{Element}
-use Rattle.rd_base.proofs.Lists.{each-append, element-at}
+use Rattle.rd_base.proofs.Lists.{element-at}
 use Rattle.rd_blocks.specs.Rows.{block_cutting}
 use Rattle.rd_blocks.specs.Sources.{rows_in, text_source}
 use Rattle.rd_items.specs.Pieces.{scene_in}
@@ -24,9 +24,9 @@ use Rattle.rd_margins.specs.Cells.{IsMargin}
 use Rattle.rd_margins.specs.Marks.{margin_string}
 use Rattle.rd_matrix.specs.Columns.{covers, shown_column}
 use Rattle.rd_matrix.specs.Cursors.{column_shown, cursor_in, or_below}
-use Rattle.rd_matrix.specs.Entries.{EntryMeaning, all_rows, entries_of, numbered}
-use Rattle.rd_matrix.specs.Sources.{SourceValues, rows_at}
-use Rattle.rd_matrix.specs.declared.block.Block.{Block}
+use Rattle.rd_matrix.specs.Entries.{EntryMeaning}
+use Rattle.rd_matrix.specs.Sources.{rows_at}
+use Rattle.rd_matrix.proofs.EachRow.{rows-each}
 use Rattle.rd_modeline.specs.Formats.{fault_in, pieces_of}
 use Rattle.rd_modeline.specs.Values.{FactValues}
 use Rattle.rd_modeline.specs.declared.piece.Piece.{Piece}
@@ -61,24 +61,13 @@ use Rattle.rd_layout.proofs.Settling.{is-shape, shown-is}
 
 -- ---- what holds of all rows
 
-numbered-hold : (P : RowMeaning → Type 0) (start number : ℕ) (rows : List RowMeaning) → AllByRecursion P rows → AllByRecursion (λ (e : EntryMeaning). P e.row) (numbered start number rows)
-numbered-hold P start number [] h = tt
-numbered-hold P start number (r ∷ rs) h = (h.0, numbered-hold P start (number + 1) rs h.1)
-
-all-hold : (P : RowMeaning → Type 0) (rows : Block → List RowMeaning) → ((b : Block) → All P (rows b)) → (bs : List Block) → AllByRecursion (λ (e : EntryMeaning). P e.row) (all_rows rows bs)
-all-hold P rows each [] = tt
-all-hold P rows each (b ∷ bs) =
-    each-append (λ (e : EntryMeaning). P e.row) (entries_of rows b) (all_rows rows bs) (numbered-hold P b.start 0 (rows b) (recursion_from_All P (rows b) (each b))) (all-hold P rows each bs)
-
-pub rows-hold : (P : RowMeaning → Type 0) (m : SourceValues) (shape : ShapeValues) → ((b : Block) → All P (m.rows_of b shape)) → All (λ (e : EntryMeaning). P e.row) (rows_at m shape)
-rows-hold P m shape each = All-from_recursion (λ (e : EntryMeaning). P e.row) (rows_at m shape) (all-hold P (λ b. m.rows_of b shape) each m.blocks)
-
 -- each item begins in a column of its row's window
 pub columns-hold : ((c : Cutting) (line : List Element) → 1 ≤ c.shape.width → All (λ (r : LaidRow). All (λ (b : Begin). b.column < c.shape.width) r.row.begins) (rows_of c line))
     → (s : props.BufferValue) (objects : ObjectLists) (files : Data) (shape : ShapeValues) → IsShape shape → All (λ (e : EntryMeaning). All (λ (b : Begin). b.column < shape.width) e.row.begins) (rows_at (text_source s objects files) shape)
 columns-hold law s objects files shape is =
     let least = is.least in
-    rows-hold (λ (r : RowMeaning). All (λ (b : Begin). b.column < shape.width) r.begins) (text_source s objects files) shape
+    let source = text_source s objects files in
+    rows-each (λ (r : RowMeaning). All (λ (b : Begin). b.column < shape.width) r.begins) (λ b. source.rows_of b shape) source.blocks
     (λ b. All-map (λ (r : RowMeaning). All (λ (x : Begin). x.column < shape.width) r.begins) (λ (r : LaidRow). r.row) (rows_in s objects files b shape)
     (law (block_cutting (scene_in s.settings objects files) b.base shape (reading s objects b.start)) (line_elements (scene_in s.settings objects files) b.base (reading s objects b.start)) (omega arith)))
 
