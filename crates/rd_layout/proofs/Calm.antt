@@ -1,5 +1,5 @@
 -- What an op that tells no change of a window leaves: the window's start, and what is seen of its buffer.
-use Rattle.std.proofs.Common.{◌≡◌, ◌⊎◌, inl, inr, ℕ, zero, suc, ◌+◌, ◌-◌, ◌<◌, ◌==◌, ◌&&◌, ◌||◌, Bool, true, false, if◌then◌else◌, nat_lt, nat_le, min, max, pos, ◌+ℤ◌, is_some, Option, None, Some, Result, Ok, Err, List, [], ◌∷◌, ◌++◌, length, map, set, sym, ap, refl, subst, ◌∙◌, arith, unwrap_or, true≢false}
+use Rattle.std.proofs.Common.{◌≡◌, ◌⊎◌, inl, inr, ℕ, zero, suc, ◌+◌, ◌-◌, ◌<◌, ◌==◌, ◌&&◌, ◌||◌, Bool, true, false, if◌then◌else◌, nat_le, min, max, pos, ◌+ℤ◌, is_some, Option, None, Some, Result, Ok, Err, List, [], ◌∷◌, ◌++◌, length, map, set, sym, ap, refl, subst, ◌∙◌, arith, unwrap_or, true≢false}
 use Rattle.std.proofs.lemmas.Bool.{cases_eq, eqb-true, cond-false, cond-true, eq-eqb, ne_eqb, and_parts}
 use Rattle.std.specs.Option.{option_and_then}
 use Rattle.std.specs.Ordering.{int_eq}
@@ -13,13 +13,12 @@ use Rattle.rd_reuse.specs.Changes.{all, change_of, edit, is_all, is_none, is_sma
 use Rattle.rd_reuse.specs.declared.change.Change.{Change}
 use Rattle.rd_script.specs.declared.op.Op.{Op}
 use Rattle.rd_script.specs.declared.op.Op.TheVariants as ops
-use Rattle.rd_state.specs.Edits.{insertion, deletion, narrowing, widening, property_putting, overlay_making, overlay_moving, overlay_dropping, overlay_putting, margin_putting, setting_putting, is_accessible, is_made}
+use Rattle.rd_state.specs.Edits.{insertion, deletion, narrowing, widening, property_putting, overlay_making, overlay_moving, overlay_dropping, overlay_putting, margin_putting, setting_putting, is_made}
 use Rattle.rd_state.specs.Effects.{covered_effect, effect_of, moved_effect, overlay_in}
 use Rattle.rd_state.specs.Making.{table_of, string_making, spec_making, face_making, table_making}
 use Rattle.rd_state.specs.Moves.{moved as moved_window, moved_in}
 use Rattle.rd_state.specs.States.{BufferValue, ContentValue, StateValue, new_buffer, number_of, opening_window, seen}
-use Rattle.rd_state.specs.Steps.{with_found, edited, edited_moving, replaced, moving, changing, with_objects, on_tree, setting, placing, format_fault, held, raw_text, step}
-use Rattle.rd_state.specs.Valid.{most_buffers}
+use Rattle.rd_state.specs.Steps.{edited, edited_moving, changing, with_objects, on_tree, setting, placing, format_fault, held, raw_text, step}
 use Rattle.rd_state.specs.Windows.{AreApart, selected_window, window_of, with_window, without_window}
 use Rattle.rd_state.specs.declared.effect.Effect.{Effect}
 use Rattle.rd_state.specs.declared.effect.Effect.TheVariants.{Nothing, Edit, Moved, All, Window}
@@ -31,7 +30,7 @@ use Rattle.rd_state.specs.declared.window.WindowState.{WindowState}
 use Rattle.rd_tree.specs.Calls.{Configuration, split_tree, remove_tree, resize_tree, mode_tree, margins_tree}
 use Rattle.rd_tree.specs.declared.fault.TreeFault.{TreeFault}
 use Rattle.rd_layout.specs.Changes.{change_by, if_shown, restyled}
-use Rattle.rd_layout.proofs.Standing.{one-of, unless}
+use Rattle.rd_layout.proofs.StepParts.{found, unless, objects-if, tree-if, treed-if, making-if, edited-if, edited_moving-if, typing-if, setting-if, placing-if}
 use Rattle.rd_state.proofs.ByNumber.{NumberedWindow, Each, each-same, each-with, each-moved, each-end, each-without, window-other}
 use Rattle.rd_state.proofs.Options.{one-value}
 use Rattle.rd_state.proofs.Tests.{if-ok}
@@ -179,10 +178,6 @@ windows-without effect ws n apart = each-without (IsCalm effect) (itself effect)
 
 -- ---- parts of steps
 
-found : {A : Type 0} (refusal : Refused) (o : Option A) (f : A → Result StateValue Refused) (P : StateValue → Type 0) → ((a : A) → o ≡ Some a → IfOk (f a) P) → IfOk (with_found refusal o f) P
-found refusal None f P h = tt
-found refusal (Some a) f P h = h a refl
-
 -- the buffers and the windows are the same
 calm : (effect : Effect) (s t : StateValue) → t.buffers ≡ s.buffers → t.windows ≡ s.windows → Calm effect s t
 calm effect s t b w = record {
@@ -190,59 +185,35 @@ calm effect s t b w = record {
   windows = subst (Windows effect s.windows) (sym w) (windows-same effect s.windows);
 }
 
-replaced-calm : (effect : Effect) (s : StateValue) (i : ℕ) (b : BufferValue) (r : Result ContentValue Refused) → slice_get s.buffers i ≡ Some b → ((c : ContentValue) → r ≡ Ok c → Kept effect i b.content c)
-    → IfOk (replaced s i b r) (Calm effect s)
-replaced-calm effect s i b (Err refusal) at kept = tt
-replaced-calm effect s i b (Ok c) at kept = record { contents = contents-set effect s.buffers i b c at (kept c refl); windows = windows-same effect s.windows }
-
-moving-calm : (effect : Effect) (s : StateValue) (i : ℕ) (how : Move) (b : BufferValue) (r : Result ContentValue Refused) → slice_get s.buffers i ≡ Some b → Loud effect i
-    → IfOk (moving i how (replaced s i b r)) (Calm effect s)
-moving-calm effect s i how b (Err refusal) at loud = tt
-moving-calm effect s i how b (Ok c) at loud = record { contents = contents-set effect s.buffers i b c at (inl loud); windows = windows-moved effect s.windows i how loud }
-
-typed-calm : (effect : Effect) (s : StateValue) (n : ℕ) (w : WindowState) (how : Move) (f : WindowState → WindowState) (b : BufferValue) (r : Result ContentValue Refused) → window_of n s.windows ≡ Some w
-    → slice_get s.buffers w.buffer ≡ Some b → Loud effect w.buffer → IfOk (changing n f (moving w.buffer how (replaced s w.buffer b r))) (Calm effect s)
-typed-calm effect s n w how f b (Err refusal) lives at loud = tt
-typed-calm effect s n w how f b (Ok c) lives at loud = record {
-  contents = contents-set effect s.buffers w.buffer b c at (inl loud);
-  windows = windows-typed effect s.windows w.buffer how n f w loud lives refl;
-}
-
 edited-calm : (effect : Effect) (s : StateValue) (name : List ℕ) (edit : ContentValue → Result ContentValue Refused)
     → ((b : BufferValue) (c : ContentValue) → slice_get s.buffers (number_of name s.buffers) ≡ Some b → edit b.content ≡ Ok c → Kept effect (number_of name s.buffers) b.content c)
     → IfOk (edited s name edit) (Calm effect s)
 edited-calm effect s name edit kept =
-    found _ (slice_get s.buffers (number_of name s.buffers)) _ (Calm effect s)
-    (λ b at. replaced-calm effect s (number_of name s.buffers) b (edit b.content) at (λ c is. kept b c at is))
+    edited-if (Calm effect s) s name edit
+    (λ b c at is. record { contents = contents-set effect s.buffers (number_of name s.buffers) b c at (kept b c at is); windows = windows-same effect s.windows })
 
 edited_moving-calm : (effect : Effect) (s : StateValue) (name : List ℕ) (how : Move) (edit : ContentValue → Result ContentValue Refused) → Loud effect (number_of name s.buffers)
     → IfOk (edited_moving s name how edit) (Calm effect s)
 edited_moving-calm effect s name how edit loud =
-    found _ (slice_get s.buffers (number_of name s.buffers)) _ (Calm effect s) (λ b at. moving-calm effect s (number_of name s.buffers) how b (edit b.content) at loud)
+    let i = number_of name s.buffers in
+    edited_moving-if (Calm effect s) s name how edit
+    (λ b c at is. record { contents = contents-set effect s.buffers i b c at (inl loud); windows = windows-moved effect s.windows i how loud })
 
 changing-calm : (effect : Effect) (s : StateValue) (n : ℕ) (f : WindowState → WindowState) → ((w : WindowState) → Quiet effect n w.buffer → Same w (f w)) → IfOk (changing n f (Ok s)) (Calm effect s)
 changing-calm effect s n f good = record { contents = contents-same effect s.buffers; windows = windows-with effect s.windows n f good }
 
 setting-calm : (effect : Effect) (s : StateValue) (n : ℕ) (f : WindowState → WindowState) → ((w : WindowState) → Quiet effect n w.buffer → Same w (f w)) → IfOk (setting s n f) (Calm effect s)
-setting-calm effect s n f good = found _ (window_of n s.windows) _ (Calm effect s) (λ w at. changing-calm effect s n f good)
+setting-calm effect s n f good = setting-if (Calm effect s) s n f (changing-calm effect s n f good)
 
 placing-calm : (effect : Effect) (s : StateValue) (n place : ℕ) (f : WindowState → WindowState) → ((w : WindowState) → Quiet effect n w.buffer → Same w (f w)) → IfOk (placing s n place f) (Calm effect s)
-placing-calm effect s n place f good =
-    found _ (window_of n s.windows) _ (Calm effect s)
-    (λ w lives. found _ (slice_get s.buffers w.buffer) _ (Calm effect s) (λ b at. one-of (is_accessible b.content.text place) _ _ (Calm effect s) (changing-calm effect s n f good) tt))
+placing-calm effect s n place f good = placing-if (Calm effect s) s n place f (λ w b at yes. changing-calm effect s n f good)
 
-objects-calm : (effect : Effect) (s : StateValue) (r : Result ObjectLists Refused) → IfOk (with_objects s r) (Calm effect s)
-objects-calm effect s (Err refusal) = tt
-objects-calm effect s (Ok objects) = calm effect s (record s { objects = objects }) refl refl
+objects-calm : (s : StateValue) (r : Result ObjectLists Refused) → IfOk (with_objects s r) (Calm Nothing s)
+objects-calm s r = objects-if (Calm Nothing s) s r (λ o. calm Nothing s _ refl refl)
 
-tree-calm : (effect : Effect) (s : StateValue) (r : Result Configuration TreeFault) (f : Configuration → StateValue) → ((d : Configuration) → Calm effect s (f d)) → IfOk (on_tree r f) (Calm effect s)
-tree-calm effect s (Err fault) f h = tt
-tree-calm effect s (Ok d) f h = h d
-
-treed-calm : (effect : Effect) (s : StateValue) (r : Result Configuration TreeFault) (n : ℕ) (f : WindowState → WindowState) → ((w : WindowState) → Quiet effect n w.buffer → Same w (f w))
-    → IfOk (changing n f (on_tree r (λ tree. record s { tree = tree }))) (Calm effect s)
-treed-calm effect s (Err fault) n f good = tt
-treed-calm effect s (Ok d) n f good = record { contents = contents-same effect s.buffers; windows = windows-with effect s.windows n f good }
+treed-calm : (s : StateValue) (r : Result Configuration TreeFault) (n : ℕ) (f : WindowState → WindowState) → ((w : WindowState) → Quiet Nothing n w.buffer → Same w (f w))
+    → IfOk (changing n f (on_tree r (λ tree. record s { tree = tree }))) (Calm Nothing s)
+treed-calm s r n f good = treed-if (Calm Nothing s) s r n f (λ d is. record { contents = contents-same Nothing s.buffers; windows = windows-with Nothing s.windows n f good })
 
 -- ---- overlays
 
@@ -272,21 +243,21 @@ is-all h = absurd (true≢false (sym h))
 
 pub calm-step : (s : StateValue) (op : Op) → AreApart s.windows → IfOk (step s op) (Calm (effect_of s op) s)
 unfolding step effect_of
-calm-step s (ops.Frame width height) apart =
-    tree-calm Nothing s (resize_tree s.tree width (height - 1)) (λ tree. record s { tree = tree; width = width; height = height })
-    (λ d. calm Nothing s (record s { tree = d; width = width; height = height }) refl refl)
+calm-step s (ops.Frame width height) apart = tree-if (Calm Nothing s) (resize_tree s.tree width (height - 1)) _ (λ d is. calm Nothing s _ refl refl)
 calm-step s (ops.Buffer name) apart =
-    one-of (nat_lt (number_of name s.buffers) (length s.buffers)) _ _ (Calm Nothing s) tt
-    (one-of (nat_le most_buffers (length s.buffers)) _ _ (Calm Nothing s) tt (record { contents = contents-pushed Nothing s.buffers (new_buffer name); windows = windows-same Nothing s.windows }))
+    making-if (Calm Nothing s) s name (record { contents = contents-pushed Nothing s.buffers (new_buffer name); windows = windows-same Nothing s.windows })
 calm-step s (ops.Insert name place text) apart = edited_moving-calm _ s name (Inserted place (length text)) (insertion place text) (loud-edit (number_of name s.buffers) place 0 (length text))
 calm-step s (ops.InsertRaw name place bytes) apart =
     edited_moving-calm _ s name (Inserted place (length (raw_text bytes))) (insertion place (raw_text bytes)) (loud-edit (number_of name s.buffers) place 0 (length (raw_text bytes)))
 calm-step s (ops.TypeText text) apart =
-    found _ (window_of s.selected s.windows) _ (Calm (effect_of s (ops.TypeText text)) s)
-    (λ w lives. found _ (slice_get s.buffers w.buffer) _ (Calm (effect_of s (ops.TypeText text)) s)
-    (λ b at. typed-calm (effect_of s (ops.TypeText text)) s s.selected w (Inserted w.point (length text)) (λ old. record old { point = w.point + length text }) b (insertion w.point text b.content) lives at
-    (subst (λ (x : WindowState). Loud (Edit (selected_window s).buffer (selected_window s).point 0 (length text)) x.buffer) (ap (λ (o : Option WindowState). unwrap_or o opening_window) lives)
-    (loud-edit (selected_window s).buffer (selected_window s).point 0 (length text)))))
+    let effect = Edit (selected_window s).buffer (selected_window s).point 0 (length text) in
+    typing-if (Calm effect s) s text
+    (λ w b c lives at is.
+    let loud = subst (λ (x : WindowState). Loud effect x.buffer) (ap (λ (o : Option WindowState). unwrap_or o opening_window) lives) (loud-edit (selected_window s).buffer (selected_window s).point 0 (length text)) in
+    record {
+      contents = contents-set effect s.buffers w.buffer b c at (inl loud);
+      windows = windows-typed effect s.windows w.buffer (Inserted w.point (length text)) s.selected _ w loud lives refl;
+    })
 calm-step s (ops.Delete name from to) apart = edited_moving-calm _ s name (Deleted from to) (deletion from to) (loud-edit (number_of name s.buffers) from (to - from) 0)
 calm-step s (ops.Narrow name from to) apart = edited_moving-calm _ s name (Narrowed from to) (narrowing from to) (loud-all (number_of name s.buffers))
 calm-step s (ops.Widen name) apart = edited-calm _ s name widening (λ b c at is. inl (loud-all (number_of name s.buffers)))
@@ -304,23 +275,23 @@ calm-step s (ops.OverlayPut name overlay kind value) apart =
     edited-calm _ s name (overlay_putting s.objects overlay kind value)
     (λ b c at is. inl (covered-loud (number_of name s.buffers) (overlay_in s name overlay) (overlay-there s name overlay b at (if-ok (is_some (overlay_at b.content.overlays overlay)) _ _ c is).0)))
 calm-step s (ops.Setting name value) apart = edited-calm _ s name (setting_putting s.objects value) (λ b c at is. inl (loud-all (number_of name s.buffers)))
-calm-step s (ops.AddString text runs) apart = objects-calm Nothing s (string_making s.objects text runs)
-calm-step s (ops.AddSpec spec) apart = objects-calm Nothing s (spec_making s.objects spec)
-calm-step s (ops.AddFace face) apart = objects-calm Nothing s (face_making s.objects face)
+calm-step s (ops.AddString text runs) apart = objects-calm s (string_making s.objects text runs)
+calm-step s (ops.AddSpec spec) apart = objects-calm s (spec_making s.objects spec)
+calm-step s (ops.AddFace face) apart = objects-calm s (face_making s.objects face)
 calm-step s (ops.AddTable entries truncation continuation escape control ellipsis border) apart =
-    objects-calm Nothing s (table_making s.objects (table_of entries truncation continuation escape control ellipsis border))
+    objects-calm s (table_making s.objects (table_of entries truncation continuation escape control ellipsis border))
 calm-step s (ops.Split window side size) apart =
-    found _ (window_of window s.windows) _ (Calm Nothing s)
-    (λ w lives. tree-calm Nothing s (split_tree s.tree window side size) _
-    (λ d. record { contents = contents-same Nothing s.buffers; windows = windows-end Nothing s.windows (s.tree.made, record w { forced = false; pending = pos 0 }) }))
+    found (Calm Nothing s) _ (window_of window s.windows) _
+    (λ w lives. tree-if (Calm Nothing s) (split_tree s.tree window side size) _
+    (λ d is. record { contents = contents-same Nothing s.buffers; windows = windows-end Nothing s.windows (s.tree.made, record w { forced = false; pending = pos 0 }) }))
 calm-step s (ops.Remove window) apart =
-    found _ (window_of window s.windows) _ (Calm Nothing s)
-    (λ w lives. tree-calm Nothing s (remove_tree s.tree window) _
-    (λ d. record { contents = contents-same Nothing s.buffers; windows = windows-without Nothing s.windows window apart }))
-calm-step s (ops.Select window) apart = found _ (window_of window s.windows) _ (Calm Nothing s) (λ w lives. calm Nothing s (record s { selected = window }) refl refl)
+    found (Calm Nothing s) _ (window_of window s.windows) _
+    (λ w lives. tree-if (Calm Nothing s) (remove_tree s.tree window) _
+    (λ d is. record { contents = contents-same Nothing s.buffers; windows = windows-without Nothing s.windows window apart }))
+calm-step s (ops.Select window) apart = found (Calm Nothing s) _ (window_of window s.windows) _ (λ w lives. calm Nothing s (record s { selected = window }) refl refl)
 calm-step s (ops.Show window name) apart =
-    found _ (window_of window s.windows) _ (Calm (Window window) s)
-    (λ w lives. found _ (slice_get s.buffers (number_of name s.buffers)) _ (Calm (Window window) s)
+    found (Calm (Window window) s) _ (window_of window s.windows) _
+    (λ w lives. found (Calm (Window window) s) _ (slice_get s.buffers (number_of name s.buffers)) _
     (λ b at. changing-calm (Window window) s window _ (λ x quiet. absurd (shown-change window quiet))))
   where
     shown-change : (n : ℕ) → is_none (if n == n then all else none) ≡ true → ⊥
@@ -333,9 +304,9 @@ calm-step s (ops.Scroll window rows) apart =
 calm-step s (ops.Hscroll window columns) apart = setting-calm Nothing s window (λ old. record old { hscroll = columns }) (λ w quiet. (refl, λ h. (h, refl)))
 calm-step s (ops.Wrap window mode) apart = setting-calm Nothing s window (λ old. record old { wrap = mode }) (λ w quiet. (refl, λ h. (h, refl)))
 calm-step s (ops.ModeLine window format) apart =
-    found _ (window_of window s.windows) _ (Calm Nothing s)
-    (λ w lives. unless (format_fault format) _ (Calm Nothing s)
-    (treed-calm Nothing s (mode_tree s.tree window (is_some format)) window (λ old. record old { format = format }) (λ x quiet. (refl, λ h. (h, refl)))))
+    found (Calm Nothing s) _ (window_of window s.windows) _
+    (λ w lives. unless (Calm Nothing s) (format_fault format) _
+    (treed-calm s (mode_tree s.tree window (is_some format)) window (λ old. record old { format = format }) (λ x quiet. (refl, λ h. (h, refl)))))
 calm-step s (ops.Scrolling margin conservatively) apart = calm Nothing s (record s { margin = margin; conservatively = conservatively }) refl refl
 calm-step s (ops.Echo text) apart = calm Nothing s (record s { echo = text }) refl refl
 calm-step s (ops.Redisplay stop) apart = calm Nothing s s refl refl
@@ -343,7 +314,7 @@ calm-step s (ops.Shift on) apart = calm Nothing s (record s { shifting = on }) r
 calm-step s (ops.Go window right) apart = calm Nothing s s refl refl
 calm-step s (ops.Hit window row column) apart = calm Nothing s s refl refl
 calm-step s (ops.Margin window numbers strings) apart =
-    found _ (window_of window s.windows) _ (Calm Nothing s)
-    (λ w lives. treed-calm Nothing s (margins_tree s.tree window (numbers + strings)) window (λ old. record old { numbers = numbers; strings = strings }) (λ x quiet. (refl, λ h. (h, refl))))
+    found (Calm Nothing s) _ (window_of window s.windows) _
+    (λ w lives. treed-calm s (margins_tree s.tree window (numbers + strings)) window (λ old. record old { numbers = numbers; strings = strings }) (λ x quiet. (refl, λ h. (h, refl))))
 calm-step s (ops.MarginPut name overlay string) apart =
     edited-calm Nothing s name (margin_putting s.objects overlay string) (λ b c at is. inr (margins-seen s.objects overlay string b.content c is))

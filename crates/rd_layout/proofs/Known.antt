@@ -23,10 +23,11 @@ use Rattle.rd_script.specs.declared.op.Op.TheVariants as ops
 use Rattle.rd_state.specs.Changes.{Leaves}
 use Rattle.rd_state.specs.Effects.{effect_of}
 use Rattle.rd_state.specs.States.{BufferValue, ContentValue, StateValue, opening, seen}
-use Rattle.rd_state.specs.Steps.{in_window, step, with_found}
+use Rattle.rd_state.specs.Steps.{in_window, step}
 use Rattle.rd_state.specs.Valid.{IsValid, IsWindow}
 use Rattle.rd_state.specs.Windows.{content_in, shown_content, window_of}
 use Rattle.rd_state.proofs.ByNumber.{under-became}
+use Rattle.rd_state.proofs.Tests.{found-value}
 use Rattle.rd_state.specs.declared.effect.Effect.{Effect}
 use Rattle.rd_state.specs.declared.effect.Effect.TheVariants.{Nothing, Edit, Moved, All, Window}
 use Rattle.rd_state.specs.declared.refused.Refused.{Refused}
@@ -208,10 +209,7 @@ pub opened-session : (files : Data) → IsValid opening → IsSession (opened fi
 opened-session files valid = record { state = valid; screen = tt; made = λ number l h. absurd (cc); layouts = λ number w l hw hl. absurd (cc) }
 
 pub found-window : (s t : StateValue) (window : ℕ) (f : WindowState → Result StateValue Refused) → in_window s window f ≡ Ok t → (w : WindowState) × (f w ≡ Ok t)
-found-window s t window f h = by (window_of window s.windows) h where
-  by : (o : Option WindowState) → with_found NoWindow o f ≡ Ok t → (w : WindowState) × (f w ≡ Ok t)
-  by None h = absurd (cc)
-  by (Some w) h = (w, h)
+found-window s t window f h = let w = found-value NoWindow (window_of window s.windows) f t h in (w.0, w.2)
 
 -- a hit moves point by an op where it is not refused
 pub hit-moves : (s t : StateValue) (window : ℕ) (w : WindowState) (last : Option Layout) (place : Option Placed) (row column : ℕ) → hitting_by s window w last place row column ≡ Ok t

@@ -15,3 +15,4 @@ pub mod Sending
 mod Settling
 mod Soundness
 pub mod Standing
+mod StepParts

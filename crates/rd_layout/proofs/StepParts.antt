@@ -1,0 +1,101 @@
+-- What holds of the state to which a step leads, by the parts of the step.
+use Rattle.std.proofs.Common.{◌≡◌, ℕ, ◌+◌, Bool, true, false, if◌then◌else◌, nat_lt, nat_le, Option, None, Some, Result, Ok, Err, List, [], ◌∷◌, ◌++◌, length, map, refl}
+use Rattle.std.specs.Prelude.{slice_get, slice_set, IfOk}
+use Rattle.rd_base.proofs.Choices.{either}
+use Rattle.rd_objects.specs.Things.{ObjectLists}
+use Rattle.rd_tree.specs.Calls.{Configuration}
+use Rattle.rd_tree.specs.declared.fault.TreeFault.{TreeFault}
+use Rattle.rd_state.specs.Edits.{insertion, is_accessible}
+use Rattle.rd_state.specs.Moves.{moved_in}
+use Rattle.rd_state.specs.States.{BufferValue, ContentValue, StateValue, new_buffer, number_of}
+use Rattle.rd_state.specs.Steps.{with_found, replaced, moving, changing, with_objects, on_tree, making, edited, edited_moving, typing, placing, setting, unless_bad}
+use Rattle.rd_state.specs.Valid.{most_buffers}
+use Rattle.rd_state.specs.Windows.{window_of, with_window}
+use Rattle.rd_state.specs.declared.moves.Move.{Move}
+use Rattle.rd_state.specs.declared.moves.Move.TheVariants.{Inserted}
+use Rattle.rd_state.specs.declared.refused.Refused.{Refused}
+use Rattle.rd_state.specs.declared.window.WindowState.{WindowState}
+
+pub one-of : {T E : Type 0} (t : Bool) (a b : Result T E) (P : T → Type 0) → IfOk a P → IfOk b P → IfOk (if t then a else b) P
+one-of t a b P h g = either (λ r. IfOk r P) t a b h g
+
+-- where a test refuses what fails
+tested : {T E : Type 0} (t : Bool) (r : Result T E) (e : E) (P : T → Type 0) → (t ≡ true → IfOk r P) → IfOk (if t then r else Err e) P
+tested true r e P h = h refl
+tested false r e P h = tt
+
+-- a state in which a buffer holds something else
+abbrev pub with_content : StateValue → ℕ → BufferValue → ContentValue → StateValue
+with_content s i b c = record s { buffers = slice_set s.buffers i (record b { content = c }) }
+
+module _ (P : StateValue → Type 0) where
+  pub found : {A : Type 0} (refusal : Refused) (o : Option A) (f : A → Result StateValue Refused) → ((a : A) → o ≡ Some a → IfOk (f a) P) → IfOk (with_found refusal o f) P
+  found refusal None f h = tt
+  found refusal (Some a) f h = h a refl
+
+  pub unless : (o : Option ℕ) (r : Result StateValue Refused) → IfOk r P → IfOk (unless_bad o r) P
+  unless None r h = h
+  unless (Some column) r h = tt
+
+  replaced-if : (s : StateValue) (i : ℕ) (b : BufferValue) (r : Result ContentValue Refused) → ((c : ContentValue) → r ≡ Ok c → P (with_content s i b c)) → IfOk (replaced s i b r) P
+  replaced-if s i b (Err refusal) h = tt
+  replaced-if s i b (Ok c) h = h c refl
+
+  moving-if : (s : StateValue) (i : ℕ) (b : BufferValue) (how : Move) (r : Result ContentValue Refused)
+      → ((c : ContentValue) → r ≡ Ok c → P (record (with_content s i b c) { windows = map (moved_in i how) s.windows })) → IfOk (moving i how (replaced s i b r)) P
+  moving-if s i b how (Err refusal) h = tt
+  moving-if s i b how (Ok c) h = h c refl
+
+  typed-if : (s : StateValue) (i : ℕ) (b : BufferValue) (how : Move) (n : ℕ) (f : WindowState → WindowState) (r : Result ContentValue Refused)
+      → ((c : ContentValue) → r ≡ Ok c → P (record (with_content s i b c) { windows = with_window n f (map (moved_in i how) s.windows) })) → IfOk (changing n f (moving i how (replaced s i b r))) P
+  typed-if s i b how n f (Err refusal) h = tt
+  typed-if s i b how n f (Ok c) h = h c refl
+
+  pub objects-if : (s : StateValue) (r : Result ObjectLists Refused) → ((o : ObjectLists) → P (record s { objects = o })) → IfOk (with_objects s r) P
+  objects-if s (Err refusal) h = tt
+  objects-if s (Ok o) h = h o
+
+  pub tree-if : (r : Result Configuration TreeFault) (f : Configuration → StateValue) → ((d : Configuration) → r ≡ Ok d → P (f d)) → IfOk (on_tree r f) P
+  tree-if (Err fault) f h = tt
+  tree-if (Ok d) f h = h d refl
+
+  -- a window changed beside the tree
+  pub treed-if : (s : StateValue) (r : Result Configuration TreeFault) (n : ℕ) (f : WindowState → WindowState)
+      → ((d : Configuration) → r ≡ Ok d → P (record s { tree = d; windows = with_window n f s.windows })) → IfOk (changing n f (on_tree r (λ tree. record s { tree = tree }))) P
+  treed-if s (Err fault) n f h = tt
+  treed-if s (Ok d) n f h = h d refl
+
+  pub making-if : (s : StateValue) (name : List ℕ) → P (record s { buffers = s.buffers ++ new_buffer name ∷ [] }) → IfOk (making s name) P
+  making-if s name h = one-of (nat_lt (number_of name s.buffers) (length s.buffers)) _ _ P tt (one-of (nat_le most_buffers (length s.buffers)) _ _ P tt h)
+
+  pub edited-if : (s : StateValue) (name : List ℕ) (edit : ContentValue → Result ContentValue Refused)
+      → ((b : BufferValue) (c : ContentValue) → slice_get s.buffers (number_of name s.buffers) ≡ Some b → edit b.content ≡ Ok c → P (with_content s (number_of name s.buffers) b c)) → IfOk (edited s name edit) P
+  edited-if s name edit h =
+      let i = number_of name s.buffers in
+      found _ (slice_get s.buffers i) _ (λ b at. replaced-if s i b (edit b.content) (λ c is. h b c at is))
+
+  pub edited_moving-if : (s : StateValue) (name : List ℕ) (how : Move) (edit : ContentValue → Result ContentValue Refused)
+      → ((b : BufferValue) (c : ContentValue) → slice_get s.buffers (number_of name s.buffers) ≡ Some b → edit b.content ≡ Ok c
+      → P (record (with_content s (number_of name s.buffers) b c) { windows = map (moved_in (number_of name s.buffers) how) s.windows }))
+      → IfOk (edited_moving s name how edit) P
+  edited_moving-if s name how edit h =
+      let i = number_of name s.buffers in
+      found _ (slice_get s.buffers i) _ (λ b at. moving-if s i b how (edit b.content) (λ c is. h b c at is))
+
+  pub typing-if : (s : StateValue) (new : List ℕ)
+      → ((w : WindowState) (b : BufferValue) (c : ContentValue) → window_of s.selected s.windows ≡ Some w → slice_get s.buffers w.buffer ≡ Some b → insertion w.point new b.content ≡ Ok c
+      → P (record (with_content s w.buffer b c) { windows = with_window s.selected (λ old. record old { point = w.point + length new }) (map (moved_in w.buffer (Inserted w.point (length new))) s.windows) }))
+      → IfOk (typing s new) P
+  typing-if s new h =
+      found _ (window_of s.selected s.windows) _
+      (λ w lives. found _ (slice_get s.buffers w.buffer) _
+      (λ b at. typed-if s w.buffer b (Inserted w.point (length new)) s.selected (λ old. record old { point = w.point + length new }) (insertion w.point new b.content) (λ c is. h w b c lives at is)))
+
+  pub setting-if : (s : StateValue) (n : ℕ) (f : WindowState → WindowState) → P (record s { windows = with_window n f s.windows }) → IfOk (setting s n f) P
+  setting-if s n f h = found _ (window_of n s.windows) _ (λ w lives. h)
+
+  pub placing-if : (s : StateValue) (n place : ℕ) (f : WindowState → WindowState)
+      → ((w : WindowState) (b : BufferValue) → slice_get s.buffers w.buffer ≡ Some b → is_accessible b.content.text place ≡ true → P (record s { windows = with_window n f s.windows })) → IfOk (placing s n place f) P
+  placing-if s n place f h =
+      found _ (window_of n s.windows) _
+      (λ w lives. found _ (slice_get s.buffers w.buffer) _ (λ b at. tested (is_accessible b.content.text place) _ _ P (λ yes. h w b at yes)))
