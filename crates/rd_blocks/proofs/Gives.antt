@@ -30,35 +30,35 @@ use Rattle.rd_levels.specs.Turns.{turns_of}
 use Rattle.rd_levels.specs.declared.turn.Turn.{Turn}
 use Rattle.rd_order.proofs.Once.{is_place, once-at-least}
 use Rattle.rd_stack.specs.Strings.{place_of, run_heads, ends_row, part_by, part_of, part_joins, part_class, part_code, shown_by, shown_at, in_order, row, row_end, rows_from, string_parts}
-use Rattle.rd_stack.specs.Shown.{kind_elements, display_part_elements, display_elements}
-use Rattle.rd_stack.specs.Lines.{ellipsis_glyphs, item_elements_by}
+use Rattle.rd_stack.specs.Shown.{ellipsis_glyphs, display_part_elements, display_elements}
+use Rattle.rd_stack.specs.Lines.{item_elements_by}
 use Rattle.rd_stack.specs.declared.part.Place.{Place}
 use Rattle.rd_stack.specs.declared.part.Part.{Part}
 use Rattle.rd_stack.specs.declared.part.Shown.{Shown}
-use Rattle.rd_stack.specs.declared.part.PartKind.{PartKind}
-use Rattle.rd_stack.specs.declared.part.PartKind.TheVariants as kind
 use Rattle.rd_base.proofs.Lists.{all-at}
 
 -- the law of characters that give an element
 abbrev CharactersGive : Type 0
 CharactersGive = (parts : PartValues) (ch : ℕ) (odd : Bool) (face : Attributes) (origin : Origin) → is_empty_entry (entry_of parts.table ch) ≡ false → 1 ≤ length (elements_of parts ch odd face origin)
 
--- what a part shows gives an element
-abbrev part_gives : Scene → PartKind → Bool
-part_gives s (kind.Char c) = not (is_empty_entry (entry_of s.parts.table c))
-part_gives s (kind.Marked g) = true
-part_gives s (kind.Replaced spec) = false
-part_gives s kind.RowEnd = true
+-- what a part shows gives an element: a character, with marks or without
+abbrev part_gives : Scene → ItemKind → Bool
+part_gives s (item.Char c) = not (is_empty_entry (entry_of s.parts.table c))
+part_gives s (item.Marked g) = true
+part_gives s k = false
 
 abbrev some_gives : Scene → List Part → Bool
 some_gives s [] = false
 some_gives s (x ∷ xs) = part_gives s x.kind || some_gives s xs
 
-kind-some : CharactersGive → (s : Scene) (k : PartKind) (face : Attributes) (odd : Bool) (origin : Origin) → part_gives s k ≡ true → 1 ≤ length (kind_elements s k face odd origin)
-kind-some law s (kind.Char c) face odd origin h = law s.parts c odd face origin (not-true (is_empty_entry (entry_of s.parts.table c)) h)
-kind-some law s (kind.Marked g) face odd origin h = omega arith
-kind-some law s (kind.Replaced spec) face odd origin h = absurd (let q : false ≡ true = h in cc)
-kind-some law s kind.RowEnd face odd origin h = omega arith
+part-some : CharactersGive → (s : Scene) (origin : Origin) (k : ItemKind) (face : Attributes) (odd : Bool) → part_gives s k ≡ true
+    → 1 ≤ length (display_part_elements s origin (record { kind = k; face = face; odd = odd }))
+part-some law s origin (item.Char c) face odd h = law s.parts c odd face origin (not-true (is_empty_entry (entry_of s.parts.table c)) h)
+part-some law s origin (item.Marked g) face odd h = omega arith
+part-some law s origin (item.Text n) face odd h = absurd (let q : false ≡ true = h in cc)
+part-some law s origin (item.Space spec) face odd h = absurd (let q : false ≡ true = h in cc)
+part-some law s origin item.Ellipsis face odd h = absurd (let q : false ≡ true = h in cc)
+part-some law s origin item.Ender face odd h = absurd (let q : false ≡ true = h in cc)
 
 -- lists of elements, of which one has some
 
@@ -96,7 +96,7 @@ part-at : CharactersGive → (s : Scene) (origin : Origin) (xs : List Part) (x :
     → 1 ≤ length (flat_map (display_part_elements s origin) (shown_at xs t))
 part-at law s origin xs x t at gives =
     subst (λ (o : Option Part). 1 ≤ length (flat_map (display_part_elements s origin) (shown_by t.odd o))) (sym at)
-    (some-front (kind_elements s x.kind x.face t.odd origin) [] (kind-some law s x.kind x.face t.odd origin gives))
+    (some-front (display_part_elements s origin (record { kind = x.kind; face = x.face; odd = t.odd })) [] (part-some law s origin x.kind x.face t.odd gives))
 
 -- the place of a part that gives an element
 record GivesAt (s : Scene) (xs : List Part) : Type 0 where
@@ -255,7 +255,7 @@ character-none parts ch odd face origin h = ap (λ entry. elements_by entry part
 
 -- a part without elements that no mark joins
 record IsEmptyPart (s : Scene) (x : Part) : Type 0 where
-  none : (face : Attributes) (odd : Bool) (origin : Origin) → kind_elements s x.kind face odd origin ≡ []
+  none : (face : Attributes) (odd : Bool) (origin : Origin) → display_part_elements s origin (record { kind = x.kind; face = face; odd = odd }) ≡ []
   alone : base_of x.role ≡ None
 
 char-empty : (s : Scene) (p : Place) → not (is_empty_entry (entry_of s.parts.table p.ch)) ≡ false → IsEmptyPart s (part_by s None p)

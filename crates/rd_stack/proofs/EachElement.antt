@@ -24,13 +24,11 @@ use Rattle.rd_items.specs.Pieces.{Scene}
 use Rattle.rd_items.specs.declared.item.ItemKind.{ItemKind}
 use Rattle.rd_items.specs.declared.item.ItemKind.TheVariants as item
 use Rattle.rd_stack.specs.Strings.{part_by, string_parts}
-use Rattle.rd_stack.specs.Shown.{space_elements, kind_elements, display_part_elements, display_elements, overlay_part_by, overlay_part_elements, overlay_elements}
-use Rattle.rd_stack.specs.Lines.{ellipsis_glyphs, text_elements, item_elements_by}
+use Rattle.rd_stack.specs.Shown.{ellipsis_glyphs, space_elements, kind_elements, display_part_elements, display_elements, overlay_part_elements, overlay_elements}
+use Rattle.rd_stack.specs.Lines.{text_elements, item_elements_by}
 use Rattle.rd_stack.specs.declared.part.Place.{Place}
 use Rattle.rd_stack.specs.declared.part.Part.{Part}
 use Rattle.rd_stack.specs.declared.part.Shown.{Shown as ShownPart}
-use Rattle.rd_stack.specs.declared.part.PartKind.{PartKind}
-use Rattle.rd_stack.specs.declared.part.PartKind.TheVariants as kind
 use Rattle.rd_stack.proofs.EachPart.{string-each}
 use Rattle.rd_stack.proofs.Lists.{each-flat}
 
@@ -44,16 +42,6 @@ looks-open escape control (glyphs.Octal byte) = (refl, (refl, (refl, (refl, tt))
 looks-open escape control glyphs.Space = (refl, tt)
 looks-open escape control (glyphs.Mark code) = (refl, tt)
 looks-open escape control (glyphs.Itself code width) = (refl, tt)
-
--- what holds of the elements of a display string, and of those of a part that shows none, holds of a part of an overlay's string
-pub overlay-part : (P : List Element → Type 0) (s : Scene) (base : ℕ) (origin : Origin) (k : PartKind) (face : Attributes) (odd : Bool)
-    → ((n : ℕ) → P (display_elements s base origin face (slice_get s.objects.strings n))) → P (kind_elements s k face odd origin) → P (overlay_part_by s base origin k face odd)
-overlay-part P s base origin (kind.Replaced (Text n)) face odd string own = string n
-overlay-part P s base origin (kind.Replaced (Width n)) face odd string own = own
-overlay-part P s base origin (kind.Replaced (Align n)) face odd string own = own
-overlay-part P s base origin (kind.Char c) face odd string own = own
-overlay-part P s base origin (kind.Marked g) face odd string own = own
-overlay-part P s base origin kind.RowEnd face odd string own = own
 
 -- P holds of each element of this origin that ends no line and has a face of which F holds; the faces of strings keep F
 module _ (s : Scene) (base : ℕ) (origin : Origin) (F : Attributes → Type 0) (P : Element → Type 0)
@@ -86,11 +74,18 @@ module _ (s : Scene) (base : ℕ) (origin : Origin) (F : Attributes → Type 0) 
   space-each (Align n) face h = (element (Column n) look.Blank face refl h, tt)
   space-each (Text n) face h = tt
 
-  part-each : (k : PartKind) (face : Attributes) (odd : Bool) → F face → Each (kind_elements s k face odd origin)
-  part-each (kind.Char c) face odd h = character-each c odd face h
-  part-each (kind.Marked g) face odd h = (element (Fixed g.width) (look.Glyph g) face refl h, tt)
-  part-each (kind.Replaced spec) face odd h = space-each spec face h
-  part-each kind.RowEnd face odd h = (element (Fixed 0) look.RowEnd face refl h, tt)
+  kind-each : (end : Look) (string : Option TextValue → List Element) (k : ItemKind) (odd : Bool) (face : Attributes) → (is_ender_kind k ≡ true → P (element_of face origin end))
+      → ((n : ℕ) → Each (string (slice_get s.objects.strings n))) → F face → Each (kind_elements end string s k odd face origin)
+  kind-each end string (item.Char c) odd face ends strings h = character-each c odd face h
+  kind-each end string (item.Marked g) odd face ends strings h = (element (Fixed g.width) (look.Glyph g) face refl h, tt)
+  kind-each end string (item.Text n) odd face ends strings h = strings n
+  kind-each end string (item.Space spec) odd face ends strings h = space-each spec face h
+  kind-each end string item.Ellipsis odd face ends strings h = glyphs-each face (ellipsis_glyphs s.parts.table) h
+  kind-each end string item.Ender odd face ends strings h = (ends refl, tt)
+
+  -- a part of a string ends no line
+  part-each : (string : Option TextValue → List Element) (x : ShownPart) → ((n : ℕ) → Each (string (slice_get s.objects.strings n))) → F x.face → Each (kind_elements look.RowEnd string s x.kind x.odd x.face origin)
+  part-each string x strings h = kind-each look.RowEnd string x.kind x.odd x.face (λ ends. element (Fixed 0) look.RowEnd x.face refl h) strings h
 
   -- ---- strings
 
@@ -108,7 +103,7 @@ module _ (s : Scene) (base : ℕ) (origin : Origin) (F : Attributes → Type 0) 
   display-by : (n : ℕ) (text : Option TextValue) → slice_get s.objects.strings n ≡ text → (under : Attributes) → F under → Each (display_elements s base origin under text)
   display-by n None found under h = tt
   display-by n (Some text) found under h =
-      each-flat (display_part_elements s origin) (λ (x : ShownPart). F x.face) P (λ x own. part-each x.kind x.face x.odd own) (string_parts s base false text under) (shown-faces false n text found under h)
+      each-flat (display_part_elements s origin) (λ (x : ShownPart). F x.face) P (λ x own. part-each (λ t. []) x (λ m. tt) own) (string_parts s base false text under) (shown-faces false n text found under h)
 
   pub display-each : (n : ℕ) (under : Attributes) → F under → Each (display_elements s base origin under (slice_get s.objects.strings n))
   display-each n under h = display-by n (slice_get s.objects.strings n) refl under h
@@ -117,7 +112,7 @@ module _ (s : Scene) (base : ℕ) (origin : Origin) (F : Attributes → Type 0) 
   overlay-by n None found under h = tt
   overlay-by n (Some text) found under h =
       each-flat (overlay_part_elements s base origin) (λ (x : ShownPart). F x.face) P
-      (λ x own. overlay-part Each s base origin x.kind x.face x.odd (λ m. display-each m x.face own) (part-each x.kind x.face x.odd own))
+      (λ x own. part-each (display_elements s base origin x.face) x (λ m. display-each m x.face own) own)
       (string_parts s base true text under) (shown-faces true n text found under h)
 
   text-each : (overlay : Bool) (n : ℕ) (face : Attributes) → F face → Each (text_elements s base overlay origin face (slice_get s.objects.strings n))
@@ -127,9 +122,4 @@ module _ (s : Scene) (base : ℕ) (origin : Origin) (F : Attributes → Type 0) 
   -- ---- items
 
   pub item-each : (k : ItemKind) (overlay odd : Bool) (face : Attributes) → (is_ender_kind k ≡ true → P (element_of face origin look.LineEnd)) → F face → Each (item_elements_by s base k overlay odd face origin)
-  item-each (item.Char c) overlay odd face end h = character-each c odd face h
-  item-each (item.Marked g) overlay odd face end h = (element (Fixed g.width) (look.Glyph g) face refl h, tt)
-  item-each (item.Text n) overlay odd face end h = text-each overlay n face h
-  item-each (item.Space spec) overlay odd face end h = space-each spec face h
-  item-each item.Ellipsis overlay odd face end h = glyphs-each face (ellipsis_glyphs s.parts.table) h
-  item-each item.Ender overlay odd face end h = (end refl, tt)
+  item-each k overlay odd face end h = kind-each look.LineEnd (text_elements s base overlay origin face) k odd face end (λ n. text-each overlay n face h) h

@@ -15,31 +15,31 @@ use Rattle.rd_objects.specs.Sound.{AreObjects, IsString}
 use Rattle.rd_objects.specs.Texts.{TextValue}
 use Rattle.rd_objects.specs.Things.{ObjectLists, IsSmallSpec}
 use Rattle.rd_objects.specs.declared.run.Spec.{Spec}
-use Rattle.rd_objects.specs.declared.run.Spec.TheVariants.{Width}
+use Rattle.rd_objects.specs.declared.run.Spec.TheVariants.{Text, Width, Align}
 use Rattle.rd_glyphs.specs.MarkRoles.{base_of, mark_of, IsMeasuredRole}
 use Rattle.rd_glyphs.specs.Marks.{marks_joined}
 use Rattle.rd_glyphs.proofs.Joined.{Grows}
 use Rattle.rd_glyphs.proofs.Measures.{MarkLaws}
 use Rattle.rd_items.specs.Pieces.{Scene, spec_in, same_spec}
+use Rattle.rd_items.specs.declared.item.ItemKind.{ItemKind}
+use Rattle.rd_items.specs.declared.item.ItemKind.TheVariants as kind
 use Rattle.rd_levels.specs.Turns.{turns_of}
 use Rattle.rd_levels.specs.declared.turn.Turn.{Turn}
 use Rattle.rd_levels.proofs.Turns.{turns-count}
-use Rattle.rd_stack.specs.Strings.{place_of, places_from, run_heads, ends_row, part_by, part_of, part_joins, shown_by, shown_at, part_class, part_code, row, row_end, rows_from, string_parts}
+use Rattle.rd_stack.specs.Strings.{place_of, places_from, run_heads, ends_row, spec_kind, part_by, part_of, part_joins, shown_by, shown_at, part_class, part_code, row, row_end, rows_from, string_parts}
 use Rattle.rd_stack.specs.declared.part.Place.{Place}
 use Rattle.rd_stack.specs.declared.part.Part.{Part}
 use Rattle.rd_stack.specs.declared.part.Shown.{Shown}
-use Rattle.rd_stack.specs.declared.part.PartKind.{PartKind}
-use Rattle.rd_stack.specs.declared.part.PartKind.TheVariants as kind
 use Rattle.rd_stack.proofs.EachPart.{string-each}
 use Rattle.rd_stack.proofs.Good.{found}
 use Rattle.rd_stack.proofs.Joined.{marks_joined-few}
 
--- what a part of a sound string shows
-abbrev pub IsFitKind : PartKind → Type 0
+-- what an item of a line of sound objects shows, or a part of a sound string
+abbrev pub IsFitKind : ItemKind → Type 0
 IsFitKind (kind.Char c) = IsTrue (is_code c)
 IsFitKind (kind.Marked g) = IsMeasured g
-IsFitKind (kind.Replaced spec) = IsSmallSpec spec
-IsFitKind kind.RowEnd = Unit {0}
+IsFitKind (kind.Space spec) = IsSmallSpec spec
+IsFitKind k = Unit {0}
 
 abbrev pub IsFitShown : Shown → Type 0
 IsFitShown x = IsFitKind x.kind
@@ -64,9 +64,14 @@ string-at o sound number = found (λ (t : TextValue). IsString t) o.strings numb
 
 -- ---- what the parts are
 
+spec-fit : (spec : Spec) → IsSmallSpec spec → IsFitKind (spec_kind spec)
+spec-fit (Text n) small = tt
+spec-fit (Width n) small = small
+spec-fit (Align n) small = small
+
 module _ (laws : MarkLaws) (s : Scene) (base : ℕ) (sound : AreObjects s.objects) where
   part-by-fit : (spec : Option Spec) (p : Place) → IfSome spec IsSmallSpec → IsFitPlace p → IsFitPart (part_by s spec p)
-  part-by-fit (Some spec) p small code = (small, tt)
+  part-by-fit (Some spec) p small code = (spec-fit spec small, tt)
   part-by-fit None p small code = (code, laws.role s.parts p.ch code)
 
   named-small : (number : Option ℕ) → IfSome (option_map (spec_in s.objects) number) IsSmallSpec

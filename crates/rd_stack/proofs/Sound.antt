@@ -14,6 +14,7 @@ use Rattle.rd_base.specs.Glyphs.{IsMeasured, AreMeasured}
 use Rattle.rd_base.specs.declared.cell.Glyph.{Glyph}
 use Rattle.rd_base.specs.declared.element.Element.{Element}
 use Rattle.rd_base.specs.declared.element.Extent.TheVariants.{Fixed, Column}
+use Rattle.rd_base.specs.declared.element.Look.{Look}
 use Rattle.rd_base.specs.declared.element.Look.TheVariants as look
 use Rattle.rd_base.specs.declared.element.Origin.{Origin}
 use Rattle.rd_base.specs.declared.limits.TheConstants.{SPACE_COLUMNS, STRING_CHARACTERS}
@@ -35,13 +36,10 @@ use Rattle.rd_props.specs.Seen.{Seen}
 use Rattle.rd_levels.specs.declared.turn.Turn.{Turn}
 use Rattle.rd_levels.proofs.Turns.{turns-count}
 use Rattle.rd_stack.specs.Strings.{string_parts}
-use Rattle.rd_stack.specs.Shown.{space_elements, kind_elements, display_part_elements, display_elements, overlay_part_by, overlay_part_elements, overlay_elements, before_row_end, is_row_end, outside, prefix, IsRight}
-use Rattle.rd_stack.specs.Lines.{ellipsis_glyphs, text_elements, item_elements_by, turn_elements, origin_of, item_elements, item_class, item_code, item_turns, line_of_items, line_elements, IsCodedKind, AreCodedItems}
+use Rattle.rd_stack.specs.Shown.{ellipsis_glyphs, space_elements, kind_elements, display_part_elements, display_elements, overlay_part_elements, overlay_elements, before_row_end, is_row_end, outside, prefix, IsRight}
+use Rattle.rd_stack.specs.Lines.{text_elements, turn_elements, origin_of, item_elements, item_class, item_code, item_turns, line_of_items, line_elements, IsCodedKind, AreCodedItems}
 use Rattle.rd_stack.specs.Limits.{AreFew, AreRightWithin, most_display_columns, most_overlay_columns, most_columns}
-use Rattle.rd_stack.specs.declared.part.PartKind.{PartKind}
-use Rattle.rd_stack.specs.declared.part.PartKind.TheVariants as kind
 use Rattle.rd_stack.specs.declared.part.Shown.{Shown}
-use Rattle.rd_stack.proofs.EachElement.{overlay-part}
 use Rattle.rd_stack.proofs.Good.{both-right, good-nil, good-one, good-more, good-each, found}
 use Rattle.rd_stack.proofs.Holds.{Gives, items-hold, all-read, items-few}
 use Rattle.rd_stack.proofs.Parts.{IsFitKind, IsFitShown, spec-small, string-at, string-fit, string-few}
@@ -56,13 +54,6 @@ pub record GlyphLaws : Type 0 where
   pub text_sound : (face : Attributes) (origin : Origin) (text : List Glyph) → IsTrue (is_glyph_text text) → AreSound (glyph_elements face origin text)
   pub text_measured : (face : Attributes) (origin : Origin) (text : List Glyph) → IsTrue (is_glyph_text text) → AreMeasured (glyph_elements face origin text)
   pub text_columns : (face : Attributes) (origin : Origin) (text : List Glyph) → IsTrue (is_glyph_text text) → columns_at_most (glyph_elements face origin text) ≤ 48
-
--- what an item of a line of sound objects shows
-abbrev IsFitItem : ItemKind → Type 0
-IsFitItem (item.Char c) = IsTrue (is_code c)
-IsFitItem (item.Marked g) = IsMeasured g
-IsFitItem (item.Space spec) = IsSmallSpec spec
-IsFitItem k = Unit {0}
 
 abbrev IsSmallItem : ItemKind → Type 0
 IsSmallItem (item.Space spec) = IsSmallSpec spec
@@ -88,7 +79,7 @@ table-sound o sound (Some n) = found (λ (t : TableValue). IsTable t) o.tables n
 
 -- ---- items
 
-item-fit : (k : ItemKind) → IsMeasuredKind k → IsCodedKind k → IsSmallItem k → IsFitItem k
+item-fit : (k : ItemKind) → IsMeasuredKind k → IsCodedKind k → IsSmallItem k → IsFitKind k
 item-fit (item.Char c) measured coded small = coded
 item-fit (item.Marked g) measured coded small = measured
 item-fit (item.Text n) measured coded small = tt
@@ -166,11 +157,23 @@ before-few [] = omega arith
 before-few (e ∷ es) = fewer (is_row_end e.look) e (before_row_end es) es (before-few es)
 
 module _ (laws : GlyphLaws) (marks : MarkLaws) (s : Scene) (base : ℕ) (sound : AreObjects s.objects) (parts : AreSoundParts s.parts) where
-  part-good : (k : PartKind) (face : Attributes) (odd : Bool) (origin : Origin) → IsFitKind k → AreRightWithin SPACE_COLUMNS (kind_elements s k face odd origin)
-  part-good (kind.Char c) face odd origin fit = good-more 48 SPACE_COLUMNS (elements_of s.parts c odd face origin) (omega arith) (char-good laws s.parts parts c odd face origin fit)
-  part-good (kind.Marked g) face odd origin fit = glyph-good SPACE_COLUMNS g face origin fit (omega arith)
-  part-good (kind.Replaced spec) face odd origin fit = space-good spec face origin fit
-  part-good kind.RowEnd face odd origin fit = good-one SPACE_COLUMNS (element_of face origin look.RowEnd) refl tt (omega arith)
+  kind-good : (end : Look) (string : Option TextValue → List Element) (most : ℕ) → SPACE_COLUMNS ≤ most → (k : ItemKind) (odd : Bool) (face : Attributes) (origin : Origin)
+      → AreRightWithin most (element_of face origin end ∷ []) → ((n : ℕ) → AreRightWithin most (string (slice_get s.objects.strings n))) → IsFitKind k
+      → AreRightWithin most (kind_elements end string s k odd face origin)
+  kind-good end string most room (item.Char c) odd face origin ender strings fit =
+      good-more 48 most (elements_of s.parts c odd face origin) (omega (arith, room)) (char-good laws s.parts parts c odd face origin fit)
+  kind-good end string most room (item.Marked g) odd face origin ender strings fit = glyph-good most g face origin fit (omega (arith, room))
+  kind-good end string most room (item.Text n) odd face origin ender strings fit = strings n
+  kind-good end string most room (item.Space spec) odd face origin ender strings fit = good-more SPACE_COLUMNS most (space_elements spec face origin) room (space-good spec face origin fit)
+  kind-good end string most room item.Ellipsis odd face origin ender strings fit =
+      let glyphs = ellipsis_glyphs s.parts.table in
+      good-more 48 most (glyph_elements face origin glyphs) (omega (arith, room)) (text-good laws face origin glyphs (ellipsis-fit s.parts.table parts.table))
+  kind-good end string most room item.Ender odd face origin ender strings fit = ender
+
+  part-good : (string : Option TextValue → List Element) (most : ℕ) → SPACE_COLUMNS ≤ most → (x : Shown) (origin : Origin) → ((n : ℕ) → AreRightWithin most (string (slice_get s.objects.strings n)))
+      → IsFitShown x → AreRightWithin most (kind_elements look.RowEnd string s x.kind x.odd x.face origin)
+  part-good string most room x origin strings fit =
+      kind-good look.RowEnd string most room x.kind x.odd x.face origin (good-one most (element_of x.face origin look.RowEnd) refl tt (omega arith)) strings fit
 
   -- ---- strings
 
@@ -186,52 +189,39 @@ module _ (laws : GlyphLaws) (marks : MarkLaws) (s : Scene) (base : ℕ) (sound :
   display-good : (origin : Origin) (under : Attributes) (text : Option TextValue) → IfSome text (λ t. IsString t) → AreRightWithin most_display_columns (display_elements s base origin under text)
   display-good origin under None is = good-nil most_display_columns
   display-good origin under (Some text) is =
-      parts-good false (display_part_elements s origin) SPACE_COLUMNS (λ x own. part-good x.kind x.face x.odd origin own) under text is
-
-  overlay-part-good : (origin : Origin) (k : PartKind) (face : Attributes) (odd : Bool) → IsFitKind k → AreRightWithin most_display_columns (overlay_part_by s base origin k face odd)
-  overlay-part-good origin k face odd fit =
-      overlay-part (AreRightWithin most_display_columns) s base origin k face odd (λ n. display-good origin face (slice_get s.objects.strings n) (string-at s.objects sound n))
-      (good-more SPACE_COLUMNS most_display_columns (kind_elements s k face odd origin) (omega arith) (part-good k face odd origin fit))
+      parts-good false (display_part_elements s origin) SPACE_COLUMNS (λ x own. part-good (λ t. []) SPACE_COLUMNS (omega arith) x origin (λ n. good-nil SPACE_COLUMNS) own) under text is
 
   overlay-good : (origin : Origin) (under : Attributes) (text : Option TextValue) → IfSome text (λ t. IsString t) → AreRightWithin most_overlay_columns (overlay_elements s base origin under text)
   overlay-good origin under None is = good-nil most_overlay_columns
   overlay-good origin under (Some text) is =
-      parts-good true (overlay_part_elements s base origin) most_display_columns (λ x own. overlay-part-good origin x.kind x.face x.odd own) under text is
+      parts-good true (overlay_part_elements s base origin) most_display_columns
+      (λ x own. part-good (display_elements s base origin x.face) most_display_columns (omega arith) x origin (λ n. display-good origin x.face (slice_get s.objects.strings n) (string-at s.objects sound n)) own)
+      under text is
 
   -- ---- items
-
-  in-line : (few : ℕ) (es : List Element) → few ≤ most_overlay_columns → AreRightWithin few es → AreRightWithin most_overlay_columns es
-  in-line few es room good = good-more few most_overlay_columns es room good
 
   string-good : (overlay : Bool) (origin : Origin) (face : Attributes) (n : ℕ) → AreRightWithin most_overlay_columns (text_elements s base overlay origin face (slice_get s.objects.strings n))
   string-good true origin face n = overlay-good origin face (slice_get s.objects.strings n) (string-at s.objects sound n)
   string-good false origin face n =
       let text = slice_get s.objects.strings n in
-      in-line most_display_columns (display_elements s base origin face text) (omega arith) (display-good origin face text (string-at s.objects sound n))
+      good-more most_display_columns most_overlay_columns (display_elements s base origin face text) (omega arith) (display-good origin face text (string-at s.objects sound n))
 
-  kind-good : (k : ItemKind) (overlay odd : Bool) (face : Attributes) (origin : Origin) → IsFitItem k → AreRightWithin most_overlay_columns (item_elements_by s base k overlay odd face origin)
-  kind-good (item.Char c) overlay odd face origin fit = in-line 48 (elements_of s.parts c odd face origin) (omega arith) (char-good laws s.parts parts c odd face origin fit)
-  kind-good (item.Marked g) overlay odd face origin fit = glyph-good most_overlay_columns g face origin fit (omega arith)
-  kind-good (item.Text n) overlay odd face origin fit = string-good overlay origin face n
-  kind-good (item.Space spec) overlay odd face origin fit = in-line SPACE_COLUMNS (space_elements spec face origin) (omega arith) (space-good spec face origin fit)
-  kind-good item.Ellipsis overlay odd face origin fit =
-      let glyphs = ellipsis_glyphs s.parts.table in
-      in-line 48 (glyph_elements face origin glyphs) (omega arith) (text-good laws face origin glyphs (ellipsis-fit s.parts.table parts.table))
-  kind-good item.Ender overlay odd face origin fit = good-one most_overlay_columns (element_of face origin look.LineEnd) refl tt (omega arith)
-
-  turn-good : (turn : Turn) (x : Option Item) → IfSome x (λ (i : Item). IsFitItem i.kind) → AreRightWithin most_overlay_columns (turn_elements s base turn x)
+  turn-good : (turn : Turn) (x : Option Item) → IfSome x (λ (i : Item). IsFitKind i.kind) → AreRightWithin most_overlay_columns (turn_elements s base turn x)
   turn-good turn None fit = good-nil most_overlay_columns
-  turn-good turn (Some x) fit = kind-good x.kind x.overlay turn.odd x.face (origin_of turn.index x) fit
+  turn-good turn (Some x) fit =
+      let origin = origin_of turn.index x in
+      kind-good look.LineEnd (text_elements s base x.overlay origin x.face) most_overlay_columns (omega arith) x.kind turn.odd x.face origin
+      (good-one most_overlay_columns (element_of x.face origin look.LineEnd) refl tt (omega arith)) (λ n. string-good x.overlay origin x.face n) fit
 
   -- a line of fit items
-  pub line-good : (items : List Item) → All (λ (i : Item). IsFitItem i.kind) items → AreRightWithin (length items * most_overlay_columns) (line_of_items s base items)
+  pub line-good : (items : List Item) → All (λ (i : Item). IsFitKind i.kind) items → AreRightWithin (length items * most_overlay_columns) (line_of_items s base items)
   line-good items fit =
       let turns = item_turns s base items in
       let reorder = s.parts.settings.reorder in
       let count : length turns ≡ length items = turns-count s.brackets reorder base (map item_class items) (map item_code items) ∙ length-map items item_class in
       good-more (length turns * most_overlay_columns) (length items * most_overlay_columns) (line_of_items s base items) (omega (arith, count))
       (good-each (item_elements s base items) (λ (t : Turn). Unit {0}) most_overlay_columns
-      (λ t own. turn-good t (slice_get items t.index) (found (λ (i : Item). IsFitItem i.kind) items t.index fit)) turns (each-any turns))
+      (λ t own. turn-good t (slice_get items t.index) (found (λ (i : Item). IsFitKind i.kind) items t.index fit)) turns (each-any turns))
 
   -- the line of what is read, where its items are measured and coded
   pub read-good : (es : List Seen) → AreMeasuredItems (items_of s es) → AreCodedItems (items_of s es) → AreRightWithin (length (items_of s es) * most_overlay_columns) (line_elements s base es)

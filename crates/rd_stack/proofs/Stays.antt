@@ -1,5 +1,5 @@
 -- Objects that are made later change no element of a line that names none of them.
-use Rattle.std.proofs.Common.{◌≡◌, ℕ, ◌<◌, Bool, true, false, if◌then◌else◌, List, [], ◌∷◌, ◌++◌, length, Option, None, Some, IfSome, refl, ap, ◌∙◌}
+use Rattle.std.proofs.Common.{◌≡◌, ℕ, ◌<◌, Bool, true, false, if◌then◌else◌, List, [], ◌∷◌, ◌++◌, length, Option, None, Some, IfSome, refl, ap, ◌∙◌, subst}
 use Rattle.std.specs.Prelude.{slice_get, option_map, unwrap_or}
 use Rattle.std.specs.List.{flat_map, AllByRecursion}
 use Rattle.rd_base.proofs.Choices.{if-value}
@@ -7,13 +7,14 @@ use Rattle.rd_base.specs.Faces.{Attributes, plain}
 use Rattle.rd_base.specs.Settings.{SettingValues}
 use Rattle.rd_base.specs.declared.cell.Glyph.{Glyph}
 use Rattle.rd_base.specs.declared.element.Element.{Element}
+use Rattle.rd_base.specs.declared.element.Look.{Look}
+use Rattle.rd_base.specs.declared.element.Look.TheVariants as look
 use Rattle.rd_base.specs.declared.element.Origin.{Origin}
 use Rattle.rd_objects.specs.declared.run.Spec.{Spec}
 use Rattle.rd_objects.specs.declared.run.Spec.TheVariants.{Text, Width, Align}
 use Rattle.rd_objects.specs.Sound.{IsClosed}
 use Rattle.rd_objects.specs.Tables.{TableValue}
 use Rattle.rd_objects.specs.Texts.{TextValue, spec_of}
-use Rattle.rd_objects.specs.Things.{ObjectLists}
 use Rattle.rd_objects.proofs.Soundness.{same_strings, same_specs, named_specs, named_strings}
 use Rattle.rd_glyphs.specs.Characters.{entry_of, elements_by, elements_of}
 use Rattle.rd_glyphs.proofs.Joined.{Grows}
@@ -25,12 +26,10 @@ use Rattle.rd_items.specs.declared.item.Item.{Item}
 use Rattle.rd_items.specs.declared.item.ItemKind.{ItemKind}
 use Rattle.rd_items.specs.declared.item.ItemKind.TheVariants as item
 use Rattle.rd_levels.specs.declared.turn.Turn.{Turn}
-use Rattle.rd_stack.specs.Lines.{text_elements, item_elements_by, turn_elements, item_elements, item_turns, line_of_items, line_elements, origin_of}
-use Rattle.rd_stack.specs.Shown.{kind_elements, display_part_elements, display_elements, overlay_part_by, overlay_part_elements, overlay_elements, before_row_end, outside, prefix}
-use Rattle.rd_stack.specs.Strings.{places_from, run_heads, ends_row, part_by, part_of, part_joins, row, row_end, rows_from, string_parts}
+use Rattle.rd_stack.specs.Lines.{text_elements, turn_elements, item_elements, item_turns, line_of_items, line_elements, origin_of}
+use Rattle.rd_stack.specs.Shown.{kind_elements, display_part_elements, display_elements, overlay_part_elements, overlay_elements, before_row_end, outside, prefix}
+use Rattle.rd_stack.specs.Strings.{places_from, run_heads, ends_row, spec_kind, part_by, part_of, part_joins, row, row_end, rows_from, string_parts}
 use Rattle.rd_stack.specs.declared.part.Part.{Part}
-use Rattle.rd_stack.specs.declared.part.PartKind.{PartKind}
-use Rattle.rd_stack.specs.declared.part.PartKind.TheVariants as kind
 use Rattle.rd_stack.specs.declared.part.Place.{Place}
 use Rattle.rd_stack.specs.declared.part.Shown.{Shown}
 use Rattle.rd_stack.proofs.EachPart.{places-each, string-each}
@@ -50,19 +49,14 @@ flat-each {X} f g xs same = flat-same (λ (x : X). Unit {0}) f g xs (λ x any. s
 
 -- ---- what the parts of strings name
 
--- the string that a part shows was made
-abbrev PartMade : ObjectLists → PartKind → Type 0
-PartMade o (kind.Replaced (Text number)) = number < length o.strings
-PartMade o k = Unit {0}
-
 module _ (s : Scene) (closed : IsClosed s.objects) where
   abbrev IsFine : Part → Type 0
-  IsFine x = PartMade s.objects x.kind
+  IsFine x = ShowsMade s.objects x.kind
 
   abbrev IsFineShown : Shown → Type 0
-  IsFineShown x = PartMade s.objects x.kind
+  IsFineShown x = ShowsMade s.objects x.kind
 
-  spec-fine : (n : ℕ) (found : Option Spec) → slice_get s.objects.specs n ≡ found → PartMade s.objects (kind.Replaced (unwrap_or found (Width 0)))
+  spec-fine : (n : ℕ) (found : Option Spec) → slice_get s.objects.specs n ≡ found → ShowsMade s.objects (spec_kind (unwrap_or found (Width 0)))
   spec-fine n None e = tt
   spec-fine n (Some (Text m)) e = named_strings s.objects n m closed e
   spec-fine n (Some (Width m)) e = tt
@@ -99,11 +93,15 @@ module _ (old new : Scene) (goes : GoesOnFrom old new) (closed : IsClosed old.ob
   same-elements c odd face origin =
       ap (λ (t : Option TableValue). elements_by (entry_of t c) new.parts c odd face origin) goes.table ∙ elements-by (entry_of old.parts.table c) c odd face origin
 
-  same-kind : (k : PartKind) (face : Attributes) (odd : Bool) (origin : Origin) → kind_elements new k face odd origin ≡ kind_elements old k face odd origin
-  same-kind (kind.Char c) face odd origin = same-elements c odd face origin
-  same-kind (kind.Marked g) face odd origin = refl
-  same-kind (kind.Replaced spec) face odd origin = refl
-  same-kind kind.RowEnd face odd origin = refl
+  -- what is shown stays, where a string that it shows does
+  same-kind : (end : Look) (f g : Option TextValue → List Element) (k : ItemKind) (odd : Bool) (face : Attributes) (origin : Origin)
+      → ((n : ℕ) → k ≡ item.Text n → f (slice_get new.objects.strings n) ≡ g (slice_get old.objects.strings n)) → kind_elements end f new k odd face origin ≡ kind_elements end g old k odd face origin
+  same-kind end f g (item.Char c) odd face origin string = same-elements c odd face origin
+  same-kind end f g (item.Marked glyph) odd face origin string = refl
+  same-kind end f g (item.Text n) odd face origin string = string n refl
+  same-kind end f g (item.Space spec) odd face origin string = refl
+  same-kind end f g item.Ellipsis odd face origin string = rw goes.table
+  same-kind end f g item.Ender odd face origin string = refl
 
   -- ---- the parts of strings
 
@@ -150,7 +148,7 @@ module _ (old new : Scene) (goes : GoesOnFrom old new) (closed : IsClosed old.ob
     text-display : (base : ℕ) (origin : Origin) (under : Attributes) → display_elements new base origin under (Some text) ≡ display_elements old base origin under (Some text)
     text-display base origin under =
         ap (λ (xs : List Shown). flat_map (display_part_elements new origin) xs) (same-string base false under)
-        ∙ flat-each (display_part_elements new origin) (display_part_elements old origin) (string_parts old base false text under) (λ x. same-kind x.kind x.face x.odd origin)
+        ∙ flat-each (display_part_elements new origin) (display_part_elements old origin) (string_parts old base false text under) (λ x. same-kind look.RowEnd (λ t. []) (λ t. []) x.kind x.odd x.face origin (λ n is. refl))
 
   -- what the string of a number gives, where what it gives if it was made stays
   found-stays : (f g : Option TextValue → List Element) (found : Option TextValue) → f None ≡ g None → ((text : TextValue) → found ≡ Some text → f (Some text) ≡ g (Some text))
@@ -169,21 +167,14 @@ module _ (old new : Scene) (goes : GoesOnFrom old new) (closed : IsClosed old.ob
   same-display number base origin under made =
       string-stays (display_elements new base origin under) (display_elements old base origin under) number made refl (λ text found. text-display number text found base origin under)
 
-  same-overlay-part : (base : ℕ) (origin : Origin) (k : PartKind) (face : Attributes) (odd : Bool) → PartMade old.objects k → overlay_part_by new base origin k face odd ≡ overlay_part_by old base origin k face odd
-  same-overlay-part base origin (kind.Char c) face odd made = same-elements c odd face origin
-  same-overlay-part base origin (kind.Marked g) face odd made = refl
-  same-overlay-part base origin (kind.Replaced (Text n)) face odd made = same-display n base origin face made
-  same-overlay-part base origin (kind.Replaced (Width n)) face odd made = refl
-  same-overlay-part base origin (kind.Replaced (Align n)) face odd made = refl
-  same-overlay-part base origin kind.RowEnd face odd made = refl
-
   same-overlay : (number base : ℕ) (origin : Origin) (under : Attributes) → number < length old.objects.strings
       → overlay_elements new base origin under (slice_get new.objects.strings number) ≡ overlay_elements old base origin under (slice_get old.objects.strings number)
   same-overlay number base origin under made =
       string-stays (overlay_elements new base origin under) (overlay_elements old base origin under) number made refl (λ text found.
       ap (λ (xs : List Shown). flat_map (overlay_part_elements new base origin) xs) (same-string number text found base true under)
       ∙ flat-same (IsFineShown old closed) (overlay_part_elements new base origin) (overlay_part_elements old base origin) (string_parts old base true text under)
-      (λ x made. same-overlay-part base origin x.kind x.face x.odd made)
+      (λ x made. same-kind look.RowEnd (display_elements new base origin x.face) (display_elements old base origin x.face) x.kind x.odd x.face origin
+      (λ n is. same-display n base origin x.face (subst (ShowsMade old.objects) is made)))
       (string-fine old closed base true text under))
 
   -- ---- the items of a line
@@ -193,17 +184,12 @@ module _ (old new : Scene) (goes : GoesOnFrom old new) (closed : IsClosed old.ob
   same-text true number base origin face made = same-overlay number base origin face made
   same-text false number base origin face made = same-display number base origin face made
 
-  same-item-by : (base : ℕ) (k : ItemKind) (overlay odd : Bool) (face : Attributes) (origin : Origin) → ShowsMade old.objects k → item_elements_by new base k overlay odd face origin ≡ item_elements_by old base k overlay odd face origin
-  same-item-by base (item.Char c) overlay odd face origin made = same-elements c odd face origin
-  same-item-by base (item.Marked g) overlay odd face origin made = refl
-  same-item-by base (item.Text n) overlay odd face origin made = same-text overlay n base origin face made
-  same-item-by base (item.Space spec) overlay odd face origin made = refl
-  same-item-by base item.Ellipsis overlay odd face origin made = rw goes.table
-  same-item-by base item.Ender overlay odd face origin made = refl
-
   same-item : (base : ℕ) (turn : Turn) (found : Option Item) → IfSome found (λ i. ShowsMade old.objects i.kind) → turn_elements new base turn found ≡ turn_elements old base turn found
   same-item base turn None made = refl
-  same-item base turn (Some i) made = same-item-by base i.kind i.overlay turn.odd i.face (origin_of turn.index i) made
+  same-item base turn (Some i) made =
+      let origin = origin_of turn.index i in
+      same-kind look.LineEnd (text_elements new base i.overlay origin i.face) (text_elements old base i.overlay origin i.face) i.kind turn.odd i.face origin
+      (λ n is. same-text i.overlay n base origin i.face (subst (ShowsMade old.objects) is made))
 
   same-turns : (base : ℕ) (items : List Item) → item_turns new base items ≡ item_turns old base items
   same-turns base items = rw (goes.brackets, reorder)

@@ -1,31 +1,22 @@
 -- The elements of a line.
-use Rattle.std.specs.Prelude.{ℕ, Bool, if◌then◌else◌, List, [], ◌∷◌, map, replicate, slice_get, Option, None, Some, unwrap_or, All, IsTrue}
+use Rattle.std.specs.Prelude.{ℕ, Bool, if◌then◌else◌, List, [], map, slice_get, Option, None, Some, All, IsTrue}
 use Rattle.std.specs.List.{flat_map}
 use Rattle.rd_base.specs.Faces.{Attributes}
-use Rattle.rd_base.specs.Cells.{single}
 use Rattle.rd_base.specs.Chars.{is_code}
 use Rattle.rd_base.specs.declared.class.Class.{Class}
-use Rattle.rd_base.specs.declared.cell.Glyph.{Glyph}
 use Rattle.rd_base.specs.declared.element.Element.{Element}
 use Rattle.rd_base.specs.declared.element.Look.TheVariants as look
 use Rattle.rd_base.specs.declared.element.Origin.{Origin}
-use Rattle.rd_objects.specs.Tables.{TableValue}
 use Rattle.rd_objects.specs.Texts.{TextValue}
-use Rattle.rd_glyphs.specs.Characters.{element_of, elements_of, glyph_elements}
 use Rattle.rd_props.specs.Seen.{Seen}
 use Rattle.rd_items.specs.Pieces.{Scene}
 use Rattle.rd_items.specs.Items.{items_of, bracket_code}
 use Rattle.rd_items.specs.declared.item.Item.{Item}
 use Rattle.rd_items.specs.declared.item.ItemKind.{ItemKind}
 use Rattle.rd_items.specs.declared.item.ItemKind.TheVariants as kind
-use Rattle.rd_stack.specs.Shown.{space_elements, display_elements, overlay_elements}
+use Rattle.rd_stack.specs.Shown.{kind_elements, display_elements, overlay_elements}
 use Rattle.rd_levels.specs.Turns.{turns_of}
 use Rattle.rd_levels.specs.declared.turn.Turn.{Turn}
-
--- the glyphs of an ellipsis: those of the table, and three dots where it has none
-abbrev pub ellipsis_glyphs : Option TableValue → List Glyph
-ellipsis_glyphs None = replicate 3 (single 46 1)
-ellipsis_glyphs (Some table) = unwrap_or table.ellipsis (replicate 3 (single 46 1))
 
 -- the elements of a string: an overlay's, or a display string's
 abbrev pub text_elements : Scene → ℕ → Bool → Origin → Attributes → Option TextValue → List Element
@@ -35,12 +26,7 @@ text_elements s base overlay origin face text =
 -- the elements of what an item shows, in this face, at an odd level or not; for a string a flag says whether it is an
 -- overlay's
 abbrev pub item_elements_by : Scene → ℕ → ItemKind → Bool → Bool → Attributes → Origin → List Element
-item_elements_by s base (kind.Char c) overlay odd face origin = elements_of s.parts c odd face origin
-item_elements_by s base (kind.Marked g) overlay odd face origin = element_of face origin (look.Glyph g) ∷ []
-item_elements_by s base (kind.Text n) overlay odd face origin = text_elements s base overlay origin face (slice_get s.objects.strings n)
-item_elements_by s base (kind.Space spec) overlay odd face origin = space_elements spec face origin
-item_elements_by s base kind.Ellipsis overlay odd face origin = glyph_elements face origin (ellipsis_glyphs s.parts.table)
-item_elements_by s base kind.Ender overlay odd face origin = element_of face origin look.LineEnd ∷ []
+item_elements_by s base k overlay odd face origin = kind_elements look.LineEnd (text_elements s base overlay origin face) s k odd face origin
 
 -- an item's number, and the offsets of its range from the block's start
 abbrev pub origin_of : ℕ → Item → Origin

@@ -1,8 +1,9 @@
 -- The elements of strings.
-use Rattle.std.specs.Prelude.{ℕ, if◌then◌else◌, Bool, true, false, List, [], ◌∷◌, slice_get, Option, None, Some, ◌≡◌, All}
+use Rattle.std.specs.Prelude.{ℕ, if◌then◌else◌, Bool, true, false, List, [], ◌∷◌, replicate, slice_get, Option, None, Some, unwrap_or, ◌≡◌, All}
 use Rattle.std.specs.List.{flat_map}
-use Rattle.rd_base.specs.Cells.{HasColours}
+use Rattle.rd_base.specs.Cells.{HasColours, single}
 use Rattle.rd_base.specs.Faces.{Attributes, plain}
+use Rattle.rd_base.specs.declared.cell.Glyph.{Glyph}
 use Rattle.rd_base.specs.declared.element.Element.{Element}
 use Rattle.rd_base.specs.declared.element.Extent.TheVariants.{Fixed, Column}
 use Rattle.rd_base.specs.declared.element.Look.{Look}
@@ -10,15 +11,16 @@ use Rattle.rd_base.specs.declared.element.Look.TheVariants as look
 use Rattle.rd_base.specs.declared.element.Origin.{Origin}
 use Rattle.rd_base.specs.Elements.{is_line_end, IsSound}
 use Rattle.rd_base.specs.Glyphs.{IsMeasuredLook}
+use Rattle.rd_objects.specs.Tables.{TableValue}
 use Rattle.rd_objects.specs.Texts.{TextValue}
 use Rattle.rd_objects.specs.declared.run.Spec.{Spec}
 use Rattle.rd_objects.specs.declared.run.Spec.TheVariants.{Text, Width, Align}
-use Rattle.rd_glyphs.specs.Characters.{element_of, elements_of}
+use Rattle.rd_glyphs.specs.Characters.{element_of, elements_of, glyph_elements}
 use Rattle.rd_items.specs.Pieces.{Scene}
+use Rattle.rd_items.specs.declared.item.ItemKind.{ItemKind}
+use Rattle.rd_items.specs.declared.item.ItemKind.TheVariants as kind
 use Rattle.rd_stack.specs.Strings.{string_parts}
 use Rattle.rd_stack.specs.declared.part.Shown.{Shown}
-use Rattle.rd_stack.specs.declared.part.PartKind.{PartKind}
-use Rattle.rd_stack.specs.declared.part.PartKind.TheVariants as kind
 
 -- the space of a spec: blanks in so many columns, or up to a column
 abbrev pub space_elements : Spec → Attributes → Origin → List Element
@@ -26,15 +28,23 @@ space_elements (Width n) face origin = record { extent = Fixed n; look = look.Bl
 space_elements (Align n) face origin = record { extent = Column n; look = look.Blank; face = face; origin = origin } ∷ []
 space_elements (Text n) face origin = []
 
--- the elements of a part that shows no other string
-abbrev pub kind_elements : Scene → PartKind → Attributes → Bool → Origin → List Element
-kind_elements s (kind.Char c) face odd origin = elements_of s.parts c odd face origin
-kind_elements s (kind.Marked g) face odd origin = element_of face origin (look.Glyph g) ∷ []
-kind_elements s (kind.Replaced spec) face odd origin = space_elements spec face origin
-kind_elements s kind.RowEnd face odd origin = element_of face origin look.RowEnd ∷ []
+-- the glyphs of an ellipsis: those of the table, and three dots where it has none
+abbrev pub ellipsis_glyphs : Option TableValue → List Glyph
+ellipsis_glyphs None = replicate 3 (single 46 1)
+ellipsis_glyphs (Some table) = unwrap_or table.ellipsis (replicate 3 (single 46 1))
 
+-- the elements of what an item or a part of a string shows, by the look of an ender and by the elements of strings
+abbrev pub kind_elements : Look → (Option TextValue → List Element) → Scene → ItemKind → Bool → Attributes → Origin → List Element
+kind_elements end string s (kind.Char c) odd face origin = elements_of s.parts c odd face origin
+kind_elements end string s (kind.Marked g) odd face origin = element_of face origin (look.Glyph g) ∷ []
+kind_elements end string s (kind.Text n) odd face origin = string (slice_get s.objects.strings n)
+kind_elements end string s (kind.Space spec) odd face origin = space_elements spec face origin
+kind_elements end string s kind.Ellipsis odd face origin = glyph_elements face origin (ellipsis_glyphs s.parts.table)
+kind_elements end string s kind.Ender odd face origin = element_of face origin end ∷ []
+
+-- the elements of a part of a display string, which shows no other string
 abbrev pub display_part_elements : Scene → Origin → Shown → List Element
-display_part_elements s origin x = kind_elements s x.kind x.face x.odd origin
+display_part_elements s origin x = kind_elements look.RowEnd (λ text. []) s x.kind x.odd x.face origin
 
 -- the elements of a display string that stands over a face, in a line of this base: its own display runs are not used. A number
 -- that names no string stands for the empty one
@@ -43,12 +53,8 @@ display_elements s base origin under None = []
 display_elements s base origin under (Some text) = flat_map (display_part_elements s origin) (string_parts s base false text under)
 
 -- the elements of a part of an overlay's string: where a display run names a string, those of that display string
-abbrev pub overlay_part_by : Scene → ℕ → Origin → PartKind → Attributes → Bool → List Element
-overlay_part_by s base origin (kind.Replaced (Text n)) face odd = display_elements s base origin face (slice_get s.objects.strings n)
-overlay_part_by s base origin kind face odd = kind_elements s kind face odd origin
-
 abbrev pub overlay_part_elements : Scene → ℕ → Origin → Shown → List Element
-overlay_part_elements s base origin x = overlay_part_by s base origin x.kind x.face x.odd
+overlay_part_elements s base origin x = kind_elements look.RowEnd (display_elements s base origin x.face) s x.kind x.odd x.face origin
 
 -- the elements of an overlay's string that stands over a face: its own display runs are used
 abbrev pub overlay_elements : Scene → ℕ → Origin → Attributes → Option TextValue → List Element

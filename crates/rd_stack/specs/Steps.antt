@@ -4,39 +4,38 @@ use Rattle.std.specs.Prelude.{ℕ, Bool, true, false, List, [], ◌∷◌, ◌++
 use Rattle.std.specs.List.{flat_map}
 use Rattle.rd_base.specs.Faces.{Attributes}
 use Rattle.rd_base.specs.declared.element.Element.{Element}
+use Rattle.rd_base.specs.declared.element.Look.{Look}
+use Rattle.rd_base.specs.declared.element.Look.TheVariants as look
 use Rattle.rd_base.specs.declared.element.Origin.{Origin}
 use Rattle.rd_objects.specs.Texts.{TextValue}
-use Rattle.rd_objects.specs.declared.run.Spec.TheVariants.{Text}
 use Rattle.rd_items.specs.Pieces.{Scene}
 use Rattle.rd_items.specs.declared.item.Item.{Item}
 use Rattle.rd_items.specs.declared.item.ItemKind.{ItemKind}
-use Rattle.rd_items.specs.declared.item.ItemKind.TheVariants as item
+use Rattle.rd_items.specs.declared.item.ItemKind.TheVariants as kind
 use Rattle.rd_levels.specs.declared.turn.Turn.{Turn}
 use Rattle.rd_stack.specs.Strings.{shown_at, behind_row, string_parts}
 use Rattle.rd_stack.specs.Shown.{kind_elements}
-use Rattle.rd_stack.specs.Lines.{item_elements_by, origin_of}
+use Rattle.rd_stack.specs.Lines.{origin_of}
 use Rattle.rd_stack.specs.declared.part.Part.{Part}
 use Rattle.rd_stack.specs.declared.part.Shown.{Shown}
-use Rattle.rd_stack.specs.declared.part.PartKind.{PartKind}
-use Rattle.rd_stack.specs.declared.part.PartKind.TheVariants as kind
 
--- the steps of a part that shows no other string
+-- the steps of what an item or a part of a string shows, by the look of an ender and by the steps of strings: a string is entered
+abbrev pub kind_steps : Look → (Option TextValue → List (List Element)) → Scene → ItemKind → Bool → Attributes → Origin → List (List Element)
+kind_steps end string s (kind.Text n) odd face origin = [] ∷ string (slice_get s.objects.strings n)
+kind_steps end string s k odd face origin = kind_elements end (λ text. []) s k odd face origin ∷ []
+
+-- the steps of a part of a display string
 abbrev pub display_part_steps : Scene → Origin → Shown → List (List Element)
-display_part_steps s origin x = kind_elements s x.kind x.face x.odd origin ∷ []
+display_part_steps s origin x = kind_steps look.RowEnd (λ text. []) s x.kind x.odd x.face origin
 
 -- the steps of a display string, where there is one
 abbrev pub display_steps : Scene → ℕ → Origin → Attributes → Option TextValue → List (List Element)
 display_steps s base origin under None = []
 display_steps s base origin under (Some text) = flat_map (display_part_steps s origin) (string_parts s base false text under)
 
--- the steps of a part of a string whose display runs are used: where a run names a string, that string is entered
-abbrev pub overlay_part_steps : Scene → ℕ → Origin → PartKind → Attributes → Bool → List (List Element)
-overlay_part_steps s base origin (kind.Replaced (Text n)) face odd = [] ∷ display_steps s base origin face (slice_get s.objects.strings n)
-overlay_part_steps s base origin kind face odd = kind_elements s kind face odd origin ∷ []
-
 -- the steps of a part of a string whose display runs are used or not
 abbrev pub part_steps : Scene → ℕ → Bool → Origin → Shown → List (List Element)
-part_steps s base true origin x = overlay_part_steps s base origin x.kind x.face x.odd
+part_steps s base true origin x = kind_steps look.RowEnd (display_steps s base origin x.face) s x.kind x.odd x.face origin
 part_steps s base false origin x = display_part_steps s origin x
 
 abbrev pub text_steps : Scene → ℕ → Bool → Origin → Attributes → Option TextValue → List (List Element)
@@ -48,10 +47,8 @@ abbrev pub string_left : Scene → ℕ → Bool → Origin → Attributes → Te
 string_left s base replaced origin under text parts turns i =
     flat_map (part_steps s base replaced origin) (flat_map (shown_at parts) turns ++ behind_row s base replaced text under i)
 
--- the steps of what an item shows: a string is entered
 abbrev pub item_steps_by : Scene → ℕ → ItemKind → Bool → Bool → Attributes → Origin → List (List Element)
-item_steps_by s base (item.Text n) overlay odd face origin = [] ∷ text_steps s base overlay origin face (slice_get s.objects.strings n)
-item_steps_by s base kind overlay odd face origin = item_elements_by s base kind overlay odd face origin ∷ []
+item_steps_by s base k overlay odd face origin = kind_steps look.LineEnd (text_steps s base overlay origin face) s k odd face origin
 
 abbrev pub steps_of : Scene → ℕ → Turn → Option Item → List (List Element)
 steps_of s base turn None = []

@@ -13,14 +13,14 @@ use Rattle.rd_glyphs.specs.MarkRoles.{mark_role_of, base_of, mark_of}
 use Rattle.rd_glyphs.specs.Marks.{Joins, marks_joined}
 use Rattle.rd_glyphs.specs.declared.mark_role.MarkRole.TheVariants as role
 use Rattle.rd_items.specs.Pieces.{Scene, spec_in, inner_class, same_spec}
-use Rattle.rd_items.specs.Items.{unlisted}
+use Rattle.rd_items.specs.Items.{bracket_code}
+use Rattle.rd_items.specs.declared.item.ItemKind.{ItemKind}
+use Rattle.rd_items.specs.declared.item.ItemKind.TheVariants as kind
 use Rattle.rd_levels.specs.Turns.{turns_of}
 use Rattle.rd_levels.specs.declared.turn.Turn.{Turn}
 use Rattle.rd_stack.specs.declared.part.Place.{Place}
 use Rattle.rd_stack.specs.declared.part.Part.{Part}
 use Rattle.rd_stack.specs.declared.part.Shown.{Shown}
-use Rattle.rd_stack.specs.declared.part.PartKind.{PartKind}
-use Rattle.rd_stack.specs.declared.part.PartKind.TheVariants as kind
 
 -- a place of a string over a face: its own run's face over that one, and the display spec that replaces it where the string's
 -- display runs are used
@@ -50,8 +50,12 @@ abbrev pub spec_class : Spec → Class
 spec_class (Text n) = ON
 spec_class space = S
 
+abbrev pub spec_kind : Spec → ItemKind
+spec_kind (Text n) = kind.Text n
+spec_kind space = kind.Space space
+
 abbrev pub part_by : Scene → Option Spec → Place → Part
-part_by s (Some spec) p = record { class = spec_class spec; kind = kind.Replaced spec; face = p.face; role = role.Alone }
+part_by s (Some spec) p = record { class = spec_class spec; kind = spec_kind spec; face = p.face; role = role.Alone }
 part_by s None p = record {
   class = inner_class (class_of s.parts.classes p.ch);
   kind = kind.Char p.ch;
@@ -81,14 +85,8 @@ shown_at xs turn = shown_by turn.odd (slice_get xs turn.index)
 abbrev pub part_class : Part → Class
 part_class x = x.class
 
--- the code by which a part may be a bracket: a character's own, with marks its base, and no other has one
-abbrev pub kind_code : PartKind → ℕ
-kind_code (kind.Char c) = c
-kind_code (kind.Marked g) = g.base
-kind_code kind = unlisted
-
 abbrev pub part_code : Part → ℕ
-part_code x = kind_code x.kind
+part_code x = bracket_code x.kind
 
 -- parts in visual order, in a line of this base
 abbrev pub in_order : Scene → ℕ → List Part → List Shown
@@ -99,8 +97,9 @@ in_order s base xs =
 abbrev pub row : Scene → ℕ → List Part → List Shown
 row s base xs = in_order s base (marks_joined part_joins xs)
 
+-- the newline that ends a row of a string, as an ender
 abbrev pub row_end : Attributes → Shown
-row_end face = record { kind = kind.RowEnd; face = face; odd = false }
+row_end face = record { kind = kind.Ender; face = face; odd = false }
 
 -- the rows of a string that are left, where these parts of the first of them were read: each newline ends one
 abbrev pub rows_from : Scene → ℕ → List Part → List Place → List Shown

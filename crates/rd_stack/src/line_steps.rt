@@ -1,20 +1,19 @@
 //! The steps of the items of a block.
-ghost use Rattle.std.specs.Prelude.{◌≡◌, ◌≤◌, [], IfOk, OnOk};
+ghost use Rattle.std.specs.Prelude.{◌≡◌, ◌≤◌, [], IfOk};
 ghost use Rattle.rd_items.specs.Pieces.{scene_of};
-ghost use Rattle.rd_glyphs.specs.Characters.{glyph_elements};
-ghost use Rattle.rd_stack.specs.Lines.{ellipsis_glyphs, origin_of};
+ghost use Rattle.rd_stack.specs.Lines.{origin_of};
 ghost use Rattle.rd_stack.specs.Steps.{item_steps_by};
 ghost use Rattle.rd_stack.specs.Walks.{IsStep};
 
 use crate::entrance::Entrance;
 use crate::few::Few;
 use crate::line::LineFrame;
-use crate::showing::{char_step, space_step};
+use crate::part::Shown;
+use crate::showing::kind_step;
 use crate::step::Step;
 use crate::string::Surroundings;
-use rd_base::{Face, Glyph, Look, Memory, Origin};
-use rd_glyphs::element_of;
-use rd_items::{Item, ItemKind, parts_of};
+use rd_base::{Look, Memory, Origin};
+use rd_items::{Item, ItemKind};
 use rd_props::View;
 use std::alloc::Global;
 
@@ -62,7 +61,6 @@ fn step_of<'a>(
     requires few { few.old ≡ [] }
     ensures { IfOk result (λ step. IsStep step few.new (item_steps_by (scene_of view.now) base item.now.kind item.now.overlay odd item.now.face origin) []) }
 {
-    let face = item.face;
     match item.kind {
         ItemKind::Text(number) => Ok(Step::Enters(Entrance {
             around: Surroundings {
@@ -70,36 +68,17 @@ fn step_of<'a>(
                 base,
                 replaced: item.overlay,
                 origin,
-                under: face,
+                under: item.face,
             },
             number,
         })),
-        ItemKind::Char(ch) => char_step(alloc, view, ch, odd, face, origin, few),
-        ItemKind::Marked(glyph) => Ok(Step::Gives(element_of(Look::Glyph(glyph), face, origin))),
-        ItemKind::Space(spec) => Ok(space_step(spec, face, origin)),
-        ItemKind::Ellipsis => {
-            put_ellipsis(alloc, view, face, origin, few)?;
-            Ok(Step::Lists)
-        }
-        ItemKind::Ender => Ok(Step::Gives(element_of(Look::LineEnd, face, origin))),
-    }
-}
-
-/// Lists the glyphs of an ellipsis: those of the table, and three dots where it has none.
-fn put_ellipsis(
-    alloc: Global,
-    view: &View,
-    face: Face,
-    origin: Origin,
-    few: &mut Few,
-) -> Result<(), Memory>
-    ensures { OnOk result (few.new ≡ glyph_elements face origin (ellipsis_glyphs (scene_of view.now).parts.table)) }
-{
-    let parts = parts_of(view);
-    if let Some(table) = parts.table {
-        if let Some(text) = table.ellipsis() {
-            return few.put_glyphs(alloc, text, face, origin);
+        _ => {
+            let shown = Shown {
+                kind: item.kind,
+                face: item.face,
+                odd,
+            };
+            kind_step(alloc, view, Look::LineEnd, &shown, origin, few)
         }
     }
-    few.put_glyphs(alloc, &[Glyph::single('.' as u32, 1); 3], face, origin)
 }

@@ -4,9 +4,10 @@ ghost use Rattle.rd_glyphs.specs.Marks.{marked, marks_joined, with_held};
 ghost use Rattle.rd_stack.specs.Strings.{part_joins};
 ghost use Rattle.rd_stack.specs.declared.part.Part.{Part};
 
-use crate::part::{Part, PartKind};
+use crate::part::Part;
 use rd_base::{ListOf, Memory};
 use rd_glyphs::{MarkRole, marked_glyph};
+use rd_items::ItemKind;
 use std::alloc::Global;
 
 /// Parts in which each mark has joined the part directly before it, where it may.
@@ -43,7 +44,7 @@ fn marked(held: &Part, next: &Part) -> Option<Part>
 {
     match marked_glyph(held.role.base(), next.role.mark()) {
         Some(glyph) => Some(Part {
-            kind: PartKind::Marked(glyph),
+            kind: ItemKind::Marked(glyph),
             role: MarkRole::Base(glyph),
             class: held.class,
             face: held.face,

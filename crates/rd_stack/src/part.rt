@@ -1,11 +1,11 @@
 //! What strings are made of.
 ghost use Rattle.std.specs.Prelude.{◌≡◌, ◌<◌, length};
 ghost use Rattle.rd_items.specs.Pieces.{scene_of};
-ghost use Rattle.rd_stack.specs.Strings.{place_of, ends_row, spec_class, part_of, kind_code};
+ghost use Rattle.rd_stack.specs.Strings.{place_of, ends_row, spec_class, spec_kind, part_of};
 
-use rd_base::{Ch, Class, Face, Glyph};
+use rd_base::{Ch, Class, Face};
 use rd_glyphs::MarkRole;
-use rd_items::{UNLISTED, inner_class, parts_of, spec_in};
+use rd_items::{ItemKind, inner_class, parts_of, spec_in};
 use rd_objects::{Spec, Text};
 use rd_props::View;
 
@@ -17,33 +17,21 @@ pub struct Place {
     pub spec: Option<u32>,
 }
 
-/// What a part of a string shows.
-#[derive(Clone, Copy, Debug, PartialEq, Eq)]
-pub enum PartKind {
-    /// A character that no mark has joined.
-    Char(Ch),
-    /// A character with the marks that joined it, or a mark on a blank with others.
-    Marked(Glyph),
-    /// What a display spec puts for the places of its run.
-    Replaced(Spec),
-    /// The end of a row, where a newline stands.
-    RowEnd,
-}
-
-/// A part of a row of a string, before the row is put in order.
+/// A part of a row of a string, before the row is put in order. It shows what an item can: a character, or what a display spec puts
+/// for the places of its run.
 #[derive(Clone, Copy, Debug, PartialEq, Eq)]
 pub struct Part {
     pub class: Class,
-    pub kind: PartKind,
+    pub kind: ItemKind,
     pub face: Face,
     /// How it stands towards the marks behind it.
     pub role: MarkRole,
 }
 
-/// A part in its turn, at an odd embedding level or not.
+/// A part in its turn, at an odd embedding level or not; or an ender, which stands for the newline that ends a row.
 #[derive(Clone, Copy, Debug, PartialEq, Eq)]
 pub struct Shown {
-    pub kind: PartKind,
+    pub kind: ItemKind,
     pub face: Face,
     pub odd: bool,
 }
@@ -77,6 +65,16 @@ fn spec_class(spec: Spec) -> Class
     }
 }
 
+/// What a spec puts: its string, or its space.
+fn spec_kind(spec: Spec) -> ItemKind
+    ensures { result ≡ spec_kind spec }
+{
+    match spec {
+        Spec::Text(number) => ItemKind::Text(number),
+        Spec::Width(_) | Spec::Align(_) => ItemKind::Space(spec),
+    }
+}
+
 /// The part of a place.
 pub fn part_of(view: &View, place: &Place) -> Part
     ensures { result ≡ part_of (scene_of view.now) place.now }
@@ -85,7 +83,7 @@ pub fn part_of(view: &View, place: &Place) -> Part
         let spec = spec_in(view.objects, number);
         return Part {
             class: spec_class(spec),
-            kind: PartKind::Replaced(spec),
+            kind: spec_kind(spec),
             face: place.face,
             role: MarkRole::Alone,
         };
@@ -93,20 +91,8 @@ pub fn part_of(view: &View, place: &Place) -> Part
     let parts = parts_of(view);
     Part {
         class: inner_class(parts.classes.class(place.ch)),
-        kind: PartKind::Char(place.ch),
+        kind: ItemKind::Char(place.ch),
         face: place.face,
         role: parts.mark_role(place.ch),
-    }
-}
-
-/// The code by which a part may be a bracket: that of its character, or of the base of its marks; and `UNLISTED` where it shows no
-/// character.
-pub fn kind_code(kind: PartKind) -> u32
-    ensures { result ≡ kind_code kind }
-{
-    match kind {
-        PartKind::Char(ch) => ch.code(),
-        PartKind::Marked(glyph) => glyph.base,
-        _ => UNLISTED,
     }
 }

@@ -6,7 +6,7 @@ ghost use Rattle.rd_stack.specs.Strings.{ends_row, part_class, part_code, run_he
 ghost use Rattle.rd_stack.specs.declared.part.Place.{Place};
 
 use crate::order::order_of;
-use crate::part::{Part, Place, ends_row, kind_code, part_of, place_of};
+use crate::part::{Part, Place, ends_row, part_of, place_of};
 use rd_base::{Face, ListOf, Memory};
 use rd_items::same_spec;
 use rd_levels::Order;
@@ -69,6 +69,6 @@ pub fn order_of_parts(alloc: Global, view: &View, base: u8, parts: &[Part]) -> R
         base,
         parts,
         |part| part.class,
-        |part| kind_code(part.kind),
+        |part| part.kind.bracket_code(),
     )
 }

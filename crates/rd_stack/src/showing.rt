@@ -1,20 +1,48 @@
 //! The steps of what shows no string.
-ghost use Rattle.std.specs.Prelude.{◌≡◌, ◌∷◌, [], option_to_list, IfOk};
+ghost use Rattle.std.specs.Prelude.{◌≡◌, ◌∷◌, [], option_to_list, IfOk, OnOk};
 ghost use Rattle.rd_items.specs.Pieces.{scene_of};
-ghost use Rattle.rd_glyphs.specs.Characters.{elements_of};
-ghost use Rattle.rd_stack.specs.Shown.{space_elements};
+ghost use Rattle.rd_glyphs.specs.Characters.{elements_of, glyph_elements};
+ghost use Rattle.rd_stack.specs.Shown.{ellipsis_glyphs, space_elements, kind_elements};
 ghost use Rattle.rd_stack.specs.Walks.{IsStep};
 
 use crate::few::Few;
+use crate::part::Shown;
 use crate::step::Step;
-use rd_base::{Ch, Element, Extent, Face, Look, Memory, Origin};
-use rd_items::parts_of;
+use rd_base::{Ch, Element, Extent, Face, Glyph, Look, Memory, Origin};
+use rd_glyphs::element_of;
+use rd_items::{ItemKind, parts_of};
 use rd_objects::Spec;
 use rd_props::View;
 use std::alloc::Global;
 
+/// The step of what an item or a part of a string shows, where it is no string that is entered, by the look of an ender.
+pub fn kind_step<'a>(
+    alloc: Global,
+    view: &View<'a>,
+    end: Look,
+    part: &Shown,
+    origin: Origin,
+    few: &mut Few,
+) -> Result<Step<'a>, Memory>
+    requires { few.old ≡ [] }
+    ensures { IfOk result (λ step. IsStep step few.new (kind_elements end (λ text. []) (scene_of view.now) part.now.kind part.now.odd part.now.face origin ∷ []) []) }
+{
+    let face = part.face;
+    match part.kind {
+        ItemKind::Char(ch) => char_step(alloc, view, ch, part.odd, face, origin, few),
+        ItemKind::Marked(glyph) => Ok(Step::Gives(element_of(Look::Glyph(glyph), face, origin))),
+        ItemKind::Text(_) => Ok(Step::Lists),
+        ItemKind::Space(spec) => Ok(space_step(spec, face, origin)),
+        ItemKind::Ellipsis => {
+            put_ellipsis(alloc, view, face, origin, few)?;
+            Ok(Step::Lists)
+        }
+        ItemKind::Ender => Ok(Step::Gives(element_of(end, face, origin))),
+    }
+}
+
 /// The step of a character, at an odd level or not.
-pub fn char_step<'a>(
+fn char_step<'a>(
     alloc: Global,
     view: &View<'a>,
     ch: Ch,
@@ -35,7 +63,7 @@ pub fn char_step<'a>(
 }
 
 /// The step of the space of a spec.
-pub fn space_step<'a>(spec: Spec, face: Face, origin: Origin) -> Step<'a>
+fn space_step<'a>(spec: Spec, face: Face, origin: Origin) -> Step<'a>
     ensures { IsStep result [] (space_elements spec face origin ∷ []) [] }
 {
     match space_element(spec, face, origin) {
@@ -59,4 +87,23 @@ fn space_element(spec: Spec, face: Face, origin: Origin) -> Option<Element>
         face,
         origin,
     })
+}
+
+/// Lists the glyphs of an ellipsis: those of the table, and three dots where it has none.
+fn put_ellipsis(
+    alloc: Global,
+    view: &View,
+    face: Face,
+    origin: Origin,
+    few: &mut Few,
+) -> Result<(), Memory>
+    ensures { OnOk result (few.new ≡ glyph_elements face origin (ellipsis_glyphs (scene_of view.now).parts.table)) }
+{
+    let parts = parts_of(view);
+    if let Some(table) = parts.table {
+        if let Some(text) = table.ellipsis() {
+            return few.put_glyphs(alloc, text, face, origin);
+        }
+    }
+    few.put_glyphs(alloc, &[Glyph::single('.' as u32, 1); 3], face, origin)
 }

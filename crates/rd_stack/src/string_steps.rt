@@ -1,20 +1,18 @@
 //! The steps of strings.
-ghost use Rattle.std.specs.Prelude.{◌≡◌, ◌≤◌, ◌∷◌, [], IfOk};
+ghost use Rattle.std.specs.Prelude.{◌≡◌, ◌≤◌, [], IfOk};
 ghost use Rattle.rd_items.specs.Pieces.{scene_of};
-ghost use Rattle.rd_stack.specs.Shown.{kind_elements};
 ghost use Rattle.rd_stack.specs.Steps.{part_steps};
 ghost use Rattle.rd_stack.specs.Walks.{IsStep};
 
 use crate::entrance::Entrance;
 use crate::few::Few;
-use crate::part::{PartKind, Shown, place_of};
-use crate::showing::{char_step, space_step};
+use crate::part::{Shown, place_of};
+use crate::showing::kind_step;
 use crate::step::Step;
 use crate::string::{StringFrame, Surroundings};
-use rd_base::{Look, Memory, Origin};
+use rd_base::{Look, Memory};
 use rd_glyphs::element_of;
-use rd_objects::Spec;
-use rd_props::View;
+use rd_items::ItemKind;
 use std::alloc::Global;
 
 impl<'a> StringFrame<'a> {
@@ -57,7 +55,7 @@ fn step_of<'a>(
     ensures { IfOk result (λ step. IsStep step few.new (part_steps (scene_of around.now.view) around.now.base around.now.replaced around.now.origin part.now) []) }
 {
     match part.kind {
-        PartKind::Replaced(Spec::Text(number)) if around.replaced => Ok(Step::Enters(Entrance {
+        ItemKind::Text(number) if around.replaced => Ok(Step::Enters(Entrance {
             around: Surroundings {
                 replaced: false,
                 under: part.face,
@@ -65,29 +63,6 @@ fn step_of<'a>(
             },
             number,
         })),
-        _ => display_part_step(alloc, &around.view, around.origin, part, few),
-    }
-}
-
-/// The step of a part that shows no other string.
-fn display_part_step<'a>(
-    alloc: Global,
-    view: &View<'a>,
-    origin: Origin,
-    part: &Shown,
-    few: &mut Few,
-) -> Result<Step<'a>, Memory>
-    requires { few.old ≡ [] }
-    ensures { IfOk result (λ step. IsStep step few.new (kind_elements (scene_of view.now) part.now.kind part.now.face part.now.odd origin ∷ []) []) }
-{
-    match part.kind {
-        PartKind::Char(ch) => char_step(alloc, view, ch, part.odd, part.face, origin, few),
-        PartKind::Marked(glyph) => Ok(Step::Gives(element_of(
-            Look::Glyph(glyph),
-            part.face,
-            origin,
-        ))),
-        PartKind::Replaced(spec) => Ok(space_step(spec, part.face, origin)),
-        PartKind::RowEnd => Ok(Step::Gives(element_of(Look::RowEnd, part.face, origin))),
+        _ => kind_step(alloc, &around.view, Look::RowEnd, part, around.origin, few),
     }
 }
