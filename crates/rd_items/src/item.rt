@@ -5,7 +5,7 @@ use rd_base::{Ch, Class, Face, Glyph};
 use rd_objects::Spec;
 
 /// The code of what is no bracket.
-pub const UNLISTED: u32 = u32::MAX;
+const UNLISTED: u32 = u32::MAX;
 
 /// What an item shows.
 #[derive(Clone, Copy, Debug, PartialEq, Eq)]
@@ -29,7 +29,7 @@ impl ItemKind {
     ghost use Rattle.rd_items.specs.Items.{bracket_code};
 
     /// The code by which an item of this kind may be a bracket: that of its character, or of the base of its marks; and
-    /// `UNLISTED` where it shows no character.
+    /// `u32::MAX`, which is none, where it shows no character.
     pub fn bracket_code(&self) -> u32
         ensures { result ≡ bracket_code self.now }
     {

@@ -40,7 +40,7 @@ mod showing;
 mod walk;
 
 pub use block::{block_at, block_before, block_from};
-pub use item::{Item, ItemKind, UNLISTED};
+pub use item::{Item, ItemKind};
 pub use items::Items;
 pub use laws::{
     blocks_are_in_order, blocks_are_listed, blocks_are_read_whole, items_are_measured,

@@ -47,6 +47,7 @@ abbrev pub string_left : Scene → ℕ → Bool → Origin → Attributes → Te
 string_left s base replaced origin under text parts turns i =
     flat_map (part_steps s base replaced origin) (flat_map (shown_at parts) turns ++ behind_row s base replaced text under i)
 
+-- the steps of what an item shows
 abbrev pub item_steps_by : Scene → ℕ → ItemKind → Bool → Bool → Attributes → Origin → List (List Element)
 item_steps_by s base k overlay odd face origin = kind_steps look.LineEnd (text_steps s base overlay origin face) s k odd face origin
 
