@@ -1,7 +1,8 @@
--- What holds of each row of each block holds of all rows of the blocks.
-use Rattle.std.proofs.Common.{◌≡◌, ℕ, zero, suc, ◌+◌, List, [], ◌∷◌, All, Some, refl, subst, arith}
+-- A block's row at a place; and what holds of each row of each block holds of all rows of the blocks.
+use Rattle.std.proofs.Common.{◌≡◌, ℕ, zero, suc, ◌+◌, List, [], ◌∷◌, All, Some, refl, ap, subst, arith}
 use Rattle.std.specs.Prelude.{slice_get}
 use Rattle.std.specs.List.{AllByRecursion}
+use Rattle.std.specs.Option.{option_map}
 use Rattle.std.proofs.lemmas.List.Elements.{All-from_recursion}
 use Rattle.rd_base.proofs.Lists.{all-at, all-back, all-front, each-append}
 use Rattle.rd_matrix.specs.Blocks.{IsAmong}
@@ -10,6 +11,13 @@ use Rattle.rd_matrix.specs.Sources.{begins_of}
 use Rattle.rd_matrix.specs.declared.block.Block.{Block}
 use Rattle.rd_rows.specs.Rows.{RowMeaning}
 use Rattle.rd_rows.specs.declared.begin.Begin.{Begin}
+
+-- the row at a place of those that are numbered
+pub numbered-at : (start number j k : ℕ) (rows : List RowMeaning) → k ≡ number + j
+    → slice_get (numbered start number rows) j ≡ option_map (λ r. record { start = start; number = k; row = r }) (slice_get rows j)
+numbered-at start number j k [] is = refl
+numbered-at start number zero k (r ∷ rows) is = let same : number ≡ k = omega (arith, is) in ap (λ n. Some (record { start = start; number = n; row = r })) same
+numbered-at start number (suc j) k (r ∷ rows) is = numbered-at start (number + 1) j k rows (omega (arith, is))
 
 numbered-each : (P : EntryMeaning → Type 0) (start number : ℕ) (rows : List RowMeaning)
     → ((j k : ℕ) (r : RowMeaning) → k ≡ number + j → slice_get rows j ≡ Some r → P (record { start = start; number = k; row = r })) → AllByRecursion P (numbered start number rows)

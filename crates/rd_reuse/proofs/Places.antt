@@ -1,13 +1,15 @@
 -- Blocks and their rows, by place.
-use Rattle.std.proofs.Common.{◌≡◌, ℕ, zero, suc, ◌+◌, ◌-◌, ◌<◌, ◌≤◌, inl, inr, true, List, [], ◌∷◌, ◌++◌, length, option_map, Option, None, Some, refl, sym, ap, ◌∙◌, subst, arith}
+use Rattle.std.proofs.Common.{◌≡◌, ℕ, ◌+◌, ◌-◌, ◌<◌, ◌≤◌, inl, inr, true, List, [], ◌∷◌, ◌++◌, length, option_map, Option, None, Some, refl, sym, ap, ◌∙◌, subst, arith}
 use Rattle.std.proofs.lemmas.Bool.{cases_lt}
 use Rattle.std.proofs.lemmas.List.{length-append}
 use Rattle.std.proofs.lemmas.Option.{same_Some}
 use Rattle.std.specs.List.{slice_get}
+use Rattle.rd_base.proofs.Choices.{map-some}
 use Rattle.rd_base.proofs.Lists.{get-first, get-second, at-seam}
 use Rattle.rd_base.specs.declared.settings.Anchor.{Anchor}
 use Rattle.rd_matrix.proofs.HeldLemmas.{end-behind, later-start, same-holder}
 use Rattle.rd_matrix.proofs.Counting.{all-append, count-cons, length-numbered}
+use Rattle.rd_matrix.proofs.EachRow.{numbered-at}
 use Rattle.rd_matrix.specs.Blocks.{IsWithin, StandFrom, first_start}
 use Rattle.rd_matrix.specs.Entries.{EntryMeaning, all_rows, entries_of, numbered}
 use Rattle.rd_matrix.specs.Sources.{SourceValues, IsSource, rows_at}
@@ -28,19 +30,13 @@ pub some-row : (rows : List RowMeaning) → ends_last rows ≡ true → 0 < leng
 some-row [] e = absurd cc
 some-row (r ∷ rows) e = omega arith
 
-pub numbered-at : (start number k : ℕ) (rows : List RowMeaning) (e : EntryMeaning) → slice_get (numbered start number rows) k ≡ Some e
-    → (k < length rows) × (e.start ≡ start) × (e.number ≡ number + k)
-numbered-at start number k [] e h = absurd cc
-numbered-at start number zero (r ∷ rows) e h =
-    let same : record { start = start; number = number; row = r } ≡ e = cc in
-    let starts : e.start ≡ start = ap (λ (x : EntryMeaning). x.start) (sym same) in
-    let at : e.number ≡ number = ap (λ (x : EntryMeaning). x.number) (sym same) in
-    (omega arith, starts, omega (arith, at))
-numbered-at start number (suc k) (r ∷ rows) e h =
-    let rest = numbered-at start (number + 1) k rows e h in
-    let low = rest.0 in
-    let at = rest.2 in
-    (omega (arith, low), rest.1, omega (arith, at))
+-- a row of a block, by its place among those that are numbered
+pub row-in : (start k : ℕ) (rows : List RowMeaning) (e : EntryMeaning) → slice_get (numbered start 0 rows) k ≡ Some e
+    → (slice_get rows k ≡ Some e.row) × (start ≡ e.start) × (k ≡ e.number)
+row-in start k rows e h =
+    let made : RowMeaning → EntryMeaning = λ r. record { start = start; number = k; row = r } in
+    let one = map-some made (slice_get rows k) e (sym (numbered-at start 0 k k rows (omega arith)) ∙ h) in
+    (one.1 ∙ ap (λ (x : EntryMeaning). Some x.row) one.2, ap (λ (x : EntryMeaning). x.start) one.2, ap (λ (x : EntryMeaning). x.number) one.2)
 
 -- the block of which a row is one
 pub record Found (rows : Block → List RowMeaning) (bs : List Block) (start row k : ℕ) : Type 0 where
@@ -58,9 +54,9 @@ entry-found rows (b ∷ bs) k e h =
     let size = length-numbered b.start 0 (rows b) in
     elim (cases_lt k (length (rows b))) as (λ _. Found rows (b ∷ bs) e.start e.number k) [
       | inl here ↦
-          let parts = numbered-at b.start 0 k (rows b) e (sym (get-first (entries_of rows b) (all_rows rows bs) k (omega (arith, size, here))) ∙ h) in
+          let parts = row-in b.start k (rows b) e (sym (get-first (entries_of rows b) (all_rows rows bs) k (omega (arith, size, here))) ∙ h) in
           let at = parts.2 in
-          record { before = []; block = b; after = bs; pieces = refl; starts = sym parts.1; inside = omega (arith, at, here); place = omega (arith, at) }
+          record { before = []; block = b; after = bs; pieces = refl; starts = parts.1; inside = omega (arith, at, here); place = omega (arith, at) }
       | inr later ↦
           let far : k ≡ length (entries_of rows b) + (k - length (rows b)) = omega (arith, size, later) in
           let rest = entry-found rows bs (k - length (rows b)) e (sym (get-second (entries_of rows b) (all_rows rows bs) k (k - length (rows b)) far) ∙ h) in

@@ -1,34 +1,23 @@
 -- The rows of a block, added to a strip one by one.
-use Rattle.std.proofs.Common.{◌≡◌, ℕ, zero, suc, ◌+◌, ◌<◌, ◌≤◌, List, [], ◌∷◌, ◌++◌, length, map, take, drop, get_or, Some, refl, sym, ap, ◌∙◌, arith}
+use Rattle.std.proofs.Common.{◌≡◌, ℕ, ◌+◌, ◌<◌, ◌≤◌, List, [], ◌∷◌, ◌++◌, length, map, take, drop, get_or, Some, refl, sym, ap, ◌∙◌, arith}
 use Rattle.std.proofs.lemmas.List.{append_assoc, drop_all, drop_more, length-map, map-append, take_all, take_more}
-use Rattle.std.proofs.lemmas.Option.{slice_get-map, slice_get_read, slice_get_within}
+use Rattle.std.proofs.lemmas.Option.{get_or_from_slice_get, slice_get-map, slice_get_read, slice_get_within}
 use Rattle.std.specs.Option.{option_map}
 use Rattle.rd_rows.specs.Copies.{RowValues, shown_rows}
 use Rattle.std.specs.List.{slice_get}
 use Rattle.rd_matrix.proofs.Counting.{length-numbered}
+use Rattle.rd_matrix.proofs.EachRow.{numbered-at}
 use Rattle.rd_matrix.specs.Entries.{EntryMeaning, numbered}
 use Rattle.rd_rows.specs.Rows.{RowMeaning}
 use Rattle.rd_start.specs.Strips.{strip_row_of}
 use Rattle.rd_start.specs.declared.strip.StripRow.{StripRow}
-
-numbered-at : (start number k : ℕ) (rows : List RowMeaning) (r : RowMeaning) (d : EntryMeaning) → slice_get rows k ≡ Some r
-    → get_or (numbered start number rows) k d ≡ record { start = start; number = number + k; row = r }
-numbered-at start number k [] r d e = absurd cc
-numbered-at start number zero (x ∷ rows) r d e =
-    let here : x ≡ r = cc in
-    let same : number ≡ number + 0 = omega arith in
-    ap (λ (y : RowMeaning). record { start = start; number = number; row = y }) here ∙ ap (λ n. record { start = start; number = n; row = r }) same
-numbered-at start number (suc k) (x ∷ rows) r d e =
-    let same : number + 1 + k ≡ number + suc k = omega arith in
-    numbered-at start (number + 1) k rows r d e ∙ ap (λ n. record { start = start; number = n; row = r }) same
 
 abbrev entry : ℕ → ℕ → RowMeaning → EntryMeaning
 entry start k r = record { start = start; number = k; row = r }
 
 entry-at : (start k : ℕ) (rows : List RowMeaning) (r : RowMeaning) → slice_get rows k ≡ Some r → get_or (numbered start 0 rows) k (entry start k r) ≡ entry start k r
 entry-at start k rows r e =
-    let same : 0 + k ≡ k = omega arith in
-    numbered-at start 0 k rows r (entry start k r) e ∙ ap (λ n. entry start n r) same
+    get_or_from_slice_get (numbered start 0 rows) k (entry start k r) (entry start k r) (numbered-at start 0 k k rows (omega arith) ∙ ap (option_map (entry start k)) e)
 
 take-entries : (start k : ℕ) (rows : List RowMeaning) (r : RowMeaning) → slice_get rows k ≡ Some r → take (k + 1) (numbered start 0 rows) ≡ take k (numbered start 0 rows) ++ entry start k r ∷ []
 take-entries start k rows r e =

@@ -10,25 +10,18 @@ use Rattle.rd_base.proofs.Lists.{get-first, get-second, get-take, get-drop, at-s
 use Rattle.rd_base.specs.declared.settings.Anchor.{Anchor}
 use Rattle.rd_matrix.proofs.Counting.{all-append, count-cons, length-numbered}
 use Rattle.rd_matrix.specs.Blocks.{HoldsPosition, StandFrom, block_before, first_start}
-use Rattle.rd_matrix.specs.Entries.{EntryMeaning, all_rows, entries_of, numbered, shown_entries, shown_entry}
+use Rattle.rd_matrix.specs.Entries.{EntryMeaning, all_rows, entries_of, shown_entries, shown_entry}
 use Rattle.rd_matrix.specs.Sources.{SourceValues, IsSource, rows_at}
 use Rattle.rd_matrix.specs.declared.block.Block.{Block}
 use Rattle.rd_matrix.specs.declared.matrix.Entry.{Entry}
 use Rattle.rd_reuse.specs.Views.{Names, anchor_of}
 use Rattle.rd_reuse.proofs.Lists.{behind-seam}
-use Rattle.rd_reuse.proofs.Places.{Found, anchor-found, holding, some-row}
+use Rattle.rd_reuse.proofs.Places.{Found, anchor-found, holding, row-in, some-row}
 use Rattle.rd_rows.specs.Laws.{ends_last}
 use Rattle.rd_rows.specs.Rows.{RowMeaning}
 use Rattle.rd_rows.specs.Shapes.{ShapeValues, IsShape}
 
 -- ---- the rows of a block
-
-row-in : (start number k : ℕ) (rows : List RowMeaning) (e : EntryMeaning) → slice_get (numbered start number rows) k ≡ Some e → slice_get rows k ≡ Some e.row
-row-in start number k [] e h = absurd cc
-row-in start number zero (r ∷ rows) e h =
-    let same : record { start = start; number = number; row = r } ≡ e = cc in
-    ap (λ (x : EntryMeaning). Some x.row) same
-row-in start number (suc k) (r ∷ rows) e h = row-in start (number + 1) k rows e h
 
 -- the row that ends a block is its last, and no other
 last-is : (rows : List RowMeaning) (k : ℕ) (r : RowMeaning) → ends_last rows ≡ true → slice_get rows k ≡ Some r → (suc k == length rows) ≡ r.ends_block
@@ -101,9 +94,9 @@ module _ {m : SourceValues} {shape : ShapeValues} (source : IsSource m) (is : Is
       let inside = f.inside in
       let whole : rows_at m shape ≡ all_rows rows_in f.before ++ (entries_of rows_in f.block ++ all_rows rows_in f.after) =
       ap (all_rows rows_in) f.pieces ∙ all-append rows_in f.before (f.block ∷ f.after) in
-      row-in f.block.start 0 e.number (rows_in f.block) e
+      (row-in f.block.start e.number (rows_in f.block) e
       (sym (ap (λ (es : List EntryMeaning). slice_get es k) whole ∙ get-second (all_rows rows_in f.before) (entries_of rows_in f.block ++ all_rows rows_in f.after) k e.number (sym f.place)
-      ∙ get-first (entries_of rows_in f.block) (all_rows rows_in f.after) e.number (omega (arith, size, inside))) ∙ at)
+      ∙ get-first (entries_of rows_in f.block) (all_rows rows_in f.after) e.number (omega (arith, size, inside))) ∙ at)).0
 
   total : (k : ℕ) (e : EntryMeaning) (f : Found rows_in m.blocks e.start e.number k)
       → length (rows_at m shape) ≡ length (all_rows rows_in f.before) + (length (rows_in f.block) + length (all_rows rows_in f.after))
