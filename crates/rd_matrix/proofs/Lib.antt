@@ -3,3 +3,4 @@ pub mod HeldLemmas
 pub mod Counting
 pub mod EachRow
 pub mod Passing
+pub mod Covering

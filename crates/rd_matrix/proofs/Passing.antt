@@ -1,7 +1,7 @@
 -- Elements of a list that pass a test: where the first of them stands, and how many there are.
-use Rattle.std.proofs.Common.{◌≡◌, ℕ, zero, suc, ◌+◌, ◌<◌, ◌≤◌, inl, inr, Bool, true, cond, ◌||◌, List, [], ◌∷◌, length, Some, refl, sym, ap, ◌∙◌, arith}
+use Rattle.std.proofs.Common.{◌≡◌, ℕ, zero, suc, ◌+◌, ◌<◌, ◌≤◌, inl, inr, Bool, true, false, cond, ◌||◌, List, [], ◌∷◌, length, Some, refl, sym, ap, ◌∙◌, arith}
 use Rattle.std.specs.List.{count_by, find, list_any, position_or_len, slice_get}
-use Rattle.std.proofs.lemmas.Bool.{cases_Bool}
+use Rattle.std.proofs.lemmas.Bool.{cases_Bool, or_parts}
 use Rattle.std.proofs.lemmas.List.Folds.{find_at}
 use Rattle.std.proofs.lemmas.Option.{slice_get_within}
 use Rattle.rd_base.proofs.Lists.{count-cons}
@@ -33,6 +33,13 @@ place-counted p (y ∷ xs) (suc k) x there passes = let rest = place-counted p x
 
 pub some-counted : {X : Type 0} (p : X → Bool) (xs : List X) → list_any p xs ≡ true → 1 ≤ count_by p xs
 some-counted p xs some = let first = at-position p xs some in place-counted p xs (position_or_len p xs) first.0 first.1 first.2
+
+pub none-counted : {X : Type 0} (p : X → Bool) (xs : List X) → list_any p xs ≡ false → count_by p xs ≡ 0
+none-counted p [] none = refl
+none-counted p (x ∷ xs) none =
+    let both = or_parts (p x) (list_any p xs) none in
+    let here = both.0 in
+    rw here (none-counted p xs both.1)
 
 -- where at most one passes, its place is that of the first, and it is the one that is found
 pub one-position : {X : Type 0} (p : X → Bool) (xs : List X) (k : ℕ) (x : X) → count_by p xs ≤ 1 → slice_get xs k ≡ Some x → p x ≡ true → position_or_len p xs ≡ k

@@ -3,6 +3,7 @@ use Rattle.std.proofs.Common.{◌≡◌, ℕ, ◌+◌, ◌-◌, ◌^◌, ◌<◌
 use Rattle.std.proofs.lemmas.List.{append-nil, length-map}
 use Rattle.std.specs.List.{list_any, position_or_len, range_with_len}
 use Rattle.rd_matrix.proofs.Counting.{all-append, any-range, length-numbered}
+use Rattle.rd_matrix.proofs.Covering.{Fit, whole-fit}
 use Rattle.rd_matrix.proofs.Passing.{first-inside}
 use Rattle.rd_matrix.specs.Blocks.{HoldsPosition, IsWithin, StandFrom, end_from, first_start}
 use Rattle.rd_matrix.specs.Entries.{all_rows, entries_of, numbered}
@@ -16,11 +17,10 @@ use Rattle.rd_start.specs.declared.strip.Edge.TheVariants.{Bottom}
 use Rattle.rd_start.specs.declared.strip.StripRow.{StripRow}
 use Rattle.rd_start.specs.declared.strip.Strip.{Strip}
 use Rattle.rd_start.specs.declared.strip.Sweep.{Sweep}
-use Rattle.rd_start.proofs.Blocks.{Fit, anchor-skips, any-block, any-fit, fit-back, fit-front, row-below, some-row}
+use Rattle.rd_start.proofs.Blocks.{anchor-skips, any-block, any-fit, fit-back, fit-front, row-below, some-row}
 use Rattle.rd_start.proofs.Costs.{costs-piece}
 use Rattle.rd_start.proofs.Lists.{first-among, first-behind, split}
 use Rattle.rd_start.proofs.Reaching.{paid-same, strip-same}
-use Rattle.rd_start.proofs.Rows.{whole-fit}
 use Rattle.rd_start.proofs.Tests.{above-range, in-range}
 
 -- the block that holds a position, and those before and behind it
@@ -36,7 +36,7 @@ around : (m : SourceValues) (sweep : Sweep) (b : Block) → IsSource m → IsSha
 around m sweep b source shape holds =
     let rows = λ (x : Block). rows_in m sweep x in
     let e = split m.blocks holds.among.0 b holds.among.1 in
-    let whole = subst (Fit rows (first_start m.blocks)) e.whole (whole-fit m sweep source shape) in
+    let whole = subst (Fit rows (first_start m.blocks)) e.whole (whole-fit m sweep.shape source shape) in
     let stand = subst (StandFrom (first_start m.blocks)) e.whole source.blocks.stand in
     record {
       before = e.front;

@@ -1,36 +1,28 @@
 -- Blocks that stand one behind the other, and their rows.
-use Rattle.std.proofs.Common.{◌≡◌, ℕ, suc, ◌+◌, ◌-◌, ◌<◌, ◌≤◌, inl, inr, Bool, true, false, cond, ◌||◌, ◌&&◌, ◌==◌, leb, ltb, min, List, [], ◌∷◌, ◌++◌, length, All, refl, sym, ap, ◌∙◌, arith, zero-add}
+use Rattle.std.proofs.Common.{◌≡◌, ℕ, ◌+◌, ◌-◌, ◌<◌, ◌≤◌, inl, inr, Bool, true, false, cond, ◌||◌, ◌&&◌, ◌==◌, leb, ltb, min, List, [], ◌∷◌, ◌++◌, length, refl, sym, ap, ◌∙◌, subst, arith, zero-add}
 use Rattle.std.proofs.lemmas.Bool.{cases_Bool, false≢true, le-ltb, lt-ltb}
 use Rattle.std.proofs.lemmas.Bool.Decides.{nat_tests}
 use Rattle.std.proofs.lemmas.List.{length-append}
-use Rattle.std.proofs.lemmas.List.Folds.{list_any-append, list_any_none}
+use Rattle.std.proofs.lemmas.List.Folds.{list_any-append}
 use Rattle.std.specs.List.{list_any}
 use Rattle.rd_base.proofs.Lists.{get-second}
 use Rattle.rd_base.specs.declared.settings.Anchor.{Anchor}
 use Rattle.rd_matrix.proofs.Counting.{all-append, count-cons}
-use Rattle.rd_matrix.proofs.HeldLemmas.{later-start}
-use Rattle.rd_matrix.specs.Blocks.{IsAmong, StandFrom, end_from}
+use Rattle.rd_matrix.proofs.Covering.{Fit, none-covers, whole-fit}
+use Rattle.rd_matrix.proofs.HeldLemmas.{end-any, later-start}
+use Rattle.rd_matrix.specs.Blocks.{IsWithin, StandFrom, end_from, first_start}
 use Rattle.rd_matrix.specs.Columns.{covers}
 use Rattle.rd_matrix.specs.Entries.{all_rows, entries_of, numbered}
-use Rattle.rd_matrix.specs.Sources.{AreRowsOf, begins_of, IsInBlock}
+use Rattle.rd_matrix.specs.Sources.{AreRowsOf, IsSource, SourceValues, begins_of, rows_at}
 use Rattle.rd_matrix.specs.declared.block.Block.{Block}
 use Rattle.rd_rows.specs.Rows.{RowMeaning}
-use Rattle.rd_rows.specs.declared.begin.Begin.{Begin}
+use Rattle.rd_rows.specs.Shapes.{IsShape, ShapeValues}
 use Rattle.rd_start.specs.Chosen.{anchor_row, begins_item, row_in_block}
 use Rattle.rd_start.proofs.Lists.{one-passes}
-use Rattle.rd_start.proofs.Tests.{range-parts}
+use Rattle.rd_start.proofs.Tests.{in-range, range-parts}
 
 pub count-append : (rows : Block → List RowMeaning) (xs ys : List Block) → length (all_rows rows (xs ++ ys)) ≡ length (all_rows rows xs) + length (all_rows rows ys)
 count-append rows xs ys = ap length (all-append rows xs ys) ∙ length-append (all_rows rows xs) (all_rows rows ys)
-
--- blocks that stand one behind the other from a position on, each with rows of its own
-abbrev pub Fit : (Block → List RowMeaning) → ℕ → List Block → Type 0
-Fit rows from [] = Unit {0}
-Fit rows from (b ∷ bs) = (b.start ≡ from) × (b.start < b.end) × AreRowsOf b.start b.end (rows b) × Fit rows b.end bs
-
-pub fit : (rows : Block → List RowMeaning) (from : ℕ) (bs : List Block) → StandFrom from bs → ((b : Block) → IsAmong bs b → AreRowsOf b.start b.end (rows b)) → Fit rows from bs
-fit rows from [] h each = tt
-fit rows from (b ∷ bs) h each = (h.0, h.1, each b (0, refl), fit rows b.end bs h.2 (λ c k. each c (suc k.0, k.1)))
 
 pub fit-front : (rows : Block → List RowMeaning) (from : ℕ) (xs ys : List Block) → Fit rows from (xs ++ ys) → Fit rows from xs
 fit-front rows from [] ys h = tt
@@ -58,12 +50,6 @@ any-numbered point start number [] = refl
 any-numbered point start number (r ∷ rows) =
     ap (λ b. list_any (covers start point) r.begins || b) (any-numbered point start (number + 1) rows)
     ∙ sym (list_any-append (covers start point) r.begins (begins_of rows))
-
-none-covers : (start end point : ℕ) (bs : List Begin) → All (IsInBlock start end) bs → (leb start point && ltb point end) ≡ false
-    → list_any (covers start point) bs ≡ false
-none-covers start end point bs inside out = list_any_none (covers start point) bs (λ k d below.
-    let h = inside k d below in
-    grind (arith, nat_tests, h.0, h.1))
 
 -- an item that covers a position begins in a row of the block that holds the position, and of no other
 pub any-block : (point start end : ℕ) (rows : List RowMeaning) → AreRowsOf start end rows
@@ -96,6 +82,13 @@ any-fit rows from point (b ∷ bs) h =
     list_any-append (begins_item point) (entries_of rows b) (all_rows rows bs)
     ∙ (ap (λ t. t || list_any (begins_item point) (all_rows rows bs)) here
     ∙ (ap (λ t. (leb b.start point && ltb point b.end) || t) rest ∙ joined-tests from b.start point b.end (end_from b.end bs) start some far))
+
+-- an item that covers a position of a source begins in one of its rows
+pub some-begins : (m : SourceValues) (shape : ShapeValues) (point : ℕ) → IsSource m → IsShape shape → IsWithin point m.blocks → list_any (begins_item point) (rows_at m shape) ≡ true
+some-begins m shape point source is within =
+    let start = first_start m.blocks in
+    let high = subst (λ n. point < n) (end-any 0 start m.blocks source.blocks.some) within.1 in
+    any-fit (λ b. m.rows_of b shape) start point m.blocks (whole-fit m shape source is) ∙ in-range start (end_from start m.blocks) point within.0 high
 
 -- an anchor's row is one of the block that holds its position
 pub anchor-skips : (rows : Block → List RowMeaning) (anchor : Anchor) (from : ℕ) (before after : List Block) (b : Block) → StandFrom from (before ++ (b ∷ after))

@@ -1,35 +1,21 @@
 -- A start is a row.
-use Rattle.std.proofs.Common.{◌≡◌, ℕ, ◌<◌, inl, inr, Bool, true, false, cond, ltb, List, [], ◌∷◌, length, Option, None, Some, refl, sym, ap, subst, ◌∙◌, arith}
+use Rattle.std.proofs.Common.{◌≡◌, ℕ, ◌<◌, inl, inr, Bool, true, false, cond, ltb, List, [], ◌∷◌, length, Option, None, Some, refl, sym, ap, ◌∙◌, arith}
 use Rattle.std.proofs.lemmas.Bool.{and_parts, cases_Bool, ltb-true}
 use Rattle.std.proofs.lemmas.Option.{same_Some}
 use Rattle.std.specs.List.{find}
 use Rattle.std.specs.Option.{unwrap_or}
-use Rattle.rd_matrix.proofs.HeldLemmas.{end-any}
 use Rattle.rd_matrix.proofs.Passing.{first-inside}
-use Rattle.rd_matrix.specs.Blocks.{IsWithin, end_from, first_start}
-use Rattle.rd_matrix.specs.Entries.{all_rows}
+use Rattle.rd_matrix.specs.Blocks.{IsWithin}
 use Rattle.rd_matrix.specs.Sources.{IsSource, SourceValues, rows_at}
 use Rattle.rd_rows.specs.Shapes.{IsShape, ShapeValues}
 use Rattle.rd_start.specs.Chosen.{begins_item, places_of}
 use Rattle.rd_start.specs.Starts.{Places, around, centred, following, is_inside, scrolled, start_of, suits, wanted_above, wanted_below}
-use Rattle.rd_start.specs.Strips.{rows_in}
-use Rattle.rd_start.specs.declared.strip.Sweep.{Sweep}
 use Rattle.rd_start.specs.declared.wanted.Wanted.{Wanted}
-use Rattle.rd_start.proofs.Blocks.{any-fit}
-use Rattle.rd_start.proofs.Rows.{whole-fit}
-use Rattle.rd_start.proofs.Tests.{in-range}
-
-abbrev sweep_of : Wanted → ShapeValues → Sweep
-sweep_of w shape = record { anchor = w.anchor; point = w.point; shape = shape }
+use Rattle.rd_start.proofs.Blocks.{some-begins}
 
 point-inside : (m : SourceValues) (shape : ShapeValues) (w : Wanted) → IsSource m → IsShape shape → IsWithin w.point m.blocks → (places_of m shape w).point < (places_of m shape w).count
 point-inside m shape w source is within =
-    let sweep = sweep_of w shape in
-    let start = first_start m.blocks in
-    let rows = rows_in m sweep in
-    let high = subst (λ n. w.point < n) (end-any 0 start m.blocks source.blocks.some) within.1 in
-    let some = any-fit rows start w.point m.blocks (whole-fit m sweep source is) ∙ in-range start (end_from start m.blocks) w.point within.0 high in
-    first-inside (begins_item w.point) (all_rows rows m.blocks) some
+    first-inside (begins_item w.point) (rows_at m shape) (some-begins m shape w.point source is within)
 
 found-passes : (p : ℕ → Bool) (xs : List ℕ) (x : ℕ) → find p xs ≡ Some x → p x ≡ true
 found-passes p [] x e = absurd cc

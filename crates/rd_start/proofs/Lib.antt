@@ -4,7 +4,7 @@ mod Sides
 mod Small
 mod Spans
 mod Suits
-pub mod Tests
+mod Tests
 mod Around
 pub mod Blocks
 mod Results

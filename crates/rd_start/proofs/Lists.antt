@@ -9,7 +9,7 @@ use Rattle.std.proofs.lemmas.List.Elements.{All-append, All-nil, All-tail}
 use Rattle.std.proofs.lemmas.Bool.Decides.{nat_tests}
 use Rattle.std.proofs.lemmas.List.Folds.{find-append, prefix_len-append}
 use Rattle.std.specs.Option.{option_or}
-use Rattle.rd_matrix.proofs.Passing.{first-inside}
+use Rattle.rd_matrix.proofs.Passing.{first-inside, none-counted}
 use Rattle.rd_start.specs.Starts.{around, both_at}
 
 -- a list round the element at a place
@@ -72,13 +72,6 @@ first-none p xs none = ap (position_or_len p) (sym (append-nil xs)) ∙ (first-b
 first-mapped : {X Y : Type 0} (p : Y → Bool) (f : X → Y) (xs : List X) → position_or_len p (map f xs) ≡ position_or_len (λ x. p (f x)) xs
 first-mapped p f [] = refl
 first-mapped p f (x ∷ xs) = ap (λ n. cond (not (p (f x))) (1 + n) 0) (first-mapped p f xs)
-
-pub none-counted : {X : Type 0} (p : X → Bool) (xs : List X) → list_any p xs ≡ false → count_by p xs ≡ 0
-none-counted p [] none = refl
-none-counted p (x ∷ xs) none =
-    let both = or_parts (p x) (list_any p xs) none in
-    let here = both.0 in
-    rw here (none-counted p xs both.1)
 
 pub one-passes : {X : Type 0} (p : X → Bool) (xs : List X) → count_by p xs ≡ 1 → list_any p xs ≡ true
 one-passes p xs one =

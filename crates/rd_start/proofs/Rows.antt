@@ -6,20 +6,20 @@ use Rattle.std.proofs.lemmas.Option.{slice_get_within}
 use Rattle.std.specs.List.{list_any, position, position_or_len, slice_get}
 use Rattle.rd_base.proofs.Lists.{get-first, get-second}
 use Rattle.rd_matrix.proofs.Counting.{all-append}
+use Rattle.rd_matrix.proofs.Covering.{Fit, whole-fit}
 use Rattle.rd_matrix.proofs.HeldLemmas.{end-any}
 use Rattle.rd_matrix.proofs.Passing.{first-inside}
 use Rattle.rd_matrix.specs.Blocks.{IsAmong, end_from, first_start}
 use Rattle.rd_matrix.specs.Entries.{EntryMeaning, all_rows}
-use Rattle.rd_matrix.specs.Sources.{SourceValues, IsSource}
+use Rattle.rd_matrix.specs.Sources.{SourceValues}
 use Rattle.rd_matrix.specs.declared.block.Block.{Block}
 use Rattle.rd_rows.specs.Rows.{RowMeaning}
-use Rattle.rd_rows.specs.Shapes.{IsShape}
 use Rattle.rd_start.specs.Chosen.{begins_item}
 use Rattle.rd_start.specs.Strips.{IsStrip, IsStripOf, count_in, first_row, home_row, strip_row_of, point_row, rows_in}
 use Rattle.rd_start.specs.declared.strip.StripRow.{StripRow}
 use Rattle.rd_start.specs.declared.strip.Strip.{Strip}
 use Rattle.rd_start.specs.declared.strip.Sweep.{Sweep}
-use Rattle.rd_start.proofs.Blocks.{Fit, any-fit, end-append, fit, fit-back, fit-front}
+use Rattle.rd_start.proofs.Blocks.{any-fit, end-append, fit-back, fit-front}
 use Rattle.rd_start.proofs.Tests.{above-range, below-range, in-range}
 use Rattle.rd_start.proofs.Lists.{first-among, first-behind, position-mapped, position-none, position-some}
 
@@ -125,14 +125,11 @@ pub record Bounds (m : SourceValues) (sweep : Sweep) (bs before after : List Blo
   pub low : start ≤ sweep.point
   pub high : sweep.point < end
 
-pub whole-fit : (m : SourceValues) (sweep : Sweep) → IsSource m → IsShape sweep.shape → Fit (rows_in m sweep) (first_start m.blocks) m.blocks
-whole-fit m sweep source shape = fit (rows_in m sweep) (first_start m.blocks) m.blocks source.blocks.stand (λ b k. source.rows b sweep.shape k shape)
-
 pub bounds : (m : SourceValues) (sweep : Sweep) (bs : List Block) (ls : List StripRow) (at : ℕ) → (h : IsStripOf m sweep bs ls at) → Bounds m sweep bs h.before h.after
 bounds m sweep bs ls at h =
     let rows = λ (b : Block). rows_in m sweep b in
     let start = first_start m.blocks in
-    let whole = subst (Fit rows start) h.pieces (whole-fit m sweep h.source h.shape) in
+    let whole = subst (Fit rows start) h.pieces (whole-fit m sweep.shape h.source h.shape) in
     let rest = fit-back rows start h.before (bs ++ h.after) whole in
     let first = end_from start h.before in
     let last = end_from first bs in

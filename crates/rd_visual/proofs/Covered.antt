@@ -1,41 +1,23 @@
 -- The items of rows that cover a position, and the hits of these rows.
-use Rattle.std.proofs.Common.{◌≡◌, ℕ, zero, suc, ◌+◌, ◌<◌, ◌≤◌, nat_le, nat_lt, Bool, true, false, cond, List, [], ◌∷◌, ◌++◌, length, inl, inr, Option, None, Some, All, refl, ap, sym, ◌∙◌, subst, arith, add-one}
+use Rattle.std.proofs.Common.{◌≡◌, ℕ, zero, suc, ◌+◌, ◌<◌, ◌≤◌, nat_le, nat_lt, Bool, true, false, cond, List, [], ◌∷◌, ◌++◌, length, Option, None, Some, All, refl, ap, sym, ◌∙◌, subst, arith, add-one}
 use Rattle.std.specs.Prelude.{count_by, slice_get}
 use Rattle.std.specs.Option.{option_map}
-use Rattle.std.proofs.lemmas.Bool.{and_parts, cases_lt}
+use Rattle.std.proofs.lemmas.Bool.{and_parts}
 use Rattle.std.proofs.lemmas.Bool.Decides.{nat_tests}
 use Rattle.std.proofs.lemmas.List.Elements.{All-head, All-tail}
-use Rattle.rd_base.proofs.Lists.{all-at, count-append, count-cons}
+use Rattle.rd_base.proofs.Lists.{all-at}
+use Rattle.rd_matrix.proofs.Covering.{count-joined, count_at, few-whole}
 use Rattle.rd_matrix.proofs.Passing.{found-one, place-counted}
-use Rattle.rd_matrix.specs.Blocks.{IsAmong, StandFrom, first_start}
 use Rattle.rd_matrix.specs.Columns.{covers, shown_column}
 use Rattle.rd_matrix.specs.Cursors.{column_shown, cursor_in, or_below}
-use Rattle.rd_matrix.specs.Entries.{EntryMeaning, shown_entry, shown_entries, numbered, entries_of, all_rows}
-use Rattle.rd_matrix.specs.Sources.{SourceValues, IsSource, AreRowsOf, rows_at, IsInBlock}
-use Rattle.rd_matrix.specs.declared.block.Block.{Block}
+use Rattle.rd_matrix.specs.Entries.{EntryMeaning, shown_entry, shown_entries}
+use Rattle.rd_matrix.specs.Sources.{SourceValues, IsSource, rows_at}
 use Rattle.rd_matrix.specs.declared.matrix.Entry.{Entry}
-use Rattle.rd_rows.specs.Laws.{begins_of}
 use Rattle.rd_rows.specs.Rows.{RowMeaning}
 use Rattle.rd_rows.specs.Shapes.{ShapeValues, IsShape}
 use Rattle.rd_rows.specs.declared.begin.Begin.{Begin}
 use Rattle.rd_visual.specs.Hits.{AreInPositions, AreRowsAt, Fits, begins_at, covers_some, hit_in, item_at, item_of_cell, least_at, reading_column}
 use Rattle.rd_visual.proofs.Items.{found-none, item-again, item-alone, item-column, item-member}
-
--- how many items of these rows cover a position
-abbrev pub count_at : ℕ → List EntryMeaning → ℕ
-count_at point [] = 0
-count_at point (e ∷ es) = count_by (covers e.start point) e.row.begins + count_at point es
-
-count-joined : (point : ℕ) (xs ys : List EntryMeaning) → count_at point (xs ++ ys) ≡ count_at point xs + count_at point ys
-count-joined point [] ys = omega arith
-count-joined point (x ∷ xs) ys = let rest = count-joined point xs ys in omega (arith, rest)
-
-count-numbered : (point start n : ℕ) (rs : List RowMeaning) → count_at point (numbered start n rs) ≡ count_by (covers start point) (begins_of rs)
-count-numbered point start n [] = refl
-count-numbered point start n (r ∷ rs) =
-    ap (λ k. count_by (covers start point) r.begins + k) (count-numbered point start (n + 1) rs) ∙ sym (count-append (covers start point) r.begins (begins_of rs))
-
--- an item of a block covers no position outside of it
 
 covers-parts : (start point : ℕ) (b : Begin) → covers start point b ≡ true → (start + b.from ≤ point) × (point < start + b.to)
 covers-parts start point b h =
@@ -44,72 +26,10 @@ covers-parts start point b h =
     let high = both.1 in
     (grind (arith, nat_tests), grind (arith, nat_tests))
 
-below-no : (start point : ℕ) (b : Begin) (q : Bool) → covers start point b ≡ q → point < start → q ≡ false
-below-no start point b false here low = refl
-below-no start point b true here low = let parts = covers-parts start point b here in let from = parts.0 in absurd (omega (arith, from, low))
-
-above-no : (start end point : ℕ) (b : Begin) (q : Bool) → covers start point b ≡ q → start + b.to ≤ end → end ≤ point → q ≡ false
-above-no start end point b false here inside high = refl
-above-no start end point b true here inside high = let parts = covers-parts start point b here in let to = parts.1 in absurd (omega (arith, to, inside, high))
-
-none-below : (start point : ℕ) (bs : List Begin) → point < start → count_by (covers start point) bs ≡ 0
-none-below start point [] low = refl
-none-below start point (b ∷ bs) low =
-    let out = below-no start point b _ refl low in
-    let rest = none-below start point bs low in
-    count-cons (covers start point) b bs ∙ rw (out, rest) refl
-
-none-above : (start end point : ℕ) (bs : List Begin) → All (IsInBlock start end) bs → end ≤ point → count_by (covers start point) bs ≡ 0
-none-above start end point [] inside high = refl
-none-above start end point (b ∷ bs) inside high =
-    let out = above-no start end point b _ refl (All-head (IsInBlock start end) b bs inside).1 high in
-    let rest = none-above start end point bs (All-tail (IsInBlock start end) b bs inside) high in
-    count-cons (covers start point) b bs ∙ rw (out, rest) refl
-
-count-block : (rows : Block → List RowMeaning) (b : Block) (point : ℕ) → count_at point (entries_of rows b) ≡ count_by (covers b.start point) (begins_of (rows b))
-count-block rows b point = count-numbered point b.start 0 (rows b)
-
-count-first : (rows : Block → List RowMeaning) (b : Block) (bs : List Block) (point : ℕ) → count_at point (all_rows rows (b ∷ bs)) ≡ count_by (covers b.start point) (begins_of (rows b)) + count_at point (all_rows rows bs)
-count-first rows b bs point = count-joined point (entries_of rows b) (all_rows rows bs) ∙ ap (λ n. n + count_at point (all_rows rows bs)) (count-block rows b point)
-
-none-behind : (rows : Block → List RowMeaning) (from : ℕ) (bs : List Block) (point : ℕ) → StandFrom from bs → point < from → count_at point (all_rows rows bs) ≡ 0
-none-behind rows from [] point stand low = refl
-none-behind rows from (b ∷ bs) point stand low =
-    let start = stand.0 in
-    let some = stand.1 in
-    let here = none-below b.start point (begins_of (rows b)) (omega (arith, start, low)) in
-    let rest = none-behind rows b.end bs point stand.2 (omega (arith, start, some, low)) in
-    count-first rows b bs point ∙ rw (here, rest) refl
-
-few-here : (rows : Block → List RowMeaning) (b : Block) (point : ℕ) → AreRowsOf b.start b.end (rows b) → count_by (covers b.start point) (begins_of (rows b)) ≤ 1
-few-here rows b point right =
-    elim (cases_lt point b.start) [
-      | inl low ↦ let none = none-below b.start point (begins_of (rows b)) low in omega (arith, none)
-      | inr from ↦ elim (cases_lt point b.end) [
-        | inl high ↦ let one = right.once point from high in omega (arith, one)
-        | inr above ↦ let none = none-above b.start b.end point (begins_of (rows b)) right.inside above in omega (arith, none)
-      ]
-    ]
-
-few-all : (rows : Block → List RowMeaning) (from : ℕ) (bs : List Block) (point : ℕ) → StandFrom from bs → ((b : Block) → IsAmong bs b → AreRowsOf b.start b.end (rows b)) → count_at point (all_rows rows bs) ≤ 1
-few-all rows from [] point stand right = omega arith
-few-all rows from (b ∷ bs) point stand right =
-    let e = count-first rows b bs point in
-    elim (cases_lt point b.end) [
-      | inl low ↦
-          let here = few-here rows b point (right b (zero, refl)) in
-          let rest = none-behind rows b.end bs point stand.2 low in
-          omega (arith, e, here, rest)
-      | inr high ↦
-          let here = none-above b.start b.end point (begins_of (rows b)) (right b (zero, refl)).inside high in
-          let rest = few-all rows b.end bs point stand.2 (λ c among. right c (suc among.0, among.1)) in
-          omega (arith, e, here, rest)
-    ]
-
--- at most one item of a source's rows covers a position
+-- at most one item of rows in view covers a position
 pub few-at : (m : SourceValues) (shape : ShapeValues) (es : List EntryMeaning) (point : ℕ) → IsSource m → IsShape shape → AreRowsAt m shape es → count_at point es ≤ 1
 few-at m shape es point source is rows =
-    let all = few-all (λ b. m.rows_of b shape) (first_start m.blocks) m.blocks point source.blocks.stand (λ b among. source.rows b shape among is) in
+    let all = few-whole m shape point source is in
     let whole : count_at point (rows_at m shape) ≡ count_at point (rows.above ++ (es ++ rows.below)) = ap (count_at point) rows.rows in
     let outer = count-joined point rows.above (es ++ rows.below) in
     let inner = count-joined point es rows.below in

@@ -1,85 +1,38 @@
 -- Where the item that covers a point begins, among all rows of a source and in a view.
-use Rattle.std.proofs.Common.{◌≡◌, ℕ, zero, suc, ◌+◌, ◌-◌, ◌<◌, ◌≤◌, inl, inr, Bool, true, false, cond, ◌||◌, ◌&&◌, leb, ltb, List, [], ◌∷◌, length, take, drop, slice_get, option_map, is_some, Option, None, Some, refl, sym, ap, ◌∙◌, subst, arith}
-use Rattle.std.proofs.lemmas.Bool.{cases_Bool, cases_lt}
+use Rattle.std.proofs.Common.{◌≡◌, ℕ, zero, suc, ◌+◌, ◌-◌, ◌<◌, ◌≤◌, inl, inr, Bool, true, false, cond, ◌||◌, List, [], ◌∷◌, length, take, drop, slice_get, option_map, is_some, Option, None, Some, refl, sym, ap, ◌∙◌, arith}
+use Rattle.std.proofs.lemmas.Bool.{cases_Bool}
 use Rattle.std.proofs.lemmas.Option.{slice_get_within}
 use Rattle.std.proofs.lemmas.Map.Keys.{any_passes_from_place}
 use Rattle.std.specs.List.{count_by, find, list_any}
-use Rattle.rd_base.proofs.Lists.{count-append, count-cons}
-use Rattle.rd_matrix.proofs.HeldLemmas.{end-any}
+use Rattle.rd_base.proofs.Lists.{count-cons}
+use Rattle.rd_matrix.proofs.Covering.{count_at, few-whole}
 use Rattle.rd_matrix.proofs.Passing.{at-position, one-position, some-counted}
-use Rattle.rd_matrix.specs.Blocks.{IsAmong, IsWithin, StandFrom, end_from, first_start}
+use Rattle.rd_matrix.specs.Blocks.{IsWithin}
 use Rattle.rd_matrix.specs.Columns.{column_in, covers, shown_column}
 use Rattle.rd_matrix.specs.Cursors.{column_shown, cursor_in, or_below}
-use Rattle.rd_matrix.specs.Entries.{EntryMeaning, all_rows, entries_of, numbered}
-use Rattle.rd_matrix.specs.Sources.{AreRowsOf, IsSource, SourceValues, begins_of, rows_at}
-use Rattle.rd_matrix.specs.declared.block.Block.{Block}
-use Rattle.rd_rows.specs.Rows.{RowMeaning}
+use Rattle.rd_matrix.specs.Entries.{EntryMeaning}
+use Rattle.rd_matrix.specs.Sources.{IsSource, SourceValues, rows_at}
 use Rattle.rd_rows.specs.Shapes.{IsShape, ShapeValues}
 use Rattle.rd_rows.specs.declared.begin.Begin.{Begin}
-use Rattle.rd_start.proofs.Blocks.{any-block, any-fit, fit}
-use Rattle.rd_start.proofs.Lists.{none-counted}
-use Rattle.rd_start.proofs.Tests.{above-range, below-range, in-range, range-parts}
+use Rattle.rd_start.proofs.Blocks.{some-begins}
 use Rattle.rd_start.specs.Chosen.{begins_item, places_of, row_of}
 use Rattle.rd_start.specs.declared.wanted.Wanted.{Wanted}
 use Rattle.rd_window.proofs.Ends.{in-view}
 
--- ---- which rows have the beginning
-
--- the rows of each of the blocks
-abbrev pub HaveRows : (Block → List RowMeaning) → List Block → Type 0
-HaveRows rows bs = (b : Block) → IsAmong bs b → AreRowsOf b.start b.end (rows b)
-
-any-rows : (rows : Block → List RowMeaning) (from point : ℕ) (bs : List Block) → StandFrom from bs → HaveRows rows bs
-    → list_any (begins_item point) (all_rows rows bs) ≡ (leb from point && ltb point (end_from from bs))
-any-rows rows from point bs stand each = any-fit rows from point bs (fit rows from bs stand each)
-
 -- ---- one row of a source has the beginning
 
-rows-counted : (point start number : ℕ) (rows : List RowMeaning) → count_by (begins_item point) (numbered start number rows) ≤ count_by (covers start point) (begins_of rows)
-rows-counted point start number [] = omega arith
-rows-counted point start number (r ∷ rows) =
-    let e : EntryMeaning = record { start = start; number = number; row = r } in
-    let behind = numbered start (number + 1) rows in
-    let rest = rows-counted point start (number + 1) rows in
-    let sum : count_by (covers start point) (begins_of (r ∷ rows)) ≡ count_by (covers start point) r.begins + count_by (covers start point) (begins_of rows) =
-    count-append (covers start point) r.begins (begins_of rows) in
-    elim (cases_Bool (list_any (covers start point) r.begins)) [
+-- rows that have it are no more than items that cover the position
+rows-counted : (point : ℕ) (es : List EntryMeaning) → count_by (begins_item point) es ≤ count_at point es
+rows-counted point [] = omega arith
+rows-counted point (e ∷ es) =
+    let rest = rows-counted point es in
+    let count = count-cons (begins_item point) e es in
+    elim (cases_Bool (begins_item point e)) [
       | inl here ↦
-          let some = some-counted (covers start point) r.begins here in
-          let count : count_by (begins_item point) (e ∷ behind) ≡ 1 + count_by (begins_item point) behind = count-cons (begins_item point) e behind ∙ ap (λ t. cond t 1 0 + count_by (begins_item point) behind) here in
-          omega (arith, rest, sum, some, count)
-      | inr here ↦
-          let count : count_by (begins_item point) (e ∷ behind) ≡ 0 + count_by (begins_item point) behind = count-cons (begins_item point) e behind ∙ ap (λ t. cond t 1 0 + count_by (begins_item point) behind) here in
-          omega (arith, rest, sum, count)
-    ]
-
-block-counted : (point start end : ℕ) (rows : List RowMeaning) → AreRowsOf start end rows → count_by (begins_item point) (numbered start 0 rows) ≤ 1
-block-counted point start end rows h =
-    elim (cases_Bool (leb start point && ltb point end)) [
-      | inl here ↦
-          let inside = range-parts start end point here in
-          let one = h.once point inside.0 inside.1 in
-          let less = rows-counted point start 0 rows in
-          omega (arith, one, less)
-      | inr out ↦ let none = none-counted (begins_item point) (numbered start 0 rows) (any-block point start end rows h ∙ out) in omega (arith, none)
-    ]
-
-blocks-counted : (rows : Block → List RowMeaning) (from point : ℕ) (bs : List Block) → StandFrom from bs → HaveRows rows bs → count_by (begins_item point) (all_rows rows bs) ≤ 1
-blocks-counted rows from point [] stand each = omega arith
-blocks-counted rows from point (b ∷ bs) stand each =
-    let sum : count_by (begins_item point) (all_rows rows (b ∷ bs)) ≡ count_by (begins_item point) (entries_of rows b) + count_by (begins_item point) (all_rows rows bs) =
-    count-append (begins_item point) (entries_of rows b) (all_rows rows bs) in
-    let own = each b (0, refl) in
-    let others : HaveRows rows bs = λ c k. each c (suc k.0, k.1) in
-    elim (cases_lt point b.end) [
-      | inl low ↦
-          let here = block-counted point b.start b.end (rows b) own in
-          let none = none-counted (begins_item point) (all_rows rows bs) (any-rows rows b.end point bs stand.2 others ∙ below-range b.end (end_from b.end bs) point low) in
-          omega (arith, sum, here, none)
-      | inr high ↦
-          let rest = blocks-counted rows b.end point bs stand.2 others in
-          let none = none-counted (begins_item point) (entries_of rows b) (any-block point b.start b.end (rows b) own ∙ above-range b.start b.end point high) in
-          omega (arith, sum, rest, none)
+          let some = some-counted (covers e.start point) e.row.begins here in
+          let whole = count ∙ ap (λ t. cond t 1 0 + count_by (begins_item point) es) here in
+          omega (arith, rest, some, whole)
+      | inr here ↦ let whole = count ∙ ap (λ t. cond t 1 0 + count_by (begins_item point) es) here in omega (arith, rest, whole)
     ]
 
 -- ---- the cursor of a list of rows
@@ -141,9 +94,6 @@ taken-below (suc n) (y ∷ xs) zero x at = omega arith
 taken-below (suc n) (y ∷ xs) (suc k) x at = let rest = taken-below n xs k x at in omega (arith, rest)
 
 module _ {m : SourceValues} {shape : ShapeValues} (w : Wanted) (source : IsSource m) (is : IsShape shape) where
-  have-rows : HaveRows (λ b. m.rows_of b shape) m.blocks
-  have-rows = λ b k. source.rows b shape k is
-
   -- point's row, where a view shows it
   pub point-shown : (i height : ℕ) (place : ℕ × ℕ) → cursor_in w.point (take height (drop i (rows_at m shape))) ≡ Some place
       → ((places_of m shape w).point ≡ i + place.0) × (place.0 < height) × (i + place.0 < length (rows_at m shape))
@@ -152,14 +102,9 @@ module _ {m : SourceValues} {shape : ShapeValues} (w : Wanted) (source : IsSourc
       let found = cursor-row w.point (take height (drop i rows)) place at in
       let low = taken-below height (drop i rows) place.0 found.0 found.1 in
       let there = sym (in-view rows i height place.0 low) ∙ found.1 in
-      let one = blocks-counted (λ b. m.rows_of b shape) (first_start m.blocks) w.point m.blocks source.blocks.stand have-rows in
-      (one-position (begins_item w.point) rows (i + place.0) found.0 one there found.2, low, slice_get_within rows (i + place.0) found.0 there)
-
-  some-begins : IsWithin w.point m.blocks → list_any (begins_item w.point) (rows_at m shape) ≡ true
-  some-begins within =
-      let start = first_start m.blocks in
-      let high = subst (λ n. w.point < n) (end-any 0 start m.blocks source.blocks.some) within.1 in
-      any-rows (λ b. m.rows_of b shape) start w.point m.blocks source.blocks.stand have-rows ∙ in-range start (end_from start m.blocks) w.point within.0 high
+      let less = rows-counted w.point rows in
+      let few = few-whole m shape w.point source is in
+      (one-position (begins_item w.point) rows (i + place.0) found.0 (omega (arith, less, few)) there found.2, low, slice_get_within rows (i + place.0) found.0 there)
 
   -- and where it does not
   pub point-hidden : (i height : ℕ) → IsWithin w.point m.blocks → cursor_in w.point (take height (drop i (rows_at m shape))) ≡ None
@@ -167,7 +112,7 @@ module _ {m : SourceValues} {shape : ShapeValues} (w : Wanted) (source : IsSourc
   point-hidden i height within at low high =
       let rows = rows_at m shape in
       let row = row_of w.point rows in
-      let found = at-position (begins_item w.point) rows (some-begins within) in
+      let found = at-position (begins_item w.point) rows (some-begins m shape w.point source is within) in
       let k : ℕ = row - i in
       let there : i + k ≡ row = omega (arith, low) in
       let shown = in-view rows i height k (omega (arith, low, high)) ∙ ap (slice_get rows) there ∙ found.1 in
