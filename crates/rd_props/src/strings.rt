@@ -1,5 +1,5 @@
 //! The strings of overlays at a position.
-ghost use Rattle.std.specs.Prelude.{◌≡◌, ◌++◌, reverse, OnOk, IfOk};
+ghost use Rattle.std.specs.Prelude.{◌≡◌, ◌++◌, OnOk, IfOk};
 ghost use Rattle.rd_text.specs.Texts.{IsAccessible};
 ghost use Rattle.rd_overlays.specs.Overlays.{overlay_at};
 ghost use Rattle.rd_props.specs.Buffers.{meaning};
