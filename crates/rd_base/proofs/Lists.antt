@@ -1,7 +1,8 @@
 -- What holds of each element of a list, and what a list is from one of its places.
-use Rattle.std.proofs.Common.{◌≡◌, ◌≢◌, ◌⊎◌, ℕ, zero, suc, ◌+◌, ◌<◌, ◌≤◌, Bool, List, [], ◌∷◌, ◌++◌, length, length-append, take, drop, get_or, None, Some, inl, inr, All, refl, sym, subst, ap, cond, ◌∙◌, arith, map, set}
+use Rattle.std.proofs.Common.{◌≡◌, ◌≢◌, ◌⊎◌, ℕ, zero, suc, ◌+◌, ◌<◌, ◌≤◌, nat_le, nat_lt, Bool, false, ◌&&◌, List, [], ◌∷◌, ◌++◌, length, length-append, take, drop, get_or, None, Some, inl, inr, All, refl, sym, subst, ap, ap₂, cond, ◌∙◌, arith, map, set}
 use Rattle.std.specs.Prelude.{slice_get}
 use Rattle.std.specs.List.{AllByRecursion, count_by, range_with_len}
+use Rattle.std.proofs.lemmas.Bool.Decides.{nat_tests}
 use Rattle.std.proofs.lemmas.List.{get_or_append_left, drop_more, drop_all, drop-set-lt, drop-drop, get_or-drop, map_more, take_more_set}
 use Rattle.std.proofs.lemmas.List.Sums.{sum_by-append, sum_by-cons}
 use Rattle.std.proofs.Math.Seq.{drop-append_seam}
@@ -114,6 +115,39 @@ pub total-append : {X : Type 0} (f : X → ℕ) (xs ys : List X) → total f (xs
 total-append f [] ys = omega arith
 total-append f (x ∷ xs) ys = omega (arith, total-append f xs ys)
 
+-- whether a place is in the stretch from one up to another, that one not included
+abbrev pub lies : ℕ → ℕ → ℕ → Bool
+lies pos from to = nat_le from pos && nat_lt pos to
+
+lies-empty : (pos from to : ℕ) → from ≡ to → lies pos from to ≡ false
+lies-empty pos from to same = grind (arith, nat_tests)
+
+lies-apart : (pos from mid to : ℕ) → from ≤ mid → mid ≤ to → cond (lies pos from mid) 1 0 + cond (lies pos mid to) 1 0 ≡ cond (lies pos from to) 1 0
+lies-apart pos from mid to low high = grind (arith, nat_tests)
+
+-- stretches that stand one behind the other hold each place between once, and no other; an element's goes from its start up to its end
+module _ {X : Type 0} (start end : X → ℕ) where
+  -- from a place to another: each goes on where the one before it ended, or has no place
+  abbrev pub Follow : ℕ → ℕ → List X → Type 0
+  Follow from to [] = from ≡ to
+  Follow from to (x ∷ xs) = ((start x ≡ end x) × Follow from to xs) ⊎ ((start x ≡ from) × (from < end x) × Follow (end x) to xs)
+
+  pub follow-once : (pos from to : ℕ) (xs : List X) → Follow from to xs → (from ≤ to) × (count_by (λ x. lies pos (start x) (end x)) xs ≡ cond (lies pos from to) 1 0)
+  follow-once pos from to [] ends = (omega (arith, ends), ap (λ (b : Bool). cond b 1 0) (sym (lies-empty pos from to ends)))
+  follow-once pos from to (x ∷ xs) (inl none) =
+      let rest = follow-once pos from to xs none.1 in
+      let all = count-cons (λ x. lies pos (start x) (end x)) x xs ∙ ap₂ (λ (b : Bool) (n : ℕ). cond b 1 0 + n) (lies-empty pos (start x) (end x) none.0) rest.1 in
+      (rest.0, omega (arith, all))
+  follow-once pos from to (x ∷ xs) (inr next) =
+      let some = next.1 in
+      let rest = follow-once pos (end x) to xs next.2 in
+      let order = rest.0 in (
+        omega (arith, some, order),
+        count-cons (λ x. lies pos (start x) (end x)) x xs
+            ∙ ap₂ (λ (n m : ℕ). cond (lies pos n (end x)) 1 0 + m) next.0 rest.1
+            ∙ lies-apart pos from (end x) to (omega (arith, some)) order,
+      )
+
 -- numbers in a row, in two parts
 pub range-split : (a m n : ℕ) → range_with_len a (m + n) ≡ range_with_len a m ++ range_with_len (a + m) n
 range-split a zero n =
@@ -149,10 +183,6 @@ all-back P xs ys all = subst (All P) (drop-append_seam xs ys) (All-drop P (lengt
 pub each-append : {X : Type 0} (P : X → Type 0) (xs ys : List X) → AllByRecursion P xs → AllByRecursion P ys → AllByRecursion P (xs ++ ys)
 each-append P [] ys these those = those
 each-append P (x ∷ xs) ys these those = (these.0, each-append P xs ys these.1 those)
-
-pub each-front : {X : Type 0} (P : X → Type 0) (xs ys : List X) → AllByRecursion P (xs ++ ys) → AllByRecursion P xs
-each-front P [] ys all = tt
-each-front P (x ∷ xs) ys all = (all.0, each-front P xs ys all.1)
 
 pub each-back : {X : Type 0} (P : X → Type 0) (xs ys : List X) → AllByRecursion P (xs ++ ys) → AllByRecursion P ys
 each-back P [] ys all = all

@@ -1,9 +1,9 @@
 -- The ranges of the items of a line are those of its block's items, in another order.
-use Rattle.std.proofs.Common.{◌≡◌, ℕ, zero, suc, ◌+◌, ◌<◌, ◌≤◌, nat_le, nat_lt, nat_eq, Bool, true, false, cond, not, ◌&&◌, List, [], ◌∷◌, ◌++◌, length, map, All, inl, inr, Option, None, Some, refl, ap, ap₂, sym, ◌∙◌, subst, arith}
+use Rattle.std.proofs.Common.{◌≡◌, ℕ, zero, suc, ◌+◌, ◌<◌, ◌≤◌, nat_lt, nat_eq, Bool, true, false, cond, not, ◌&&◌, List, [], ◌∷◌, ◌++◌, length, map, All, inl, inr, Option, None, Some, refl, ap, ap₂, sym, ◌∙◌, subst, arith}
 use Rattle.std.specs.Prelude.{if◌then◌else◌, slice_get, count_by}
 use Rattle.std.specs.List.{flat_map, range_with_len, AllByRecursion}
 use Rattle.std.proofs.lemmas.Bool.Decides.{nat_tests}
-use Rattle.std.proofs.lemmas.Bool.{and_parts, cases_lt, le-leb, lt-ltb, not-true}
+use Rattle.std.proofs.lemmas.Bool.{and_parts, le-leb, lt-ltb, not-true}
 use Rattle.std.proofs.lemmas.List.{length-map}
 use Rattle.std.proofs.lemmas.List.Elements.{All-cons, All-nil, All-append, All-tail, All-from_recursion}
 use Rattle.rd_base.specs.declared.element.Element.{Element}
@@ -20,7 +20,7 @@ use Rattle.rd_rows.specs.Laws.{ranges_of}
 use Rattle.rd_rows.specs.Placing.{is_item}
 use Rattle.rd_stack.specs.Lines.{item_elements_by, turn_elements, origin_of, item_elements, item_class, item_code, item_turns, line_of_items}
 use Rattle.rd_stack.proofs.EachElement.{item-each}
-use Rattle.rd_base.proofs.Lists.{all-at, count-cons, total}
+use Rattle.rd_base.proofs.Lists.{Follow, all-at, count-cons, follow-once, total}
 use Rattle.rd_base.specs.Cells.{bit_of}
 use Rattle.rd_blocks.proofs.Gives.{ItemsGive}
 
@@ -153,42 +153,16 @@ hits q (x ∷ xs) =
 
 -- items that tile
 
-tile-above : (from to k : ℕ) → from ≤ k → k < to → in_range k (from, to) ≡ true
-tile-above from to k low high = grind (arith, nat_tests)
+tile-follow : (since to : ℕ) (items : List Item) → Tile since to items → Follow (λ (r : ℕ × ℕ). r.0) (λ (r : ℕ × ℕ). r.1) since to (map range_of_item items)
+tile-follow since to [] tile = tile
+tile-follow since to (x ∷ xs) (inl empty) = inl (empty.0, tile-follow since to xs empty.1)
+tile-follow since to (x ∷ xs) (inr next) = inr (next.0, next.1, tile-follow x.to to xs next.2)
 
-tile-below : (from to k : ℕ) → k < from → in_range k (from, to) ≡ false
-tile-below from to k low = grind (arith, nat_tests)
-
-tile-past : (from to k : ℕ) → to ≤ k → in_range k (from, to) ≡ false
-tile-past from to k high = grind (arith, nat_tests)
-
-tile-empty : (b : Bool) (from to k : ℕ) → nat_le from k ≡ b → from ≡ to → (b && nat_lt k to) ≡ false
-tile-empty true from to k h e = grind (arith, nat_tests)
-tile-empty false from to k h e = refl
-
-pub tiled-none : (k since to : ℕ) (items : List Item) → Tile since to items → k < since → count_by (in_range k) (map range_of_item items) ≡ 0
-tiled-none k since to [] tile low = refl
-tiled-none k since to (x ∷ xs) (inl empty) low =
-    let none = tile-empty (nat_le x.from k) x.from x.to k refl empty.0 in
-    count-cons (in_range k) (range_of_item x) (map range_of_item xs) ∙ ap₂ (λ (b : Bool) (n : ℕ). cond b 1 0 + n) none (tiled-none k since to xs empty.1 low)
-tiled-none k since to (x ∷ xs) (inr next) low =
-    let start = next.0 in
-    let some = next.1 in
-    let none = tile-below x.from x.to k (omega (arith, start, low)) in
-    count-cons (in_range k) (range_of_item x) (map range_of_item xs) ∙ ap₂ (λ (b : Bool) (n : ℕ). cond b 1 0 + n) none (tiled-none k x.to to xs next.2 (omega (arith, start, some, low)))
-
-pub tiled-once : (k since to : ℕ) (items : List Item) → Tile since to items → since ≤ k → k < to → count_by (in_range k) (map range_of_item items) ≡ 1
-tiled-once k since to [] tile low high = absurd (omega (arith, tile, low, high))
-tiled-once k since to (x ∷ xs) (inl empty) low high =
-    let none = tile-empty (nat_le x.from k) x.from x.to k refl empty.0 in
-    count-cons (in_range k) (range_of_item x) (map range_of_item xs) ∙ ap₂ (λ (b : Bool) (n : ℕ). cond b 1 0 + n) none (tiled-once k since to xs empty.1 low high)
-tiled-once k since to (x ∷ xs) (inr next) low high =
-    let start = next.0 in
-    count-cons (in_range k) (range_of_item x) (map range_of_item xs)
-    ∙ (elim (cases_lt k x.to) as (λ _. cond (in_range k (range_of_item x)) 1 0 + count_by (in_range k) (map range_of_item xs) ≡ 1) [
-      | inl here ↦ let one = tile-above x.from x.to k (omega (arith, start, low)) here in let none = tiled-none k x.to to xs next.2 here in ap₂ (λ (b : Bool) (n : ℕ). cond b 1 0 + n) one none
-      | inr later ↦ let none = tile-past x.from x.to k (omega (arith, later)) in ap₂ (λ (b : Bool) (n : ℕ). cond b 1 0 + n) none (tiled-once k x.to to xs next.2 (omega (arith, later)) high)
-    ])
+tiled-once : (k since to : ℕ) (items : List Item) → Tile since to items → since ≤ k → k < to → count_by (in_range k) (map range_of_item items) ≡ 1
+tiled-once k since to items tile low high =
+    let once = (follow-once (λ (r : ℕ × ℕ). r.0) (λ (r : ℕ × ℕ). r.1) k since to (map range_of_item items) (tile-follow since to items tile)).1 in
+    let here : in_range k (since, to) ≡ true = grind (arith, nat_tests) in
+    once ∙ ap (λ (b : Bool). cond b 1 0) here
 
 -- each range begins where it ends or before, and ends within the block
 abbrev LiesWithin : ℕ → ℕ × ℕ → Type 0

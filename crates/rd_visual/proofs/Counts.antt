@@ -1,11 +1,10 @@
 -- Each position is covered by one item.
-use Rattle.std.proofs.Common.{◌≡◌, ℕ, suc, ◌+◌, ◌^◌, ◌<◌, ◌≤◌, nat_lt, Bool, true, false, cond, if◌then◌else◌, List, [], ◌∷◌, ◌++◌, length, map, All, inl, inr, Option, None, Some, refl, sym, ap, subst, ◌∙◌, arith}
+use Rattle.std.proofs.Common.{◌≡◌, ℕ, suc, ◌+◌, ◌^◌, ◌<◌, ◌≤◌, nat_lt, Bool, true, false, cond, if◌then◌else◌, List, [], ◌∷◌, ◌++◌, length, map, All, inr, Option, None, Some, refl, sym, ap, subst, ◌∙◌, arith}
 use Rattle.std.specs.Prelude.{count_by, slice_get, option_map}
 use Rattle.std.specs.List.{flat_map}
-use Rattle.std.proofs.lemmas.Bool.{cases_lt}
 use Rattle.std.proofs.lemmas.Bool.Decides.{nat_tests}
 use Rattle.std.proofs.lemmas.Option.{slice_get-map}
-use Rattle.rd_base.proofs.Lists.{count-append, count-cons}
+use Rattle.rd_base.proofs.Lists.{Follow, count-append, count-cons, follow-once}
 use Rattle.rd_ucd.specs.Data.{Data}
 use Rattle.rd_objects.specs.Things.{ObjectLists}
 use Rattle.rd_text.specs.Texts.{IsText, IsAccessible}
@@ -61,66 +60,16 @@ all-some s objects files = blocks-some s objects files (blocks_in files.classes 
 
 -- ranges that stand one behind the other hold each position between their ends once, and no other
 
-not-by : (b : Bool) (n m : ℕ) → m ≡ cond b 1 0 + n → b ≡ false → m ≡ n
-not-by true n m e out = absurd (let q : true ≡ false = out in cc)
-not-by false n m e out = omega (arith, e)
+stand-follow : (from to : ℕ) (rs : List Range) → StandBetween from to rs → Follow (λ (r : Range). r.from) (λ (r : Range). r.to) from to rs
+stand-follow from to [] stand = stand
+stand-follow from to (r ∷ rs) stand = let at = stand.0 in let some = stand.1 in inr (at, omega (arith, at, some), stand-follow r.to to rs stand.2)
 
-not-here : (pos : ℕ) (r : Range) (rs : List Range) → holds pos r ≡ false → count_by (holds pos) (r ∷ rs) ≡ count_by (holds pos) rs
-not-here pos r rs out = not-by (holds pos r) (count_by (holds pos) rs) (count_by (holds pos) (r ∷ rs)) (count-cons (holds pos) r rs) out
-
-one-by : (b : Bool) (n m : ℕ) → m ≡ cond b 1 0 + n → b ≡ true → n ≡ 0 → m ≡ 1
-one-by true n m e here none = omega (arith, e, none)
-one-by false n m e here none = absurd (let q : false ≡ true = here in cc)
-
-one-here : (pos : ℕ) (r : Range) (rs : List Range) → holds pos r ≡ true → count_by (holds pos) rs ≡ 0 → count_by (holds pos) (r ∷ rs) ≡ 1
-one-here pos r rs here none = one-by (holds pos r) (count_by (holds pos) rs) (count_by (holds pos) (r ∷ rs)) (count-cons (holds pos) r rs) here none
+stand-count : (pos from to : ℕ) (rs : List Range) → StandBetween from to rs → count_by (holds pos) rs ≡ cond (holds pos (record { from = from; to = to })) 1 0
+stand-count pos from to rs stand = (follow-once (λ (r : Range). r.from) (λ (r : Range). r.to) pos from to rs (stand-follow from to rs stand)).1
 
 few-by : (b : Bool) (n : ℕ) → n ≡ cond b 1 0 → n ≤ 1
 few-by true n e = omega (arith, e)
 few-by false n e = omega (arith, e)
-
-stand-below : (pos from to : ℕ) (rs : List Range) → StandBetween from to rs → pos < from → count_by (holds pos) rs ≡ 0
-stand-below pos from to [] stand low = refl
-stand-below pos from to (r ∷ rs) stand low =
-    let at = stand.0 in
-    let some = stand.1 in
-    let out : holds pos r ≡ false = grind (arith, nat_tests) in
-    let rest = stand-below pos r.to to rs stand.2 (omega (arith, at, some, low)) in
-    not-here pos r rs out ∙ rest
-
-stand-past : (pos from to : ℕ) (rs : List Range) → StandBetween from to rs → to ≤ pos → (from ≤ to) × (count_by (holds pos) rs ≡ 0)
-stand-past pos from to [] stand high = (omega (arith, stand), refl)
-stand-past pos from to (r ∷ rs) stand high =
-    let at = stand.0 in
-    let some = stand.1 in
-    let rest = stand-past pos r.to to rs stand.2 high in
-    let order = rest.0 in
-    let out : holds pos r ≡ false = grind (arith, nat_tests) in
-    (omega (arith, at, some, order), not-here pos r rs out ∙ rest.1)
-
-stand-once : (pos from to : ℕ) (rs : List Range) → StandBetween from to rs → from ≤ pos → pos < to → count_by (holds pos) rs ≡ 1
-stand-once pos from to [] stand low high = absurd (omega (arith, stand, low, high))
-stand-once pos from to (r ∷ rs) stand low high =
-    let at = stand.0 in
-    elim (cases_lt pos r.to) as (λ _. count_by (holds pos) (r ∷ rs) ≡ 1) [
-      | inl inside ↦
-          let here : holds pos r ≡ true = grind (arith, nat_tests) in
-          one-here pos r rs here (stand-below pos r.to to rs stand.2 inside)
-      | inr later ↦
-          let out : holds pos r ≡ false = grind (arith, nat_tests) in
-          not-here pos r rs out ∙ stand-once pos r.to to rs stand.2 later high
-    ]
-
-stand-count : (pos from to : ℕ) (rs : List Range) → StandBetween from to rs → count_by (holds pos) rs ≡ cond (holds pos (record { from = from; to = to })) 1 0
-stand-count pos from to rs stand =
-    let whole : Range = record { from = from; to = to } in
-    elim (cases_lt pos from) as (λ _. count_by (holds pos) rs ≡ cond (holds pos whole) 1 0) [
-      | inl low ↦ let out : holds pos whole ≡ false = grind (arith, nat_tests) in stand-below pos from to rs stand low ∙ sym (ap (λ (t : Bool). cond t 1 0) out)
-      | inr since ↦ elim (cases_lt pos to) as (λ _. count_by (holds pos) rs ≡ cond (holds pos whole) 1 0) [
-        | inl inside ↦ let here : holds pos whole ≡ true = grind (arith, nat_tests) in stand-once pos from to rs stand since inside ∙ sym (ap (λ (t : Bool). cond t 1 0) here)
-        | inr past ↦ let out : holds pos whole ≡ false = grind (arith, nat_tests) in (stand-past pos from to rs stand past).1 ∙ sym (ap (λ (t : Bool). cond t 1 0) out)
-      ]
-    ]
 
 -- the ranges of a block that its items tile
 module _ (s : BufferValue) (objects : ObjectLists) (files : Data) (b : Block) (tiles : IsTiled s objects files b) where
