@@ -1,11 +1,12 @@
 -- The runs of faces, found in one pass.
-use Rattle.std.proofs.Common.{◌≡◌, ℕ, suc, ◌+◌, ◌-◌, ◌<◌, ◌||◌, length, drop, get_or, Option, Result, is_some, codes, decimal, Bool, true, false, if◌then◌else◌, List, [], ◌∷◌, ◌++◌, refl, sym, ap, ◌∙◌, subst, arith, append-nil, true≢false}
+use Rattle.std.proofs.Common.{◌≡◌, ℕ, ◌+◌, ◌-◌, ◌<◌, ◌||◌, length, drop, get_or, Option, Result, is_some, codes, decimal, Bool, true, false, if◌then◌else◌, List, [], ◌∷◌, ◌++◌, refl, sym, ap, ◌∙◌, subst, arith, append-nil, true≢false}
 use Rattle.std.proofs.lemmas.Bool.{cond-true, cond-false}
+use Rattle.std.proofs.lemmas.List.{drop_more}
 use Rattle.rd_base.specs.Faces.{Attributes, plain}
 use Rattle.rd_base.specs.Equals.{same_face}
 use Rattle.rd_base.proofs.Equals.{face-told, face-itself}
+use Rattle.rd_base.proofs.Lists.{drop-read}
 use Rattle.rd_dump.specs.Dumps.{with_columns, runs_of, run_text, runs_text, ended_text, faces_of, pieces, numbers_text, number_text, numbers_behind, rows_text, row_line}
-use Rattle.std.proofs.Math.Seq.{drop-cons}
 use Rattle.std.specs.Result.{IsErr}
 use Rattle.rd_base.specs.Cells.{face_after}
 use Rattle.rd_dump.specs.Prints.{Prints}
@@ -107,10 +108,7 @@ pub runs-step : (first column first' i : ℕ) (face next face' : Attributes) (ce
     → first' ≡ (if same_face next face then first else column) → face' ≡ (if same_face next face then face else next)
     → open_text first column face (faces_of face (drop i cells)) ≡ ended_text first column face next ++ open_text first' (column + 1) face' (faces_of face' (drop (i + 1) cells))
 runs-step first column first' i face next face' cell cells less is of p q =
-    let after : suc i ≡ i + 1 = omega arith in
-    let head : drop i cells ≡ cell ∷ drop (i + 1) cells =
-    drop-cons cells i cell less ∙ ap (λ x. x ∷ drop (suc i) cells) (sym is) ∙ ap (λ k. cell ∷ drop k cells) after in
-    ap (λ l. open_text first column face (faces_of face l)) head
+    ap (λ l. open_text first column face (faces_of face l)) (drop-read cells i cell less is)
     ∙ ap (λ f. open_text first column face (f ∷ faces_of f (drop (i + 1) cells))) (sym of)
     ∙ open-step first column first' face next face' (drop (i + 1) cells) p q
 
@@ -118,16 +116,11 @@ runs-step first column first' i face next face' cell cells less is of p q =
 pub numbers-step : (any now : Bool) (i : ℕ) (number : Option ℕ) (numbers : List (Option ℕ)) → i < length numbers → number ≡ get_or numbers i number → now ≡ (any || is_some number)
     → numbers_behind any (drop i numbers) ≡ number_text any number ++ numbers_behind now (drop (i + 1) numbers)
 numbers-step any now i number numbers less is of =
-    let after : suc i ≡ i + 1 = omega arith in
-    let head : drop i numbers ≡ number ∷ drop (i + 1) numbers =
-    drop-cons numbers i number less ∙ ap (λ x. x ∷ drop (suc i) numbers) (sym is) ∙ ap (λ k. number ∷ drop k numbers) after in
-    ap (numbers_behind any) head ∙ ap (λ b. number_text any number ++ numbers_behind b (drop (i + 1) numbers)) (sym of)
+    ap (numbers_behind any) (drop-read numbers i number less is) ∙ ap (λ b. number_text any number ++ numbers_behind b (drop (i + 1) numbers)) (sym of)
 
 -- what is left of the rows, by the next one
 pub rows-step : (rows : List (List Cell)) (i : ℕ) → i < length rows → rows_text i (drop i rows) ≡ row_line i (get_or rows i []) ++ rows_text (i + 1) (drop (i + 1) rows)
-rows-step rows i less =
-    let after : suc i ≡ i + 1 = omega arith in
-    ap (rows_text i) (drop-cons rows i [] less) ∙ ap (λ k. row_line i (get_or rows i []) ++ rows_text (i + 1) (drop k rows)) after
+rows-step rows i less = ap (rows_text i) (drop_more rows i [] less)
 
 -- a run's text, where the last column is told by an equation
 pub run_text-last : (first end last : ℕ) (face : Attributes) → same_face face plain ≡ false → last ≡ end - 1

@@ -1,10 +1,9 @@
 -- Texts that are written piece by piece.
-use Rattle.std.proofs.Common.{◌≡◌, ℕ, suc, ◌+◌, ◌≤◌, ◌<◌, List, [], ◌++◌, length, Option, Result, Ok, Err, true≢false, sym, ap, ◌∙◌, subst, append_assoc, arith, drop, get_or}
+use Rattle.std.proofs.Common.{◌≡◌, ℕ, ◌+◌, ◌≤◌, ◌<◌, List, [], ◌++◌, length, Option, Result, Ok, Err, true≢false, sym, ap, ◌∙◌, subst, append_assoc, arith, drop, get_or}
 use Rattle.std.specs.Result.{IsErr}
 use Rattle.std.specs.Io.KnownBytes.{Appends}
 use Rattle.std.proofs.KnownBytes.{Appends-nil, Appends-trans}
-use Rattle.std.proofs.Math.Seq.{drop-cons}
-use Rattle.std.proofs.lemmas.List.{drop_all}
+use Rattle.std.proofs.lemmas.List.{drop_all, drop_more}
 use Rattle.std.specs.List.{flat_map}
 use Rattle.rd_io.specs.Devices.{Writes}
 use Rattle.rd_io.proofs.Bytes.{front-after, front-before, rose-after}
@@ -65,9 +64,7 @@ going-stop a b c f g h all rest piece more s going e p bad =
 
 -- the text of what is left of a list, by its next element
 pub flat-step : {A : Type 0} (f : A → List ℕ) (xs : List A) (i : ℕ) (d : A) → i < length xs → flat_map f (drop i xs) ≡ f (get_or xs i d) ++ flat_map f (drop (i + 1) xs)
-flat-step f xs i d less =
-    let next : suc i ≡ i + 1 = omega arith in
-    ap (flat_map f) (drop-cons xs i d less) ∙ ap (λ k. f (get_or xs i d) ++ flat_map f (drop k xs)) next
+flat-step f xs i d less = ap (flat_map f) (drop_more xs i d less)
 
 -- an element's text was written in a loop over a list
 pub going-each : {A T E : Type 0} (f : A → List ℕ) (xs : List A) (i : ℕ) (d x : A) (a b c : Option (List ℕ)) (k l m : ℕ) (all : List ℕ) (t : T)

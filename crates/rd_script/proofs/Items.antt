@@ -1,11 +1,11 @@
 -- The items of an array, one after the other.
-use Rattle.std.proofs.Common.{◌≡◌, ◌≢◌, ℕ, suc, ◌+◌, ◌<◌, ◌≤◌, Bool, true, false, nat_le, if◌then◌else◌, option_and_then, Option, None, Some, List, [], ◌∷◌, ◌++◌, length, drop, get_or, refl, sym, ap, ◌∙◌, arith, append_assoc}
-use Rattle.std.proofs.Math.Seq.{drop-cons}
+use Rattle.std.proofs.Common.{◌≡◌, ◌≢◌, ℕ, suc, ◌+◌, ◌<◌, ◌≤◌, Bool, true, false, nat_le, if◌then◌else◌, option_and_then, Option, None, Some, List, [], ◌∷◌, ◌++◌, length, drop, get_or, refl, sym, ap, ◌∙◌, append_assoc}
 use Rattle.std.proofs.lemmas.Bool.{le-leb, lt-leb}
 use Rattle.serde_json.specs.Data.{Data}
 use Rattle.serde_json.specs.Find.{as_array}
 use Rattle.serde_json.specs.View.{view, items_view}
 use Rattle.serde_json.specs.declared.value.Value.{Value}
+use Rattle.rd_base.proofs.Lists.{drop-read}
 use Rattle.rd_script.specs.Fields.{kept_if, items_count, consed, each_item, list_of, two_items_of, four_items_of}
 
 -- items that were found before others
@@ -20,10 +20,7 @@ joined-push xs x (Some ys) = ap Some (append_assoc xs (x ∷ []) ys)
 -- what is left of the items, by the next one
 each-step : {T : Type 0} (kind : Data → Option T) (vs : List Value) (i : ℕ) (v : Value) → i < length vs → v ≡ get_or vs i v
     → each_item kind (items_view (drop i vs)) ≡ consed (kind (view v)) (each_item kind (items_view (drop (i + 1) vs)))
-each-step kind vs i v less is =
-    let after : suc i ≡ i + 1 = omega arith in
-    let head : drop i vs ≡ v ∷ drop (i + 1) vs = drop-cons vs i v less ∙ ap (λ x. x ∷ drop (suc i) vs) (sym is) ∙ ap (λ k. v ∷ drop k vs) after in
-    ap (λ l. each_item kind (items_view l)) head
+each-step kind vs i v less is = ap (λ l. each_item kind (items_view l)) (drop-read vs i v less is)
 
 pub each-more : {T : Type 0} (kind : Data → Option T) (vs : List Value) (i : ℕ) (v : Value) (list : List T) (x : T) (whole : Option (List T)) → i < length vs → v ≡ get_or vs i v
     → Some x ≡ kind (view v) → joined list (each_item kind (items_view (drop i vs))) ≡ whole
