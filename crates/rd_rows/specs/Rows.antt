@@ -83,7 +83,7 @@ abbrev pub from_edge : Bool → List Cell → List Cell
 from_edge reversed cells = if reversed then mirror_image cells else cells
 
 -- the row of these cells and items, which take so many columns: before them the truncation mark where the row is scrolled sideways;
--- continued where it ends with the mark of a row whose line goes on
+-- continued where it asks for the mark of a row whose line goes on
 abbrev pub finished_row : Cutting → ℕ → List Cell → List Begin → Bool → Bool → RowMeaning
 finished_row c used cells begins continued ends_block = record {
   cells = from_edge c.reversed (filled (room c.shape) (front_mark c used ++ cells) ++ last_cell c used continued ∷ []);
@@ -93,7 +93,7 @@ finished_row c used cells begins continued ends_block = record {
 }
 
 -- the row of these placed elements, which take so many columns: it shows those that are seen, and has each item that begins among them,
--- seen or not; continued where its line goes on
+-- seen or not; continued where it asks for the mark of a row whose line goes on
 abbrev pub row_of : Cutting → ℕ → Bool → List Placed → RowMeaning
 row_of c used continued ps = finished_row c used (flat_map (seen_in c.shape) ps) (flat_map (begin_of c.shape) ps) continued (has_line_end ps)
 
