@@ -164,40 +164,38 @@ room-left true b n from to ha hb h = absurd (cc)
 room-left false true n from to ha hb h = absurd (cc)
 room-left false false n from to ha hb h = leb-false 65536 n hb
 
+-- a buffer with other overlays, of which each lies in the text
+overlays-within : (b : props.BufferValue) (overlays slots : List (Option Overlay)) (settings : SettingValues) → IsWithin b → overlays ≡ slots → length slots ≤ 65536
+    → AreIn (length b.text.text) slots → IsWithin (record b { overlays = overlays; settings = settings })
+overlays-within b overlays slots settings within is few all = record {
+  kinds = within.kinds;
+  first = within.first;
+  last = within.last;
+  few = subst (λ xs. length xs ≤ 65536) (sym is) few;
+  overlays = subst (AreIn (length b.text.text)) (sym is) all;
+}
+
 pub made-within : (b : props.BufferValue) (overlays : List (Option Overlay)) (settings : SettingValues) (from to : ℕ) (o : Overlay) → IsWithin b
     → is_range_of_all b.text from to ≡ true → make_fault b.overlays from to ≡ None → o.from ≡ from → o.to ≡ to → overlays ≡ b.overlays ++ Some o ∷ []
     → IsWithin (record b { overlays = overlays; settings = settings })
 made-within b overlays settings from to o within range none f g is =
-    let few = within.few in
     let room = room-left (nat_lt to from) (nat_le 65536 (length b.overlays)) (length b.overlays) from to refl refl none in
-    let new : AreIn (length b.text.text) (b.overlays ++ Some o ∷ []) = λ number p h. elim (after-end b.overlays o number p h) [
+    overlays-within b overlays (b.overlays ++ Some o ∷ []) settings within is (omega (arith, room, length-append b.overlays (Some o ∷ [])))
+    (λ number p h. elim (after-end b.overlays o number p h) [
       | inl old ↦ within.overlays number p old
       | inr same ↦ subst (IsOverlayIn (length b.text.text)) same (in-range b.text from to o range f g)
-    ] in
-    record {
-      kinds = within.kinds;
-      first = within.first;
-      last = within.last;
-      few = subst (λ xs. length xs ≤ 65536) (sym is) (omega (arith, room, length-append b.overlays (Some o ∷ [])));
-      overlays = subst (AreIn (length b.text.text)) (sym is) new;
-    }
+    ])
 
 -- what is put at a number lies in the text
 pub put-within : (b : props.BufferValue) (overlays : List (Option Overlay)) (settings : SettingValues) (number : ℕ) (slot : Option Overlay) → IsWithin b
     → ((p : Overlay) → slot ≡ Some p → IsOverlayIn (length b.text.text) p) → overlays ≡ set b.overlays number slot
     → IsWithin (record b { overlays = overlays; settings = settings })
 put-within b overlays settings number slot within new is =
-    let all : AreIn (length b.text.text) (set b.overlays number slot) = λ k p h. elim (after-set b.overlays number slot k p h) [
+    overlays-within b overlays (set b.overlays number slot) settings within is (rw length-set within.few)
+    (λ k p h. elim (after-set b.overlays number slot k p h) [
       | inl old ↦ within.overlays k p old
       | inr here ↦ new p here
-    ] in
-    record {
-      kinds = within.kinds;
-      first = within.first;
-      last = within.last;
-      few = subst (λ xs. length xs ≤ 65536) (sym is) (rw length-set within.few);
-      overlays = subst (AreIn (length b.text.text)) (sym is) all;
-    }
+    ])
 
 moved-in : (t : TextValue) (from to : ℕ) (slot : Option Overlay) (p : Overlay) → is_range_of_all t from to ≡ true
     → slot_changed (λ overlay. record overlay { from = from; to = to }) slot ≡ Some p → IsOverlayIn (length t.text) p
