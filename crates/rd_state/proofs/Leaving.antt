@@ -1,5 +1,5 @@
 -- What ops leave of what is seen.
-use Rattle.std.proofs.Common.{◌≡◌, ◌≢◌, ℕ, ◌+◌, ◌-◌, inl, inr, Bool, true, is_some, min, max, ℤ, pos, Option, Some, Result, Ok, List, [], ◌∷◌, ◌++◌, length, subst, sym, ap, refl, ◌∙◌}
+use Rattle.std.proofs.Common.{◌≡◌, ◌≢◌, ℕ, ◌+◌, ◌-◌, ◌≤◌, inl, inr, Bool, true, is_some, min, max, ℤ, pos, Option, Some, Result, Ok, List, [], ◌∷◌, ◌++◌, length, subst, sym, ap, refl, ◌∙◌}
 use Rattle.std.specs.Prelude.{slice_get, slice_set, ◌-ℤ◌}
 use Rattle.rd_base.proofs.Lists.{get-set}
 use Rattle.rd_overlays.specs.declared.overlay.Overlay.{Overlay}
@@ -80,6 +80,13 @@ stays-made laws o from to priority front rear c d v h =
     let range = is_range_of_all-means c.text from to m.0 in
     subst (StaysAround o from to c) m.2 (record { seen = laws.overlays.made (seen c) (seen (with_overlays c all)) o overlay range.ordered (overlays-are c all); settings = refl })
 
+-- where overlays become others, what stays around one that lives
+around-one : (o : ObjectLists) (number : ℕ) (slots : List (Option Overlay)) (c d : ContentValue) (P : Overlay → ContentValue → Type 0) → IsContent o c
+    → (overlay : Overlay) × (overlay_at c.overlays number ≡ Some overlay) → with_overlays c slots ≡ d
+    → ((overlay : Overlay) → overlay_at c.overlays number ≡ Some overlay → overlay.from ≤ overlay.to → P overlay (with_overlays c slots))
+    → (overlay : Overlay) × (overlay_at c.overlays number ≡ Some overlay) × P overlay d
+around-one o number slots c d P v there is stays = (there.0, there.1, subst (P there.0) is (stays there.0 there.1 (ordered o c v number there.0 there.1)))
+
 -- what happens around an overlay that lives
 abbrev pub AroundOverlay : ObjectLists → ℕ → ContentValue → ContentValue → Type 0
 AroundOverlay o number c d = (overlay : Overlay) × (overlay_at c.overlays number ≡ Some overlay) × StaysAround o overlay.from overlay.to c d
@@ -88,24 +95,16 @@ pub stays-dropped : (laws : LeaveLaws) (o : ObjectLists) (number : ℕ) (c d : C
 stays-dropped laws o number c d v h =
     let all = overlays.dropped c.overlays number in
     let m = dropping-means number c d h in
-    let there = m.0 in (
-      there.0,
-      there.1,
-      subst (StaysAround o there.0.from there.0.to c) m.2
-          (record { seen = laws.overlays.dropped (seen c) (seen (with_overlays c all)) o number there.0 there.1 (ordered o c v number there.0 there.1) (overlays-are c all); settings = refl }),
-    )
+    around-one o number all c d (λ x. StaysAround o x.from x.to c) v m.0 m.2
+    (λ x at before. record { seen = laws.overlays.dropped (seen c) (seen (with_overlays c all)) o number x at before (overlays-are c all); settings = refl })
 
 pub stays-given : (laws : LeaveLaws) (o : ObjectLists) (number : ℕ) (kind : Kind) (value : Option ℕ) (c d : ContentValue) → IsContent o c → overlay_putting o number kind value c ≡ Ok d
     → AroundOverlay o number c d
 stays-given laws o number kind value c d v h =
     let all = overlays.given c.overlays number kind value in
     let m = giving-means o number kind value c d h in
-    let there = m.0 in (
-      there.0,
-      there.1,
-      subst (StaysAround o there.0.from there.0.to c) m.2
-          (record { seen = laws.overlays.given (seen c) (seen (with_overlays c all)) o number there.0 kind value there.1 (ordered o c v number there.0 there.1) (overlays-are c all); settings = refl }),
-    )
+    around-one o number all c d (λ x. StaysAround o x.from x.to c) v m.0 m.2
+    (λ x at before. record { seen = laws.overlays.given (seen c) (seen (with_overlays c all)) o number x kind value at before (overlays-are c all); settings = refl })
 
 -- what happens around both ranges of an overlay
 abbrev pub AroundBoth : ObjectLists → ℕ → ℕ → ℕ → ContentValue → ContentValue → Type 0
@@ -115,13 +114,9 @@ pub stays-moved : (laws : LeaveLaws) (o : ObjectLists) (number from to : ℕ) (c
 stays-moved laws o number from to c d v h =
     let all = overlays.moved c.overlays number from to in
     let m = moving-means number from to c d h in
-    let there = m.0 in
-    let range = is_range_of_all-means c.text from to m.1 in (
-      there.0,
-      there.1,
-      subst (λ (x : ContentValue). Stays c o x o (min there.0.from from) (max there.0.to to + 1) (pos 0)) m.2
-          (record { seen = laws.overlays.moved (seen c) (seen (with_overlays c all)) o number from to there.0 there.1 (ordered o c v number there.0 there.1) range.ordered (overlays-are c all); settings = refl }),
-    )
+    let range = is_range_of_all-means c.text from to m.1 in
+    around-one o number all c d (λ x y. Stays c o y o (min x.from from) (max x.to to + 1) (pos 0)) v m.0 m.2
+    (λ x at before. record { seen = laws.overlays.moved (seen c) (seen (with_overlays c all)) o number from to x at before range.ordered (overlays-are c all); settings = refl })
 
 pub stays-margin : (laws : LeaveLaws) (o : ObjectLists) (number : ℕ) (string : Option ℕ) (c d : ContentValue) → margin_putting o number string c ≡ Ok d → StaysWhole c o d o
 stays-margin laws o number string c d h =
@@ -168,3 +163,15 @@ pub here-stays : (s t : StateValue) (i k : ℕ) (edit : ContentValue → Result 
 here-stays s t i k edit b c P e hb hc stays is =
     let both = same-at s t i k edit b c e hb hc is in
     subst (P b.content c.content) (ap (λ (x : StateValue). x.objects) e.is) (stays b.content c.content both.1 both.0 refl)
+
+-- what an edit of a part leaves of its own buffer, and of the others
+pub part-stays : (laws : LeaveLaws) (s t : StateValue) (i head tail : ℕ) (added : ℤ) (edit : ContentValue → Result ContentValue Refused) → IsEditOf s t i edit
+    → ((b : BufferValue) (d : ContentValue) → slice_get s.buffers i ≡ Some b → edit b.content ≡ Ok d → Stays b.content s.objects d s.objects head tail added)
+    → (k : ℕ) (b c : BufferValue) → slice_get s.buffers k ≡ Some b → slice_get t.buffers k ≡ Some c
+    → (k ≡ i → Stays b.content s.objects c.content t.objects head tail added) × (k ≢ i → StaysWhole b.content s.objects c.content t.objects)
+part-stays laws s t i head tail added edit e stays k b c hb hc = (
+  λ is.
+      let own = same-at s t i k edit b c e hb hc is in
+      subst (λ (o : ObjectLists). Stays b.content s.objects c.content o head tail added) (ap (λ (x : StateValue). x.objects) e.is) (stays b c.content own.1 own.0),
+  λ ne. others-whole laws s t i k edit b c e hb hc ne,
+)

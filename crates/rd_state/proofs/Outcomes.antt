@@ -36,7 +36,7 @@ use Rattle.rd_state.proofs.AllSteps.{moved-buffer}
 use Rattle.rd_state.proofs.Below.{LeaveLaws, GrowLaws}
 use Rattle.rd_state.proofs.ByNumber.{NumberedWindow, Each, window-each, each-same, each-with, each-moved, each-end, each-without}
 use Rattle.rd_state.proofs.Keeping.{moved_by}
-use Rattle.rd_state.proofs.Leaving.{whole, whole-objects, stays-inserted, stays-deleted, StaysAround, stays-put, stays-made, AroundOverlay, stays-dropped, stays-given, stays-moved, stays-margin, others-whole, here-stays}
+use Rattle.rd_state.proofs.Leaving.{whole, whole-objects, stays-inserted, stays-deleted, StaysAround, stays-put, stays-made, AroundOverlay, stays-dropped, stays-given, stays-moved, stays-margin, others-whole, here-stays, part-stays}
 use Rattle.rd_state.proofs.Naming.{made-none}
 use Rattle.rd_state.proofs.Showing.{found-ok, buffer-ok, on_tree-ok, changing-ok, retold-ok, unless-ok}
 use Rattle.rd_state.proofs.Stepping.{IsEditOf, moving-is, edited-is, edited_moving-is}
@@ -139,14 +139,7 @@ range-outcome : (laws : LeaveLaws) (grow : GrowLaws) (s t : StateValue) (i from 
     → ((b : BufferValue) (d : ContentValue) → slice_get s.buffers i ≡ Some b → edit b.content ≡ Ok d → Stays b.content s.objects d s.objects from (from + added + 1) (pos added -ℤ pos removed))
     → Show s t (Edit i from removed added) → Outcome s t (Edit i from removed added)
 range-outcome laws grow s t i from removed added edit e stays show =
-    edit-outcome laws grow s t i edit (Edit i from removed added) e
-    (λ k b c hb hc. (
-      λ is. here-stays s t i k edit b c (λ x y o. Stays x s.objects y o from (from + added + 1) (pos added -ℤ pos removed)) e hb hc
-          (λ x y at gives same. subst (λ (z : ContentValue). Stays z s.objects y s.objects from (from + added + 1) (pos added -ℤ pos removed)) (sym same)
-          (stays b y at (subst (λ (z : ContentValue). edit z ≡ Ok y) same gives))) is,
-      λ ne. others-whole laws s t i k edit b c e hb hc ne,
-    ))
-    show
+    edit-outcome laws grow s t i edit (Edit i from removed added) e (part-stays laws s t i from (from + added + 1) (pos added -ℤ pos removed) edit e stays) show
 
 -- an edit of all that shows a buffer
 all-outcome : (laws : LeaveLaws) (grow : GrowLaws) (s t : StateValue) (i : ℕ) (edit : ContentValue → Result ContentValue Refused) → IsEditOf s t i edit → Show s t (All i) → Outcome s t (All i)
@@ -184,18 +177,13 @@ moved-outcome laws grow s t name number from to v e =
     let stays = λ (b : BufferValue) (d : ContentValue) (at : slice_get s.buffers i ≡ Some b) (gives : edit b.content ≡ Ok d). stays-moved laws s.objects number from to b.content d (v.buffers.contents i b at) gives in
     let there = stays e.0.buffer e.0.content e.0.at e.0.gives in
     let is : overlay_in s name number ≡ Some there.0 = found-overlay s name number e.0.buffer there.0 e.0.at there.1 in
-    let Both : ContentValue → ContentValue → ObjectLists → Type 0 = λ x y o. Stays x s.objects y o (min there.0.from from) (max there.0.to to + 1) (pos 0) in
     subst (λ (o : Option Overlay). Outcome s t (moved_effect i from to o)) (sym is)
     (edit-outcome laws grow s t i edit (Moved i (there.0.from, there.0.to) (from, to)) e.0
-    (λ k b c hb hc. (
-      λ same. here-stays s t i k edit b c Both e.0 hb hc
-          (λ x y at gives eq.
-          let here = stays b y at (subst (λ (z : ContentValue). edit z ≡ Ok y) eq gives) in
-          let one : here.0 ≡ there.0 = one-value (overlay_in s name number) here.0 there.0 (found-overlay s name number b here.0 at here.1) is in
-          subst (λ (z : ContentValue). Both z y s.objects) (sym eq)
-          (subst (λ (o : Overlay). Stays b.content s.objects y s.objects (min o.from from) (max o.to to + 1) (pos 0)) one here.2)) same,
-      λ ne. others-whole laws s t i k edit b c e.0 hb hc ne,
-    ))
+    (part-stays laws s t i (min there.0.from from) (max there.0.to to + 1) (pos 0) edit e.0
+    (λ b d at gives.
+    let here = stays b d at gives in
+    let same : here.0 ≡ there.0 = one-value (overlay_in s name number) here.0 there.0 (found-overlay s name number b here.0 at here.1) is in
+    subst (λ (o : Overlay). Stays b.content s.objects d s.objects (min o.from from) (max o.to to + 1) (pos 0)) same here.2))
     (show-same s t (Moved i (there.0.from, there.0.to) (from, to)) e.1))
 
 -- a margin string changes nothing that is seen
