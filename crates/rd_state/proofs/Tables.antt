@@ -1,5 +1,5 @@
 -- The values of text properties as lists, one value for each character, and what edits of a buffer make of what it holds.
-use Rattle.std.proofs.Common.{◌≡◌, ℕ, zero, suc, ◌+◌, ◌<◌, ◌≤◌, inl, inr, ◌&&◌, nat_lt, nat_le, ◌==◌, Option, None, Some, List, length, map, get_or, sym, ap, subst, refl, ◌∙◌, arith}
+use Rattle.std.proofs.Common.{◌≡◌, ℕ, zero, suc, ◌+◌, ◌<◌, ◌≤◌, inl, inr, nat_lt, Option, None, Some, List, length, map, get_or, sym, ap, subst, refl, ◌∙◌, arith}
 use Rattle.std.proofs.lemmas.Bool.{cases_lt}
 use Rattle.std.proofs.lemmas.List.{get_or_past}
 use Rattle.std.specs.FinMap as finite
@@ -7,7 +7,7 @@ use Rattle.rd_text.specs.Texts.{TextValue, inserted, deleted}
 use Rattle.rd_base.specs.Settings.{SettingValues}
 use Rattle.rd_overlays.specs.declared.overlay.Kind.{Kind}
 use Rattle.rd_overlays.specs.declared.overlay.Overlay.{Overlay}
-use Rattle.rd_overlays.specs.Overlays.{place_of, slot_grown, slot_shrunk}
+use Rattle.rd_overlays.specs.Overlays.{slot_grown, slot_shrunk}
 use Rattle.rd_margins.specs.Marks.{MarkValues}
 use Rattle.rd_props.specs.Buffers as props
 use Rattle.rd_props.specs.Edits.{opened, closed, put_on}
@@ -16,7 +16,6 @@ use Rattle.rd_state.specs.States.{ContentValue, listed, table, values_on, value_
 use Rattle.rd_state.specs.Held.{content_of}
 use Rattle.rd_state.specs.Valid.{IsWithin}
 use Rattle.rd_state.specs.Edits.{marked_modified, grown, shrunk}
-use Rattle.rd_state.proofs.Opening.{branches}
 
 -- ---- lists
 
@@ -38,17 +37,6 @@ AreAlike f g = (kind p : ℕ) → f kind p ≡ g kind p
 
 pub values-alike : (t u : TextValue) (f g : ℕ → ℕ → Option ℕ) → u ≡ t → AreAlike g f → values_on t f ≡ values_on u g
 values-alike t u f g e h = sym (table-same (length t.text) g f h) ∙ ap (λ (x : TextValue). values_on x g) (sym e)
-
-pub opened-alike : (f g : ℕ → ℕ → Option ℕ) (place n : ℕ) → AreAlike f g → AreAlike (opened f place n) (opened g place n)
-opened-alike f g place n h kind p =
-    branches (nat_lt p place) (f kind p) _ (g kind p) _ (h kind p) (branches (nat_lt p (place + n)) None _ None _ refl (h kind _))
-
-pub closed-alike : (f g : ℕ → ℕ → Option ℕ) (from to : ℕ) → AreAlike f g → AreAlike (closed f from to) (closed g from to)
-closed-alike f g from to h kind p = branches (nat_lt p from) (f kind p) _ (g kind p) _ (h kind p) (h kind _)
-
-pub put_on-alike : (f g : ℕ → ℕ → Option ℕ) (chosen : Kind) (from to : ℕ) (value : Option ℕ) → AreAlike f g → AreAlike (put_on f chosen from to value) (put_on g chosen from to value)
-put_on-alike f g chosen from to value h kind p =
-    branches (kind == place_of chosen) _ (f kind p) _ (g kind p) (branches (nat_le from p && nat_lt p to) value (f kind p) value (g kind p) refl (h kind p)) (h kind p)
 
 -- ---- looking at them
 
@@ -108,18 +96,14 @@ new-content b m e f = λ i. record {
   marks = f i;
 }
 
--- a change of values that goes by the values alone
-abbrev pub GoesByValues : ((ℕ → ℕ → Option ℕ) → ℕ → ℕ → Option ℕ) → Type 0
-GoesByValues change = (f g : ℕ → ℕ → Option ℕ) → AreAlike f g → AreAlike (change f) (change g)
-
 -- what is left after an edit
 changed-content : (b c : BufferState) (m : MarkValues) (text : TextValue) (change : (ℕ → ℕ → Option ℕ) → ℕ → ℕ → Option ℕ) (overlays : List (Option Overlay)) (settings : SettingValues)
-    → IsWithin (props.meaning b) → GoesByValues change → c.text ≡ text → AreAlike (props.values_of c.spans) (change (props.values_of b.spans)) → c.overlays ≡ overlays → c.settings ≡ settings
+    → IsWithin (props.meaning b) → c.text ≡ text → AreAlike (props.values_of c.spans) (change (props.values_of b.spans)) → c.overlays ≡ overlays → c.settings ≡ settings
     → ◌≡◌ {A = ContentValue}
     (record { text = text; properties = values_on text (change (value_in (values_on b.text (props.values_of b.spans)))); overlays = overlays; settings = settings; marks = m }) (content_of c m)
-changed-content b c m text change overlays settings within by same values is set =
+changed-content b c m text change overlays settings within same values is set =
     let f = value_in (values_on b.text (props.values_of b.spans)) in
-    let alike : AreAlike (props.values_of c.spans) (change f) = λ kind p. values kind p ∙ sym (by f (props.values_of b.spans) (values-kept b within) kind p) in
+    let alike : AreAlike (props.values_of c.spans) (change f) = λ kind p. values kind p ∙ λ i. change (λ k q. sym (values-kept b within k q) i) kind p in
     let lists = values-alike text c.text (change f) (props.values_of c.spans) same alike in
     λ i. record { text = sym same i; properties = lists i; overlays = sym is i; settings = sym set i; marks = m }
 
@@ -129,7 +113,7 @@ pub grown-content : (b c : BufferState) (m : MarkValues) (pos : ℕ) (new : List
     → c.overlays ≡ map (slot_grown pos (length new)) b.overlays → c.settings ≡ marked_modified (nat_lt 0 (length new)) b.settings
     → grown (content_of b m) pos new ≡ content_of c m
 grown-content b c m pos new within same values overlays settings =
-    changed-content b c m (inserted b.text pos new) (λ f. opened f pos (length new)) _ _ within (λ f g. opened-alike f g pos (length new)) same values overlays settings
+    changed-content b c m (inserted b.text pos new) (λ f. opened f pos (length new)) _ _ within same values overlays settings
 
 -- after a range was taken away
 pub shrunk-content : (b c : BufferState) (m : MarkValues) (from to : ℕ) → IsWithin (props.meaning b) → c.text ≡ deleted b.text from to
@@ -137,11 +121,11 @@ pub shrunk-content : (b c : BufferState) (m : MarkValues) (from to : ℕ) → Is
     → c.overlays ≡ map (slot_shrunk from to) b.overlays → c.settings ≡ marked_modified (nat_lt from to) b.settings
     → shrunk (content_of b m) from to ≡ content_of c m
 shrunk-content b c m from to within same values overlays settings =
-    changed-content b c m (deleted b.text from to) (λ f. closed f from to) _ _ within (λ f g. closed-alike f g from to) same values overlays settings
+    changed-content b c m (deleted b.text from to) (λ f. closed f from to) _ _ within same values overlays settings
 
 -- after a property was put on a range
 pub put-content : (b : BufferState) (spans : List (List (Option ℕ))) (m : MarkValues) (kind : Kind) (from to : ℕ) (value : Option ℕ) → IsWithin (props.meaning b)
     → AreAlike (props.values_of spans) (put_on (props.values_of b.spans) kind from to value)
     → record (content_of b m) { properties = values_on b.text (put_on (value_in (values_on b.text (props.values_of b.spans))) kind from to value) } ≡ content_of (record b { spans = spans }) m
 put-content b spans m kind from to value within values =
-    changed-content b (record b { spans = spans }) m b.text (λ f. put_on f kind from to value) b.overlays b.settings within (λ f g. put_on-alike f g kind from to value) refl values refl refl
+    changed-content b (record b { spans = spans }) m b.text (λ f. put_on f kind from to value) b.overlays b.settings within refl values refl refl
