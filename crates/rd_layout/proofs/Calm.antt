@@ -30,7 +30,7 @@ use Rattle.rd_state.specs.declared.window.WindowState.{WindowState}
 use Rattle.rd_tree.specs.Calls.{Configuration, split_tree, remove_tree, resize_tree, mode_tree, margins_tree}
 use Rattle.rd_tree.specs.declared.fault.TreeFault.{TreeFault}
 use Rattle.rd_layout.specs.Changes.{change_by, if_shown, restyled}
-use Rattle.rd_layout.proofs.StepParts.{found, unless, objects-if, tree-if, treed-if, making-if, edited-if, edited_moving-if, typing-if, setting-if, placing-if}
+use Rattle.rd_state.proofs.StepParts.{found, unless, objects-if, tree-if, treed-if, making-if, edited-if, edited_moving-if, typing-if, setting-if, placing-if}
 use Rattle.rd_state.proofs.ByNumber.{NumberedWindow, Each, each-same, each-with, each-moved, each-end, each-without, window-other}
 use Rattle.rd_state.proofs.Options.{one-value}
 use Rattle.rd_state.proofs.Tests.{if-ok}
@@ -209,7 +209,7 @@ placing-calm : (effect : Effect) (s : StateValue) (n place : ℕ) (f : WindowSta
 placing-calm effect s n place f good = placing-if (Calm effect s) s n place f (λ w b at yes. changing-calm effect s n f good)
 
 objects-calm : (s : StateValue) (r : Result ObjectLists Refused) → IfOk (with_objects s r) (Calm Nothing s)
-objects-calm s r = objects-if (Calm Nothing s) s r (λ o. calm Nothing s _ refl refl)
+objects-calm s r = objects-if (Calm Nothing s) s r (λ o is. calm Nothing s _ refl refl)
 
 treed-calm : (s : StateValue) (r : Result Configuration TreeFault) (n : ℕ) (f : WindowState → WindowState) → ((w : WindowState) → Quiet Nothing n w.buffer → Same w (f w))
     → IfOk (changing n f (on_tree r (λ tree. record s { tree = tree }))) (Calm Nothing s)

@@ -15,4 +15,3 @@ pub mod Sending
 mod Settling
 mod Soundness
 pub mod Standing
-mod StepParts

@@ -21,7 +21,7 @@ use Rattle.rd_state.specs.declared.refused.Refused.{Refused}
 use Rattle.rd_state.specs.declared.window.WindowState.{WindowState}
 use Rattle.rd_layout.specs.Sessions.{is_frame}
 use Rattle.rd_layout.proofs.ByNumber.{Lives, lives-moved, lives-with, lives-without, lives-end}
-use Rattle.rd_layout.proofs.StepParts.{found, one-of, unless, objects-if, tree-if, treed-if, making-if, edited-if, edited_moving-if, typing-if, setting-if, placing-if}
+use Rattle.rd_state.proofs.StepParts.{found, one-of, unless, objects-if, tree-if, treed-if, making-if, edited-if, edited_moving-if, typing-if, setting-if, placing-if}
 
 -- a state from which a step led to another one: the frame has the size that it had, unless the op is that of the frame, no count of
 -- windows falls, and no window that was made before comes to live
@@ -54,7 +54,7 @@ changing-leads : (s : StateValue) (m : ℕ) (f : WindowState → WindowState) �
 changing-leads s m f = record { size = λ _. (refl, refl); made = omega arith; lives = λ n _ l. lives-with m f n s.windows l }
 
 objects-leads : (s : StateValue) (r : Result ObjectLists Refused) → Leads false s (with_objects s r)
-objects-leads s r = objects-if (Goes false s) s r (λ o. same-windows s _ refl refl refl refl false)
+objects-leads s r = objects-if (Goes false s) s r (λ o is. same-windows s _ refl refl refl refl false)
 
 -- ---- the tree
 

@@ -19,6 +19,7 @@ mod Sharing
 mod Showing
 mod Slots
 mod Small
+pub mod StepParts
 mod Stepping
 mod Tables
 pub mod Tests

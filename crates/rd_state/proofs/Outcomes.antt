@@ -1,10 +1,11 @@
 -- What each op leaves: of buffers what its effect tells, objects that go on, and windows that show what they showed.
-use Rattle.std.proofs.Common.{◌≡◌, ℕ, ◌+◌, ◌-◌, ◌≤◌, inl, inr, ◌==◌, true, false, is_some, if◌then◌else◌, nat_lt, nat_le, min, max, pos, ◌+ℤ◌, Option, Some, Result, Ok, Err, List, [], ◌∷◌, ◌++◌, length, map, subst, sym, ap, refl, ◌∙◌, arith, length-append, unwrap_or}
+use Rattle.std.proofs.Common.{◌≡◌, ℕ, ◌+◌, ◌-◌, ◌≤◌, inl, inr, ◌==◌, false, is_some, min, max, pos, Option, Some, Result, Ok, List, [], ◌∷◌, length, map, subst, sym, ap, refl, ◌∙◌, arith, length-append, unwrap_or}
 use Rattle.std.proofs.lemmas.Bool.{cases_eq}
 use Rattle.std.proofs.lemmas.List.{length-set}
 use Rattle.std.proofs.lemmas.Option.{slice_get_within}
+use Rattle.std.proofs.lemmas.Result.{IfOk-weaker}
 use Rattle.std.specs.Option.{option_and_then}
-use Rattle.std.specs.Prelude.{slice_get, option_map, ◌-ℤ◌}
+use Rattle.std.specs.Prelude.{slice_get, IfOk, option_map, ◌-ℤ◌}
 use Rattle.rd_base.proofs.Lists.{get-end}
 use Rattle.rd_overlays.specs.declared.overlay.Overlay.{Overlay}
 use Rattle.rd_overlays.specs.Overlays.{overlay_at}
@@ -13,7 +14,6 @@ use Rattle.rd_objects.specs.Things.{ObjectLists}
 use Rattle.rd_script.specs.Forms.{IsInForm}
 use Rattle.rd_script.specs.declared.op.Op.{Op}
 use Rattle.rd_script.specs.declared.op.Op.TheVariants as ops
-use Rattle.rd_tree.specs.Windows.{first_leaf, sibling}
 use Rattle.rd_tree.specs.declared.fault.TreeFault.{TreeFault}
 use Rattle.rd_tree.specs.Calls.{Configuration, split_tree, remove_tree, resize_tree, mode_tree, margins_tree}
 use Rattle.rd_state.specs.declared.effect.Effect.{Effect}
@@ -21,26 +21,24 @@ use Rattle.rd_state.specs.declared.effect.Effect.TheVariants.{Nothing, Edit, Mov
 use Rattle.rd_state.specs.declared.moves.Move.{Move}
 use Rattle.rd_state.specs.declared.moves.Move.TheVariants.{Inserted, Deleted, Narrowed}
 use Rattle.rd_state.specs.declared.refused.Refused.{Refused}
-use Rattle.rd_state.specs.declared.refused.Refused.TheVariants.{NameTaken, OutOfRange, TooManyBuffers}
 use Rattle.rd_state.specs.declared.window.WindowState.{WindowState}
 use Rattle.rd_state.specs.States.{BufferValue, ContentValue, StateValue, opening_window, new_buffer, number_of}
-use Rattle.rd_state.specs.Valid.{most_buffers, IsValid}
-use Rattle.rd_state.specs.Windows.{window_of, with_window, without_window, selected_window}
+use Rattle.rd_state.specs.Valid.{IsValid}
+use Rattle.rd_state.specs.Windows.{window_of, with_window, selected_window}
 use Rattle.rd_state.specs.Changes.{Stays, StaysWhole, Leaves}
-use Rattle.rd_state.specs.Edits.{is_accessible, insertion, deletion, narrowing, widening, property_putting, overlay_making, overlay_moving, overlay_dropping, overlay_putting, margin_putting, setting_putting}
+use Rattle.rd_state.specs.Edits.{insertion, deletion, narrowing, widening, property_putting, overlay_making, overlay_moving, overlay_dropping, overlay_putting, margin_putting, setting_putting}
 use Rattle.rd_state.specs.Effects.{overlay_in, inserted_effect, covered_effect, moved_effect, effect_of}
 use Rattle.rd_state.specs.Making.{run_of, spec_of, table_of, string_making, spec_making, face_making, table_making}
 use Rattle.rd_state.specs.Moves.{moved, moved_in}
-use Rattle.rd_state.specs.Steps.{with_objects, changing, inserting, typing, setting, placing, on_tree, held, format_fault, making, raw_text, step}
+use Rattle.rd_state.specs.Steps.{with_objects, changing, inserting, typing, on_tree, edited, edited_moving, format_fault, making, raw_text, step}
 use Rattle.rd_state.proofs.AllSteps.{moved-buffer}
 use Rattle.rd_state.proofs.Below.{LeaveLaws, GrowLaws}
 use Rattle.rd_state.proofs.ByNumber.{NumberedWindow, Each, window-each, each-same, each-with, each-moved, each-end, each-without}
 use Rattle.rd_state.proofs.Keeping.{moved_by}
 use Rattle.rd_state.proofs.Leaving.{whole, whole-objects, stays-inserted, stays-deleted, StaysAround, stays-put, stays-made, AroundOverlay, stays-dropped, stays-given, stays-moved, stays-margin, others-whole, here-stays, part-stays}
 use Rattle.rd_state.proofs.Naming.{made-none}
-use Rattle.rd_state.proofs.Showing.{found-ok, buffer-ok, on_tree-ok, changing-ok, retold-ok, unless-ok}
-use Rattle.rd_state.proofs.Stepping.{IsEditOf, moving-is, edited-is, edited_moving-is}
-use Rattle.rd_state.proofs.Tests.{if-ok, if-not}
+use Rattle.rd_state.proofs.StepParts.{with_content, found, unless, objects-if, tree-if, treed-if, making-if, edited-if, edited_moving-if, typing-if, setting-if, placing-if}
+use Rattle.rd_state.proofs.Stepping.{IsEditOf}
 use Rattle.rd_state.proofs.Options.{one-value}
 
 -- windows show the buffers that they showed, but for those that an effect tells
@@ -69,61 +67,66 @@ show-each s t effect i how is =
     show-by s t effect (map (moved_in i how) s.windows) is
     (each-moved (Shows effect) (moved_by i how) s.windows (λ number w ne. moved-buffer (w.buffer == i) (moved how) w (λ x. refl)))
 
-show-with : (s t : StateValue) (effect : Effect) (n : ℕ) (f : WindowState → WindowState) → t.windows ≡ with_window n f s.windows → ((w : WindowState) → (f w).buffer ≡ w.buffer) → Show s t effect
-show-with s t effect n f is keep =
-    show-by s t effect (with_window n f s.windows) is (each-with (Shows effect) (λ number w ne. refl) n f s.windows (λ w ne. keep w))
+show-with : (effect : Effect) (n : ℕ) (f : WindowState → WindowState) (ws : List NumberedWindow) → ((w : WindowState) → (f w).buffer ≡ w.buffer) → Each (Shows effect) ws (with_window n f ws)
+show-with effect n f ws keep = each-with (Shows effect) (λ number w ne. refl) n f ws (λ w ne. keep w)
 
-show-other : (s t : StateValue) (n : ℕ) (f : WindowState → WindowState) → t.windows ≡ with_window n f s.windows → Show s t (Window n)
-show-other s t n f is =
-    show-by s t (Window n) (with_window n f s.windows) is (each-with (Shows (Window n)) (λ number w ne. refl) n f s.windows (λ w ne. absurd (ne refl)))
-
-show-end : (s t : StateValue) (effect : Effect) (e : NumberedWindow) → t.windows ≡ s.windows ++ e ∷ [] → Show s t effect
-show-end s t effect e is = show-by s t effect (s.windows ++ e ∷ []) is (each-end (Shows effect) (λ number w ne. refl) s.windows e)
-
-show-without : (s t : StateValue) (effect : Effect) (n : ℕ) → IsValid s → t.windows ≡ without_window n s.windows → Show s t effect
-show-without s t effect n valid is =
-    show-by s t effect (without_window n s.windows) is (each-without (Shows effect) (λ number w ne. refl) n s.windows valid.windows.apart)
-
--- the windows of a buffer, and the selected one once more
-show-typed : (s t : StateValue) (effect : Effect) (i : ℕ) (how : Move) (n : ℕ) (f : WindowState → WindowState) → t.windows ≡ with_window n f (map (moved_in i how) s.windows)
-    → ((w : WindowState) → (f w).buffer ≡ w.buffer) → Show s t effect
-show-typed s t effect i how n f is keep number w v hw hv ne =
-    let u : StateValue = record s { windows = map (moved_in i how) s.windows } in
-    let between : window_of number u.windows ≡ Some (moved_by i how w) = window-each number (moved_by i how) s.windows ∙ ap (option_map (moved_by i how)) hw in
-    show-with u t effect n f is keep number (moved_by i how w) v between hv ne ∙ moved-buffer (w.buffer == i) (moved how) w (λ x. refl)
+-- the windows of a buffer, and one of all once more
+show-typed : (effect : Effect) (i : ℕ) (how : Move) (n : ℕ) (f : WindowState → WindowState) (ws : List NumberedWindow) → ((w : WindowState) → (f w).buffer ≡ w.buffer)
+    → Each (Shows effect) ws (with_window n f (map (moved_in i how) ws))
+show-typed effect i how n f ws keep number w v hw hv ne =
+    show-with effect n f (map (moved_in i how) ws) keep number (moved_by i how w) v (window-each number (moved_by i how) ws ∙ ap (option_map (moved_by i how)) hw) hv ne
+    ∙ moved-buffer (w.buffer == i) (moved how) w (λ x. refl)
 
 -- ---- ops that leave buffers and objects
 
--- the same buffers and objects
-pub record Keeps (s t : StateValue) : Type 0 where
-  pub buffers : t.buffers ≡ s.buffers
-  pub objects : t.objects ≡ s.objects
-
-keeps-by : (s u t : StateValue) → u.buffers ≡ s.buffers → u.objects ≡ s.objects → u ≡ t → Keeps s t
-keeps-by s u t b o is = record { buffers = sym (ap (λ (x : StateValue). x.buffers) is) ∙ b; objects = sym (ap (λ (x : StateValue). x.objects) is) ∙ o }
-
-one-buffer : (k : ℕ) (bs : List BufferValue) (b c : BufferValue) → slice_get bs k ≡ Some b → slice_get bs k ≡ Some c → b ≡ c
-one-buffer k bs b c h g = cc
-
-whole-kept : (laws : LeaveLaws) (s t : StateValue) → Keeps s t → (k : ℕ) (b c : BufferValue) → slice_get s.buffers k ≡ Some b → slice_get t.buffers k ≡ Some c
-    → StaysWhole b.content s.objects c.content t.objects
-whole-kept laws s t keep k b c hb hc =
-    let same = one-buffer k s.buffers b c hb (ap (λ (bs : List BufferValue). slice_get bs k) (sym keep.buffers) ∙ hc) in
-    subst (λ (o : ObjectLists). StaysWhole b.content s.objects c.content o) (sym keep.objects)
-    (subst (λ (x : BufferValue). StaysWhole b.content s.objects x.content s.objects) same (whole laws s.objects b.content))
+same-whole : (laws : LeaveLaws) (s : StateValue) (k : ℕ) (b c : BufferValue) → slice_get s.buffers k ≡ Some b → slice_get s.buffers k ≡ Some c → StaysWhole b.content s.objects c.content s.objects
+same-whole laws s k b c hb hc = subst (λ (x : BufferValue). StaysWhole b.content s.objects x.content s.objects) (one-value (slice_get s.buffers k) b c hb hc) (whole laws s.objects b.content)
 
 extends-kept : (grow : GrowLaws) (s t : StateValue) → t.objects ≡ s.objects → Extends s.objects t.objects
 extends-kept grow s t is = subst (Extends s.objects) (sym is) (grow.itself s.objects)
 
-nothing : (laws : LeaveLaws) (grow : GrowLaws) (s t : StateValue) → Keeps s t → Show s t Nothing → Outcome s t Nothing
-nothing laws grow s t keep show = record {
-  contents = λ k b c hb hc. whole-kept laws s t keep k b c hb hc;
-  objects = extends-kept grow s t keep.objects;
-  buffers = let size = ap length keep.buffers in omega arith;
+-- the same buffers and objects, by an effect that leaves all that is seen
+kept : (laws : LeaveLaws) (grow : GrowLaws) (s t : StateValue) (effect : Effect)
+    → ((k : ℕ) (b c : BufferValue) → StaysWhole b.content s.objects c.content t.objects → Leaves effect k b.content s.objects c.content t.objects)
+    → t.buffers ≡ s.buffers → t.objects ≡ s.objects → Show s t effect → Outcome s t effect
+kept laws grow s t effect leaves buffers objects show = record {
+  contents = λ k b c hb hc. leaves k b c
+      (subst (StaysWhole b.content s.objects c.content) (sym objects) (same-whole laws s k b c hb (ap (λ (bs : List BufferValue). slice_get bs k) (sym buffers) ∙ hc)));
+  objects = extends-kept grow s t objects;
+  buffers = let size = ap length buffers in omega arith;
   windows = show;
 }
 
+-- a state to which an op leads that changes nothing that is shown
+abbrev Quiet : StateValue → StateValue → Type 0
+Quiet s t = Outcome s t Nothing
+
+quiet : (laws : LeaveLaws) (grow : GrowLaws) (s t : StateValue) → t.buffers ≡ s.buffers → t.objects ≡ s.objects → Show s t Nothing → Quiet s t
+quiet laws grow s t = kept laws grow s t Nothing (λ k b c h. h)
+
+-- the windows are the same, too
+unseen : (laws : LeaveLaws) (grow : GrowLaws) (s t : StateValue) → t.buffers ≡ s.buffers → t.objects ≡ s.objects → t.windows ≡ s.windows → Quiet s t
+unseen laws grow s t buffers objects windows = quiet laws grow s t buffers objects (show-same s t Nothing windows)
+
 -- ---- edits
+
+-- a state in which one buffer was edited, and the windows behind it
+abbrev Edited : StateValue → ℕ → (ContentValue → Result ContentValue Refused) → List NumberedWindow → StateValue → Type 0
+Edited s i edit ws t = IsEditOf s t i edit × (t.windows ≡ ws)
+
+edit-of : (s : StateValue) (i : ℕ) (edit : ContentValue → Result ContentValue Refused) (b : BufferValue) (c : ContentValue) (ws : List NumberedWindow) → slice_get s.buffers i ≡ Some b
+    → edit b.content ≡ Ok c → Edited s i edit ws (record (with_content s i b c) { windows = ws })
+edit-of s i edit b c ws at is = (record { buffer = b; content = c; at = at; gives = is; is = refl }, refl)
+
+edited-is : (s : StateValue) (name : List ℕ) (edit : ContentValue → Result ContentValue Refused) → IfOk (edited s name edit) (Edited s (number_of name s.buffers) edit s.windows)
+edited-is s name edit = let i = number_of name s.buffers in edited-if (Edited s i edit s.windows) s name edit (λ b c at is. edit-of s i edit b c s.windows at is)
+
+edited_moving-is : (s : StateValue) (name : List ℕ) (how : Move) (edit : ContentValue → Result ContentValue Refused)
+    → IfOk (edited_moving s name how edit) (Edited s (number_of name s.buffers) edit (map (moved_in (number_of name s.buffers) how) s.windows))
+edited_moving-is s name how edit =
+    let i = number_of name s.buffers in
+    let ws = map (moved_in i how) s.windows in
+    edited_moving-if (Edited s i edit ws) s name how edit (λ b c at is. edit-of s i edit b c ws at is)
 
 edit-outcome : (laws : LeaveLaws) (grow : GrowLaws) (s t : StateValue) (i : ℕ) (edit : ContentValue → Result ContentValue Refused) (effect : Effect) → IsEditOf s t i edit
     → ((k : ℕ) (b c : BufferValue) → slice_get s.buffers k ≡ Some b → slice_get t.buffers k ≡ Some c → Leaves effect k b.content s.objects c.content t.objects) → Show s t effect → Outcome s t effect
@@ -199,227 +202,158 @@ margin-outcome laws grow s t i number string e =
 
 -- ---- objects and new buffers
 
-objects-outcome : (laws : LeaveLaws) (s t : StateValue) (r : Result ObjectLists Refused) → IsValid s → ((p : ObjectLists) → r ≡ Ok p → Extends s.objects p) → with_objects s r ≡ Ok t → Outcome s t Nothing
-objects-outcome laws s t (Err e) v more h = absurd (cc)
-objects-outcome laws s t (Ok p) v more h =
-    let same : record s { objects = p } ≡ t = cc (h) in
-    let is : t.objects ≡ p = sym (ap (λ (x : StateValue). x.objects) same) in
-    let buffers : t.buffers ≡ s.buffers = sym (ap (λ (x : StateValue). x.buffers) same) in
-    let goes_on = more p refl in
-    record {
+objects-outcome : (laws : LeaveLaws) (s : StateValue) (r : Result ObjectLists Refused) → IsValid s → ((p : ObjectLists) → r ≡ Ok p → Extends s.objects p) → IfOk (with_objects s r) (Quiet s)
+objects-outcome laws s r v more =
+    objects-if (Quiet s) s r
+    (λ p is. record {
       contents = λ k b c hb hc.
-          let one = one-buffer k s.buffers b c hb (ap (λ (bs : List BufferValue). slice_get bs k) (sym buffers) ∙ hc) in
-          subst (λ (o : ObjectLists). StaysWhole b.content s.objects c.content o) (sym is)
-          (subst (λ (x : BufferValue). StaysWhole b.content s.objects x.content p) one (whole-objects laws s.objects p b.content (v.buffers.contents k b hb) goes_on));
-      objects = subst (Extends s.objects) (sym is) goes_on;
-      buffers = let size = ap length buffers in omega arith;
-      windows = show-same s t Nothing (sym (ap (λ (x : StateValue). x.windows) same));
-    }
+          subst (λ (x : BufferValue). StaysWhole b.content s.objects x.content p) (one-value (slice_get s.buffers k) b c hb hc)
+          (whole-objects laws s.objects p b.content (v.buffers.contents k b hb) (more p is));
+      objects = more p is;
+      buffers = omega arith;
+      windows = show-same s s Nothing refl;
+    })
 
-making-outcome : (laws : LeaveLaws) (grow : GrowLaws) (s t : StateValue) (name : List ℕ) → making s name ≡ Ok t → Outcome s t Nothing
-making-outcome laws grow s t name h =
-    let made : StateValue = record s { buffers = s.buffers ++ new_buffer name ∷ [] } in
-    let outer = if-not (nat_lt (number_of name s.buffers) (length s.buffers)) (if nat_le most_buffers (length s.buffers) then Err TooManyBuffers else Ok made) NameTaken t h in
-    let inner = if-not (nat_le most_buffers (length s.buffers)) (Ok made) TooManyBuffers t outer.1 in
-    let same : made ≡ t = cc (inner.1) in
-    let buffers : t.buffers ≡ s.buffers ++ new_buffer name ∷ [] = sym (ap (λ (x : StateValue). x.buffers) same) in
-    let objects : t.objects ≡ s.objects = sym (ap (λ (x : StateValue). x.objects) same) in
-    record {
-      contents = λ k b c hb hc. elim (get-end s.buffers (new_buffer name) k c (ap (λ (bs : List BufferValue). slice_get bs k) (sym buffers) ∙ hc)) [
-        | inl p ↦
-            subst (λ (o : ObjectLists). StaysWhole b.content s.objects c.content o) (sym objects)
-            (subst (λ (x : BufferValue). StaysWhole b.content s.objects x.content s.objects) (one-buffer k s.buffers b c hb p) (whole laws s.objects b.content))
+making-outcome : (laws : LeaveLaws) (grow : GrowLaws) (s : StateValue) (name : List ℕ) → IfOk (making s name) (Quiet s)
+making-outcome laws grow s name =
+    making-if (Quiet s) s name (record {
+      contents = λ k b c hb hc. elim (get-end s.buffers (new_buffer name) k c hc) [
+        | inl p ↦ same-whole laws s k b c hb p
         | inr p ↦ absurd (omega (arith, p.0, slice_get_within s.buffers k b hb))
       ];
-      objects = extends-kept grow s t objects;
-      buffers = let size = ap length buffers ∙ length-append s.buffers (new_buffer name ∷ []) in omega (arith, size);
-      windows = show-same s t Nothing (sym (ap (λ (x : StateValue). x.windows) same));
-    }
+      objects = grow.itself s.objects;
+      buffers = let size = length-append s.buffers (new_buffer name ∷ []) in omega (arith, size);
+      windows = show-same s s Nothing refl;
+    })
 
 -- ---- windows that become others
 
-changed-keeps : (s t : StateValue) (n : ℕ) (f : WindowState → WindowState) → changing n f (Ok s) ≡ Ok t → Keeps s t × (t.windows ≡ with_window n f s.windows)
-changed-keeps s t n f h =
-    let same : record s { windows = with_window n f s.windows } ≡ t = cc (h) in
-    (keeps-by s (record s { windows = with_window n f s.windows }) t refl refl same, sym (ap (λ (x : StateValue). x.windows) same))
-
-changed-outcome : (laws : LeaveLaws) (grow : GrowLaws) (s t : StateValue) (n : ℕ) (f : WindowState → WindowState) → ((w : WindowState) → (f w).buffer ≡ w.buffer) → changing n f (Ok s) ≡ Ok t → Outcome s t Nothing
-changed-outcome laws grow s t n f keep h =
-    let k = changed-keeps s t n f h in
-    nothing laws grow s t k.0 (show-with s t Nothing n f k.1 keep)
-
-shown-outcome : (laws : LeaveLaws) (grow : GrowLaws) (s t : StateValue) (n : ℕ) (f : WindowState → WindowState) → changing n f (Ok s) ≡ Ok t → Outcome s t (Window n)
-shown-outcome laws grow s t n f h =
-    let k = changed-keeps s t n f h in
-    record {
-      contents = λ i b c hb hc. whole-kept laws s t k.0 i b c hb hc;
-      objects = extends-kept grow s t k.0.objects;
-      buffers = let size = ap length k.0.buffers in omega arith;
-      windows = show-other s t n f k.1;
-    }
-
-setting-outcome : (laws : LeaveLaws) (grow : GrowLaws) (s t : StateValue) (n : ℕ) (f : WindowState → WindowState) → ((w : WindowState) → (f w).buffer ≡ w.buffer) → setting s n f ≡ Ok t → Outcome s t Nothing
-setting-outcome laws grow s t n f keep h = changed-outcome laws grow s t n f keep (found-ok s t n (λ w. changing n f (Ok s)) h).2
-
-placing-outcome : (laws : LeaveLaws) (grow : GrowLaws) (s t : StateValue) (n place : ℕ) (f : WindowState → WindowState) → ((w : WindowState) → (f w).buffer ≡ w.buffer) → placing s n place f ≡ Ok t → Outcome s t Nothing
-placing-outcome laws grow s t n place f keep h =
-    let w = found-ok s t n _ h in
-    let b = buffer-ok t (slice_get s.buffers w.0.buffer) _ w.2 in
-    let parts = if-ok (is_accessible b.0.content.text place) (changing n f (Ok s)) OutOfRange t b.2 in
-    changed-outcome laws grow s t n f keep parts.1
+changed-outcome : (laws : LeaveLaws) (grow : GrowLaws) (s : StateValue) (n : ℕ) (f : WindowState → WindowState) → ((w : WindowState) → (f w).buffer ≡ w.buffer) → IfOk (changing n f (Ok s)) (Quiet s)
+changed-outcome laws grow s n f keep = quiet laws grow s _ refl refl (show-with Nothing n f s.windows keep)
 
 -- another tree and another window
-tree-outcome : (laws : LeaveLaws) (grow : GrowLaws) (s t : StateValue) (n : ℕ) (f : WindowState → WindowState) (r : Result Configuration TreeFault) → ((w : WindowState) → (f w).buffer ≡ w.buffer)
-    → changing n f (on_tree r (λ tree. record s { tree = tree })) ≡ Ok t → Outcome s t Nothing
-tree-outcome laws grow s t n f r keep h =
-    let d = retold-ok s t n f r h in
-    nothing laws grow s t (keeps-by s (record s { tree = d.0; windows = with_window n f s.windows }) t refl refl d.2)
-    (show-with s t Nothing n f (sym (ap (λ (x : StateValue). x.windows) d.2)) keep)
+tree-outcome : (laws : LeaveLaws) (grow : GrowLaws) (s : StateValue) (n : ℕ) (f : WindowState → WindowState) (r : Result Configuration TreeFault) → ((w : WindowState) → (f w).buffer ≡ w.buffer)
+    → IfOk (changing n f (on_tree r (λ tree. record s { tree = tree }))) (Quiet s)
+tree-outcome laws grow s n f r keep = treed-if (Quiet s) s r n f (λ d is. quiet laws grow s _ refl refl (show-with Nothing n f s.windows keep))
 
-typing-outcome : (laws : LeaveLaws) (grow : GrowLaws) (s t : StateValue) (new : List ℕ) → IsValid s → typing s new ≡ Ok t
-    → Outcome s t (inserted_effect (selected_window s).buffer (selected_window s).point new)
-typing-outcome laws grow s t new v h =
-    let w = found-ok s t s.selected _ h in
-    let b = buffer-ok t (slice_get s.buffers w.0.buffer) _ w.2 in
-    let i = w.0.buffer in
-    let place = w.0.point in
-    let n = length new in
-    let f : WindowState → WindowState = λ old. record old { point = place + n } in
-    let u = changing-ok s.selected f _ t b.2 in
-    let e = moving-is s u.0 i b.0 (Inserted place n) (insertion place new) (insertion place new b.0.content) b.1 refl u.1 in
-    let is : selected_window s ≡ w.0 = ap (λ (o : Option WindowState). unwrap_or o opening_window) w.1 in
-    let same : record u.0 { windows = with_window s.selected f u.0.windows } ≡ t = u.2 in
-    let windows : t.windows ≡ with_window s.selected f u.0.windows = sym (ap (λ (x : StateValue). x.windows) same) in
-    let edit : IsEditOf s t i (insertion place new) = record {
-      buffer = e.0.buffer;
-      content = e.0.content;
-      at = e.0.at;
-      gives = e.0.gives;
-      is = ap (λ (x : StateValue). record x { windows = t.windows }) e.0.is ∙ (ap (λ (ws : List NumberedWindow). record u.0 { windows = ws }) windows ∙ same);
-    } in
-    subst (λ (x : WindowState). Outcome s t (inserted_effect x.buffer x.point new)) (sym is)
-    (range-outcome laws grow s t i place 0 n (insertion place new) edit (λ x d at gives. stays-inserted laws s.objects place new x.content d (v.buffers.contents i x at) gives)
-    (show-typed s t (Edit i place 0 n) i (Inserted place n) s.selected f
-    (windows ∙ ap (with_window s.selected f) e.1) (λ x. refl)))
+typing-outcome : (laws : LeaveLaws) (grow : GrowLaws) (s : StateValue) (new : List ℕ) → IsValid s
+    → IfOk (typing s new) (λ t. Outcome s t (inserted_effect (selected_window s).buffer (selected_window s).point new))
+typing-outcome laws grow s new v =
+    typing-if (λ t. Outcome s t (inserted_effect (selected_window s).buffer (selected_window s).point new)) s new
+    (λ w b c lives at is.
+    let i = w.buffer in
+    let f : WindowState → WindowState = λ old. record old { point = w.point + length new } in
+    let ws = with_window s.selected f (map (moved_in i (Inserted w.point (length new))) s.windows) in
+    let edit = insertion w.point new in
+    let t : StateValue = record (with_content s i b c) { windows = ws } in
+    subst (λ (o : Option WindowState). Outcome s t (inserted_effect (unwrap_or o opening_window).buffer (unwrap_or o opening_window).point new)) (sym lives)
+    (range-outcome laws grow s t i w.point 0 (length new) edit (edit-of s i edit b c ws at is).0
+    (λ x d there gives. stays-inserted laws s.objects w.point new x.content d (v.buffers.contents i x there) gives)
+    (show-typed (Edit i w.point 0 (length new)) i (Inserted w.point (length new)) s.selected f s.windows (λ x. refl))))
 
-inserted-outcome : (laws : LeaveLaws) (grow : GrowLaws) (s t : StateValue) (name : List ℕ) (place : ℕ) (text : List ℕ) → IsValid s → inserting s name place text ≡ Ok t
-    → Outcome s t (inserted_effect (number_of name s.buffers) place text)
-inserted-outcome laws grow s t name place text v h =
+inserted-outcome : (laws : LeaveLaws) (grow : GrowLaws) (s : StateValue) (name : List ℕ) (place : ℕ) (text : List ℕ) → IsValid s
+    → IfOk (inserting s name place text) (λ t. Outcome s t (inserted_effect (number_of name s.buffers) place text))
+inserted-outcome laws grow s name place text v =
     let i = number_of name s.buffers in
     let n = length text in
-    let e = edited_moving-is s t name (Inserted place n) (insertion place text) h in
-    range-outcome laws grow s t i place 0 n (insertion place text) e.0 (λ b d at gives. stays-inserted laws s.objects place text b.content d (v.buffers.contents i b at) gives)
-    (show-each s t (Edit i place 0 n) i (Inserted place n) e.1)
+    IfOk-weaker _ _ _
+    (λ t e. range-outcome laws grow s t i place 0 n (insertion place text) e.0 (λ b d at gives. stays-inserted laws s.objects place text b.content d (v.buffers.contents i b at) gives)
+    (show-each s t (Edit i place 0 n) i (Inserted place n) e.1))
+    (edited_moving-is s name (Inserted place n) (insertion place text))
 
 -- ---- all ops
 
-pub outcome : (laws : LeaveLaws) (grow : GrowLaws) (s t : StateValue) (op : Op) → IsValid s → IsInForm op → step s op ≡ Ok t → Outcome s t (effect_of s op)
+pub outcome : (laws : LeaveLaws) (grow : GrowLaws) (s : StateValue) (op : Op) → IsValid s → IsInForm op → IfOk (step s op) (λ t. Outcome s t (effect_of s op))
 unfolding step effect_of
-outcome laws grow s t (ops.Frame width height) v form h =
-    let d = on_tree-ok (resize_tree s.tree width (height - 1)) (λ tree. record s { tree = tree; width = width; height = height }) t h in
-    nothing laws grow s t (keeps-by s (record s { tree = d.0; width = width; height = height }) t refl refl d.2) (show-same s t Nothing (sym (ap (λ (x : StateValue). x.windows) d.2)))
-outcome laws grow s t (ops.Buffer name) v form h = making-outcome laws grow s t name h
-outcome laws grow s t (ops.Insert name place text) v form h = inserted-outcome laws grow s t name place text v h
-outcome laws grow s t (ops.InsertRaw name place bytes) v form h = inserted-outcome laws grow s t name place (raw_text bytes) v h
-outcome laws grow s t (ops.TypeText text) v form h = typing-outcome laws grow s t text v h
-outcome laws grow s t (ops.Delete name from to) v form h =
+outcome laws grow s (ops.Frame width height) v form = tree-if (Quiet s) (resize_tree s.tree width (height - 1)) _ (λ d is. unseen laws grow s _ refl refl refl)
+outcome laws grow s (ops.Buffer name) v form = making-outcome laws grow s name
+outcome laws grow s (ops.Insert name place text) v form = inserted-outcome laws grow s name place text v
+outcome laws grow s (ops.InsertRaw name place bytes) v form = inserted-outcome laws grow s name place (raw_text bytes) v
+outcome laws grow s (ops.TypeText text) v form = typing-outcome laws grow s text v
+outcome laws grow s (ops.Delete name from to) v form =
     let i = number_of name s.buffers in
-    let e = edited_moving-is s t name (Deleted from to) (deletion from to) h in
-    range-outcome laws grow s t i from (to - from) 0 (deletion from to) e.0 (λ b d at gives. stays-deleted laws s.objects from to b.content d (v.buffers.contents i b at) gives)
-    (show-each s t (Edit i from (to - from) 0) i (Deleted from to) e.1)
-outcome laws grow s t (ops.Narrow name from to) v form h =
+    IfOk-weaker _ _ _
+    (λ t e. range-outcome laws grow s t i from (to - from) 0 (deletion from to) e.0 (λ b d at gives. stays-deleted laws s.objects from to b.content d (v.buffers.contents i b at) gives)
+    (show-each s t (Edit i from (to - from) 0) i (Deleted from to) e.1))
+    (edited_moving-is s name (Deleted from to) (deletion from to))
+outcome laws grow s (ops.Narrow name from to) v form =
     let i = number_of name s.buffers in
-    let e = edited_moving-is s t name (Narrowed from to) (narrowing from to) h in
-    all-outcome laws grow s t i (narrowing from to) e.0 (show-each s t (All i) i (Narrowed from to) e.1)
-outcome laws grow s t (ops.Widen name) v form h =
+    IfOk-weaker _ _ _ (λ t e. all-outcome laws grow s t i (narrowing from to) e.0 (show-each s t (All i) i (Narrowed from to) e.1)) (edited_moving-is s name (Narrowed from to) (narrowing from to))
+outcome laws grow s (ops.Widen name) v form =
     let i = number_of name s.buffers in
-    let e = edited-is s t name widening h in
-    all-outcome laws grow s t i widening e.0 (show-same s t (All i) e.1)
-outcome laws grow s t (ops.Put name from to kind value) v form h =
+    IfOk-weaker _ _ _ (λ t e. all-outcome laws grow s t i widening e.0 (show-same s t (All i) e.1)) (edited-is s name widening)
+outcome laws grow s (ops.Put name from to kind value) v form =
     let i = number_of name s.buffers in
     let edit = property_putting s.objects from to kind value in
-    let e = edited-is s t name edit h in
-    range-outcome laws grow s t i from (to - from) (to - from) edit e.0 (λ b d at gives. stays-put laws s.objects from to kind value b.content d form.3 (v.buffers.contents i b at) gives)
-    (show-same s t (Edit i from (to - from) (to - from)) e.1)
-outcome laws grow s t (ops.Overlay name from to priority front rear) v form h =
+    IfOk-weaker _ _ _
+    (λ t e. range-outcome laws grow s t i from (to - from) (to - from) edit e.0 (λ b d at gives. stays-put laws s.objects from to kind value b.content d form.3 (v.buffers.contents i b at) gives)
+    (show-same s t (Edit i from (to - from) (to - from)) e.1))
+    (edited-is s name edit)
+outcome laws grow s (ops.Overlay name from to priority front rear) v form =
     let i = number_of name s.buffers in
     let edit = overlay_making from to priority front rear in
-    let e = edited-is s t name edit h in
-    range-outcome laws grow s t i from (to - from) (to - from) edit e.0
-    (λ b d at gives. stays-made laws s.objects from to priority front rear b.content d (v.buffers.contents i b at) gives) (show-same s t (Edit i from (to - from) (to - from)) e.1)
-outcome laws grow s t (ops.OverlayMove name overlay from to) v form h =
-    moved-outcome laws grow s t name overlay from to v (edited-is s t name (overlay_moving overlay from to) h)
-outcome laws grow s t (ops.OverlayDrop name overlay) v form h =
-    overlay-outcome laws grow s t name overlay (overlay_dropping overlay) v (edited-is s t name (overlay_dropping overlay) h)
-    (λ b d at gives. stays-dropped laws s.objects overlay b.content d (v.buffers.contents (number_of name s.buffers) b at) gives)
-outcome laws grow s t (ops.OverlayPut name overlay kind value) v form h =
-    overlay-outcome laws grow s t name overlay (overlay_putting s.objects overlay kind value) v (edited-is s t name (overlay_putting s.objects overlay kind value) h)
-    (λ b d at gives. stays-given laws s.objects overlay kind value b.content d (v.buffers.contents (number_of name s.buffers) b at) gives)
-outcome laws grow s t (ops.Setting name value) v form h =
+    IfOk-weaker _ _ _
+    (λ t e. range-outcome laws grow s t i from (to - from) (to - from) edit e.0
+    (λ b d at gives. stays-made laws s.objects from to priority front rear b.content d (v.buffers.contents i b at) gives) (show-same s t (Edit i from (to - from) (to - from)) e.1))
+    (edited-is s name edit)
+outcome laws grow s (ops.OverlayMove name overlay from to) v form =
+    IfOk-weaker _ _ _ (λ t e. moved-outcome laws grow s t name overlay from to v e) (edited-is s name (overlay_moving overlay from to))
+outcome laws grow s (ops.OverlayDrop name overlay) v form =
+    IfOk-weaker _ _ _
+    (λ t e. overlay-outcome laws grow s t name overlay (overlay_dropping overlay) v e
+    (λ b d at gives. stays-dropped laws s.objects overlay b.content d (v.buffers.contents (number_of name s.buffers) b at) gives))
+    (edited-is s name (overlay_dropping overlay))
+outcome laws grow s (ops.OverlayPut name overlay kind value) v form =
+    let edit = overlay_putting s.objects overlay kind value in
+    IfOk-weaker _ _ _
+    (λ t e. overlay-outcome laws grow s t name overlay edit v e
+    (λ b d at gives. stays-given laws s.objects overlay kind value b.content d (v.buffers.contents (number_of name s.buffers) b at) gives))
+    (edited-is s name edit)
+outcome laws grow s (ops.Setting name value) v form =
     let i = number_of name s.buffers in
-    let e = edited-is s t name (setting_putting s.objects value) h in
-    all-outcome laws grow s t i (setting_putting s.objects value) e.0 (show-same s t (All i) e.1)
-outcome laws grow s t (ops.AddString text runs) v form h =
-    objects-outcome laws s t (string_making s.objects text runs) v
-    (λ p is. subst (Extends s.objects) (made-none _ _ p is).1 (grow.string s.objects text (map run_of runs))) h
-outcome laws grow s t (ops.AddSpec spec) v form h =
-    objects-outcome laws s t (spec_making s.objects spec) v (λ p is. subst (Extends s.objects) (made-none _ _ p is).1 (grow.spec s.objects (spec_of spec))) h
-outcome laws grow s t (ops.AddFace face) v form h =
-    objects-outcome laws s t (face_making s.objects face) v (λ p is. subst (Extends s.objects) (made-none _ _ p is).1 (grow.face s.objects face)) h
-outcome laws grow s t (ops.AddTable entries truncation continuation escape control ellipsis border) v form h =
+    let edit = setting_putting s.objects value in
+    IfOk-weaker _ _ _ (λ t e. all-outcome laws grow s t i edit e.0 (show-same s t (All i) e.1)) (edited-is s name edit)
+outcome laws grow s (ops.AddString text runs) v form =
+    objects-outcome laws s (string_making s.objects text runs) v
+    (λ p is. subst (Extends s.objects) (made-none _ _ p is).1 (grow.string s.objects text (map run_of runs)))
+outcome laws grow s (ops.AddSpec spec) v form =
+    objects-outcome laws s (spec_making s.objects spec) v (λ p is. subst (Extends s.objects) (made-none _ _ p is).1 (grow.spec s.objects (spec_of spec)))
+outcome laws grow s (ops.AddFace face) v form =
+    objects-outcome laws s (face_making s.objects face) v (λ p is. subst (Extends s.objects) (made-none _ _ p is).1 (grow.face s.objects face))
+outcome laws grow s (ops.AddTable entries truncation continuation escape control ellipsis border) v form =
     let table = table_of entries truncation continuation escape control ellipsis border in
-    objects-outcome laws s t (table_making s.objects table) v (λ p is. subst (Extends s.objects) (made-none _ _ p is).1 (grow.table s.objects table)) h
-outcome laws grow s t (ops.Split window side size) v form h =
-    let w = found-ok s t window _ h in
-    let copy : WindowState = record w.0 { forced = false; pending = pos 0 } in
-    let d = on_tree-ok (split_tree s.tree window side size) (λ tree. record s { tree = tree; windows = s.windows ++ (s.tree.made, copy) ∷ [] }) t w.2 in
-    nothing laws grow s t (keeps-by s (record s { tree = d.0; windows = s.windows ++ (s.tree.made, copy) ∷ [] }) t refl refl d.2)
-    (show-end s t Nothing (s.tree.made, copy) (sym (ap (λ (x : StateValue). x.windows) d.2)))
-outcome laws grow s t (ops.Remove window) v form h =
-    let w = found-ok s t window _ h in
-    let chosen = if s.selected == window then first_leaf (sibling window s.tree.windows) else s.selected in
-    let d = on_tree-ok (remove_tree s.tree window) (λ tree. record s { tree = tree; windows = without_window window s.windows; selected = chosen }) t w.2 in
-    nothing laws grow s t (keeps-by s (record s { tree = d.0; windows = without_window window s.windows; selected = chosen }) t refl refl d.2)
-    (show-without s t Nothing window v (sym (ap (λ (x : StateValue). x.windows) d.2)))
-outcome laws grow s t (ops.Select window) v form h =
-    let w = found-ok s t window _ h in
-    let same : record s { selected = window } ≡ t = cc (w.2) in
-    nothing laws grow s t (keeps-by s (record s { selected = window }) t refl refl same) (show-same s t Nothing (sym (ap (λ (x : StateValue). x.windows) same)))
-outcome laws grow s t (ops.Show window name) v form h =
-    let w = found-ok s t window _ h in
-    let b = buffer-ok t (slice_get s.buffers (number_of name s.buffers)) _ w.2 in
-    shown-outcome laws grow s t window _ b.2
-outcome laws grow s t (ops.Point window place) v form h = placing-outcome laws grow s t window place (λ old. record old { point = place }) (λ w. refl) h
-outcome laws grow s t (ops.Start window place row) v form h =
-    placing-outcome laws grow s t window place (λ old. record old { anchor = record { pos = place; row = row }; forced = true; pending = pos 0 }) (λ w. refl) h
-outcome laws grow s t (ops.Scroll window rows) v form h =
-    setting-outcome laws grow s t window (λ old. record old { forced = true; pending = held (old.pending +ℤ rows) }) (λ w. refl) h
-outcome laws grow s t (ops.Hscroll window columns) v form h = setting-outcome laws grow s t window (λ old. record old { hscroll = columns }) (λ w. refl) h
-outcome laws grow s t (ops.Wrap window mode) v form h = setting-outcome laws grow s t window (λ old. record old { wrap = mode }) (λ w. refl) h
-outcome laws grow s t (ops.ModeLine window format) v form h =
-    let w = found-ok s t window _ h in
-    let good = unless-ok (format_fault format) _ t w.2 in
-    tree-outcome laws grow s t window (λ old. record old { format = format }) (mode_tree s.tree window (is_some format)) (λ x. refl) good.1
-outcome laws grow s t (ops.Scrolling margin conservatively) v form h =
-    let same : record s { margin = margin; conservatively = conservatively } ≡ t = cc (h) in
-    nothing laws grow s t (keeps-by s (record s { margin = margin; conservatively = conservatively }) t refl refl same) (show-same s t Nothing (sym (ap (λ (x : StateValue). x.windows) same)))
-outcome laws grow s t (ops.Echo text) v form h =
-    let same : record s { echo = text } ≡ t = cc (h) in
-    nothing laws grow s t (keeps-by s (record s { echo = text }) t refl refl same) (show-same s t Nothing (sym (ap (λ (x : StateValue). x.windows) same)))
-outcome laws grow s t (ops.Redisplay stop) v form h =
-    let same : s ≡ t = cc (h) in
-    nothing laws grow s t (keeps-by s s t refl refl same) (show-same s t Nothing (sym (ap (λ (x : StateValue). x.windows) same)))
-outcome laws grow s t (ops.Shift on) v form h =
-    let same : record s { shifting = on } ≡ t = cc (h) in
-    nothing laws grow s t (keeps-by s (record s { shifting = on }) t refl refl same) (show-same s t Nothing (sym (ap (λ (x : StateValue). x.windows) same)))
-outcome laws grow s t (ops.Go window right) v form h =
-    let same : s ≡ t = cc (h) in
-    nothing laws grow s t (keeps-by s s t refl refl same) (show-same s t Nothing (sym (ap (λ (x : StateValue). x.windows) same)))
-outcome laws grow s t (ops.Hit window row column) v form h =
-    let same : s ≡ t = cc (h) in
-    nothing laws grow s t (keeps-by s s t refl refl same) (show-same s t Nothing (sym (ap (λ (x : StateValue). x.windows) same)))
-outcome laws grow s t (ops.Margin window numbers strings) v form h =
-    let w = found-ok s t window _ h in
-    tree-outcome laws grow s t window (λ old. record old { numbers = numbers; strings = strings }) (margins_tree s.tree window (numbers + strings)) (λ x. refl) w.2
-outcome laws grow s t (ops.MarginPut name overlay string) v form h =
-    margin-outcome laws grow s t (number_of name s.buffers) overlay string (edited-is s t name (margin_putting s.objects overlay string) h)
+    objects-outcome laws s (table_making s.objects table) v (λ p is. subst (Extends s.objects) (made-none _ _ p is).1 (grow.table s.objects table))
+outcome laws grow s (ops.Split window side size) v form =
+    found (Quiet s) _ (window_of window s.windows) _
+    (λ w lives. tree-if (Quiet s) (split_tree s.tree window side size) _
+    (λ d is. quiet laws grow s _ refl refl (each-end (Shows Nothing) (λ number x ne. refl) s.windows (s.tree.made, record w { forced = false; pending = pos 0 }))))
+outcome laws grow s (ops.Remove window) v form =
+    found (Quiet s) _ (window_of window s.windows) _
+    (λ w lives. tree-if (Quiet s) (remove_tree s.tree window) _
+    (λ d is. quiet laws grow s _ refl refl (each-without (Shows Nothing) (λ number x ne. refl) window s.windows v.windows.apart)))
+outcome laws grow s (ops.Select window) v form = found (Quiet s) _ (window_of window s.windows) _ (λ w lives. unseen laws grow s (record s { selected = window }) refl refl refl)
+outcome laws grow s (ops.Show window name) v form =
+    found (λ t. Outcome s t (Window window)) _ (window_of window s.windows) _
+    (λ w lives. found (λ t. Outcome s t (Window window)) _ (slice_get s.buffers (number_of name s.buffers)) _
+    (λ b at. kept laws grow s _ (Window window) (λ k x c h. h) refl refl
+    (each-with (Shows (Window window)) (λ number x ne. refl) window _ s.windows (λ x ne. absurd (ne refl)))))
+outcome laws grow s (ops.Point window place) v form = placing-if (Quiet s) s window place _ (λ w b at yes. changed-outcome laws grow s window _ (λ x. refl))
+outcome laws grow s (ops.Start window place row) v form = placing-if (Quiet s) s window place _ (λ w b at yes. changed-outcome laws grow s window _ (λ x. refl))
+outcome laws grow s (ops.Scroll window rows) v form = setting-if (Quiet s) s window _ (changed-outcome laws grow s window _ (λ w. refl))
+outcome laws grow s (ops.Hscroll window columns) v form = setting-if (Quiet s) s window _ (changed-outcome laws grow s window _ (λ w. refl))
+outcome laws grow s (ops.Wrap window mode) v form = setting-if (Quiet s) s window _ (changed-outcome laws grow s window _ (λ w. refl))
+outcome laws grow s (ops.ModeLine window format) v form =
+    found (Quiet s) _ (window_of window s.windows) _
+    (λ w lives. unless (Quiet s) (format_fault format) _
+    (tree-outcome laws grow s window (λ old. record old { format = format }) (mode_tree s.tree window (is_some format)) (λ x. refl)))
+outcome laws grow s (ops.Scrolling margin conservatively) v form = unseen laws grow s _ refl refl refl
+outcome laws grow s (ops.Echo text) v form = unseen laws grow s _ refl refl refl
+outcome laws grow s (ops.Redisplay stop) v form = unseen laws grow s _ refl refl refl
+outcome laws grow s (ops.Shift on) v form = unseen laws grow s _ refl refl refl
+outcome laws grow s (ops.Go window right) v form = unseen laws grow s _ refl refl refl
+outcome laws grow s (ops.Hit window row column) v form = unseen laws grow s _ refl refl refl
+outcome laws grow s (ops.Margin window numbers strings) v form =
+    found (Quiet s) _ (window_of window s.windows) _
+    (λ w lives. tree-outcome laws grow s window (λ old. record old { numbers = numbers; strings = strings }) (margins_tree s.tree window (numbers + strings)) (λ x. refl))
+outcome laws grow s (ops.MarginPut name overlay string) v form =
+    IfOk-weaker _ _ _ (λ t e. margin-outcome laws grow s t (number_of name s.buffers) overlay string e) (edited-is s name (margin_putting s.objects overlay string))

@@ -1,4 +1,4 @@
--- What holds of the state to which a step leads, by the parts of the step.
+-- A property holds of each state to which a step can lead, where it holds of those to which each part of the step can lead.
 use Rattle.std.proofs.Common.{◌≡◌, ℕ, ◌+◌, Bool, true, false, if◌then◌else◌, nat_lt, nat_le, Option, None, Some, Result, Ok, Err, List, [], ◌∷◌, ◌++◌, length, map, refl}
 use Rattle.std.specs.Prelude.{slice_get, slice_set, IfOk}
 use Rattle.rd_base.proofs.Choices.{either}
@@ -28,6 +28,7 @@ tested false r e P h = tt
 abbrev pub with_content : StateValue → ℕ → BufferValue → ContentValue → StateValue
 with_content s i b c = record s { buffers = slice_set s.buffers i (record b { content = c }) }
 
+-- a property of the states that each part of a step makes; of a refusal nothing is to be shown
 module _ (P : StateValue → Type 0) where
   pub found : {A : Type 0} (refusal : Refused) (o : Option A) (f : A → Result StateValue Refused) → ((a : A) → o ≡ Some a → IfOk (f a) P) → IfOk (with_found refusal o f) P
   found refusal None f h = tt
@@ -51,9 +52,9 @@ module _ (P : StateValue → Type 0) where
   typed-if s i b how n f (Err refusal) h = tt
   typed-if s i b how n f (Ok c) h = h c refl
 
-  pub objects-if : (s : StateValue) (r : Result ObjectLists Refused) → ((o : ObjectLists) → P (record s { objects = o })) → IfOk (with_objects s r) P
+  pub objects-if : (s : StateValue) (r : Result ObjectLists Refused) → ((o : ObjectLists) → r ≡ Ok o → P (record s { objects = o })) → IfOk (with_objects s r) P
   objects-if s (Err refusal) h = tt
-  objects-if s (Ok o) h = h o
+  objects-if s (Ok o) h = h o refl
 
   pub tree-if : (r : Result Configuration TreeFault) (f : Configuration → StateValue) → ((d : Configuration) → r ≡ Ok d → P (f d)) → IfOk (on_tree r f) P
   tree-if (Err fault) f h = tt
