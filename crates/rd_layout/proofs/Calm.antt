@@ -206,7 +206,7 @@ setting-calm : (effect : Effect) (s : StateValue) (n : ℕ) (f : WindowState →
 setting-calm effect s n f good = setting-if (Calm effect s) s n f (changing-calm effect s n f good)
 
 placing-calm : (effect : Effect) (s : StateValue) (n place : ℕ) (f : WindowState → WindowState) → ((w : WindowState) → Quiet effect n w.buffer → Same w (f w)) → IfOk (placing s n place f) (Calm effect s)
-placing-calm effect s n place f good = placing-if (Calm effect s) s n place f (λ w b at yes. changing-calm effect s n f good)
+placing-calm effect s n place f good = placing-if (Calm effect s) s n place f (λ w b lives at yes. changing-calm effect s n f good)
 
 objects-calm : (s : StateValue) (r : Result ObjectLists Refused) → IfOk (with_objects s r) (Calm Nothing s)
 objects-calm s r = objects-if (Calm Nothing s) s r (λ o is. calm Nothing s _ refl refl)
@@ -306,7 +306,7 @@ calm-step s (ops.Wrap window mode) apart = setting-calm Nothing s window (λ old
 calm-step s (ops.ModeLine window format) apart =
     found (Calm Nothing s) _ (window_of window s.windows) _
     (λ w lives. unless (Calm Nothing s) (format_fault format) _
-    (treed-calm s (mode_tree s.tree window (is_some format)) window (λ old. record old { format = format }) (λ x quiet. (refl, λ h. (h, refl)))))
+    (λ good. treed-calm s (mode_tree s.tree window (is_some format)) window (λ old. record old { format = format }) (λ x quiet. (refl, λ h. (h, refl)))))
 calm-step s (ops.Scrolling margin conservatively) apart = calm Nothing s (record s { margin = margin; conservatively = conservatively }) refl refl
 calm-step s (ops.Echo text) apart = calm Nothing s (record s { echo = text }) refl refl
 calm-step s (ops.Redisplay stop) apart = calm Nothing s s refl refl

@@ -27,11 +27,11 @@ use Rattle.rd_state.specs.Steps.{in_window, step}
 use Rattle.rd_state.specs.Valid.{IsValid, IsWindow}
 use Rattle.rd_state.specs.Windows.{content_in, shown_content, window_of}
 use Rattle.rd_state.proofs.ByNumber.{under-became}
-use Rattle.rd_state.proofs.Tests.{found-value}
+use Rattle.rd_state.proofs.StepParts.{found, each-if}
 use Rattle.rd_state.specs.declared.effect.Effect.{Effect}
 use Rattle.rd_state.specs.declared.effect.Effect.TheVariants.{Nothing, Edit, Moved, All, Window}
 use Rattle.rd_state.specs.declared.refused.Refused.{Refused}
-use Rattle.rd_state.specs.declared.refused.Refused.TheVariants.{NoWindow, NotShown}
+use Rattle.rd_state.specs.declared.refused.Refused.TheVariants.{NotShown}
 use Rattle.rd_state.specs.declared.window.WindowState.{WindowState}
 use Rattle.rd_frame.specs.Panes.{body_height}
 use Rattle.rd_tree.specs.declared.placed.Placed.{Placed}
@@ -209,7 +209,9 @@ pub opened-session : (files : Data) → IsValid opening → IsSession (opened fi
 opened-session files valid = record { state = valid; screen = tt; made = λ number l h. absurd (cc); layouts = λ number w l hw hl. absurd (cc) }
 
 pub found-window : (s t : StateValue) (window : ℕ) (f : WindowState → Result StateValue Refused) → in_window s window f ≡ Ok t → (w : WindowState) × (f w ≡ Ok t)
-found-window s t window f h = let w = found-value NoWindow (window_of window s.windows) f t h in (w.0, w.2)
+found-window s t window f h =
+    let Found : StateValue → Type 0 = λ u. (w : WindowState) × (f w ≡ Ok u) in
+    IfOk-at_ok Found h (found Found _ (window_of window s.windows) f (λ w lives. each-if Found (f w) (λ u is. (w, is))))
 
 -- a hit moves point by an op where it is not refused
 pub hit-moves : (s t : StateValue) (window : ℕ) (w : WindowState) (last : Option Layout) (place : Option Placed) (row column : ℕ) → hitting_by s window w last place row column ≡ Ok t

@@ -104,4 +104,4 @@ module _ (s t : StateValue) (v : IsValid s) where
   point-whole window place h =
       IfOk-at_ok (λ _. IsWhole place) h
       (placing-if (λ _. IsWhole place) s window place (λ old. record old { point = place })
-      (λ w b at yes. whole-place b.content place (v.buffers.contents w.buffer b at).text yes))
+      (λ w b lives at yes. whole-place b.content place (v.buffers.contents w.buffer b at).text yes))

@@ -139,14 +139,14 @@ goes s (ops.Select window) = found (Goes false s) _ (window_of window s.windows)
 goes s (ops.Show window name) =
     found (Goes false s) _ (window_of window s.windows) _
     (λ w at. found (Goes false s) _ (slice_get s.buffers (number_of name s.buffers)) _ (λ b there. changing-leads s window _))
-goes s (ops.Point window place) = placing-if (Goes false s) s window place _ (λ w b at yes. changing-leads s window _)
-goes s (ops.Start window place row) = placing-if (Goes false s) s window place _ (λ w b at yes. changing-leads s window _)
+goes s (ops.Point window place) = placing-if (Goes false s) s window place _ (λ w b lives at yes. changing-leads s window _)
+goes s (ops.Start window place row) = placing-if (Goes false s) s window place _ (λ w b lives at yes. changing-leads s window _)
 goes s (ops.Scroll window rows) = setting-if (Goes false s) s window _ (changing-leads s window _)
 goes s (ops.Hscroll window columns) = setting-if (Goes false s) s window _ (changing-leads s window _)
 goes s (ops.Wrap window mode) = setting-if (Goes false s) s window _ (changing-leads s window _)
 goes s (ops.ModeLine window format) =
     found (Goes false s) _ (window_of window s.windows) _
-    (λ w at. unless (Goes false s) (format_fault format) _ (treed-leads s (mode_tree s.tree window (is_some format)) window (λ old. record old { format = format }) (mode-grows s.tree window (is_some format))))
+    (λ w at. unless (Goes false s) (format_fault format) _ (λ good. treed-leads s (mode_tree s.tree window (is_some format)) window (λ old. record old { format = format }) (mode-grows s.tree window (is_some format))))
 goes s (ops.Scrolling margin conservatively) = same-windows s (record s { margin = margin; conservatively = conservatively }) refl refl refl refl false
 goes s (ops.Echo text) = same-windows s (record s { echo = text }) refl refl refl refl false
 goes s (ops.Redisplay stop) = same-windows s s refl refl refl refl false

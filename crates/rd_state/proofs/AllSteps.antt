@@ -1,6 +1,6 @@
 -- A step leads from a valid state to a valid one, op by op.
 use Rattle.std.proofs.Common.{◌≡◌, ℕ, zero, suc, ◌+◌, ◌≤◌, inl, inr, ◌==◌, Bool, true, false, if◌then◌else◌, pos, ◌+ℤ◌, map, IsTrue, None, Some, Result, Ok, Err, List, [], ◌∷◌, length, subst, sym, ap, refl, ◌∙◌, arith}
-use Rattle.std.specs.Prelude.{slice_get, slice_set, option_map}
+use Rattle.std.specs.Prelude.{slice_get, IfOk, option_map}
 use Rattle.std.specs.Str.{chars}
 use Rattle.rd_base.proofs.Lists.{get-set}
 use Rattle.rd_base.specs.declared.limits.TheConstants.{SCROLL_CONSERVATIVELY, SCROLL_MARGIN}
@@ -24,12 +24,13 @@ use Rattle.rd_state.specs.Valid.{IsContent, IsWindow, IsValid}
 use Rattle.rd_state.specs.Edits.{insertion, deletion, narrowing, widening, property_putting, overlay_making, overlay_moving, overlay_dropping, overlay_putting, margin_putting, setting_putting}
 use Rattle.rd_state.specs.Making.{table_of}
 use Rattle.rd_state.specs.Moves.{moved, moved_in}
-use Rattle.rd_state.specs.Steps.{replaced, moving, changing, typing, raw_text, held, step, settled}
+use Rattle.rd_state.specs.Steps.{typing, raw_text, held, step, settled}
 use Rattle.rd_state.proofs.Below.{TextLaws, MadeLaws, ObjectLaws, TreeLaws}
 use Rattle.rd_state.proofs.Naming.{setting-keeps, margin-keeps, string-valid, spec-valid, face-valid, table-valid, making-valid, new-valid}
-use Rattle.rd_state.proofs.Showing.{set-valid, found-ok, buffer-ok, setting-valid, placing-valid, point-keeps, start-keeps, look-keeps, scroll-keeps, showing-valid, splitting-valid, removing-valid, resizing-valid, selecting-valid, mode_lining-valid, margining-valid}
+use Rattle.rd_state.proofs.Showing.{set-valid, placing-valid, point-keeps, start-keeps, look-keeps, scroll-keeps, showing-valid, splitting-valid, removing-valid, resizing-valid, selecting-valid, mode_lining-valid, margining-valid}
 use Rattle.rd_state.proofs.Slots.{table-right}
-use Rattle.rd_state.proofs.Stepping.{raw-codes, edited-valid, edited_moving-valid, moving-is, moving-valid, insertion-keeps, insertion-means, deletion-keeps, narrowing-keeps, widening-keeps, put-keeps, making-keeps, moving-keeps, dropping-keeps, giving-keeps}
+use Rattle.rd_state.proofs.StepParts.{with_content, each-if, setting-if, typing-if}
+use Rattle.rd_state.proofs.Stepping.{raw-codes, edited-valid, edited_moving-valid, moving-valid, insertion-keeps, insertion-means, deletion-keeps, narrowing-keeps, widening-keeps, put-keeps, making-keeps, moving-keeps, dropping-keeps, giving-keeps}
 use Rattle.rd_state.proofs.Tests.{text-codes}
 
 -- the laws of all layers below
@@ -43,11 +44,11 @@ pub record Laws : Type 0 where
 -- ---- typing
 
 -- a state in which the selected window's point is another accessible position
-pointed-valid : (s t : StateValue) (number place : ℕ) → IsValid s
+pointed-valid : (s : StateValue) (number place : ℕ) → IsValid s
     → ((w : WindowState) (b : BufferValue) → window_of number s.windows ≡ Some w → slice_get s.buffers w.buffer ≡ Some b → IsAccessible b.content.text place)
-    → record s { windows = with_window number (λ old. record old { point = place }) s.windows } ≡ t → IsValid t
-pointed-valid s t number place v at is =
-    set-valid s t number (λ old. record old { point = place }) v (λ w. refl) (λ w found old. point-keeps s.buffers place w old (λ b h. at w b found h)) (ap (λ (x : StateValue). Ok x) is)
+    → IsValid (record s { windows = with_window number (λ old. record old { point = place }) s.windows })
+pointed-valid s number place v at =
+    set-valid s number (λ old. record old { point = place }) v (λ w. refl) (λ w lives old. point-keeps s.buffers place w old (λ b h. at w b lives h))
 
 typed-place : (t : TextValue) (p n : ℕ) → IsAccessible t p → (t.begin ≤ p + n) × (p + n ≤ t.end + n)
 typed-place t p n at = let low = at.0 in let high = at.1 in (omega arith, omega arith)
@@ -57,114 +58,104 @@ pub moved-buffer : (t : Bool) (f : WindowState → WindowState) (w : WindowState
 moved-buffer true f w h = h w
 moved-buffer false f w h = refl
 
-typed-done : (laws : Laws) (s t : StateValue) (w : WindowState) (b : BufferValue) (new : List ℕ) (r : Result ContentValue Refused) → IsValid s → AreCodes new
-    → window_of s.selected s.windows ≡ Some w → slice_get s.buffers w.buffer ≡ Some b → insertion w.point new b.content ≡ r
-    → changing s.selected (λ old. record old { point = w.point + length new }) (moving w.buffer (Inserted w.point (length new)) (replaced s w.buffer b r)) ≡ Ok t → IsValid t
-typed-done laws s t w b new (Err e) v codes found at is h = absurd (cc)
-typed-done laws s t w b new (Ok d) v codes found at is h =
+typing-valid : (laws : Laws) (s : StateValue) (new : List ℕ) → IsValid s → AreCodes new → IfOk (typing s new) IsValid
+typing-valid laws s new v codes =
+    typing-if IsValid s new
+    (λ w b d lives at is.
     let how = Inserted w.point (length new) in
     let i = w.buffer in
     let place = w.point + length new in
-    let u : StateValue = record s { buffers = slice_set s.buffers i (holding b d); windows = map (moved_in i how) s.windows } in
-    let valid : IsValid u = moving-valid s u i how (insertion w.point new) v (insertion-keeps laws.texts laws.made s.objects w.point new codes)
-    (moving-is s u i b how (insertion w.point new) (Ok d) at is refl) in
+    let u : StateValue = record (with_content s i b d) { windows = map (moved_in i how) s.windows } in
+    let valid : IsValid u = moving-valid s i b d how (insertion w.point new) v (insertion-keeps laws.texts laws.made s.objects w.point new codes) at is in
     let m = insertion-means w.point new b.content d is in
     let end : IsAccessible d.text place = subst (λ (x : ContentValue). IsAccessible x.text place) m.2 (typed-place b.content.text w.point (length new) m.0) in
-    let same : record u { windows = with_window s.selected (λ old. record old { point = place }) u.windows } ≡ t = cc (h) in
-    pointed-valid u t s.selected place valid
+    pointed-valid u s.selected place valid
     (λ x c there hc.
     let was : option_map (moved_by i how) (window_of s.selected s.windows) ≡ Some x = sym (window-each s.selected (moved_by i how) s.windows) ∙ there in
-    let is_x : moved_by i how w ≡ x = cc (sym (ap (option_map (moved_by i how)) found) ∙ was) in
+    let is_x : moved_by i how w ≡ x = cc (sym (ap (option_map (moved_by i how)) lives) ∙ was) in
     let shows : x.buffer ≡ i = sym (ap (λ (y : WindowState). y.buffer) is_x) ∙ moved-buffer (w.buffer == i) (moved how) w (λ y. refl) in
     elim (get-set s.buffers i x.buffer (holding b d) c hc) [
       | inl q ↦ subst (λ (z : BufferValue). IsAccessible z.content.text place) (sym q.1) end
       | inr q ↦ absurd (q.0 shows)
-    ])
-    same
-
-typing-valid : (laws : Laws) (s t : StateValue) (new : List ℕ) → IsValid s → AreCodes new → typing s new ≡ Ok t → IsValid t
-typing-valid laws s t new v codes h =
-    let w = found-ok s t s.selected _ h in
-    let b = buffer-ok t (slice_get s.buffers w.0.buffer) _ w.2 in
-    typed-done laws s t w.0 b.0 new (insertion w.0.point new b.0.content) v codes w.1 b.1 refl b.2
+    ]))
 
 -- ---- the whole frame
 
 -- a state in which other things belong to the whole frame
-framed-valid : (s t : StateValue) (margin conservatively : ℕ) (echo : List ℕ) (shifting : Bool) → IsValid s → margin ≤ SCROLL_MARGIN → conservatively ≤ SCROLL_CONSERVATIVELY → IsTrue (is_plain_text echo)
-    → ◌≡◌ {A = Result StateValue Refused} (Ok (record s { margin = margin; conservatively = conservatively; echo = echo; shifting = shifting })) (Ok t) → IsValid t
-framed-valid s t margin conservatively echo shifting v few rows plain h =
-    let same : record s { margin = margin; conservatively = conservatively; echo = echo; shifting = shifting } ≡ t = cc (h) in
-    subst IsValid same (record {
-      buffers = v.buffers;
-      objects = v.objects;
-      closed = v.closed;
-      windows = v.windows;
-      frame = v.frame;
-      margin = few;
-      conservatively = rows;
-      echo = plain;
-    })
+framed-valid : (s : StateValue) (margin conservatively : ℕ) (echo : List ℕ) (shifting : Bool) → IsValid s → margin ≤ SCROLL_MARGIN → conservatively ≤ SCROLL_CONSERVATIVELY → IsTrue (is_plain_text echo)
+    → IsValid (record s { margin = margin; conservatively = conservatively; echo = echo; shifting = shifting })
+framed-valid s margin conservatively echo shifting v few rows plain = record {
+  buffers = v.buffers;
+  objects = v.objects;
+  closed = v.closed;
+  windows = v.windows;
+  frame = v.frame;
+  margin = few;
+  conservatively = rows;
+  echo = plain;
+}
 
 -- ---- all ops
 
-pub step-valid : (laws : Laws) (s t : StateValue) (op : Op) → IsValid s → IsInForm op → step s op ≡ Ok t → IsValid t
+pub step-valid : (laws : Laws) (s : StateValue) (op : Op) → IsValid s → IsInForm op → IfOk (step s op) IsValid
 unfolding step
-step-valid laws s t (ops.Frame width height) v form h = resizing-valid laws.trees s t width height v form.0 form.1 form.2 form.3 h
-step-valid laws s t (ops.Buffer name) v form h = making-valid s t name v form h
-step-valid laws s t (ops.Insert name place text) v form h =
-    edited_moving-valid s t name (Inserted place (length text)) (insertion place text) v (insertion-keeps laws.texts laws.made s.objects place text (text-codes text form.2)) h
-step-valid laws s t (ops.InsertRaw name place bytes) v form h =
+step-valid laws s (ops.Frame width height) v form = resizing-valid laws.trees s width height v form.0 form.1 form.2 form.3
+step-valid laws s (ops.Buffer name) v form = each-if IsValid _ (λ t h. making-valid s t name v form h)
+step-valid laws s (ops.Insert name place text) v form =
+    edited_moving-valid s name (Inserted place (length text)) (insertion place text) v (insertion-keeps laws.texts laws.made s.objects place text (text-codes text form.2))
+step-valid laws s (ops.InsertRaw name place bytes) v form =
     let text = raw_text bytes in
-    edited_moving-valid s t name (Inserted place (length text)) (insertion place text) v (insertion-keeps laws.texts laws.made s.objects place text (raw-codes bytes form.2)) h
-step-valid laws s t (ops.TypeText text) v form h = typing-valid laws s t text v (text-codes text form) h
-step-valid laws s t (ops.Delete name from to) v form h = edited_moving-valid s t name (Deleted from to) (deletion from to) v (deletion-keeps laws.texts laws.made s.objects from to) h
-step-valid laws s t (ops.Narrow name from to) v form h = edited_moving-valid s t name (Narrowed from to) (narrowing from to) v (narrowing-keeps laws.texts s.objects from to) h
-step-valid laws s t (ops.Widen name) v form h = edited-valid s t name widening v (widening-keeps laws.texts s.objects) h
-step-valid laws s t (ops.Put name from to kind value) v form h =
-    edited-valid s t name (property_putting s.objects from to kind value) v (put-keeps laws.made s.objects from to kind value form.3) h
-step-valid laws s t (ops.Overlay name from to priority front rear) v form h =
-    edited-valid s t name (overlay_making from to priority front rear) v (making-keeps laws.made s.objects from to priority front rear) h
-step-valid laws s t (ops.OverlayMove name overlay from to) v form h = edited-valid s t name (overlay_moving overlay from to) v (moving-keeps laws.made s.objects overlay from to) h
-step-valid laws s t (ops.OverlayDrop name overlay) v form h = edited-valid s t name (overlay_dropping overlay) v (dropping-keeps laws.made s.objects overlay) h
-step-valid laws s t (ops.OverlayPut name overlay kind value) v form h =
-    edited-valid s t name (overlay_putting s.objects overlay kind value) v (giving-keeps laws.made s.objects overlay kind value) h
-step-valid laws s t (ops.Setting name value) v form h = edited-valid s t name (setting_putting s.objects value) v (setting-keeps s.objects value form.1) h
-step-valid laws s t (ops.AddString text runs) v form h =
-    string-valid laws.made laws.objects s t text runs v (text-codes text form.0) (laws.extends s t (ops.AddString text runs) v form h) h
-step-valid laws s t (ops.AddSpec spec) v form h = spec-valid laws.made laws.objects s t spec v form (laws.extends s t (ops.AddSpec spec) v form h) h
-step-valid laws s t (ops.AddFace face) v form h =
-    face-valid laws.made laws.objects s t face v (record { fg = form.0; bg = form.1 }) (laws.extends s t (ops.AddFace face) v form h) h
-step-valid laws s t (ops.AddTable entries truncation continuation escape control ellipsis border) v form h =
-    table-valid laws.made laws.objects s t (table_of entries truncation continuation escape control ellipsis border) v
+    edited_moving-valid s name (Inserted place (length text)) (insertion place text) v (insertion-keeps laws.texts laws.made s.objects place text (raw-codes bytes form.2))
+step-valid laws s (ops.TypeText text) v form = typing-valid laws s text v (text-codes text form)
+step-valid laws s (ops.Delete name from to) v form = edited_moving-valid s name (Deleted from to) (deletion from to) v (deletion-keeps laws.texts laws.made s.objects from to)
+step-valid laws s (ops.Narrow name from to) v form = edited_moving-valid s name (Narrowed from to) (narrowing from to) v (narrowing-keeps laws.texts s.objects from to)
+step-valid laws s (ops.Widen name) v form = edited-valid s name widening v (widening-keeps laws.texts s.objects)
+step-valid laws s (ops.Put name from to kind value) v form =
+    edited-valid s name (property_putting s.objects from to kind value) v (put-keeps laws.made s.objects from to kind value form.3)
+step-valid laws s (ops.Overlay name from to priority front rear) v form =
+    edited-valid s name (overlay_making from to priority front rear) v (making-keeps laws.made s.objects from to priority front rear)
+step-valid laws s (ops.OverlayMove name overlay from to) v form = edited-valid s name (overlay_moving overlay from to) v (moving-keeps laws.made s.objects overlay from to)
+step-valid laws s (ops.OverlayDrop name overlay) v form = edited-valid s name (overlay_dropping overlay) v (dropping-keeps laws.made s.objects overlay)
+step-valid laws s (ops.OverlayPut name overlay kind value) v form =
+    edited-valid s name (overlay_putting s.objects overlay kind value) v (giving-keeps laws.made s.objects overlay kind value)
+step-valid laws s (ops.Setting name value) v form = edited-valid s name (setting_putting s.objects value) v (setting-keeps s.objects value form.1)
+step-valid laws s (ops.AddString text runs) v form =
+    each-if IsValid _ (λ t h. string-valid laws.made laws.objects s t text runs v (text-codes text form.0) (laws.extends s t (ops.AddString text runs) v form h) h)
+step-valid laws s (ops.AddSpec spec) v form =
+    each-if IsValid _ (λ t h. spec-valid laws.made laws.objects s t spec v form (laws.extends s t (ops.AddSpec spec) v form h) h)
+step-valid laws s (ops.AddFace face) v form =
+    each-if IsValid _ (λ t h. face-valid laws.made laws.objects s t face v (record { fg = form.0; bg = form.1 }) (laws.extends s t (ops.AddFace face) v form h) h)
+step-valid laws s (ops.AddTable entries truncation continuation escape control ellipsis border) v form =
+    each-if IsValid _ (λ t h. table-valid laws.made laws.objects s t (table_of entries truncation continuation escape control ellipsis border) v
     (table-right entries truncation continuation escape control ellipsis border form.1 form.2 form.3 form.4 form.5 form.6 form.7)
-    (laws.extends s t (ops.AddTable entries truncation continuation escape control ellipsis border) v form h) h
-step-valid laws s t (ops.Split window side size) v form h = splitting-valid laws.trees s t window side size v h
-step-valid laws s t (ops.Remove window) v form h = removing-valid laws.trees s t window v h
-step-valid laws s t (ops.Select window) v form h = selecting-valid s t window v h
-step-valid laws s t (ops.Show window name) v form h = showing-valid s t window name v h
-step-valid laws s t (ops.Point window place) v form h =
-    placing-valid s t window place (λ old. record old { point = place }) v (λ w. refl) (λ w old at. point-keeps s.buffers place w old at) h
-step-valid laws s t (ops.Start window place row) v form h =
-    placing-valid s t window place (λ old. record old { anchor = record { pos = place; row = row }; forced = true; pending = pos 0 }) v (λ w. refl)
-    (λ w old at. start-keeps s.buffers place row w old at) h
-step-valid laws s t (ops.Scroll window rows) v form h =
-    setting-valid s t window (λ old. record old { forced = true; pending = held (old.pending +ℤ rows) }) v (λ w. refl) (λ w found old. scroll-keeps s.buffers (w.pending +ℤ rows) w old) h
-step-valid laws s t (ops.Hscroll window columns) v form h =
-    setting-valid s t window (λ old. record old { hscroll = columns }) v (λ w. refl)
-    (λ w found old. look-keeps s.buffers w (record w { hscroll = columns }) refl refl refl old.pending form.1 old.format old.numbers old.strings old) h
-step-valid laws s t (ops.Wrap window mode) v form h =
-    setting-valid s t window (λ old. record old { wrap = mode }) v (λ w. refl)
-    (λ w found old. look-keeps s.buffers w (record w { wrap = mode }) refl refl refl old.pending old.hscroll old.format old.numbers old.strings old) h
-step-valid laws s t (ops.ModeLine window format) v form h = mode_lining-valid laws.trees s t window format v form.1 h
-step-valid laws s t (ops.Scrolling margin conservatively) v form h = framed-valid s t margin conservatively s.echo s.shifting v form.0 form.1 v.echo h
-step-valid laws s t (ops.Echo text) v form h = framed-valid s t s.margin s.conservatively text s.shifting v v.margin v.conservatively form h
-step-valid laws s t (ops.Redisplay stop) v form h = let same : s ≡ t = cc (h) in subst IsValid same v
-step-valid laws s t (ops.Shift on) v form h = framed-valid s t s.margin s.conservatively s.echo on v v.margin v.conservatively v.echo h
-step-valid laws s t (ops.Go window right) v form h = let same : s ≡ t = cc (h) in subst IsValid same v
-step-valid laws s t (ops.Hit window row column) v form h = let same : s ≡ t = cc (h) in subst IsValid same v
-step-valid laws s t (ops.Margin window numbers strings) v form h = margining-valid laws.trees s t window numbers strings v form.1 form.2 h
-step-valid laws s t (ops.MarginPut name overlay string) v form h = edited-valid s t name (margin_putting s.objects overlay string) v (margin-keeps s.objects overlay string) h
+    (laws.extends s t (ops.AddTable entries truncation continuation escape control ellipsis border) v form h) h)
+step-valid laws s (ops.Split window side size) v form = splitting-valid laws.trees s window side size v
+step-valid laws s (ops.Remove window) v form = removing-valid laws.trees s window v
+step-valid laws s (ops.Select window) v form = selecting-valid s window v
+step-valid laws s (ops.Show window name) v form = showing-valid s window name v
+step-valid laws s (ops.Point window place) v form =
+    placing-valid s window place (λ old. record old { point = place }) v (λ w. refl) (λ w old at. point-keeps s.buffers place w old at)
+step-valid laws s (ops.Start window place row) v form =
+    placing-valid s window place (λ old. record old { anchor = record { pos = place; row = row }; forced = true; pending = pos 0 }) v (λ w. refl)
+    (λ w old at. start-keeps s.buffers place row w old at)
+step-valid laws s (ops.Scroll window rows) v form =
+    setting-if IsValid s window _ (set-valid s window (λ old. record old { forced = true; pending = held (old.pending +ℤ rows) }) v (λ w. refl)
+    (λ w lives old. scroll-keeps s.buffers (w.pending +ℤ rows) w old))
+step-valid laws s (ops.Hscroll window columns) v form =
+    setting-if IsValid s window _ (set-valid s window (λ old. record old { hscroll = columns }) v (λ w. refl)
+    (λ w lives old. look-keeps s.buffers w (record w { hscroll = columns }) refl refl refl old.pending form.1 old.format old.numbers old.strings old))
+step-valid laws s (ops.Wrap window mode) v form =
+    setting-if IsValid s window _ (set-valid s window (λ old. record old { wrap = mode }) v (λ w. refl)
+    (λ w lives old. look-keeps s.buffers w (record w { wrap = mode }) refl refl refl old.pending old.hscroll old.format old.numbers old.strings old))
+step-valid laws s (ops.ModeLine window format) v form = mode_lining-valid laws.trees s window format v form.1
+step-valid laws s (ops.Scrolling margin conservatively) v form = framed-valid s margin conservatively s.echo s.shifting v form.0 form.1 v.echo
+step-valid laws s (ops.Echo text) v form = framed-valid s s.margin s.conservatively text s.shifting v v.margin v.conservatively form
+step-valid laws s (ops.Redisplay stop) v form = v
+step-valid laws s (ops.Shift on) v form = framed-valid s s.margin s.conservatively s.echo on v v.margin v.conservatively v.echo
+step-valid laws s (ops.Go window right) v form = v
+step-valid laws s (ops.Hit window row column) v form = v
+step-valid laws s (ops.Margin window numbers strings) v form = margining-valid laws.trees s window numbers strings v form.1 form.2
+step-valid laws s (ops.MarginPut name overlay string) v form = edited-valid s name (margin_putting s.objects overlay string) v (margin-keeps s.objects overlay string)
 
 -- ---- settling
 
@@ -172,7 +163,7 @@ pub settled-valid : (s : StateValue) (number : ℕ) (anchor : Anchor) (point : �
     → ((w : WindowState) (b : BufferValue) → window_of number s.windows ≡ Some w → slice_get s.buffers w.buffer ≡ Some b → IsAccessible b.content.text anchor.pos × IsAccessible b.content.text point)
     → IsValid (settled s number anchor point)
 settled-valid s number anchor point v at =
-    set-valid s (settled s number anchor point) number (λ old. record old { anchor = anchor; point = point; forced = false; pending = pos 0 }) v (λ w. refl)
+    set-valid s number (λ old. record old { anchor = anchor; point = point; forced = false; pending = pos 0 }) v (λ w. refl)
     (λ w found old. record {
       made = old.made;
       point = λ b h. (at w b found h).1;
@@ -182,7 +173,7 @@ settled-valid s number anchor point v at =
       format = old.format;
       numbers = old.numbers;
       strings = old.strings;
-    }) refl
+    })
 
 -- ---- the opening
 

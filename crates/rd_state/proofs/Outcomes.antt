@@ -337,15 +337,15 @@ outcome laws grow s (ops.Show window name) v form =
     (λ w lives. found (λ t. Outcome s t (Window window)) _ (slice_get s.buffers (number_of name s.buffers)) _
     (λ b at. kept laws grow s _ (Window window) (λ k x c h. h) refl refl
     (each-with (Shows (Window window)) (λ number x ne. refl) window _ s.windows (λ x ne. absurd (ne refl)))))
-outcome laws grow s (ops.Point window place) v form = placing-if (Quiet s) s window place _ (λ w b at yes. changed-outcome laws grow s window _ (λ x. refl))
-outcome laws grow s (ops.Start window place row) v form = placing-if (Quiet s) s window place _ (λ w b at yes. changed-outcome laws grow s window _ (λ x. refl))
+outcome laws grow s (ops.Point window place) v form = placing-if (Quiet s) s window place _ (λ w b lives at yes. changed-outcome laws grow s window _ (λ x. refl))
+outcome laws grow s (ops.Start window place row) v form = placing-if (Quiet s) s window place _ (λ w b lives at yes. changed-outcome laws grow s window _ (λ x. refl))
 outcome laws grow s (ops.Scroll window rows) v form = setting-if (Quiet s) s window _ (changed-outcome laws grow s window _ (λ w. refl))
 outcome laws grow s (ops.Hscroll window columns) v form = setting-if (Quiet s) s window _ (changed-outcome laws grow s window _ (λ w. refl))
 outcome laws grow s (ops.Wrap window mode) v form = setting-if (Quiet s) s window _ (changed-outcome laws grow s window _ (λ w. refl))
 outcome laws grow s (ops.ModeLine window format) v form =
     found (Quiet s) _ (window_of window s.windows) _
     (λ w lives. unless (Quiet s) (format_fault format) _
-    (tree-outcome laws grow s window (λ old. record old { format = format }) (mode_tree s.tree window (is_some format)) (λ x. refl)))
+    (λ good. tree-outcome laws grow s window (λ old. record old { format = format }) (mode_tree s.tree window (is_some format)) (λ x. refl)))
 outcome laws grow s (ops.Scrolling margin conservatively) v form = unseen laws grow s _ refl refl refl
 outcome laws grow s (ops.Echo text) v form = unseen laws grow s _ refl refl refl
 outcome laws grow s (ops.Redisplay stop) v form = unseen laws grow s _ refl refl refl

@@ -6,7 +6,7 @@ use Rattle.std.specs.Int.{int_max}
 use Rattle.std.proofs.lemmas.Int.{ints}
 use Rattle.std.proofs.lemmas.Option.{slice_get_within}
 use Rattle.std.specs.Option.{option_or}
-use Rattle.std.specs.Prelude.{slice_get, option_map, IsSome, IfSome}
+use Rattle.std.specs.Prelude.{slice_get, option_map, IsSome, IfOk, IfSome}
 use Rattle.rd_base.proofs.Lists.{get-end}
 use Rattle.rd_base.specs.declared.limits.TheConstants.{PENDING_ROWS}
 use Rattle.rd_text.specs.Texts.{IsAccessible}
@@ -18,19 +18,17 @@ use Rattle.rd_tree.specs.Windows.{Windows, Window, fits, holds, is_single, split
 use Rattle.rd_tree.specs.declared.fault.TreeFault.{TreeFault}
 use Rattle.rd_tree.specs.declared.fault.TreeFault.TheVariants as tree_faults
 use Rattle.rd_tree.specs.declared.side.Side.{Side}
-use Rattle.rd_state.specs.declared.refused.Refused.{Refused}
-use Rattle.rd_state.specs.declared.refused.Refused.TheVariants.{NoWindow, NoBuffer, OutOfRange}
 use Rattle.rd_state.specs.declared.window.WindowState.{WindowState}
 use Rattle.rd_state.specs.States.{BufferValue, StateValue, number_of}
 use Rattle.rd_state.specs.Windows.{window_of, with_window, without_window, leaf_at, leaf_of}
 use Rattle.rd_state.specs.Valid.{IsWindow, AreWindows, IsGoodFormat, IsValid}
-use Rattle.rd_state.specs.Edits.{is_accessible}
-use Rattle.rd_state.specs.Steps.{with_found, in_window, changing, on_tree, splitting, removing, showing, placing, setting, held, format_fault, unless_bad, mode_lining, margining}
+use Rattle.rd_state.specs.Steps.{in_window, changing, on_tree, splitting, removing, showing, placing, held, format_fault, mode_lining, margining}
 use Rattle.rd_state.proofs.Below.{TreeLaws}
 use Rattle.rd_state.proofs.ByNumber.{NumberedWindow, window-end, apart-end, window-gone, window-left, apart-without, get-without, get-window, some-none}
 use Rattle.rd_state.proofs.Keeping.{window-placed, windows-changed}
 use Rattle.rd_state.proofs.Leaves.{Leaf, leaf-resized, leaf-same, leaf-other, split-same, split-other, split-new, removed-same, removed-other, heir-held, is_some-leaf, unmade}
-use Rattle.rd_state.proofs.Tests.{found-value, if-ok, if-not, is_accessible-means}
+use Rattle.rd_state.proofs.StepParts.{found, unless, tree-if, treed-if, placing-if}
+use Rattle.rd_state.proofs.Tests.{if-ok, if-not, is_accessible-means}
 use Rattle.rd_state.proofs.Options.{map-map, one-value, or-none, some-or}
 use Rattle.rd_state.proofs.WithParts.{with_parts}
 
@@ -103,38 +101,23 @@ windows-set : (bs : List BufferValue) (c : Configuration) (ws : List NumberedWin
 windows-set bs c ws n number f same keep v =
     windows-changed bs c c ws n number f v.tree (v.leaves number ∙ option-same leaf_of (λ w. leaf_of (f w)) (window_of number ws) (λ w. sym (same w))) (λ k q. refl) keep v
 
-pub set-valid : (s t : StateValue) (number : ℕ) (f : WindowState → WindowState) → IsValid s → ((w : WindowState) → leaf_of (f w) ≡ leaf_of w)
-    → ((w : WindowState) → window_of number s.windows ≡ Some w → IsWindow s.buffers w → IsWindow s.buffers (f w)) → changing number f (Ok s) ≡ Ok t → IsValid t
-set-valid s t number f v same keep h =
-    let is : record s { windows = with_window number f s.windows } ≡ t = cc (h) in
-    subst IsValid is (with_windows s s.tree (with_window number f s.windows) s.selected v (windows-set s.buffers s.tree s.windows s.selected number f same keep v.windows) refl refl)
-
-pub found-ok : (s t : StateValue) (number : ℕ) (f : WindowState → Result StateValue Refused) → in_window s number f ≡ Ok t → (w : WindowState) × (window_of number s.windows ≡ Some w) × (f w ≡ Ok t)
-found-ok s t number f h = found-value NoWindow (window_of number s.windows) f t h
-
-pub buffer-ok : (t : StateValue) (o : Option BufferValue) (f : BufferValue → Result StateValue Refused) → with_found NoBuffer o f ≡ Ok t → (b : BufferValue) × (o ≡ Some b) × (f b ≡ Ok t)
-buffer-ok t o f h = found-value NoBuffer o f t h
-
-pub setting-valid : (s t : StateValue) (number : ℕ) (f : WindowState → WindowState) → IsValid s → ((w : WindowState) → leaf_of (f w) ≡ leaf_of w)
-    → ((w : WindowState) → window_of number s.windows ≡ Some w → IsWindow s.buffers w → IsWindow s.buffers (f w)) → setting s number f ≡ Ok t → IsValid t
-setting-valid s t number f v same keep h = set-valid s t number f v same keep (found-ok s t number (λ w. changing number f (Ok s)) h).2
+pub set-valid : (s : StateValue) (number : ℕ) (f : WindowState → WindowState) → IsValid s → ((w : WindowState) → leaf_of (f w) ≡ leaf_of w)
+    → ((w : WindowState) → window_of number s.windows ≡ Some w → IsWindow s.buffers w → IsWindow s.buffers (f w)) → IsValid (record s { windows = with_window number f s.windows })
+set-valid s number f v same keep =
+    with_windows s s.tree (with_window number f s.windows) s.selected v (windows-set s.buffers s.tree s.windows s.selected number f same keep v.windows) refl refl
 
 -- ---- points and views
 
-pub placing-valid : (s t : StateValue) (number place : ℕ) (f : WindowState → WindowState) → IsValid s → ((w : WindowState) → leaf_of (f w) ≡ leaf_of w)
+pub placing-valid : (s : StateValue) (number place : ℕ) (f : WindowState → WindowState) → IsValid s → ((w : WindowState) → leaf_of (f w) ≡ leaf_of w)
     → ((w : WindowState) → IsWindow s.buffers w → ((b : BufferValue) → slice_get s.buffers w.buffer ≡ Some b → IsAccessible b.content.text place) → IsWindow s.buffers (f w))
-    → placing s number place f ≡ Ok t → IsValid t
-placing-valid s t number place f v same keep h =
-    let w = found-ok s t number _ h in
-    let b = buffer-ok t (slice_get s.buffers w.0.buffer) _ w.2 in
-    let parts = if-ok (is_accessible b.0.content.text place) (changing number f (Ok s)) OutOfRange t b.2 in
-    let at = is_accessible-means b.0.content.text place parts.0 in
-    set-valid s t number f v same
-    (λ x found old. keep x old (λ c hc.
-    let is : w.0 ≡ x = one-value (window_of number s.windows) w.0 x w.1 found in
-    let here : slice_get s.buffers w.0.buffer ≡ Some c = ap (λ (y : WindowState). slice_get s.buffers y.buffer) is ∙ hc in
-    subst (λ (z : BufferValue). IsAccessible z.content.text place) (one-value (slice_get s.buffers w.0.buffer) b.0 c b.1 here) at))
-    parts.1
+    → IfOk (placing s number place f) IsValid
+placing-valid s number place f v same keep =
+    placing-if IsValid s number place f
+    (λ w b lives at yes. set-valid s number f v same
+    (λ x there old. keep x old (λ c hc.
+    let is : w ≡ x = one-value (window_of number s.windows) w x lives there in
+    let here : slice_get s.buffers w.buffer ≡ Some c = ap (λ (y : WindowState). slice_get s.buffers y.buffer) is ∙ hc in
+    subst (λ (z : BufferValue). IsAccessible z.content.text place) (one-value (slice_get s.buffers w.buffer) b c at here) (is_accessible-means b.content.text place yes))))
 
 none-pending : IsTrue (is_near_zero (pos PENDING_ROWS) (pos 0))
 none-pending = refl
@@ -199,39 +182,17 @@ shown-keeps s i b w v at old =
       strings = old.strings;
     }
 
-pub showing-valid : (s t : StateValue) (number : ℕ) (name : List ℕ) → IsValid s → showing s number name ≡ Ok t → IsValid t
-showing-valid s t number name v h =
-    let w = found-ok s t number _ h in
+pub showing-valid : (s : StateValue) (number : ℕ) (name : List ℕ) → IsValid s → IfOk (showing s number name) IsValid
+showing-valid s number name v =
     let i = number_of name s.buffers in
-    let b = buffer-ok t (slice_get s.buffers i) _ w.2 in
-    set-valid s t number _ v (λ x. refl) (λ x found old. shown-keeps s i b.0 x v b.1 old) b.2
+    found IsValid _ (window_of number s.windows) _
+    (λ w lives. found IsValid _ (slice_get s.buffers i) _ (λ b at. set-valid s number _ v (λ x. refl) (λ x there old. shown-keeps s i b x v at old)))
 
 -- ---- the tree
-
-pub on_tree-ok : (r : Result Configuration TreeFault) (f : Configuration → StateValue) (t : StateValue) → on_tree r f ≡ Ok t → (d : Configuration) × (r ≡ Ok d) × (f d ≡ t)
-on_tree-ok (Err fault) f t h = absurd (cc)
-on_tree-ok (Ok d) f t h = (d, refl, cc)
-
-pub changing-ok : (number : ℕ) (f : WindowState → WindowState) (r : Result StateValue Refused) (t : StateValue) → changing number f r ≡ Ok t
-    → (u : StateValue) × (r ≡ Ok u) × (record u { windows = with_window number f u.windows } ≡ t)
-changing-ok number f (Err e) t h = absurd (cc)
-changing-ok number f (Ok u) t h = (u, refl, cc)
-
-pub unless-ok : (o : Option ℕ) (r : Result StateValue Refused) (t : StateValue) → unless_bad o r ≡ Ok t → (o ≡ None) × (r ≡ Ok t)
-unless-ok None r t h = (refl, h)
-unless-ok (Some column) r t h = absurd (cc)
 
 good-format : (format : Option (List ℕ)) → IsFormat format → format_fault format ≡ None → IfSome format IsGoodFormat
 good-format None form h = tt
 good-format (Some text) form h = record { plain = form; good = h }
-
--- a state with another tree and another window
-pub retold-ok : (s t : StateValue) (number : ℕ) (f : WindowState → WindowState) (r : Result Configuration TreeFault) → changing number f (on_tree r (λ c. record s { tree = c })) ≡ Ok t
-    → (d : Configuration) × (r ≡ Ok d) × (record s { tree = d; windows = with_window number f s.windows } ≡ t)
-retold-ok s t number f r h =
-    let u = changing-ok number f (on_tree r (λ c. record s { tree = c })) t h in
-    let d = on_tree-ok r (λ c. record s { tree = c }) u.0 u.1 in
-    (d.0, d.1, ap (λ (x : StateValue). record x { windows = with_window number f x.windows }) d.2 ∙ u.2)
 
 both-parts : (x : Leaf) → ◌≡◌ {A = Leaf} (x.0, x.1) x
 both-parts (mode, margins) = refl
@@ -240,39 +201,40 @@ both-parts (mode, margins) = refl
 abbrev retold : ℕ → (Leaf → Leaf) → Bool → ℕ → Windows
 retold number g mode margins = Window number (g (mode, margins)).0 (g (mode, margins)).1
 
-retold-valid : (s t : StateValue) (number : ℕ) (f : WindowState → WindowState) (g : Leaf → Leaf) (r : Result Configuration TreeFault) → IsValid s
+retold-valid : (s : StateValue) (number : ℕ) (f : WindowState → WindowState) (g : Leaf → Leaf) (r : Result Configuration TreeFault) → IsValid s
     → ((d : Configuration) → r ≡ Ok d → tree.IsValid d × (record s.tree { windows = replaced number (retold number g) s.tree.windows } ≡ d)) → ((w : WindowState) → g (leaf_of w) ≡ leaf_of (f w))
-    → ((w : WindowState) → IsWindow s.buffers w → IsWindow s.buffers (f w)) → changing number f (on_tree r (λ c. record s { tree = c })) ≡ Ok t → IsValid t
-retold-valid s t number f g r v means gives keep h =
-    let d = retold-ok s t number f r h in
-    let is = means d.0 d.1 in
+    → ((w : WindowState) → IsWindow s.buffers w → IsWindow s.buffers (f w)) → IfOk (changing number f (on_tree r (λ c. record s { tree = c }))) IsValid
+retold-valid s number f g r v means gives keep =
+    treed-if IsValid s r number f
+    (λ d at.
+    let is = means d at in
     let new : Configuration = record s.tree { windows = replaced number (retold number g) s.tree.windows } in
     let here : leaf_at number new.windows ≡ option_map g (leaf_at number s.tree.windows)
     = leaf-same number (retold number g) g s.tree.windows (λ mode margins. cond-true (number == number) _ None (eq-eqb number number refl) ∙ ap (λ (x : Leaf). Some x) (both-parts (g (mode, margins)))) in
     let others : (k : ℕ) → k ≢ number → leaf_at k new.windows ≡ leaf_at k s.tree.windows
     = λ k q. leaf-other number k (retold number g) s.tree.windows q (λ mode margins. cond-false (number == k) _ None (ne_eqb number k (λ p. q (sym p)))) in
-    subst IsValid (ap (λ (x : Configuration). record s { tree = x; windows = with_window number f s.windows }) is.1 ∙ d.2)
+    subst IsValid (ap (λ (x : Configuration). record s { tree = x; windows = with_window number f s.windows }) is.1)
     (with_windows s new (with_window number f s.windows) s.selected v
     (windows-changed s.buffers s.tree new s.windows s.selected number f (subst tree.IsValid (sym is.1) is.0)
-    (here ∙ (ap (option_map g) (v.windows.leaves number) ∙ map-map leaf_of g (λ w. leaf_of (f w)) (window_of number s.windows) gives)) others (λ w found old. keep w old) v.windows)
-    refl refl)
+    (here ∙ (ap (option_map g) (v.windows.leaves number) ∙ map-map leaf_of g (λ w. leaf_of (f w)) (window_of number s.windows) gives)) others (λ w lives old. keep w old) v.windows)
+    refl refl))
 
-pub mode_lining-valid : (laws : TreeLaws) (s t : StateValue) (number : ℕ) (format : Option (List ℕ)) → IsValid s → IsFormat format → mode_lining s number format ≡ Ok t → IsValid t
-mode_lining-valid laws s t number format v form h =
-    let w = found-ok s t number _ h in
-    let good = unless-ok (format_fault format) _ t w.2 in
+pub mode_lining-valid : (laws : TreeLaws) (s : StateValue) (number : ℕ) (format : Option (List ℕ)) → IsValid s → IsFormat format → IfOk (mode_lining s number format) IsValid
+mode_lining-valid laws s number format v form =
     let shown = is_some format in
-    retold-valid s t number (λ old. record old { format = format }) (λ x. (shown, x.1)) (mode_tree s.tree number shown) v
+    found IsValid _ (window_of number s.windows) _
+    (λ w lives. unless IsValid (format_fault format) _
+    (λ good. retold-valid s number (λ old. record old { format = format }) (λ x. (shown, x.1)) (mode_tree s.tree number shown) v
     (λ d at. (laws.mode s.tree d number shown v.windows.tree at, mode-means s.tree d number shown at)) (λ x. refl)
-    (λ x old. look-keeps s.buffers x (record x { format = format }) refl refl refl old.pending old.hscroll (good-format format form good.0) old.numbers old.strings old) good.1
+    (λ x old. look-keeps s.buffers x (record x { format = format }) refl refl refl old.pending old.hscroll (good-format format form good) old.numbers old.strings old)))
 
-pub margining-valid : (laws : TreeLaws) (s t : StateValue) (number numbers strings : ℕ) → IsValid s → numbers ≤ 10 → strings ≤ 20 → margining s number numbers strings ≡ Ok t → IsValid t
-margining-valid laws s t number numbers strings v few some h =
-    let w = found-ok s t number _ h in
+pub margining-valid : (laws : TreeLaws) (s : StateValue) (number numbers strings : ℕ) → IsValid s → numbers ≤ 10 → strings ≤ 20 → IfOk (margining s number numbers strings) IsValid
+margining-valid laws s number numbers strings v few some =
     let columns = numbers + strings in
-    retold-valid s t number (λ old. record old { numbers = numbers; strings = strings }) (λ x. (x.0, columns)) (margins_tree s.tree number columns) v
+    found IsValid _ (window_of number s.windows) _
+    (λ w lives. retold-valid s number (λ old. record old { numbers = numbers; strings = strings }) (λ x. (x.0, columns)) (margins_tree s.tree number columns) v
     (λ d at. (laws.margins s.tree d number columns v.windows.tree at, margins-means s.tree d number columns at)) (λ x. refl)
-    (λ x old. look-keeps s.buffers x (record x { numbers = numbers; strings = strings }) refl refl refl old.pending old.hscroll old.format few some old) w.2
+    (λ x old. look-keeps s.buffers x (record x { numbers = numbers; strings = strings }) refl refl refl old.pending old.hscroll old.format few some old))
 
 -- ---- splits
 
@@ -319,16 +281,16 @@ copy-keeps bs w v = look-keeps bs w (record w { forced = false; pending = pos 0 
 pub window-valid : (s : StateValue) (number : ℕ) (w : WindowState) → IsValid s → window_of number s.windows ≡ Some w → IsWindow s.buffers w
 window-valid s number w v found = let at = get-window number s.windows w found in v.windows.each at.0 (number, w) at.1
 
-pub splitting-valid : (laws : TreeLaws) (s t : StateValue) (number : ℕ) (side : Side) (size : ℕ) → IsValid s → splitting s number side size ≡ Ok t → IsValid t
-splitting-valid laws s t number side size v h =
-    let w = found-ok s t number _ h in
-    let d = on_tree-ok (split_tree s.tree number side size) _ t w.2 in
-    let is = split-means s.tree d.0 number side size d.1 in
-    let valid = laws.split s.tree d.0 number side size v.windows.tree d.1 in
-    let copy : WindowState = record w.0 { forced = false; pending = pos 0 } in
-    let ws = s.windows ++ (s.tree.made, copy) ∷ [] in
-    let new = split-windows s d.0 number side size w.0 copy v valid (sym (ap (λ (x : Configuration). x.windows) is.1)) w.1 refl (copy-keeps s.buffers w.0 (window-valid s number w.0 v w.1)) in
-    subst IsValid d.2 (with_windows s d.0 ws s.selected v new (sym (ap (λ (x : Configuration). x.width) is.1)) (sym (ap (λ (x : Configuration). x.height) is.1)))
+pub splitting-valid : (laws : TreeLaws) (s : StateValue) (number : ℕ) (side : Side) (size : ℕ) → IsValid s → IfOk (splitting s number side size) IsValid
+splitting-valid laws s number side size v =
+    found IsValid _ (window_of number s.windows) _
+    (λ w lives. tree-if IsValid (split_tree s.tree number side size) _
+    (λ d at.
+    let is = split-means s.tree d number side size at in
+    let valid = laws.split s.tree d number side size v.windows.tree at in
+    let copy : WindowState = record w { forced = false; pending = pos 0 } in
+    let new = split-windows s d number side size w copy v valid (sym (ap (λ (x : Configuration). x.windows) is.1)) lives refl (copy-keeps s.buffers w (window-valid s number w v lives)) in
+    with_windows s d (s.windows ++ (s.tree.made, copy) ∷ []) s.selected v new (sym (ap (λ (x : Configuration). x.width) is.1)) (sym (ap (λ (x : Configuration). x.height) is.1))))
 
 -- ---- removals
 
@@ -366,28 +328,30 @@ removed-windows s d number w v valid there many is found =
           (λ h. subst IsSome (sym (window-left number s.selected s.windows (eqb-false s.selected number h))) v.windows.selected);
     }
 
-pub removing-valid : (laws : TreeLaws) (s t : StateValue) (number : ℕ) → IsValid s → removing s number ≡ Ok t → IsValid t
-removing-valid laws s t number v h =
-    let w = found-ok s t number _ h in
-    let d = on_tree-ok (remove_tree s.tree number) _ t w.2 in
-    let is = remove-means s.tree d.0 number d.1 in
-    let valid = laws.remove s.tree d.0 number v.windows.tree d.1 in
+pub removing-valid : (laws : TreeLaws) (s : StateValue) (number : ℕ) → IsValid s → IfOk (removing s number) IsValid
+removing-valid laws s number v =
+    found IsValid _ (window_of number s.windows) _
+    (λ w lives. tree-if IsValid (remove_tree s.tree number) _
+    (λ d at.
+    let is = remove-means s.tree d number at in
+    let valid = laws.remove s.tree d number v.windows.tree at in
     let chosen = if s.selected == number then first_leaf (sibling number s.tree.windows) else s.selected in
-    let new = removed-windows s d.0 number w.0 v valid is.0 is.1 (sym (ap (λ (x : Configuration). x.windows) is.2)) w.1 in
-    subst IsValid d.2 (with_windows s d.0 (without_window number s.windows) chosen v new (sym (ap (λ (x : Configuration). x.width) is.2)) (sym (ap (λ (x : Configuration). x.height) is.2)))
+    let new = removed-windows s d number w v valid is.0 is.1 (sym (ap (λ (x : Configuration). x.windows) is.2)) lives in
+    with_windows s d (without_window number s.windows) chosen v new (sym (ap (λ (x : Configuration). x.width) is.2)) (sym (ap (λ (x : Configuration). x.height) is.2))))
 
 -- ---- the frame
 
-pub resizing-valid : (laws : TreeLaws) (s t : StateValue) (width height : ℕ) → IsValid s → 12 ≤ width → width ≤ 400 → 2 ≤ height → height ≤ 200
-    → on_tree (resize_tree s.tree width (height - 1)) (λ c. record s { tree = c; width = width; height = height }) ≡ Ok t → IsValid t
-resizing-valid laws s t width height v wide narrow high low h =
-    let d = on_tree-ok (resize_tree s.tree width (height - 1)) _ t h in
-    let is = resize-means s.tree d.0 width (height - 1) d.1 in
-    let valid = laws.resize s.tree d.0 width (height - 1) narrow (omega arith) v.windows.tree d.1 in
-    let columns : d.0.width ≡ width = sym (ap (λ (x : Configuration). x.width) is) in
-    let rows : d.0.height ≡ height - 1 = sym (ap (λ (x : Configuration). x.height) is) in
-    let shapes : d.0.windows ≡ resized s.tree.windows (tree.frame width (height - 1)) = sym (ap (λ (x : Configuration). x.windows) is) in
-    subst IsValid d.2 (with_parts s s.buffers s.objects d.0 s.windows s.selected width height v v.buffers v.objects v.closed (record {
+pub resizing-valid : (laws : TreeLaws) (s : StateValue) (width height : ℕ) → IsValid s → 12 ≤ width → width ≤ 400 → 2 ≤ height → height ≤ 200
+    → IfOk (on_tree (resize_tree s.tree width (height - 1)) (λ c. record s { tree = c; width = width; height = height })) IsValid
+resizing-valid laws s width height v wide narrow high low =
+    tree-if IsValid (resize_tree s.tree width (height - 1)) _
+    (λ d at.
+    let is = resize-means s.tree d width (height - 1) at in
+    let valid = laws.resize s.tree d width (height - 1) narrow (omega arith) v.windows.tree at in
+    let columns : d.width ≡ width = sym (ap (λ (x : Configuration). x.width) is) in
+    let rows : d.height ≡ height - 1 = sym (ap (λ (x : Configuration). x.height) is) in
+    let shapes : d.windows ≡ resized s.tree.windows (tree.frame width (height - 1)) = sym (ap (λ (x : Configuration). x.windows) is) in
+    with_parts s s.buffers s.objects d s.windows s.selected width height v v.buffers v.objects v.closed (record {
       tree = valid;
       leaves = λ k. ap (leaf_at k) shapes ∙ (leaf-resized k s.tree.windows (tree.frame width (height - 1)) ∙ v.windows.leaves k);
       apart = v.windows.apart;
@@ -395,14 +359,13 @@ resizing-valid laws s t width height v wide narrow high low h =
       selected = v.windows.selected;
     }) (record { wide = wide; narrow = narrow; high = high; low = low; columns = columns; rows = omega (arith, rows) }))
 
-pub selecting-valid : (s t : StateValue) (number : ℕ) → IsValid s → in_window s number (λ w. Ok (record s { selected = number })) ≡ Ok t → IsValid t
-selecting-valid s t number v h =
-    let w = found-ok s t number _ h in
-    let same : record s { selected = number } ≡ t = cc (w.2) in
-    subst IsValid same (with_windows s s.tree s.windows number v (record {
+pub selecting-valid : (s : StateValue) (number : ℕ) → IsValid s → IfOk (in_window s number (λ w. Ok (record s { selected = number }))) IsValid
+selecting-valid s number v =
+    found IsValid _ (window_of number s.windows) _
+    (λ w lives. with_windows s s.tree s.windows number v (record {
       tree = v.windows.tree;
       leaves = v.windows.leaves;
       apart = v.windows.apart;
       each = v.windows.each;
-      selected = ap (λ (o : Option WindowState). is_some o) w.1;
+      selected = ap (λ (o : Option WindowState). is_some o) lives;
     }) refl refl)

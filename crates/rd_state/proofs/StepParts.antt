@@ -1,4 +1,4 @@
--- A property holds of each state to which a step can lead, where it holds of those to which each part of the step can lead.
+-- What holds of the state to which a step leads, by the parts of the step.
 use Rattle.std.proofs.Common.{◌≡◌, ℕ, ◌+◌, Bool, true, false, if◌then◌else◌, nat_lt, nat_le, Option, None, Some, Result, Ok, Err, List, [], ◌∷◌, ◌++◌, length, map, refl}
 use Rattle.std.specs.Prelude.{slice_get, slice_set, IfOk}
 use Rattle.rd_base.proofs.Choices.{either}
@@ -28,14 +28,18 @@ tested false r e P h = tt
 abbrev pub with_content : StateValue → ℕ → BufferValue → ContentValue → StateValue
 with_content s i b c = record s { buffers = slice_set s.buffers i (record b { content = c }) }
 
--- a property of the states that each part of a step makes; of a refusal nothing is to be shown
+-- a part of a step makes only states with a property, where the one state that it can make has it; a refusal makes none
 module _ (P : StateValue → Type 0) where
+  pub each-if : (r : Result StateValue Refused) → ((t : StateValue) → r ≡ Ok t → P t) → IfOk r P
+  each-if (Err refusal) h = tt
+  each-if (Ok t) h = h t refl
+
   pub found : {A : Type 0} (refusal : Refused) (o : Option A) (f : A → Result StateValue Refused) → ((a : A) → o ≡ Some a → IfOk (f a) P) → IfOk (with_found refusal o f) P
   found refusal None f h = tt
   found refusal (Some a) f h = h a refl
 
-  pub unless : (o : Option ℕ) (r : Result StateValue Refused) → IfOk r P → IfOk (unless_bad o r) P
-  unless None r h = h
+  pub unless : (o : Option ℕ) (r : Result StateValue Refused) → (o ≡ None → IfOk r P) → IfOk (unless_bad o r) P
+  unless None r h = h refl
   unless (Some column) r h = tt
 
   replaced-if : (s : StateValue) (i : ℕ) (b : BufferValue) (r : Result ContentValue Refused) → ((c : ContentValue) → r ≡ Ok c → P (with_content s i b c)) → IfOk (replaced s i b r) P
@@ -96,7 +100,8 @@ module _ (P : StateValue → Type 0) where
   setting-if s n f h = found _ (window_of n s.windows) _ (λ w lives. h)
 
   pub placing-if : (s : StateValue) (n place : ℕ) (f : WindowState → WindowState)
-      → ((w : WindowState) (b : BufferValue) → slice_get s.buffers w.buffer ≡ Some b → is_accessible b.content.text place ≡ true → P (record s { windows = with_window n f s.windows })) → IfOk (placing s n place f) P
+      → ((w : WindowState) (b : BufferValue) → window_of n s.windows ≡ Some w → slice_get s.buffers w.buffer ≡ Some b → is_accessible b.content.text place ≡ true
+      → P (record s { windows = with_window n f s.windows })) → IfOk (placing s n place f) P
   placing-if s n place f h =
       found _ (window_of n s.windows) _
-      (λ w lives. found _ (slice_get s.buffers w.buffer) _ (λ b at. tested (is_accessible b.content.text place) _ _ P (λ yes. h w b at yes)))
+      (λ w lives. found _ (slice_get s.buffers w.buffer) _ (λ b at. tested (is_accessible b.content.text place) _ _ P (λ yes. h w b lives at yes)))

@@ -3,7 +3,7 @@ use Rattle.std.proofs.Common.{◌≡◌, ℕ, ◌+◌, ◌≤◌, ◌&&◌, Bool
 use Rattle.std.proofs.lemmas.Bool.{leb-true, or_right}
 use Rattle.std.proofs.lemmas.Bool.Decides.{nat_tests}
 use Rattle.std.proofs.lemmas.List.Elements.{All-map, All-weaker}
-use Rattle.std.specs.Prelude.{All, slice_get, slice_set}
+use Rattle.std.specs.Prelude.{All, IfOk, slice_get, slice_set}
 use Rattle.rd_base.specs.Chars.{is_code, is_scalar}
 use Rattle.rd_text.specs.Texts.{TextValue, IsAccessible, most_characters}
 use Rattle.rd_text.specs.Answers.{IsAccessibleRange, IsRangeOfAll}
@@ -19,17 +19,18 @@ use Rattle.rd_script.specs.Forms.{is_text_kind, IsRawByte}
 use Rattle.rd_state.specs.declared.moves.Move.{Move}
 use Rattle.rd_state.specs.declared.moves.Move.TheVariants.{Inserted, Deleted, Narrowed}
 use Rattle.rd_state.specs.declared.refused.Refused.{Refused}
-use Rattle.rd_state.specs.declared.refused.Refused.TheVariants.{NoBuffer, NoObject, NoOverlay, OutOfRange, TextTooLarge, TooManyOverlays}
+use Rattle.rd_state.specs.declared.refused.Refused.TheVariants.{NoObject, NoOverlay, OutOfRange, TextTooLarge, TooManyOverlays}
 use Rattle.rd_state.specs.States.{BufferValue, ContentValue, StateValue, number_of}
 use Rattle.rd_state.specs.Valid.{AreWindows, IsContent, IsValid}
 use Rattle.rd_state.specs.Edits.{is_accessible, is_accessible_range, is_range_of_all, has_room, is_value_made, most_overlays, grown, shrunk, insertion, deletion, narrowing, widening, property_putting, overlay_making, overlay_moving, overlay_dropping, overlay_putting}
 use Rattle.rd_state.specs.Moves.{point_after_insertion, brought_into, place_after, moved_in}
-use Rattle.rd_state.specs.Steps.{replaced, moving, edited, edited_moving, raw_text}
+use Rattle.rd_state.specs.Steps.{edited, edited_moving, raw_text}
 use Rattle.rd_state.proofs.Below.{TextLaws, MadeLaws}
 use Rattle.rd_state.proofs.Contents.{grown-valid, shrunk-valid, narrowed-valid, widened-valid, put-valid, made-valid, moved-valid, dropped-valid, given-valid, with_property, with_overlays}
 use Rattle.rd_state.proofs.ByNumber.{NumberedWindow}
 use Rattle.rd_state.proofs.Keeping.{holding, buffers-replaced, windows-replaced, windows-moved}
-use Rattle.rd_state.proofs.Tests.{both-ok, found-value, if-ok, if-not, made-ok, is_accessible-means, is_accessible_range-means, is_range_of_all-means}
+use Rattle.rd_state.proofs.StepParts.{with_content, edited-if, edited_moving-if}
+use Rattle.rd_state.proofs.Tests.{both-ok, if-ok, if-not, made-ok, is_accessible-means, is_accessible_range-means, is_range_of_all-means}
 use Rattle.rd_state.proofs.WithParts.{with_parts}
 
 -- ---- texts
@@ -65,65 +66,30 @@ pub record IsEditOf (s t : StateValue) (i : ℕ) (edit : ContentValue → Result
   pub gives : edit buffer.content ≡ Ok content
   pub is : record s { buffers = slice_set s.buffers i (holding buffer content); windows = t.windows } ≡ t
 
--- what goes on where a buffer was edited: windows may become others
-abbrev Follows : StateValue → (Result StateValue Refused → Result StateValue Refused) → List NumberedWindow → Type 0
-Follows s next ws =
-    ((e : Refused) → next (Err e) ≡ Err e)
-    × ((bs : List BufferValue) → next (Ok (record s { buffers = bs })) ≡ Ok (record s { buffers = bs; windows = ws }))
-
-replaced-is : (s t : StateValue) (i : ℕ) (b : BufferValue) (edit : ContentValue → Result ContentValue Refused) (next : Result StateValue Refused → Result StateValue Refused) (ws : List NumberedWindow)
-    → Follows s next ws → (r : Result ContentValue Refused) → slice_get s.buffers i ≡ Some b → edit b.content ≡ r → next (replaced s i b r) ≡ Ok t → IsEditOf s t i edit × (t.windows ≡ ws)
-replaced-is s t i b edit next ws on (Err e) at is h = let refused : ◌≡◌ {A = Result StateValue Refused} (Err e) (Ok t) = sym (on.0 e) ∙ h in absurd (cc)
-replaced-is s t i b edit next ws on (Ok d) at is h =
-    let bs = slice_set s.buffers i (holding b d) in
-    let made : ◌≡◌ {A = Result StateValue Refused} (Ok (record s { buffers = bs; windows = ws })) (Ok t) = sym (on.1 bs) ∙ h in
-    let same : record s { buffers = bs; windows = ws } ≡ t = cc (made) in
-    let windows : t.windows ≡ ws = sym (ap (λ (x : StateValue). x.windows) same) in
-    (record { buffer = b; content = d; at = at; gives = is; is = ap (λ (vs : List NumberedWindow). record s { buffers = bs; windows = vs }) windows ∙ same }, windows)
-
-pub edited-is : (s t : StateValue) (name : List ℕ) (edit : ContentValue → Result ContentValue Refused) → edited s name edit ≡ Ok t
-    → IsEditOf s t (number_of name s.buffers) edit × (t.windows ≡ s.windows)
-edited-is s t name edit h =
-    let b = found-value NoBuffer (slice_get s.buffers (number_of name s.buffers)) _ t h in
-    replaced-is s t (number_of name s.buffers) b.0 edit (λ r. r) s.windows (λ e. refl, λ bs. refl) (edit b.0.content) b.1 refl b.2
-
-pub moving-is : (s t : StateValue) (i : ℕ) (b : BufferValue) (how : Move) (edit : ContentValue → Result ContentValue Refused) (r : Result ContentValue Refused) → slice_get s.buffers i ≡ Some b
-    → edit b.content ≡ r → moving i how (replaced s i b r) ≡ Ok t → IsEditOf s t i edit × (t.windows ≡ map (moved_in i how) s.windows)
-moving-is s t i b how edit r at is h = replaced-is s t i b edit (moving i how) (map (moved_in i how) s.windows) (λ e. refl, λ bs. refl) r at is h
-
-pub edited_moving-is : (s t : StateValue) (name : List ℕ) (how : Move) (edit : ContentValue → Result ContentValue Refused) → edited_moving s name how edit ≡ Ok t
-    → IsEditOf s t (number_of name s.buffers) edit × (t.windows ≡ map (moved_in (number_of name s.buffers) how) s.windows)
-edited_moving-is s t name how edit h =
-    let b = found-value NoBuffer (slice_get s.buffers (number_of name s.buffers)) _ t h in
-    moving-is s t (number_of name s.buffers) b.0 how edit (edit b.0.content) b.1 refl b.2
-
 -- such a state is valid where what the buffer holds and the windows are
-edit-valid : (s t : StateValue) (i : ℕ) (edit : ContentValue → Result ContentValue Refused) (f : ℕ → ℕ) (ws : List NumberedWindow) → IsValid s → Keeps s.objects f edit
-    → (e : IsEditOf s t i edit × (t.windows ≡ ws))
-    → (((p : ℕ) → IsAccessible e.0.buffer.content.text p → IsAccessible e.0.content.text (f p)) → AreWindows (slice_set s.buffers i (holding e.0.buffer e.0.content)) s.tree ws s.selected) → IsValid t
-edit-valid s t i edit f ws v k e windows =
-    let b = e.0.buffer in
-    let d = e.0.content in
-    let bs = slice_set s.buffers i (holding b d) in
-    let kept = k b.content d (v.buffers.contents i b e.0.at) e.0.gives in
-    subst IsValid e.0.is (with_parts s bs s.objects s.tree t.windows s.selected s.width s.height v (buffers-replaced s.objects s.buffers i b d v.buffers e.0.at kept.0) v.objects v.closed
-    (subst (λ (vs : List NumberedWindow). AreWindows bs s.tree vs s.selected) (sym e.1) (windows kept.1)) v.frame)
+edit-valid : (s : StateValue) (i : ℕ) (b : BufferValue) (d : ContentValue) (edit : ContentValue → Result ContentValue Refused) (f : ℕ → ℕ) (ws : List NumberedWindow) → IsValid s → Keeps s.objects f edit
+    → slice_get s.buffers i ≡ Some b → edit b.content ≡ Ok d
+    → (((p : ℕ) → IsAccessible b.content.text p → IsAccessible d.text (f p)) → AreWindows (slice_set s.buffers i (holding b d)) s.tree ws s.selected)
+    → IsValid (record (with_content s i b d) { windows = ws })
+edit-valid s i b d edit f ws v k at is windows =
+    let kept = k b.content d (v.buffers.contents i b at) is in
+    with_parts s (slice_set s.buffers i (holding b d)) s.objects s.tree ws s.selected s.width s.height v (buffers-replaced s.objects s.buffers i b d v.buffers at kept.0) v.objects v.closed
+    (windows kept.1) v.frame
 
-pub edited-valid : (s t : StateValue) (name : List ℕ) (edit : ContentValue → Result ContentValue Refused) → IsValid s → Keeps s.objects (λ p. p) edit → edited s name edit ≡ Ok t → IsValid t
-edited-valid s t name edit v k h =
+pub edited-valid : (s : StateValue) (name : List ℕ) (edit : ContentValue → Result ContentValue Refused) → IsValid s → Keeps s.objects (λ p. p) edit → IfOk (edited s name edit) IsValid
+edited-valid s name edit v k =
     let i = number_of name s.buffers in
-    let e = edited-is s t name edit h in
-    edit-valid s t i edit (λ p. p) s.windows v k e (λ kept. windows-replaced s.buffers i e.0.buffer e.0.content s.tree s.windows s.selected e.0.at kept v.windows)
+    edited-if IsValid s name edit
+    (λ b d at is. edit-valid s i b d edit (λ p. p) s.windows v k at is (λ kept. windows-replaced s.buffers i b d s.tree s.windows s.selected at kept v.windows))
 
-pub moving-valid : (s t : StateValue) (i : ℕ) (how : Move) (edit : ContentValue → Result ContentValue Refused) → IsValid s → Keeps s.objects (place_after how) edit
-    → IsEditOf s t i edit × (t.windows ≡ map (moved_in i how) s.windows) → IsValid t
-moving-valid s t i how edit v k e =
-    edit-valid s t i edit (place_after how) (map (moved_in i how) s.windows) v k e
-    (λ kept. windows-moved s.buffers i e.0.buffer e.0.content how s.tree s.windows s.selected e.0.at kept v.windows)
+pub moving-valid : (s : StateValue) (i : ℕ) (b : BufferValue) (d : ContentValue) (how : Move) (edit : ContentValue → Result ContentValue Refused) → IsValid s → Keeps s.objects (place_after how) edit
+    → slice_get s.buffers i ≡ Some b → edit b.content ≡ Ok d → IsValid (record (with_content s i b d) { windows = map (moved_in i how) s.windows })
+moving-valid s i b d how edit v k at is =
+    edit-valid s i b d edit (place_after how) (map (moved_in i how) s.windows) v k at is (λ kept. windows-moved s.buffers i b d how s.tree s.windows s.selected at kept v.windows)
 
-pub edited_moving-valid : (s t : StateValue) (name : List ℕ) (how : Move) (edit : ContentValue → Result ContentValue Refused) → IsValid s → Keeps s.objects (place_after how) edit
-    → edited_moving s name how edit ≡ Ok t → IsValid t
-edited_moving-valid s t name how edit v k h = moving-valid s t (number_of name s.buffers) how edit v k (edited_moving-is s t name how edit h)
+pub edited_moving-valid : (s : StateValue) (name : List ℕ) (how : Move) (edit : ContentValue → Result ContentValue Refused) → IsValid s → Keeps s.objects (place_after how) edit
+    → IfOk (edited_moving s name how edit) IsValid
+edited_moving-valid s name how edit v k = edited_moving-if IsValid s name how edit (λ b d at is. moving-valid s (number_of name s.buffers) b d how edit v k at is)
 
 -- ---- what each edit means
 

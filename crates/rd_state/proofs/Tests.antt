@@ -1,5 +1,5 @@
 -- What the tests of ops mean.
-use Rattle.std.proofs.Common.{◌≡◌, ℕ, ◌+◌, ◌&&◌, Bool, true, false, if◌then◌else◌, nat_le, Option, None, Some, Result, Ok, Err, length, refl, List, [], ◌∷◌, IsTrue}
+use Rattle.std.proofs.Common.{◌≡◌, ℕ, ◌+◌, ◌&&◌, Bool, true, false, if◌then◌else◌, nat_le, Result, Ok, Err, length, refl, List, [], ◌∷◌, IsTrue}
 use Rattle.std.proofs.lemmas.Bool.{and_parts, leb-true, or_left}
 use Rattle.std.proofs.lemmas.List.Elements.{All-nil, All-cons}
 use Rattle.rd_base.specs.Chars.{is_scalar, is_code}
@@ -7,9 +7,7 @@ use Rattle.rd_text.specs.Texts.{TextValue, IsAccessible}
 use Rattle.rd_text.specs.Answers.{IsAccessibleRange, IsRangeOfAll}
 use Rattle.rd_objects.specs.Sound.{AreCodes}
 use Rattle.rd_script.specs.Forms.{each, is_text}
-use Rattle.rd_state.specs.declared.refused.Refused.{Refused}
 use Rattle.rd_state.specs.Edits.{is_accessible, is_accessible_range, is_range_of_all}
-use Rattle.rd_state.specs.Steps.{with_found}
 
 -- a test that refuses what fails
 pub if-ok : {A E : Type 0} (t : Bool) (r : Result A E) (e : E) (x : A) → (if t then r else Err e) ≡ Ok x → (t ≡ true) × (r ≡ Ok x)
@@ -31,11 +29,6 @@ both-ok t u made e f x h =
     let outer = if-ok t (if u then Ok made else Err e) f x h in
     let inner = made-ok u made e x outer.1 in
     (outer.0, inner.0, inner.1)
-
--- what is done to a thing that is there
-pub found-value : {A B : Type 0} (refusal : Refused) (o : Option A) (f : A → Result B Refused) (t : B) → with_found refusal o f ≡ Ok t → (a : A) × (o ≡ Some a) × (f a ≡ Ok t)
-found-value refusal None f t h = absurd (cc)
-found-value refusal (Some a) f t h = (a, refl, h)
 
 pub text-codes : (text : List ℕ) → is_text text ≡ true → AreCodes text
 text-codes [] h = All-nil (λ (c : ℕ). IsTrue (is_code c))

@@ -1,3 +1,5 @@
+use Rattle.std.proofs.lemmas.Result.{IfOk-at_ok}
+use Rattle.rd_state.specs.Valid.{IsValid}
 use Rattle.rd_state.proofs.AllSteps.{Laws, step-valid, opening-valid}
 use Rattle.rd_state.proofs.laws.steps_keep_states.Goals as goal
 
@@ -10,4 +12,4 @@ returns c =
       extends = c.ops_leave_the_rest.ensures.objects;
       trees = c.calls_keep_trees.ensures;
     } in
-    record { opening = opening-valid laws; step = step-valid laws }
+    record { opening = opening-valid laws; step = λ s t op v form h. IfOk-at_ok IsValid h (step-valid laws s op v form) }
