@@ -52,7 +52,8 @@ impl Items {
         Items::with_appearance(alloc, view, start, &appearance)
     }
 
-    /// The same, of a position that is known to look like this: it is not looked up again.
+    /// The same, of a position that is known to look like this: it is not looked up again. There is room at once for the items of a
+    /// line that is not too long.
     pub fn with_appearance(
         alloc: Global,
         view: &View,
@@ -63,7 +64,14 @@ impl Items {
         requires appearance { appearance.now ≡ appearance_at (meaning view.now.state.now) view.now.objects.now start }
         ensures value { IfOk result (λ items. items ≡ items_of (scene_of view.now) (reading (meaning view.now.state.now) view.now.objects.now start)) }
     {
-        let list = walk_from(alloc, view, start, appearance)?;
+        let line = view.state.text.next_newline(start) - start;
+        let mut walk = Walk::new(alloc, line.min(ROOM) as usize + 1)?;
+        let mut range = AlikeRange::of(view, start, appearance);
+        let mut pos = start;
+        while let Some(next) = walk.step(alloc, view, &mut range, start, pos)? {
+            pos = next;
+        }
+        let list = walk.finish()?;
         if list.len() > u32::MAX as usize {
             return Err(Memory);
         }
@@ -96,25 +104,3 @@ impl Items {
 
 /// The most items for which a walk has room before its first step.
 const ROOM: u32 = 1024;
-
-/// The items from a position that looks like this up to the block's ender. There is room at once for those of a line that is not too
-/// long.
-fn walk_from(
-    alloc: Global,
-    view: &View,
-    start: Pos,
-    appearance: &Appearance,
-) -> Result<ListOf<Item>, Memory>
-    requires place { IsAccessible view.now.state.now.text start }
-    requires appearance { appearance.now ≡ appearance_at (meaning view.now.state.now) view.now.objects.now start }
-    ensures value { IfOk result (λ items. items ≡ items_of (scene_of view.now) (reading (meaning view.now.state.now) view.now.objects.now start)) }
-{
-    let line = view.state.text.next_newline(start) - start;
-    let mut walk = Walk::new(alloc, line.min(ROOM) as usize + 1)?;
-    let mut range = AlikeRange::of(view, start, appearance);
-    let mut pos = start;
-    while let Some(next) = walk.step(alloc, view, &mut range, start, pos)? {
-        pos = next;
-    }
-    walk.finish()
-}

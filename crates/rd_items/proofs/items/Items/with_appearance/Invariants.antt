@@ -5,7 +5,7 @@ use Rattle.rd_items.specs.Pieces.{scene_of}
 use Rattle.rd_items.specs.Items.{items_of}
 use Rattle.rd_items.specs.Walks.{whole, pieces_left}
 use Rattle.rd_items.specs.AlikeRanges.{IsAlikeRange}
-use Rattle.rd_items.proofs.items.walk_from.Given as goal
+use Rattle.rd_items.proofs.items.Items.with_appearance.Given as goal
 
 abbrev pub invariant-loop-walk : goal.invariant-loop-walk
 invariant-loop-walk l = record {
