@@ -242,52 +242,28 @@ cut-within current target rows less =
 
 -- ---- what is pushed
 
-unroll : {A : Type 0} (F : List (List Cell) → List (List Cell) → A) (olds news : List (List Cell)) (row : ℕ) (o n : List Cell)
+-- one row more: what its cells add, and what the rows behind it add, are what the rows from it on add
+pub pushed : {A : Type 0} (F : List (List Cell) → List (List Cell) → List A) (olds news : List (List Cell)) (row : ℕ) (o n : List Cell) (done piece more rest whole : List A)
     → row < length olds → row < length news → o ≡ get_or olds row [] → n ≡ get_or news row []
-    → F (o ∷ drop (row + 1) olds) (n ∷ drop (row + 1) news) ≡ F (drop row olds) (drop row news)
-unroll F olds news row o n p q e f =
-    ap (λ xs. F xs (n ∷ drop (row + 1) news)) (ap (λ x. x ∷ drop (row + 1) olds) e ∙ sym (drop_more olds row [] p))
-    ∙ ap (F (drop row olds)) (ap (λ x. x ∷ drop (row + 1) news) f ∙ sym (drop_more news row [] q))
+    → piece ++ rest ≡ F (o ∷ drop (row + 1) olds) (n ∷ drop (row + 1) news)
+    → more ≡ done ++ piece → done ++ F (drop row olds) (drop row news) ≡ whole → more ++ rest ≡ whole
+pushed F olds news row o n done piece more rest whole p q e f split m h =
+    ap (λ xs. xs ++ rest) m
+    ∙ append_assoc done piece rest
+    ∙ ap (λ xs. done ++ xs) (split
+    ∙ ap (λ xs. F xs (n ∷ drop (row + 1) news)) (ap (λ x. x ∷ drop (row + 1) olds) e ∙ sym (drop_more olds row [] p))
+    ∙ ap (F (drop row olds)) (ap (λ x. x ∷ drop (row + 1) news) f ∙ sym (drop_more news row [] q)))
+    ∙ h
 
-bytes-chosen : (d : Bool) (rb rest : List ℕ) → bytes_if d rb ++ rest ≡ (if not d then rest else if allows None then rb ++ rest else [])
+pub bytes-chosen : (d : Bool) (rb rest : List ℕ) → bytes_if d rb ++ rest ≡ (if not d then rest else if allows None then rb ++ rest else [])
 bytes-chosen false rb rest = refl
 bytes-chosen true rb rest = refl
 
-pub bytes-step : (olds news : List (List Cell)) (row : ℕ) (o n : List Cell) (bytes more whole : List ℕ)
-    → row < length olds → row < length news → o ≡ get_or olds row [] → n ≡ get_or news row []
-    → more ≡ bytes ++ bytes_if (differs o n) (row_bytes row o n)
-    → bytes ++ rows_bytes row None (drop row olds) (drop row news) ≡ whole
-    → more ++ rows_bytes (row + 1) None (drop (row + 1) olds) (drop (row + 1) news) ≡ whole
-bytes-step olds news row o n bytes more whole p q e f m h =
-    let rest = rows_bytes (row + 1) None (drop (row + 1) olds) (drop (row + 1) news) in
-    ap (λ xs. xs ++ rest) m
-    ∙ append_assoc bytes (bytes_if (differs o n) (row_bytes row o n)) rest
-    ∙ ap (λ xs. bytes ++ xs) (bytes-chosen (differs o n) (row_bytes row o n) rest ∙ unroll (rows_bytes row None) olds news row o n p q e f)
-    ∙ h
-
-parts-chosen : (d : Bool) (row at : ℕ) (bytes more rb : List ℕ) (os ns : List (List Cell)) → at ≡ length bytes → more ≡ bytes ++ bytes_if d rb
-    → part_if d row at ++ parts_from (row + 1) (length more) os ns ≡ (if d then (record { row = row; start = at }) ∷ parts_from (row + 1) (at + length rb) os ns else parts_from (row + 1) at os ns)
-parts-chosen false row at bytes more rb os ns a m =
-    let n : length more ≡ at = ap length (m ∙ append-nil bytes) ∙ sym a in
-    ap (λ k. parts_from (row + 1) k os ns) n
-parts-chosen true row at bytes more rb os ns a m =
-    let n : length more ≡ at + length rb = ap length m ∙ length-append bytes rb ∙ ap (λ k. k + length rb) (sym a) in
-    ap (λ k. (record { row = row; start = at }) ∷ parts_from (row + 1) k os ns) n
-
-pub parts-step : (olds news : List (List Cell)) (row : ℕ) (o n : List Cell) (bytes more : List ℕ) (parts longer whole : List ChangedRow)
-    → row < length olds → row < length news → o ≡ get_or olds row [] → n ≡ get_or news row []
-    → more ≡ bytes ++ bytes_if (differs o n) (row_bytes row o n)
-    → longer ≡ parts ++ part_if (differs o n) row (length bytes)
-    → parts ++ parts_from row (length bytes) (drop row olds) (drop row news) ≡ whole
-    → longer ++ parts_from (row + 1) (length more) (drop (row + 1) olds) (drop (row + 1) news) ≡ whole
-parts-step olds news row o n bytes more parts longer whole p q e f m l h =
-    let rest = parts_from (row + 1) (length more) (drop (row + 1) olds) (drop (row + 1) news) in
-    ap (λ xs. xs ++ rest) l
-    ∙ append_assoc parts (part_if (differs o n) row (length bytes)) rest
-    ∙ ap (λ xs. parts ++ xs) (
-    parts-chosen (differs o n) row (length bytes) bytes more (row_bytes row o n) (drop (row + 1) olds) (drop (row + 1) news) refl m
-    ∙ unroll (parts_from row (length bytes)) olds news row o n p q e f)
-    ∙ h
+pub parts-chosen : (d : Bool) (row : ℕ) (bytes more rb : List ℕ) (os ns : List (List Cell)) → more ≡ bytes ++ bytes_if d rb
+    → part_if d row (length bytes) ++ parts_from (row + 1) (length more) os ns
+    ≡ (if d then (record { row = row; start = length bytes }) ∷ parts_from (row + 1) (length bytes + length rb) os ns else parts_from (row + 1) (length bytes) os ns)
+parts-chosen false row bytes more rb os ns m = ap (λ k. parts_from (row + 1) k os ns) (ap length (m ∙ append-nil bytes))
+parts-chosen true row bytes more rb os ns m = ap (λ k. (record { row = row; start = length bytes }) ∷ parts_from (row + 1) k os ns) (ap length m ∙ length-append bytes rb)
 
 pub start-row : (current : Option Picture) (target : Picture) (blanks : List Cell) (row : ℕ) → row < length target.rows
     → blanks ≡ blank_row (width_of target.rows) → IsGrid (width_of target.rows) target.rows

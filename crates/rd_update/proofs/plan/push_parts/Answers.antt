@@ -1,7 +1,7 @@
-use Rattle.std.proofs.Common.{◌<◌, ◌++◌, ◌∙◌, length, None, arith}
-use Rattle.rd_update.specs.Updates.{start, rows_bytes}
+use Rattle.std.proofs.Common.{◌+◌, ◌<◌, ◌∙◌, length, drop, None, arith}
+use Rattle.rd_update.specs.Updates.{differs, start, row_bytes, rows_bytes}
 use Rattle.rd_update.specs.Plans.{shown, parts_from}
-use Rattle.rd_update.proofs.Parts.{start-row, start-length, bytes-step, parts-step}
+use Rattle.rd_update.proofs.Parts.{start-row, start-length, pushed, bytes-chosen, parts-chosen}
 use Rattle.rd_update.proofs.plan.push_parts.Goals as goal
 
 pub loop-row-preserved : goal.loop-row-preserved
@@ -15,9 +15,14 @@ loop-row-preserved c =
     let here : c.loop-row.row < length c.args.target.now.rows = omega arith in
     let there : c.loop-row.row < length olds = omega (arith, same) in
     let old = c.old_row-old.ensures.cells ∙ start-row current target c.args.blank.now row here c.requires.blank c.width-width.ensures.screen.size.each in
-    let bytes = bytes-step olds target.rows row c.old_row-old.result.now c.sound_cells_of-new.result.now c.loop-row.bytes c.push_part.new.bytes (c.args.bytes.now ++ rows_bytes 0 None olds target.rows)
-    there here old c.sound_cells_of-new.ensures.cells c.in_ok-push_part.ensures.bytes h.0 in
-    let parts = parts-step olds target.rows row c.old_row-old.result.now c.sound_cells_of-new.result.now c.loop-row.bytes c.push_part.new.bytes c.loop-row.parts c.push_part.new.parts
-    (c.args.parts.now ++ parts_from 0 (length c.args.bytes.now) olds target.rows)
-    there here old c.sound_cells_of-new.ensures.cells c.in_ok-push_part.ensures.bytes c.in_ok-push_part.ensures.parts h.1 in
-    (bytes, parts)
+    let o = c.old_row-old.result.now in
+    let n = c.sound_cells_of-new.result.now in
+    let new = c.sound_cells_of-new.ensures.cells in
+    let os = drop (c.loop-row.row + 1) olds in
+    let ns = drop (c.loop-row.row + 1) target.rows in
+    let added = c.in_ok-push_part.ensures in (
+      pushed (rows_bytes row None) olds target.rows row o n c.loop-row.bytes _ c.push_part.new.bytes _ _ there here old new
+          (bytes-chosen (differs o n) (row_bytes row o n) (rows_bytes (row + 1) None os ns)) added.bytes h.0,
+      pushed (parts_from row (length c.loop-row.bytes)) olds target.rows row o n c.loop-row.parts _ c.push_part.new.parts _ _ there here old new
+          (parts-chosen (differs o n) row c.loop-row.bytes c.push_part.new.bytes (row_bytes row o n) os ns added.bytes) added.parts h.1,
+    )
