@@ -55,7 +55,7 @@ moved-length (negsuc n) free rows le =
     length-append (replicate (suc n) free) (take (length rows - suc n) rows)
     ∙ omega (arith, length-take-le (length rows - suc n) rows (omega arith), length-replicate (suc n) free)
 
--- the rows of a band
+-- how many rows a band has
 pub part-length : {A : Type 0} (xs : List A) (top height : ℕ) → top + height ≤ length xs → length (take (top + height - top) (drop top xs)) ≡ height
 part-length xs top height le = length-take-le (top + height - top) (drop top xs) (omega (arith, length-drop top xs)) ∙ omega arith
 

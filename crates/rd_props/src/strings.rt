@@ -61,7 +61,7 @@ fn add_strings(
     }
 }
 
-/// Adds the strings of each of these overlays.
+/// Adds the strings of these overlays, one overlay after the other.
 fn add_each(
     strings: &mut ListOf<u32>,
     part: StringPlace,

@@ -38,7 +38,7 @@ close-low values from to p l = let t : nat_lt p from ≡ true = grind (arith, na
 close-high : (values : List (Option ℕ)) (from to p : ℕ) → from ≤ p → values_closed (value_at values) from to p ≡ value_at values (p + (to - from))
 close-high values from to p l = let t : nat_lt p from ≡ false = grind (arith, nat_tests) in rw t refl
 
--- what positions that were taken away leave
+-- a side whose last places were taken away keeps the values of the others
 cut-value : (b c : List ValueRun) (n : ℕ) → IsCut b c n → (i : ℕ) → i < size_of c → value_at (values_of c) i ≡ value_at (values_of b) i
 cut-value b c n k i l = ap (λ (vs : List (Option ℕ)). value_at vs i) k.values ∙ get_or-take (size_of b - n) (values_of b) i None (omega (arith, k.size))
 

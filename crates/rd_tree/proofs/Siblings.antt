@@ -10,7 +10,7 @@ use Rattle.rd_tree.specs.Places.{shared_place}
 use Rattle.rd_tree.proofs.Keeping.{found_held, by_way}
 use Rattle.rd_tree.proofs.Standing.{resized_held, not_found, once_in_first, two_lists}
 
--- the sibling is a part of the windows
+-- the sibling is a part of the windows; the rectangle may be any
 sibling_held : (v n : ℕ) (windows : Windows) (rect : Rect) → holds v (sibling n windows) ≡ true → holds v windows ≡ true
 sibling_held v n (Window number mode margins) rect = λ e. e
 sibling_held v n (Split side size first second) rect =

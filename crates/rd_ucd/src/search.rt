@@ -14,7 +14,7 @@ pub trait Covers {
     fn first(&self) -> u32
         ensures { result ≡ first self.now };
 
-    /// The last code that it covers, no less than the first in a list that ascends.
+    /// The last code that it covers. Where entries ascend it is not below the first.
     fn last(&self) -> u32
         ensures { result ≡ last self.now };
 }

@@ -243,7 +243,7 @@ fn push_parts(
     Ok(())
 }
 
-/// Sends the bytes of an update, and answers this where all were written.
+/// Sends the bytes of an update, and where all were written gives `sent` back, which is what that update answers.
 fn send_front<K: Sink>(sink: &mut K, bytes: &[u8], sent: Sent) -> Result<Sent, WriteFault>
     ensures sends { (u : Update) → bytes.now ≡ u.bytes → sent ≡ sent_of u → Sends (K.written sink.old) (K.written sink.new) u result }
     ensures never_falls { K.faults sink.old ≤ K.faults sink.new }
