@@ -1,7 +1,8 @@
 -- Needs, sizes and rectangles.
-use Rattle.std.proofs.Common.{◌≡◌, ℕ, ◌≤◌, ◌<◌, length, length-append, Bool, true, false, if◌then◌else◌, ◌==◌, inl, inr, List, [], ◌∷◌, ◌++◌, Option, None, Some, refl, sym, ap, ◌∙◌, arith}
+use Rattle.std.proofs.Common.{◌≡◌, ℕ, ◌≤◌, ◌<◌, length, length-append, Bool, true, false, ◌==◌, inl, inr, List, [], ◌∷◌, ◌++◌, Option, None, Some, refl, sym, ap, ◌∙◌, arith}
 use Rattle.std.specs.Option.{option_or}
 use Rattle.std.proofs.lemmas.Bool.{cases_Bool, eqb-true}
+use Rattle.std.proofs.lemmas.List.Folds.{find-append}
 use Rattle.rd_tree.specs.declared.rect.Rect.{Rect}
 use Rattle.rd_tree.specs.declared.side.Side.{Side}
 use Rattle.rd_tree.specs.declared.side.Side.TheVariants.{Below, Right}
@@ -135,10 +136,6 @@ resized_room (Split side size first second) rect p n =
     let new = first_size side size second rect in
     (resized_room first (first_part side new rect) q.0 s.0, resized_room second (second_part side new rect) q.1 s.1)
 
-cond_or : (b : Bool) (window : Placed) (m n other : Option Placed) → m ≡ option_or n other → (if b then Some window else m) ≡ option_or (if b then Some window else n) other
-cond_or true window m n other e = refl
-cond_or false window m n other e = e
-
 -- a window that a number finds has this number
 pub found_number : (w : ℕ) (windows : List Placed) (window : Placed) → of_number w windows ≡ Some window → window.number ≡ w
 found_number w [] window e = absurd (cc)
@@ -150,9 +147,7 @@ found_number w (p ∷ windows) window e =
 
 -- the window with a number among two lists
 pub of_number-append : (number : ℕ) (xs ys : List Placed) → of_number number (xs ++ ys) ≡ option_or (of_number number xs) (of_number number ys)
-of_number-append number [] ys = refl
-of_number-append number (window ∷ xs) ys =
-    cond_or (window.number == number) window (of_number number (xs ++ ys)) (of_number number xs) (of_number number ys) (of_number-append number xs ys)
+of_number-append number xs ys = find-append (λ (window : Placed). window.number == number) xs ys
 
 pub second_found : (w : ℕ) (side : Side) (size : ℕ) (first second : Windows) (rect a b : Rect) → a ≡ first_part side size rect → b ≡ second_part side size rect → window_at w first a ≡ None → window_at w (Split side size first second) rect ≡ window_at w second b
 second_found w side size first second rect a b p q e =

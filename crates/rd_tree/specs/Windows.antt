@@ -1,5 +1,5 @@
 -- The windows of a frame: how they share its rectangle, what they need, and where each stands.
-use Rattle.std.specs.Prelude.{ℕ, ◌+◌, ◌-◌, ◌≤◌, max, Bool, true, false, if◌then◌else◌, nat_le, ◌==◌, ◌&&◌, ◌||◌, List, [], ◌∷◌, ◌++◌, Option, None, Some}
+use Rattle.std.specs.Prelude.{ℕ, ◌+◌, ◌-◌, ◌≤◌, max, Bool, true, false, if◌then◌else◌, nat_le, ◌==◌, ◌&&◌, ◌||◌, List, [], ◌∷◌, ◌++◌, Option, find}
 use Rattle.rd_base.specs.declared.limits.TheConstants.{FRAME_COLUMNS, FRAME_ROWS, LEAST_WINDOW_COLUMNS}
 use Rattle.rd_tree.specs.declared.rect.Rect.{Rect}
 use Rattle.rd_tree.specs.declared.side.Side.{Side}
@@ -72,8 +72,7 @@ placed (Split side size first second) rect = placed first (first_part side size 
 
 -- the first window with a number
 abbrev pub of_number : ℕ → List Placed → Option Placed
-of_number number [] = None
-of_number number (window ∷ windows) = if window.number == number then Some window else of_number number windows
+of_number number windows = find (λ (window : Placed). window.number == number) windows
 
 abbrev pub window_at : ℕ → Windows → Rect → Option Placed
 window_at number windows rect = of_number number (placed windows rect)
