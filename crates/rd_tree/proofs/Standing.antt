@@ -1,10 +1,11 @@
 -- Where windows stand.
-use Rattle.std.proofs.Common.{◌≡◌, ℕ, ◌+◌, ◌-◌, ◌≤◌, Bool, true, false, if◌then◌else◌, ◌==◌, ◌&&◌, ◌||◌, List, [], ◌∷◌, ◌++◌, append_assoc, append-nil, map, Option, None, Some, inl, inr, refl, sym, ap, subst, ◌∙◌, arith}
+use Rattle.std.proofs.Common.{◌≡◌, ℕ, ◌+◌, ◌-◌, ◌≤◌, Bool, true, false, if◌then◌else◌, ◌==◌, ◌&&◌, List, [], ◌∷◌, ◌++◌, append_assoc, append-nil, map, Option, None, Some, inl, inr, refl, sym, ap, subst, ◌∙◌, arith}
 use Rattle.std.specs.Prelude.{is_some, IfSome}
 use Rattle.std.proofs.lemmas.Bool.{cases_Bool, true≢false}
-use Rattle.std.proofs.Math.Bool.{or_assoc, or-false}
+use Rattle.std.proofs.Math.Bool.{or-false}
 use Rattle.std.proofs.lemmas.Bool.Decides.{nat_tests}
 use Rattle.std.proofs.lemmas.List.{map-append}
+use Rattle.std.proofs.lemmas.List.Folds.{list_any-append}
 use Rattle.std.specs.Option.{option_or}
 use Rattle.rd_base.proofs.Choices.{none-chosen, none-of}
 use Rattle.rd_base.specs.Cells.{bit_of}
@@ -136,14 +137,10 @@ resized_same_place (Window number mode margins) rect h = refl
 resized_same_place (Split side size first second) rect h =
     rw (same_size side size first second rect h, resized_same_place first (first_part side size rect) h.0, resized_same_place second (second_part side size rect) h.1) refl
 
-among-append : (n : ℕ) (xs ys : List ℕ) → is_among n (xs ++ ys) ≡ (is_among n xs || is_among n ys)
-among-append n [] ys = refl
-among-append n (x ∷ xs) ys = ap (λ (b : Bool). x == n || b) (among-append n xs ys) ∙ sym (or_assoc (x == n) (is_among n xs) (is_among n ys))
-
 -- a window is one of those whose numbers are listed
 pub held_among : (n : ℕ) (windows : Windows) → holds n windows ≡ is_among n (leaves windows)
 held_among n (Window number mode margins) = sym (or-false (number == n))
-held_among n (Split side size first second) = rw (held_among n first, held_among n second) (sym (among-append n (leaves first) (leaves second)))
+held_among n (Split side size first second) = rw (held_among n first, held_among n second) (sym (list_any-append (λ (m : ℕ). m == n) (leaves first) (leaves second)))
 
 pub resized_held : (n : ℕ) (windows : Windows) (rect : Rect) → holds n (resized windows rect) ≡ holds n windows
 resized_held n windows rect = held_among n (resized windows rect) ∙ (ap (is_among n) (resized_leaves windows rect) ∙ sym (held_among n windows))

@@ -1,5 +1,6 @@
 -- Where windows stand: what the laws of a window tree speak of.
-use Rattle.std.specs.Prelude.{ℕ, ◌+◌, ◌≤◌, Bool, false, if◌then◌else◌, nat_le, nat_lt, ◌==◌, ◌&&◌, ◌||◌, List, [], ◌∷◌, ◌++◌, Option, None, Some}
+use Rattle.std.specs.Prelude.{ℕ, ◌+◌, ◌≤◌, Bool, if◌then◌else◌, nat_le, nat_lt, ◌==◌, ◌&&◌, List, [], ◌∷◌, ◌++◌, Option, None, Some}
+use Rattle.std.specs.List.{list_any}
 use Rattle.rd_base.specs.Cells.{bit_of}
 use Rattle.rd_base.specs.declared.limits.TheConstants.{FRAME_COLUMNS, FRAME_ROWS, LEAST_WINDOW_COLUMNS}
 use Rattle.rd_tree.specs.declared.rect.Rect.{Rect}
@@ -50,8 +51,7 @@ without number (n ∷ numbers) = if n == number then numbers else n ∷ without 
 
 -- whether a number is among some
 abbrev pub is_among : ℕ → List ℕ → Bool
-is_among number [] = false
-is_among number (n ∷ numbers) = n == number || is_among number numbers
+is_among number numbers = list_any (λ (n : ℕ). n == number) numbers
 
 -- the rectangle that the window with a number shares with its sibling
 abbrev pub shared_place : ℕ → Windows → Rect → Rect
