@@ -1,12 +1,13 @@
 -- What an item shows has elements exactly where it is said to give one.
-use Rattle.std.proofs.Common.{◌≡◌, ◌⊎◌, ℕ, suc, ◌+◌, ◌-◌, ◌<◌, ◌≤◌, Bool, true, false, cond, not, ◌||◌, List, [], ◌∷◌, ◌++◌, length, map, get_or, All, inl, inr, Option, None, Some, refl, ap, ap₂, sym, ◌∙◌, subst, arith, nat_eq, length-append}
+use Rattle.std.proofs.Common.{◌≡◌, ◌⊎◌, ℕ, ◌+◌, ◌-◌, ◌≤◌, Bool, true, false, cond, not, ◌||◌, List, [], ◌∷◌, ◌++◌, length, map, get_or, All, inl, inr, Option, None, Some, refl, ap, ap₂, sym, ◌∙◌, subst, arith, nat_eq, length-append}
 use Rattle.std.specs.Prelude.{is_some, if◌then◌else◌, slice_get, option_map}
 use Rattle.std.specs.Option.{unwrap_or}
-use Rattle.std.specs.List.{flat_map, range_with_len}
+use Rattle.std.specs.List.{flat_map, list_any, position_or_len, range_with_len}
 use Rattle.std.proofs.lemmas.Bool.{cond-false, cond_both, eqb-true, not-true, or_cases, or_left, or_parts, or_right}
 use Rattle.std.proofs.lemmas.List.{append_assoc, length-map, length_push}
 use Rattle.std.proofs.Math.Seq.{get_or-append_seam}
 use Rattle.std.proofs.lemmas.Grind.{flat_map-append}
+use Rattle.std.proofs.lemmas.List.Folds.{list_any-append}
 use Rattle.std.proofs.lemmas.List.Elements.{All-append, All-cons, All-head, All-nil, All-tail}
 use Rattle.rd_base.proofs.Choices.{second-holds}
 use Rattle.rd_base.specs.Faces.{Attributes}
@@ -28,6 +29,7 @@ use Rattle.rd_items.specs.declared.item.ItemKind.TheVariants as item
 use Rattle.rd_levels.proofs.Turns.{total_in, each-turn}
 use Rattle.rd_levels.specs.Turns.{turns_of}
 use Rattle.rd_levels.specs.declared.turn.Turn.{Turn}
+use Rattle.rd_matrix.proofs.Passing.{at-position, first-inside}
 use Rattle.rd_order.proofs.Once.{is_place, once-at-least}
 use Rattle.rd_stack.specs.Strings.{place_of, run_heads, ends_row, part_by, part_of, part_joins, part_class, part_code, shown_by, shown_at, in_order, row, row_end, rows_from, string_parts}
 use Rattle.rd_stack.specs.Shown.{ellipsis_glyphs, display_part_elements, display_elements}
@@ -48,8 +50,7 @@ part_gives s (item.Marked g) = true
 part_gives s k = false
 
 abbrev some_gives : Scene → List Part → Bool
-some_gives s [] = false
-some_gives s (x ∷ xs) = part_gives s x.kind || some_gives s xs
+some_gives s xs = list_any (λ (x : Part). part_gives s x.kind) xs
 
 part-some : CharactersGive → (s : Scene) (origin : Origin) (k : ItemKind) (face : Attributes) (odd : Bool) → part_gives s k ≡ true
     → 1 ≤ length (display_part_elements s origin (record { kind = k; face = face; odd = odd }))
@@ -98,37 +99,20 @@ part-at law s origin xs x t at gives =
     subst (λ (o : Option Part). 1 ≤ length (flat_map (display_part_elements s origin) (shown_by t.odd o))) (sym at)
     (some-front (display_part_elements s origin (record { kind = x.kind; face = x.face; odd = t.odd })) [] (part-some law s origin x.kind x.face t.odd gives))
 
--- the place of a part that gives an element
-record GivesAt (s : Scene) (xs : List Part) : Type 0 where
-  place : ℕ
-  part : Part
-  at : slice_get xs place ≡ Some part
-  within : place < length xs
-  gives : part_gives s part.kind ≡ true
-
-gives-by : (s : Scene) (x : Part) (xs : List Part) → (part_gives s x.kind ≡ true) ⊎ (some_gives s xs ≡ true) → (some_gives s xs ≡ true → GivesAt s xs) → GivesAt s (x ∷ xs)
-gives-by s x xs (inl h) later = record { place = 0; part = x; at = refl; within = omega arith; gives = h }
-gives-by s x xs (inr h) later =
-    let rest = later h in
-    let below = rest.within in
-    record { place = suc rest.place; part = rest.part; at = rest.at; within = omega (arith, below); gives = rest.gives }
-
-gives-at : (s : Scene) (xs : List Part) → some_gives s xs ≡ true → GivesAt s xs
-gives-at s [] h = absurd (let q : false ≡ true = h in cc)
-gives-at s (x ∷ xs) h = gives-by s x xs (or_cases (part_gives s x.kind) (some_gives s xs) h) (gives-at s xs)
-
 order-some : CharactersGive → (s : Scene) (base : ℕ) (origin : Origin) (xs : List Part) → some_gives s xs ≡ true → 1 ≤ length (flat_map (display_part_elements s origin) (in_order s base xs))
 order-some law s base origin xs h =
-    let found = gives-at s xs h in
+    let gives : Part → Bool = λ x. part_gives s x.kind in
+    let place = position_or_len gives xs in
+    let found = at-position gives xs h in
+    let within = first-inside gives xs h in
     let turns = turns_of s.brackets s.parts.settings.reorder base (map part_class xs) (map part_code xs) in
     let size : length (map part_class xs) ≡ length xs = length-map xs part_class in
-    let within = found.within in
-    let there : 1 ≤ total_in (is_place found.place) turns =
-    let each = each-turn s.brackets s.parts.settings.reorder base (map part_class xs) (map part_code xs) (is_place found.place) in
-    let once = once-at-least found.place 0 (length (map part_class xs)) (omega arith) (omega (arith, size, within)) in
+    let there : 1 ≤ total_in (is_place place) turns =
+    let each = each-turn s.brackets s.parts.settings.reorder base (map part_class xs) (map part_code xs) (is_place place) in
+    let once = once-at-least place 0 (length (map part_class xs)) (omega arith) (omega (arith, size, within)) in
     omega (arith, each, once) in
-    turn-some (display_part_elements s origin) (shown_at xs) found.place turns there
-    (λ t same. part-at law s origin xs found.part t (ap (slice_get xs) same ∙ found.at) found.gives)
+    turn-some (display_part_elements s origin) (shown_at xs) place turns there
+    (λ t same. part-at law s origin xs found.0 t (ap (slice_get xs) same ∙ found.1) found.2)
 
 -- marks that join take no part away without another that gives an element
 
@@ -149,15 +133,9 @@ marks_joined-gives : (s : Scene) (xs : List Part) → some_gives s xs ≡ true �
 marks_joined-gives s [] h = h
 marks_joined-gives s (x ∷ xs) h = marks_joined_from-gives s x xs (or_cases (part_gives s x.kind) (some_gives s xs) h)
 
-append-by : (s : Scene) (x : Part) (xs ys : List Part) → (part_gives s x.kind ≡ true) ⊎ (some_gives s xs ≡ true) → (some_gives s xs ≡ true → some_gives s (xs ++ ys) ≡ true) → some_gives s (x ∷ (xs ++ ys)) ≡ true
-append-by s x xs ys (inl h) later = or_left (part_gives s x.kind) (some_gives s (xs ++ ys)) h
-append-by s x xs ys (inr h) later = or_right (part_gives s x.kind) (some_gives s (xs ++ ys)) (later h)
-
 gives-append : (s : Scene) (xs ys : List Part) → (some_gives s xs ≡ true) ⊎ (some_gives s ys ≡ true) → some_gives s (xs ++ ys) ≡ true
-gives-append s [] ys (inl h) = absurd (let q : false ≡ true = h in cc)
-gives-append s [] ys (inr h) = h
-gives-append s (x ∷ xs) ys (inl h) = append-by s x xs ys (or_cases (part_gives s x.kind) (some_gives s xs) h) (λ k. gives-append s xs ys (inl k))
-gives-append s (x ∷ xs) ys (inr h) = or_right (part_gives s x.kind) (some_gives s (xs ++ ys)) (gives-append s xs ys (inr h))
+gives-append s xs ys (inl h) = list_any-append (λ (x : Part). part_gives s x.kind) xs ys ∙ or_left (some_gives s xs) (some_gives s ys) h
+gives-append s xs ys (inr h) = list_any-append (λ (x : Part). part_gives s x.kind) xs ys ∙ or_right (some_gives s xs) (some_gives s ys) h
 
 -- the rows of a string whose display runs are not used
 
@@ -170,8 +148,7 @@ bare-heads text under (i ∷ is) = ap (λ (ps : List Place). bare_place text und
 
 -- characters from a place on
 abbrev char_gives : Scene → TextValue → List ℕ → Bool
-char_gives s text [] = false
-char_gives s text (i ∷ is) = gives_element s.parts.table (get_or text.chars i 0) || char_gives s text is
+char_gives s text is = list_any (λ (i : ℕ). gives_element s.parts.table (get_or text.chars i 0)) is
 
 go-by : (s : Scene) (xs : List Part) (text : TextValue) (under : Attributes) (i : ℕ) (is : List ℕ) → ends_row (bare_place text under i) ≡ false
     → (gives_element s.parts.table (get_or text.chars i 0) ≡ true) ⊎ (char_gives s text is ≡ true) → (some_gives s (xs ++ part_of s (bare_place text under i) ∷ []) ≡ true) ⊎ (char_gives s text is ≡ true)
