@@ -1,6 +1,8 @@
 -- Elements that end a row or the line.
 use Rattle.std.proofs.Common.{◌≡◌, ◌||◌, not, Bool, true, false, IsTrue, List, [], ◌∷◌, ◌++◌, refl, ap, sym, ◌∙◌, arith}
-use Rattle.std.proofs.Math.Bool.{or-false, or_assoc}
+use Rattle.std.proofs.Math.Bool.{or-false}
+use Rattle.std.specs.List.{list_any}
+use Rattle.std.proofs.lemmas.List.Folds.{list_any-append}
 use Rattle.std.proofs.lemmas.Bool.{and_parts, not-true, or_parts}
 use Rattle.rd_base.specs.Elements.{is_line_end, ends_once}
 use Rattle.rd_base.specs.declared.element.Element.{Element}
@@ -29,27 +31,20 @@ on-no_line_end LineEnd h = cc
 pub unfit-on : (shape : ShapeValues) (spot : Spot) (e : Element) → fits shape spot e ≡ false → ends_row e.look ≡ false
 unfit-on shape spot e h = (or_parts _ _ (or_parts _ _ (or_parts _ _ h).0).0).0
 
-pub no_end-more : (ps : List Placed) (p : Placed) → has_line_end ps ≡ false → has_line_end (ps ++ p ∷ []) ≡ is_line_end p.element.look
-no_end-more [] p h = or-false (is_line_end p.element.look)
-no_end-more (q ∷ ps) p h =
-    let parts = or_parts (is_line_end q.element.look) (has_line_end ps) h in
-    rw parts.0 (no_end-more ps p parts.1)
-
-pub end-append : (ps qs : List Placed) → has_line_end (ps ++ qs) ≡ (has_line_end ps || has_line_end qs)
-end-append [] qs = refl
-end-append (p ∷ ps) qs = rw (end-append ps qs) (sym (or_assoc (is_line_end p.element.look) (has_line_end ps) (has_line_end qs)))
+-- one more passes or one of those before it does
+pub any-more : {X : Type 0} (test : X → Bool) (xs : List X) (x : X) → list_any test (xs ++ x ∷ []) ≡ (list_any test xs || test x)
+any-more test xs x = list_any-append test xs (x ∷ []) ∙ ap (λ b. list_any test xs || b) (or-false (test x))
 
 -- whether one of the elements is the line end
 abbrev pub line_ends : List Element → Bool
-line_ends [] = false
-line_ends (e ∷ es) = is_line_end e.look || line_ends es
+line_ends es = list_any (λ (e : Element). is_line_end e.look) es
 
 pub placed-ends : (shape : ShapeValues) (spot : Spot) (xs : List Element) → has_line_end (place_all shape spot xs) ≡ line_ends xs
 placed-ends shape spot [] = refl
 placed-ends shape spot (x ∷ xs) = ap (λ b. is_line_end x.look || b) (placed-ends shape (behind spot (placed_at shape spot x)) xs)
 
 pub standing-ends : (shape : ShapeValues) (lead : List Placed) (start : Spot) (xs : List Element) → has_line_end lead ≡ false → has_line_end (lead ++ place_all shape start xs) ≡ line_ends xs
-standing-ends shape lead start xs none = end-append lead (place_all shape start xs) ∙ rw none (placed-ends shape start xs)
+standing-ends shape lead start xs none = list_any-append (λ (p : Placed). is_line_end p.element.look) lead (place_all shape start xs) ∙ rw none (placed-ends shape start xs)
 
 -- no line end stands where no row end does
 pub on-line_ends : (es : List Element) → ends_some es ≡ false → line_ends es ≡ false
@@ -65,8 +60,7 @@ on-lines (e ∷ es) h =
     rw parts.0 (let k = on-lines es parts.1 in omega (arith, k))
 
 pub ends-append : (xs ys : List Element) → ends_some (xs ++ ys) ≡ (ends_some xs || ends_some ys)
-ends-append [] ys = refl
-ends-append (x ∷ xs) ys = rw (ends-append xs ys) (sym (or_assoc (ends_row x.look) (ends_some xs) (ends_some ys)))
+ends-append xs ys = list_any-append (λ (e : Element). ends_row e.look) xs ys
 
 pub on-append : (xs ys : List Element) → ends_some xs ≡ false → ends_some ys ≡ false → ends_some (xs ++ ys) ≡ false
 on-append xs ys h k = ends-append xs ys ∙ rw (h, k) refl

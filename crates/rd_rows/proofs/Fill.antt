@@ -1,6 +1,6 @@
 -- A row that is filled element by element, against the cut of its line.
 use Rattle.std.proofs.Common.{◌≡◌, ℕ, ◌+◌, ◌-◌, ◌<◌, ◌≤◌, ◌&&◌, ◌||◌, min, Bool, true, false, if◌then◌else◌, IsTrue, List, [], ◌∷◌, ◌++◌, length, take, flat_map, None, Some, refl, ap, sym, ◌∙◌, subst, arith, length-append, append_assoc}
-use Rattle.std.proofs.Math.Bool.{or-false, or-true, or_assoc}
+use Rattle.std.proofs.Math.Bool.{or-false, or-true}
 use Rattle.std.proofs.lemmas.Bool.{or_parts}
 use Rattle.std.proofs.lemmas.List.{append-nil}
 use Rattle.std.proofs.lemmas.Grind.{flat_map-append}
@@ -21,7 +21,7 @@ use Rattle.rd_rows.specs.Makers.{Grows, IsDraft, IsBreak, IsNoted, standing, rea
 use Rattle.rd_rows.specs.Placing.{width_at, ends_row, columns_in, placed_at, behind, place_all}
 use Rattle.rd_rows.specs.Rows.{seen_in, first_seen, begin_of}
 use Rattle.rd_rows.specs.Shapes.{ShapeValues, room, is_word}
-use Rattle.rd_rows.proofs.Ends.{line_ends, unfit-on, ends_once-tail}
+use Rattle.rd_rows.proofs.Ends.{any-more, line_ends, unfit-on, ends_once-tail}
 use Rattle.rd_rows.proofs.LineLaws.{length-placed}
 use Rattle.rd_rows.proofs.Stands.{stand-append, stand-placed, room-length}
 use Rattle.rd_rows.specs.Prefixes.{StandFrom}
@@ -94,8 +94,7 @@ kept-before false true x ys zs h = ap (λ xs. x ∷ xs) h
 kept-before false false x ys zs h = refl
 
 pub break-more : (xs : List Element) (e : Element) → has_break (xs ++ e ∷ []) ≡ (has_break xs || is_break e.look)
-break-more [] e = or-false (is_break e.look)
-break-more (x ∷ xs) e = rw (break-more xs e) (sym (or_assoc (is_break x.look) (has_break xs) (is_break e.look)))
+break-more xs e = any-more (λ (x : Element). is_break x.look) xs e
 
 pub break-here : (xs : List Element) (e : Element) → is_break e.look ≡ true → up_to_break (xs ++ e ∷ []) ≡ xs ++ e ∷ []
 break-here [] e h = rw h refl

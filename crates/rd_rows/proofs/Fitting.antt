@@ -3,6 +3,7 @@ use Rattle.std.proofs.Common.{◌≡◌, ℕ, zero, ◌+◌, ◌/◌, ◌<◌, �
 use Rattle.std.proofs.lemmas.Bool.{and_parts, not-true}
 use Rattle.std.proofs.lemmas.Bool.Decides.{nat_tests}
 use Rattle.std.proofs.lemmas.List.{append-nil}
+use Rattle.std.proofs.lemmas.List.Folds.{list_all-append}
 use Rattle.std.proofs.lemmas.List.Elements.{All-tail}
 use Rattle.rd_base.specs.declared.element.Element.{Element}
 use Rattle.rd_base.specs.declared.cell.Glyph.{Glyph}
@@ -14,7 +15,7 @@ use Rattle.rd_rows.specs.Prefixes.{fitted, prefix_of, ends_none, begins_none, Is
 use Rattle.rd_rows.specs.Rows.{begin_of, cutting_of}
 use Rattle.rd_rows.specs.Shapes.{ShapeValues}
 use Rattle.rd_rows.proofs.Stands.{stand-more, stand-columns, sound-fills}
-use Rattle.rd_rows.proofs.Ends.{line_end-ends, no_end-more}
+use Rattle.rd_rows.proofs.Ends.{line_end-ends, any-more}
 
 -- an element of a prefix in its columns
 abbrev pub part_at : Element → ℕ → ℕ → Placed
@@ -37,8 +38,7 @@ on-end true d h k = let e = h refl in cc
 on-end false d h k = refl
 
 none-more : (ps : List Placed) (p : Placed) → begins_none ps ≡ true → p.first ≡ false → begins_none (ps ++ p ∷ []) ≡ true
-none-more [] p h first = rw first refl
-none-more (q ∷ ps) p h first = let parts = and_parts (not q.first) (begins_none ps) h in rw parts.0 (none-more ps p parts.1 first)
+none-more ps p h first = list_all-append (λ (q : Placed). not q.first) ps (p ∷ []) ∙ rw (h, first) refl
 
 prefix-tail : (e : Element) (es : List Element) → IsPrefix (e ∷ es) → (ends_row e.look ≡ false) × IsPrefix es
 prefix-tail e es h =
@@ -67,7 +67,7 @@ fitting-more limit columns width all left placed e es f more h fit =
       rest = f.rest ∙ (ap (λ xs. placed ++ fitted limit columns xs) more ∙ (ap (λ xs. placed ++ xs) (fit-step limit columns width e es h fit) ∙ sym (append_assoc placed (p ∷ []) (fitted limit (columns + width) es))));
       stand = stand-more 0 columns placed p f.stand refl (rw h fills);
       short = fit;
-      on = no_end-more placed p f.on ∙ on-end (is_line_end e.look) (ends_row e.look) (line_end-ends e.look) tail.0;
+      on = any-more (λ (q : Placed). is_line_end q.element.look) placed p ∙ rw f.on (on-end (is_line_end e.look) (ends_row e.look) (line_end-ends e.look) tail.0);
       items = none-more placed p f.items refl;
       left = tail.1;
     }

@@ -1,6 +1,6 @@
 -- What holds while a row is made, and what follows when it ends.
 use Rattle.std.proofs.Common.{◌≡◌, ℕ, zero, suc, ◌+◌, ◌-◌, ◌^◌, ◌<◌, ◌≤◌, not, Bool, true, false, if◌then◌else◌, IsTrue, List, [], ◌∷◌, ◌++◌, length, drop, Option, None, Some, Result, Ok, Err, IfOk, refl, ap, sym, ◌∙◌, subst, arith, length-append, append_assoc}
-use Rattle.std.proofs.Math.Bool.{and-true, and-false, or-false, or-true}
+use Rattle.std.proofs.Math.Bool.{and-true, and-false, or-true}
 use Rattle.std.proofs.lemmas.Bool.{and_parts, or_parts}
 use Rattle.std.proofs.lemmas.List.{append-nil}
 use Rattle.std.proofs.lemmas.List.Elements.{All-append}
@@ -26,7 +26,7 @@ use Rattle.rd_rows.specs.Placing.{ends_row, next_row, next_line, columns_of, has
 use Rattle.rd_rows.specs.Prefixes.{IsLead}
 use Rattle.rd_rows.specs.Rows.{RowMeaning, LaidRow, laid, rows_within, first_seen}
 use Rattle.rd_rows.specs.Shapes.{ShapeValues, room, is_word}
-use Rattle.rd_rows.proofs.Ends.{line_ends, on-parts, on-append, on-line_ends, ends-append, standing-ends, ends_once-parts}
+use Rattle.rd_rows.proofs.Ends.{any-more, line_ends, on-parts, on-append, on-line_ends, ends-append, standing-ends, ends_once-parts}
 use Rattle.rd_rows.proofs.Few.{IsFew, few-none, few-more, few-wait}
 use Rattle.rd_rows.proofs.Fill.{standing-length, reached-column, reached-used, line-behind, once-behind, once-some, room-on, room-ended, room-full, unfit-ends, cells-room}
 use Rattle.rd_rows.proofs.Splits.{IsFront, break-front, break-some, none-left, rows-same}
@@ -315,10 +315,6 @@ leave-cuts (Ok made) m n k p held es fs gs f w e more rest unfit h =
 ended-cut : (shape : ShapeValues) (row : List Element) → ends_some row ≡ true → cut_of shape row ≡ record { elements = row; ended = true; marked = false }
 ended-cut shape row h = rw h (rw (and-false (can_wrap shape row)) refl)
 
-line-ends-more : (xs : List Element) (e : Element) → line_ends xs ≡ false → line_ends (xs ++ e ∷ []) ≡ is_line_end e.look
-line-ends-more [] e h = or-false (is_line_end e.look)
-line-ends-more (x ∷ xs) e h = let parts = or_parts (is_line_end x.look) (line_ends xs) h in rw parts.0 (line-ends-more xs e parts.1)
-
 some-last : (xs : List Element) (e : Element) → ends_row e.look ≡ true → ends_some (xs ++ e ∷ []) ≡ true
 some-last xs e h = ends-append xs (e ∷ []) ∙ rw h (or-true (ends_some xs))
 
@@ -333,7 +329,7 @@ ended-cuts m p es hs gs xs e fin row weight on line leads parts full none close 
     let next : p ≡ record { cutting = m.cutting; spot = next_line (reached shape (start_of m) kept); continued = false; held = p.held; finished = fin }
     = ends.next ∙ ap (λ (ys : List Element). let y : MakerValues = record { cutting = m.cutting; spot = next_line (reached shape (start_of m) kept); continued = false; held = ys; finished = fin } in y) (sym held) in
     cuts-by m p es gs row weight kept true false fin on line leads (ap (cut_of shape) full ∙ ended-cut shape kept (some-last xs e close)) all (omega (arith, length-append xs (e ∷ []))) next
-    ends.row_is ends.weight_is (line-ends-more xs e (on-line_ends xs none) ∙ sym fin_is) (ap ends_some held ∙ waits)
+    ends.row_is ends.weight_is (any-more (λ (x : Element). is_line_end x.look) xs e ∙ rw (on-line_ends xs none) (sym fin_is)) (ap ends_some held ∙ waits)
 
 pub end-cuts : (result : Result MadeRow Memory) (m n k p : MakerValues) (held : ends_some k.held ≡ false) (es fs gs : List Element) (f g : Filling) (w : Walks m es n fs f) (e : Element) (shape : ShapeValues) (fin : Bool) → n.held ++ fs ≡ e ∷ (k.held ++ gs) → k ≡ record n { held = k.held }
     → has_room m.cutting.shape w.xs (reached m.cutting.shape (start_of m) w.xs) e ≡ true → ends_row e.look ≡ true → fin ≡ is_line_end e.look → shape ≡ m.cutting.shape

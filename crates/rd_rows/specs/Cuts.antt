@@ -1,5 +1,6 @@
 -- Which elements of a line stand in a row.
 use Rattle.std.specs.Prelude.{Bool, true, false, not, ◌&&◌, ◌||◌, if◌then◌else◌, List, [], ◌∷◌}
+use Rattle.std.specs.List.{list_any}
 use Rattle.rd_base.specs.Glyphs.{is_space}
 use Rattle.rd_base.specs.declared.element.Element.{Element}
 use Rattle.rd_base.specs.declared.element.Look.{Look}
@@ -15,8 +16,7 @@ is_break (Shown g) = is_space g
 is_break look = false
 
 abbrev pub has_break : List Element → Bool
-has_break [] = false
-has_break (e ∷ es) = is_break e.look || has_break es
+has_break es = list_any (λ (e : Element). is_break e.look) es
 
 -- the elements up to the last break, and none where there is no break
 abbrev pub up_to_break : List Element → List Element
@@ -25,8 +25,7 @@ up_to_break (e ∷ es) = if is_break e.look || has_break es then e ∷ up_to_bre
 
 -- whether one of the elements ends a row
 abbrev pub ends_some : List Element → Bool
-ends_some [] = false
-ends_some (e ∷ es) = ends_row e.look || ends_some es
+ends_some es = list_any (λ (e : Element). ends_row e.look) es
 
 -- the elements for which a row has room from a spot on: up to one that ends the row, or before one that does not fit
 abbrev pub fitting : ShapeValues → Spot → List Element → List Element

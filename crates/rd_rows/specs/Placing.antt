@@ -1,5 +1,6 @@
 -- How an element of a line comes to stand in a row.
 use Rattle.std.specs.Prelude.{ℕ, ◌+◌, ◌-◌, ◌%◌, ◌==◌, ◌&&◌, ◌||◌, min, nat_lt, nat_le, not, Bool, true, false, if◌then◌else◌, List, [], ◌∷◌, Option, None, Some}
+use Rattle.std.specs.List.{list_any}
 use Rattle.rd_base.specs.Elements.{is_line_end}
 use Rattle.rd_base.specs.declared.cell.Glyph.{Glyph}
 use Rattle.rd_base.specs.declared.element.Element.{Element}
@@ -93,8 +94,7 @@ behind_all spot [] = spot
 behind_all spot (p ∷ ps) = behind_all (behind spot p) ps
 
 abbrev pub has_line_end : List Placed → Bool
-has_line_end [] = false
-has_line_end (p ∷ ps) = is_line_end p.element.look || has_line_end ps
+has_line_end ps = list_any (λ (p : Placed). is_line_end p.element.look) ps
 
 -- the columns that elements take
 abbrev pub columns_of : List Placed → ℕ

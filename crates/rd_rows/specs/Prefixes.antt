@@ -1,5 +1,6 @@
 -- Prefixes, which stand before the elements of a line in its rows.
-use Rattle.std.specs.Prelude.{◌≡◌, ℕ, ◌+◌, ◌/◌, ◌≤◌, ◌&&◌, nat_le, not, Bool, true, false, if◌then◌else◌, IsTrue, List, [], ◌∷◌}
+use Rattle.std.specs.Prelude.{◌≡◌, ℕ, ◌+◌, ◌/◌, ◌≤◌, nat_le, not, Bool, false, if◌then◌else◌, IsTrue, List, [], ◌∷◌}
+use Rattle.std.specs.List.{list_all}
 use Rattle.rd_base.specs.declared.limits.TheConstants.{PREFIX_COLUMNS}
 use Rattle.rd_base.specs.declared.element.Element.{Element}
 use Rattle.rd_base.specs.declared.element.Look.{Look}
@@ -23,8 +24,7 @@ prefix_of shape es = fitted (shape.width / 2) 0 es
 
 -- whether no element ends a row
 abbrev pub ends_none : List Element → Bool
-ends_none [] = true
-ends_none (e ∷ es) = not (ends_row e.look) && ends_none es
+ends_none es = list_all (λ (e : Element). not (ends_row e.look)) es
 
 -- what may stand in a prefix: sound elements of which none ends a row
 pub record IsPrefix (es : List Element) : Type 0 where
@@ -43,8 +43,7 @@ StandFrom from (p ∷ ps) to = (p.start ≡ from) × FillsColumns p.element.look
 
 -- whether no item of the line begins
 abbrev pub begins_none : List Placed → Bool
-begins_none [] = true
-begins_none (p ∷ ps) = not p.first && begins_none ps
+begins_none ps = list_all (λ (p : Placed). not p.first) ps
 
 -- a row can begin with these: they stand in at most 200 columns from the first on, and none ends the line or begins an item of it
 pub record IsLead (ps : List Placed) : Type 0 where
