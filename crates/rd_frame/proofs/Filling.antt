@@ -116,7 +116,7 @@ window-each P both blanks width pane window each =
 fill-each : (f : FrameValues) (windows : List Placed) → AllHaveRoom windows → AllByRecursion (λ window. FitsWindow f.tree.width (f.panes window) window) windows
     → AllByRecursion (λ window. HasSize window.rect.width window.rect.height (rows_of f window)) windows
 fill-each f [] room fits = tt
-fill-each f (window ∷ windows) room fits = (window-size f.tree.width (f.panes window) window room.0 room.1 fits.0, fill-each f windows room.2 fits.1)
+fill-each f (window ∷ windows) room fits = (window-size f.tree.width (f.panes window) window room.0.0 room.0.1 fits.0, fill-each f windows room.1 fits.1)
 
 -- the rows of each window fill its rectangle
 pub frame-filled : (f : FrameValues) → AllHaveRoom (placed f.tree.windows (frame_of f.tree)) → FitsFrame f → FillTheirRectangles (rows_of f) (placed f.tree.windows (frame_of f.tree))

@@ -8,12 +8,13 @@ use Rattle.std.proofs.lemmas.List.{map-append}
 use Rattle.std.proofs.lemmas.List.Folds.{list_any-append}
 use Rattle.std.specs.Option.{option_or}
 use Rattle.rd_base.proofs.Choices.{none-chosen, none-of}
+use Rattle.rd_base.proofs.Lists.{each-append}
 use Rattle.rd_base.specs.Cells.{bit_of}
 use Rattle.rd_tree.specs.declared.rect.Rect.{Rect}
 use Rattle.rd_tree.specs.declared.side.Side.{Side}
 use Rattle.rd_tree.specs.declared.side.Side.TheVariants.{Below, Right}
 use Rattle.rd_tree.specs.declared.placed.Placed.{Placed}
-use Rattle.rd_tree.specs.Windows.{Windows, Window, Split, first_part, second_part, HasRoom, first_size, resized, leaves, placed, of_number, window_at, holds, replaced, is_leaf_of, is_single, sibling, removed, times}
+use Rattle.rd_tree.specs.Windows.{Windows, Window, Split, columns_for, rows_for, first_part, second_part, HasRoom, first_size, resized, leaves, placed, of_number, window_at, holds, replaced, is_leaf_of, is_single, sibling, removed, times}
 use Rattle.rd_tree.specs.Calls.{Configuration, IsValid, frame_of, rect_of_placed}
 use Rattle.rd_tree.specs.Places.{is_from, lies_in, windows_with, AllHaveRoom, in_place_of, without, is_among, IsWithin, StandsIn, LiesIn}
 use Rattle.rd_tree.proofs.Rooms.{rows_for-some, room_needs, room_within, of_number-append}
@@ -72,16 +73,12 @@ listed (Split side size first second) rect =
     let b = second_part side size rect in
     rw (map-append (λ (window : Placed). window.number) (placed first a) (placed second b), listed first a, listed second b) refl
 
-all_room-append : (xs ys : List Placed) → AllHaveRoom xs → AllHaveRoom ys → AllHaveRoom (xs ++ ys)
-all_room-append [] ys p q = q
-all_room-append (window ∷ xs) ys p q = (p.0, p.1, all_room-append xs ys p.2 q)
-
 pub all_room : (windows : Windows) (rect : Rect) → HasRoom windows rect → AllHaveRoom (placed windows rect)
-all_room (Window number mode margins) rect h = (h.0, h.1, tt)
+all_room (Window number mode margins) rect h = (h, tt)
 all_room (Split side size first second) rect h =
     let a = first_part side size rect in
     let b = second_part side size rect in
-    all_room-append (placed first a) (placed second b) (all_room first a h.0) (all_room second b h.1)
+    each-append (λ (window : Placed). (columns_for window.margins ≤ window.rect.width) × (rows_for window.mode ≤ window.rect.height)) (placed first a) (placed second b) (all_room first a h.0) (all_room second b h.1)
 
 -- others in place of a window that stands among the first windows, or behind them
 in_place-back : (w : ℕ) (others : Placed → List Placed) (xs ys : List Placed) → of_number w xs ≡ None → in_place_of w others (xs ++ ys) ≡ xs ++ in_place_of w others ys

@@ -1,6 +1,6 @@
 -- Where windows stand: what the laws of a window tree speak of.
 use Rattle.std.specs.Prelude.{ℕ, ◌+◌, ◌≤◌, Bool, if◌then◌else◌, nat_le, nat_lt, ◌==◌, ◌&&◌, List, [], ◌∷◌, ◌++◌, Option, None, Some}
-use Rattle.std.specs.List.{list_any}
+use Rattle.std.specs.List.{AllByRecursion, list_any}
 use Rattle.rd_base.specs.Cells.{bit_of}
 use Rattle.rd_base.specs.declared.limits.TheConstants.{FRAME_COLUMNS, FRAME_ROWS, LEAST_WINDOW_COLUMNS}
 use Rattle.rd_tree.specs.declared.rect.Rect.{Rect}
@@ -22,8 +22,7 @@ windows_with column row (window ∷ windows) = bit_of (lies_in column row window
 
 -- each window has the columns and rows that it needs
 abbrev pub AllHaveRoom : List Placed → Type 0
-AllHaveRoom [] = Unit {0}
-AllHaveRoom (window ∷ windows) = (columns_for window.margins ≤ window.rect.width) × (rows_for window.mode ≤ window.rect.height) × AllHaveRoom windows
+AllHaveRoom windows = AllByRecursion (λ (window : Placed). (columns_for window.margins ≤ window.rect.width) × (rows_for window.mode ≤ window.rect.height)) windows
 
 -- a rectangle lies in another
 abbrev pub IsWithin : Rect → Rect → Type 0
