@@ -4,7 +4,7 @@ use Rattle.std.specs.Prelude.{count_by, slice_get, option_map}
 use Rattle.std.specs.List.{flat_map}
 use Rattle.std.proofs.lemmas.Bool.Decides.{nat_tests}
 use Rattle.std.proofs.lemmas.Option.{slice_get-map}
-use Rattle.rd_base.proofs.Lists.{Follow, count-append, count-cons, follow-once}
+use Rattle.rd_base.proofs.Lists.{Follow, count-append, count-cons, each-append, follow-once}
 use Rattle.rd_ucd.specs.Data.{Data}
 use Rattle.rd_objects.specs.Things.{ObjectLists}
 use Rattle.rd_text.specs.Texts.{IsText, IsAccessible}
@@ -30,8 +30,7 @@ use Rattle.rd_visual.proofs.Reordered.{order-stands, turns-permute}
 -- each range of an item has a position
 
 some-append : (xs ys : List Range) → AreSome xs → AreSome ys → AreSome (xs ++ ys)
-some-append [] ys some more = more
-some-append (x ∷ xs) ys some more = (some.0, some-append xs ys some.1 more)
+some-append xs ys some more = each-append (λ (r : Range). r.from < r.to) xs ys some more
 
 some-by : (b : Bool) (start : ℕ) (x : Item) → nat_lt x.from x.to ≡ b → AreSome (if b then record { from = start + x.from; to = start + x.to } ∷ [] else [])
 some-by true start x e = let less : x.from < x.to = grind (arith, nat_tests) in (omega (arith, less), tt)

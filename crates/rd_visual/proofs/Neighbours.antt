@@ -1,6 +1,6 @@
 -- Neighbours in a list of ranges.
 use Rattle.std.proofs.Common.{◌≡◌, ℕ, ◌+◌, ◌<◌, ◌≤◌, Bool, true, false, cond, if◌then◌else◌, List, [], ◌∷◌, ◌++◌, Option, None, Some, refl, sym, ap, subst, ◌∙◌, arith}
-use Rattle.std.specs.Prelude.{count_by}
+use Rattle.std.specs.List.{AllByRecursion, count_by}
 use Rattle.std.proofs.lemmas.Bool.Decides.{nat_tests}
 use Rattle.rd_base.proofs.Lists.{count-append, count-cons}
 use Rattle.std.proofs.lemmas.Bool.{cond-false}
@@ -9,8 +9,7 @@ use Rattle.rd_visual.specs.declared.range.Range.{Range}
 
 -- each range has a position
 abbrev pub AreSome : List Range → Type 0
-AreSome [] = Unit {0}
-AreSome (r ∷ rs) = (r.from < r.to) × AreSome rs
+AreSome rs = AllByRecursion (λ (r : Range). r.from < r.to) rs
 
 covers-first : (r : Range) → r.from < r.to → holds r.from r ≡ true
 covers-first r some = grind (arith, nat_tests)
