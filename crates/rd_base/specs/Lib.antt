@@ -6,4 +6,5 @@ pub mod Equals
 pub mod Faces
 pub mod Glyphs
 pub mod Lines
+pub mod Lists
 pub mod Settings

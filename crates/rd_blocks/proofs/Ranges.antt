@@ -20,8 +20,9 @@ use Rattle.rd_rows.specs.Laws.{ranges_of}
 use Rattle.rd_rows.specs.Placing.{is_item}
 use Rattle.rd_stack.specs.Lines.{item_elements_by, turn_elements, origin_of, item_elements, item_class, item_code, item_turns, line_of_items}
 use Rattle.rd_stack.proofs.EachElement.{item-each}
-use Rattle.rd_base.proofs.Lists.{Follow, all-at, count-cons, follow-once, total}
+use Rattle.rd_base.proofs.Lists.{Follow, all-at, count-cons, follow-once}
 use Rattle.rd_base.specs.Cells.{bit_of}
+use Rattle.rd_base.specs.Lists.{total}
 use Rattle.rd_blocks.proofs.Gives.{ItemsGive}
 
 abbrev pub range_of_item : Item → ℕ × ℕ

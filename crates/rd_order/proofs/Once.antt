@@ -4,7 +4,8 @@ use Rattle.std.specs.Prelude.{slice_index}
 use Rattle.std.specs.List.{range_with_len}
 use Rattle.std.proofs.lemmas.Bool.{cond_both}
 use Rattle.std.proofs.lemmas.Bool.Decides.{nat_tests}
-use Rattle.rd_base.proofs.Lists.{total, total-append}
+use Rattle.rd_base.proofs.Lists.{total-append}
+use Rattle.rd_base.specs.Lists.{total}
 use Rattle.rd_order.specs.Order.{l2_reversed, l2_reversed_down, highest, l2_visual_order}
 
 total-l2_reversed : (f : ℕ → ℕ) (levels : List ℕ) (k : ℕ) (run is : List ℕ) → total f (l2_reversed levels k run is) ≡ total f run + total f is

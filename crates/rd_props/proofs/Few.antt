@@ -3,7 +3,8 @@ use Rattle.std.proofs.Common.{◌≡◌, ℕ, zero, suc, ◌+◌, ◌*◌, ◌�
 use Rattle.std.specs.Option.{option_to_list}
 use Rattle.std.proofs.lemmas.Bool.Decides.{nat_tests}
 use Rattle.std.proofs.lemmas.List.{reverse-append}
-use Rattle.rd_base.proofs.Lists.{total, total-append}
+use Rattle.rd_base.proofs.Lists.{total-append}
+use Rattle.rd_base.specs.Lists.{total}
 use Rattle.rd_overlays.specs.declared.overlay.Overlay.{Overlay}
 use Rattle.rd_overlays.specs.declared.overlay.Kind.TheVariants.{Before, After}
 use Rattle.rd_overlays.specs.Overlays.{overlay_at, starting, ending, precedes, placed, ranked_from, number_of_rank}
