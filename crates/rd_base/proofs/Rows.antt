@@ -3,9 +3,10 @@ use Rattle.std.proofs.Common.{rules, tests, ◌≡◌, ℕ, zero, suc, ◌+◌, 
 use Rattle.std.proofs.lemmas.Bool.Decides.{nat_tests}
 use Rattle.std.proofs.lemmas.List.{get_or-drop, get_or-replicate, length-drop}
 use Rattle.unicode_width.specs.Width.{char_width}
+use Rattle.rd_base.proofs.Lists.{total-append}
 use Rattle.rd_base.specs.Cells.{single}
 use Rattle.rd_base.specs.Chars.{is_scalar}
-use Rattle.rd_base.specs.Elements.{columns_at_most}
+use Rattle.rd_base.specs.Elements.{width_at_most, columns_at_most}
 use Rattle.rd_base.specs.Faces.{Attributes}
 use Rattle.rd_base.specs.Glyphs.{IsMeasured, IsRowAfter, is_space, blanks, glyph_cells}
 use Rattle.rd_base.specs.declared.cell.Cell.{Cell}
@@ -82,5 +83,4 @@ spare-marks g h =
 -- ---- elements
 
 pub columns-append : (xs ys : List Element) → columns_at_most (xs ++ ys) ≡ columns_at_most xs + columns_at_most ys
-columns-append [] ys = omega arith
-columns-append (x ∷ xs) ys = let rest = columns-append xs ys in omega (arith, rest)
+columns-append = total-append (λ e. width_at_most e.extent)

@@ -1,5 +1,6 @@
 -- Elements of a line.
-use Rattle.std.specs.Prelude.{◌≡◌, ◌≤◌, ℕ, ◌+◌, Bool, true, false, not, ◌&&◌, List, [], ◌∷◌, Option, None, Some, Result, Ok, Err, All}
+use Rattle.std.specs.Prelude.{◌≡◌, ◌≤◌, ℕ, Bool, true, false, not, ◌&&◌, List, [], ◌∷◌, Option, None, Some, Result, Ok, Err, All}
+use Rattle.rd_base.specs.Lists.{total}
 use Rattle.rd_base.specs.declared.element.Element.{Element}
 use Rattle.rd_base.specs.declared.element.Extent.{Extent}
 use Rattle.rd_base.specs.declared.element.Extent.TheVariants.{Fixed, Tab, Column}
@@ -39,8 +40,7 @@ width_at_most (Column n) = n
 
 -- the most columns that elements can take
 abbrev pub columns_at_most : List Element → ℕ
-columns_at_most [] = 0
-columns_at_most (e ∷ es) = width_at_most e.extent + columns_at_most es
+columns_at_most es = total (λ e. width_at_most e.extent) es
 
 abbrev pub is_line_end : Look → Bool
 is_line_end LineEnd = true
