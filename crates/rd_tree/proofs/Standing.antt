@@ -8,7 +8,7 @@ use Rattle.std.proofs.lemmas.List.{map-append}
 use Rattle.std.proofs.lemmas.List.Folds.{list_any-append}
 use Rattle.std.specs.Option.{option_or}
 use Rattle.rd_base.proofs.Choices.{none-chosen, none-of}
-use Rattle.rd_base.proofs.Lists.{each-append}
+use Rattle.rd_base.proofs.Lists.{each-append, total-append}
 use Rattle.rd_base.specs.Cells.{bit_of}
 use Rattle.rd_tree.specs.declared.rect.Rect.{Rect}
 use Rattle.rd_tree.specs.declared.side.Side.{Side}
@@ -54,17 +54,13 @@ parts_hold column row Below size first second rect h =
     and_bit_of (is_from rect.x rect.width column) (is_from rect.y size row) (is_from (rect.y + size) (rect.height - size) row) (is_from rect.y rect.height row)
     (is_from-cut rect.y size rect.height row (room_within Below size first second rect h))
 
-windows_with-append : (column row : ℕ) (xs ys : List Placed) → windows_with column row (xs ++ ys) ≡ windows_with column row xs + windows_with column row ys
-windows_with-append column row [] ys = omega arith
-windows_with-append column row (window ∷ xs) ys = omega (arith, windows_with-append column row xs ys)
-
 -- each cell of the rectangle lies in one window, and no other cell does
 pub one_window : (windows : Windows) (rect : Rect) → HasRoom windows rect → (column row : ℕ) → windows_with column row (placed windows rect) ≡ bit_of (lies_in column row rect)
 one_window (Window number mode margins) rect h column row = omega arith
 one_window (Split side size first second) rect h column row =
     let a = first_part side size rect in
     let b = second_part side size rect in
-    omega (arith, windows_with-append column row (placed first a) (placed second b), one_window first a h.0 column row, one_window second b h.1 column row, parts_hold column row side size first second rect h)
+    omega (arith, total-append (λ (window : Placed). bit_of (lies_in column row window.rect)) (placed first a) (placed second b), one_window first a h.0 column row, one_window second b h.1 column row, parts_hold column row side size first second rect h)
 
 pub listed : (windows : Windows) (rect : Rect) → map (λ (window : Placed). window.number) (placed windows rect) ≡ leaves windows
 listed (Window number mode margins) rect = refl
