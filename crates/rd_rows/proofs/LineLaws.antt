@@ -2,6 +2,7 @@
 use Rattle.std.proofs.Common.{◌≡◌, ℕ, suc, ◌+◌, ◌*◌, not, Bool, true, false, if◌then◌else◌, IsTrue, List, [], ◌∷◌, ◌++◌, length, flat_map, map, Option, None, Some, refl, ap, sym, ◌∙◌, subst, arith, length-append, append_assoc}
 use Rattle.std.proofs.lemmas.List.{map-append, append-nil}
 use Rattle.std.proofs.lemmas.Grind.{flat_map-append}
+use Rattle.rd_base.proofs.Lists.{total-append}
 use Rattle.rd_base.specs.Elements.{ends_once, is_line_end}
 use Rattle.rd_base.specs.declared.element.Element.{Element}
 use Rattle.rd_rows.specs.declared.begin.Begin.{Begin}
@@ -10,7 +11,7 @@ use Rattle.rd_rows.specs.declared.spot.Placed.{Placed}
 use Rattle.rd_rows.specs.declared.spot.Spot.{Spot}
 use Rattle.rd_rows.specs.Leads.{HasLeads, IsQuiet, HasQuietLeads}
 use Rattle.rd_rows.specs.Shapes.{ShapeValues}
-use Rattle.rd_rows.specs.Placing.{is_item, placed_at, behind, behind_all, next_row, next_line, place_all, columns_of, has_line_end}
+use Rattle.rd_rows.specs.Placing.{is_item, ends_row, placed_at, behind, behind_all, next_row, next_line, place_all, columns_of, has_line_end}
 use Rattle.rd_rows.specs.Prefixes.{begins_none}
 use Rattle.rd_rows.specs.Rows.{RowMeaning, LaidRow, rows_within, rows_of, row_of, begin_of, laid, weight_of}
 use Rattle.rd_rows.specs.Laws.{seen_rows, ends_last, begins_of, range_of, ranges_of, lines_in, IsPlacedOnce}
@@ -101,10 +102,6 @@ record Counted (rows : List LaidRow) (lead left lines first wrap : ℕ) : Type 0
   count : length rows ≡ lines + continued
   weight : weight_of rows + first ≡ lead + left + lines * first + continued * wrap
 
-lines-append : (xs ys : List Element) → lines_in (xs ++ ys) ≡ lines_in xs + lines_in ys
-lines-append [] ys = omega arith
-lines-append (x ∷ xs) ys = let e = lines-append xs ys in omega (arith, e)
-
 counted-last : (row lead left lines first wrap : ℕ) → row ≡ lead + left → lines ≡ 1 → (row + 0) + first ≡ lead + left + lines * first + 0 * wrap
 counted-last row lead left lines first wrap h k = rw k (let one : 1 * first ≡ first = grind arith in let none : 0 * wrap ≡ 0 = grind arith in omega (arith, one, none, h))
 
@@ -174,7 +171,7 @@ counted c es =
     over-rows c (λ lead. Unit {0}) (λ lead spot ys rows. IsTrue (ends_once ys) → Counted rows (length lead) (length ys) (lines_in ys) (length c.first) (length c.wrap)) tt tt (λ lead spot end. cc) (λ n lead spot xs rest marked ended one lines later once.
     let ps = placed_in c lead spot xs in
     let weight : length (lead ++ ps) ≡ length lead + length xs = length-append lead ps ∙ ap (λ k. length lead + k) (length-placed c.shape (next_row (columns_of lead) spot) xs) in
-    rw (length-append xs rest, lines-append xs rest)
+    rw (length-append xs rest, total-append (λ (e : Element). if ends_row e.look then 1 else 0) xs rest)
     (counted-rest c lead (next_behind c lead spot xs ended) (laid c (spot_behind c lead spot xs).used marked (lead ++ ps)) xs rest n ended weight lines once later))
     es
 

@@ -1,5 +1,6 @@
 -- What holds of the rows of every line.
 use Rattle.std.specs.Prelude.{◌≡◌, ℕ, ◌+◌, ◌*◌, Bool, false, not, ◌&&◌, if◌then◌else◌, List, [], ◌∷◌, ◌++◌, map, flat_map, length, Option, Some}
+use Rattle.rd_base.specs.Lists.{total}
 use Rattle.rd_base.specs.declared.element.Element.{Element}
 use Rattle.rd_rows.specs.declared.begin.Begin.{Begin}
 use Rattle.rd_rows.specs.declared.cutting.Cutting.{Cutting}
@@ -31,8 +32,7 @@ ranges_of before (e ∷ es) =
 
 -- how many lines these elements are, where each row end and the line end ends one
 abbrev pub lines_in : List Element → ℕ
-lines_in [] = 0
-lines_in (e ∷ es) = (if ends_row e.look then 1 else 0) + lines_in es
+lines_in es = total (λ e. if ends_row e.look then 1 else 0) es
 
 -- each element was placed once, and each prefix once in each row that it stands in: the first row of each line has one, and
 -- each other row the other
