@@ -2,6 +2,7 @@
 use Rattle.std.specs.Prelude.{ℕ, ◌+◌, ◌-◌, ◌%◌, ◌==◌, ◌&&◌, ◌||◌, min, nat_lt, nat_le, not, Bool, true, false, if◌then◌else◌, List, [], ◌∷◌, Option, None, Some}
 use Rattle.std.specs.List.{list_any}
 use Rattle.rd_base.specs.Elements.{is_line_end}
+use Rattle.rd_base.specs.Lists.{total}
 use Rattle.rd_base.specs.declared.cell.Glyph.{Glyph}
 use Rattle.rd_base.specs.declared.element.Element.{Element}
 use Rattle.rd_base.specs.declared.element.Extent.{Extent}
@@ -98,5 +99,4 @@ has_line_end ps = list_any (λ (p : Placed). is_line_end p.element.look) ps
 
 -- the columns that elements take
 abbrev pub columns_of : List Placed → ℕ
-columns_of [] = 0
-columns_of (p ∷ ps) = p.columns + columns_of ps
+columns_of ps = total (λ p. p.columns) ps

@@ -2,6 +2,7 @@
 use Rattle.std.specs.Prelude.{ℕ, zero, suc, ◌+◌, ◌-◌, ◌==◌, ◌&&◌, min, max, nat_lt, nat_le, Bool, if◌then◌else◌, List, [], ◌∷◌, ◌++◌, length, drop, flat_map, Option, None, Some}
 use Rattle.rd_base.specs.Faces.{Attributes, plain}
 use Rattle.rd_base.specs.Glyphs.{is_space, blanks, glyph_cells}
+use Rattle.rd_base.specs.Lists.{total}
 use Rattle.rd_base.specs.declared.cell.Cell.{Cell}
 use Rattle.rd_base.specs.declared.cell.Cell.TheVariants.{Blank, First}
 use Rattle.rd_base.specs.declared.cell.Glyph.{Glyph}
@@ -131,5 +132,4 @@ cutting_of shape base first wrap truncation continuation = record {
 
 -- how many elements were placed in these rows
 abbrev pub weight_of : List LaidRow → ℕ
-weight_of [] = 0
-weight_of (r ∷ rs) = r.weight + weight_of rs
+weight_of rs = total (λ r. r.weight) rs
