@@ -1,5 +1,6 @@
 -- Sources of blocks and of their rows.
-use Rattle.std.specs.Prelude.{◌≡◌, ℕ, ◌+◌, ◌<◌, ◌≤◌, IsTrue, List, [], ◌∷◌, count_by, All}
+use Rattle.std.specs.Prelude.{◌≡◌, ℕ, ◌+◌, ◌<◌, ◌≤◌, IsTrue, List, count_by, All}
+use Rattle.rd_base.specs.Lists.{total}
 use Rattle.rd_matrix.specs.Blocks.{AreBlocks, IsAmong}
 use Rattle.rd_matrix.specs.Columns.{covers}
 use Rattle.rd_matrix.specs.Entries.{EntryMeaning, all_rows}
@@ -21,8 +22,7 @@ rows_at m shape = all_rows (λ b. m.rows_of b shape) m.blocks
 
 -- the costs of blocks together
 abbrev pub costs_of : (Block → ℕ) → List Block → ℕ
-costs_of cost [] = 0
-costs_of cost (b ∷ bs) = cost b + costs_of cost bs
+costs_of cost bs = total cost bs
 
 -- an item's range lies in the block from one position up to another
 abbrev pub IsInBlock : ℕ → ℕ → Begin → Type 0

@@ -36,7 +36,3 @@ have-more kind rows first [] b h here =
 have-more kind rows first (x ∷ bs) b h here =
     let place : first + length (all_rows rows (x ∷ bs)) ≡ (first + length (rows x)) + length (all_rows rows bs) = omega (arith, count-cons rows x bs) in
     (h.0, have-more kind rows (first + length (rows x)) bs b h.1 (subst (λ n. list_any kind (range_with_len n (length (rows b))) ≡ true) place here))
-
-pub costs-more : (cost : Block → ℕ) (bs : List Block) (b : Block) → costs_of cost (bs ++ (b ∷ [])) ≡ costs_of cost bs + cost b
-costs-more cost [] b = omega arith
-costs-more cost (x ∷ bs) b = let rest = costs-more cost bs b in omega (arith, rest)

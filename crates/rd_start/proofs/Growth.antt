@@ -15,8 +15,8 @@ use Rattle.rd_start.specs.declared.strip.Edge.TheVariants.{Bottom, Top}
 use Rattle.rd_start.specs.declared.strip.StripRow.{StripRow}
 use Rattle.rd_start.specs.declared.strip.Sweep.{Sweep}
 use Rattle.rd_start.proofs.Blocks.{some-row}
-use Rattle.rd_start.proofs.Costs.{costs-more, costs-piece, have-more}
-use Rattle.rd_base.proofs.Lists.{each-append, get-first, get-second}
+use Rattle.rd_start.proofs.Costs.{costs-piece, have-more}
+use Rattle.rd_base.proofs.Lists.{each-append, get-first, get-second, total-append}
 use Rattle.rd_start.proofs.Lists.{Ends, ends}
 
 -- the place of a strip's last block, and the block behind it
@@ -143,7 +143,7 @@ paid-below kind base m sweep bs ls at steps more b h paid some here cost =
     let size = ap length h.strip_rows ∙ length-map (all_rows rows bs) (strip_row_of sweep.point) in
     let place = home_row m sweep - at + length (all_rows rows bs) in
     let passes : kind place ≡ true = ap (λ n. kind (home_row m sweep - at + n)) (sym size) ∙ here in
-    let costs = costs-more (cost_in m sweep) bs b in
+    let costs = total-append (cost_in m sweep) bs (b ∷ []) in
     let old = paid.paid in
     record {
       have = have-more kind rows (home_row m sweep - at) bs b paid.have (any-range kind place (length (rows b)) place (omega arith) (omega arith) passes);
