@@ -1,17 +1,13 @@
 -- The columns of looks that are put together.
-use Rattle.std.proofs.Common.{◌≡◌, ◌+◌, ◌++◌, ◌≤◌, min, List, [], ◌∷◌, Option, true, ℕ, arith}
+use Rattle.std.proofs.Common.{◌≡◌, ◌+◌, ◌≤◌, min, List, ◌∷◌, Option, true, ℕ, arith}
+use Rattle.rd_base.proofs.Lists.{total-append}
 use Rattle.rd_base.specs.declared.cell.Glyph.{Glyph}
-use Rattle.rd_base.specs.declared.element.Look.{Look}
 use Rattle.rd_ucd.specs.declared.spans.Span.{Span}
 use Rattle.rd_ucd.specs.Lookup.{class_of}
 use Rattle.rd_glyphs.specs.declared.shown.Shown.{Shown}
-use Rattle.rd_glyphs.specs.Characters.{shown_as}
+use Rattle.rd_glyphs.specs.Characters.{look_columns, shown_as}
 use Rattle.rd_glyphs.specs.Held.{given, held_after, looks_from}
 use Rattle.rd_glyphs.specs.Lines.{columns_of_looks}
-
-columns_append : (xs ys : List Look) → columns_of_looks (xs ++ ys) ≡ columns_of_looks xs + columns_of_looks ys
-columns_append [] ys = omega arith
-columns_append (l ∷ ls) ys = let rest = columns_append ls ys in omega arith
 
 moved : (classes : List Span) (held : Option Glyph) (s : Shown) (c : ℕ) (cs : List ℕ) (before total : ℕ) →
     s ≡ shown_as true (class_of classes c) c →
@@ -19,7 +15,7 @@ moved : (classes : List Span) (held : Option Glyph) (s : Shown) (c : ℕ) (cs : 
     before + columns_of_looks (given held s) + columns_of_looks (looks_from classes (held_after held s) cs) ≡ total
 moved classes held s c cs before total look whole =
     let s0 = shown_as true (class_of classes c) c in
-    let sum = columns_append (given held s0) (looks_from classes (held_after held s0) cs) in
+    let sum = total-append look_columns (given held s0) (looks_from classes (held_after held s0) cs) in
     rw look (omega arith)
 
 -- one character moves its columns from what is left to what was counted

@@ -4,6 +4,7 @@ use Rattle.std.specs.List.{flat_map}
 use Rattle.rd_base.specs.Faces.{Attributes}
 use Rattle.rd_base.specs.Cells.{single}
 use Rattle.rd_base.specs.Glyphs.{blanks, glyph_cells}
+use Rattle.rd_base.specs.Lists.{total}
 use Rattle.rd_base.specs.declared.cell.Cell.{Cell}
 use Rattle.rd_base.specs.declared.element.Look.{Look}
 use Rattle.rd_base.specs.declared.element.Look.TheVariants as look
@@ -67,8 +68,7 @@ plain_cells classes face width text = fitted face width (plain_looks classes tex
 
 -- the columns of looks
 abbrev pub columns_of_looks : List Look → ℕ
-columns_of_looks [] = 0
-columns_of_looks (l ∷ ls) = look_columns l + columns_of_looks ls
+columns_of_looks ls = total look_columns ls
 
 -- how many columns a text takes as a plain line that is not cut
 abbrev pub plain_columns : List Span → List ℕ → ℕ
