@@ -3,9 +3,8 @@ use Rattle.std.proofs.Common.{◌≡◌, append-nil, ℕ, zero, suc, ◌+◌, �
 use Rattle.std.specs.Char.{encode_utf8}
 use Rattle.std.specs.List.{flat_map, range_with_len}
 use Rattle.std.proofs.lemmas.List.{flat_map_more, replicate_more}
-use Rattle.std.proofs.lemmas.List.Concat.{flat_map-cons}
 use Rattle.rd_base.proofs.Lists.{range-more}
-use Rattle.rd_generate.specs.Generated.{after, choice, templates, number, text_line, line_of, lines_from, spelled, spelling, hundred, insertion, hundreds, shown, redisplay}
+use Rattle.rd_generate.specs.Generated.{after, choice, templates, number, text_line, lines_from, spelled, spelling, hundred, insertion, hundreds, shown, redisplay}
 
 -- what was added for one more number
 pub more : {A : Type 0} (f : ℕ → List A) (old now new : List A) (n : ℕ) → now ≡ old ++ flat_map f (range_with_len 0 n) → new ≡ now ++ f n
@@ -65,30 +64,6 @@ unfolding number
 number-later seed m zero = let e : m ≡ m + 0 = omega arith in ap (number seed) e
 number-later seed m (suc n) = let e : suc (m + n) ≡ m + suc n = omega arith in ap after (number-later seed m n) ∙ ap (number seed) e
 
--- two functions that agree on two ranges
-agree : {A : Type 0} (f g : ℕ → List A) (a b n : ℕ) → ((i : ℕ) → f (a + i) ≡ g (b + i)) → flat_map f (range_with_len a n) ≡ flat_map g (range_with_len b n)
-agree f g a b zero h = refl
-agree f g a b (suc n) h =
-    let za : a ≡ a + 0 = omega arith in
-    let zb : b + 0 ≡ b = omega arith in
-    let head : f a ≡ g b = ap f za ∙ (h 0 ∙ ap g zb) in
-    let step : (i : ℕ) → f (a + 1 + i) ≡ g (b + 1 + i) = λ i.
-    (let ea : a + 1 + i ≡ a + (1 + i) = omega arith in let eb : b + (1 + i) ≡ b + 1 + i = omega arith in ap f ea ∙ (h (1 + i) ∙ ap g eb)) in
-    flat_map-cons f a (range_with_len (a + 1) n)
-    ∙ (ap (λ l. l ++ flat_map f (range_with_len (a + 1) n)) head ∙ (ap (λ l. g b ++ l) (agree f g (a + 1) (b + 1) n step)
-    ∙ sym (flat_map-cons g b (range_with_len (b + 1) n))))
-
--- lines that are made from a number on are those of the seed
-pub lines-hundred : (seed j : ℕ) → lines_from (100 * j) (number seed (100 * j)) 100 ≡ hundred seed j
-unfolding lines_from hundred
-lines-hundred seed j =
-    agree (λ i. text_line (100 * j + i) (number (number seed (100 * j)) (i + 1))) (line_of seed) 0 (100 * j) 100
-    (λ i.
-    let z : 0 + i ≡ i = omega arith in
-    let e : 100 * j + (i + 1) ≡ 100 * j + i + 1 = omega arith in
-    ap (λ i. text_line (100 * j + i) (number (number seed (100 * j)) (i + 1))) z
-    ∙ ap (text_line (100 * j + i)) (number-later seed (100 * j) (i + 1) ∙ ap (number seed) e))
-
 pub number-hundred : (seed j x : ℕ) → x ≡ number seed (100 * j) → number x 100 ≡ number seed (100 * (j + 1))
 number-hundred seed j x is =
     let e : 100 * j + 100 ≡ 100 * (j + 1) = omega arith in
@@ -100,7 +75,7 @@ pub insertions-more : (seed j x : ℕ) (line : List ℕ) (old now between new : 
     → new ≡ old ++ hundreds seed (j + 1)
 unfolding hundreds
 insertions-more seed j x line old now between new is made was first second =
-    let same : line ≡ insertion j (hundred seed j) = made ∙ (ap (λ x. insertion j (lines_from (100 * j) x 100)) is ∙ ap (insertion j) (lines-hundred seed j)) in
+    let same : line ≡ insertion j (hundred seed j) = made ∙ ap (λ x. insertion j (lines_from (100 * j) x 100)) is in
     more (λ j. insertion j (hundred seed j) ∷ redisplay ∷ []) old now new j was
     (second ∙ (ap (λ l. l ++ redisplay ∷ []) first ∙ (append_assoc now (line ∷ []) (redisplay ∷ []) ∙ ap (λ line. now ++ line ∷ redisplay ∷ []) same)))
 

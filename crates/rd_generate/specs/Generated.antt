@@ -39,9 +39,9 @@ templates = codes "let total = base + 1"
 abbrev pub text_line : ℕ → ℕ → List ℕ
 text_line k x = replicate (2 * (k % 5)) 32 ++ get_or templates (choice x) [] ++ 10 ∷ []
 
--- the k-th line
-abbrev pub line_of : ℕ → ℕ → List ℕ
-line_of seed k = text_line k (number seed (k + 1))
+-- so many lines from the k-th on, where the number before the first of them is x
+unfoldable pub lines_from : ℕ → ℕ → ℕ → List ℕ
+lines_from k x n = flat_map (λ i. text_line (k + i) (number x (i + 1))) (range_with_len 0 n)
 
 -- ---- the ops, as JSON
 
@@ -59,9 +59,9 @@ redisplay = codes "{\"op\":\"redisplay\"}"
 unfoldable pub shown : ℕ → List ℕ → List (List ℕ)
 shown times op = flat_map (λ line. line ∷ redisplay ∷ []) (replicate times op)
 
--- the text of a hundred lines
-unfoldable pub hundred : ℕ → ℕ → List ℕ
-hundred seed j = flat_map (line_of seed) (range_with_len (100 * j) 100)
+-- the text of the j-th hundred of lines
+abbrev pub hundred : ℕ → ℕ → List ℕ
+hundred seed j = lines_from (100 * j) (number seed (100 * j)) 100
 
 -- the op that puts in the j-th hundred of lines: a hundred lines have 2,500 characters
 abbrev pub insertion : ℕ → List ℕ → List ℕ
@@ -73,10 +73,6 @@ hundreds seed n = flat_map (λ j. insertion j (hundred seed j) ∷ redisplay ∷
 -- 3,000 lines, a hundred at a time
 abbrev pub insertions : ℕ → List (List ℕ)
 insertions seed = hundreds seed 30
-
--- so many lines from the k-th on, where the number before the first of them is x
-unfoldable pub lines_from : ℕ → ℕ → ℕ → List ℕ
-lines_from k x n = flat_map (λ i. text_line (k + i) (number x (i + 1))) (range_with_len 0 n)
 
 abbrev pub opening : List (List ℕ)
 opening = codes "{\"op\":\"frame\",\"width\":80,\"height\":24}"

@@ -1,7 +1,7 @@
 //! The definition of the generated script, computed on worked numbers.
 ghost use Rattle.std.specs.Prelude.{◌≡◌, ◌∷◌, [], ◌++◌, codes, length, get_or, map};
 ghost use Rattle.std.specs.List.{range_with_len};
-ghost use Rattle.rd_generate.specs.Generated.{number, choice, templates, line_of, spelling, insertion};
+ghost use Rattle.rd_generate.specs.Generated.{number, choice, templates, text_line, spelling, insertion};
 
 /// The numbers of 7, and the templates that they choose.
 #[tactic(auto, unfolding(crate::specs::Generated::number))]
@@ -17,7 +17,7 @@ fn worked_numbers()
 fn worked_lines()
     ensures templates { map length templates ≡ 20 ∷ 20 ∷ 20 ∷ 20 ∷ 20 ∷ 20 ∷ 20 ∷ 20 ∷ [] }
     ensures hebrew { get_or templates 3 [] ≡ 47 ∷ 47 ∷ 32 ∷ range_with_len 1488 17 }
-    ensures indented { length (line_of 7 4) ≡ 29 }
+    ensures indented { length (text_line 4 (number 7 5)) ≡ 29 }
     ensures spelled { spelling (97 ∷ 9 ∷ 233 ∷ 10 ∷ []) ≡ codes "a\\t" ++ 195 ∷ 169 ∷ codes "\\n" }
     ensures op { insertion 2 (97 ∷ 10 ∷ []) ≡ codes "{\"op\":\"insert\",\"buffer\":\"main\",\"pos\":5001,\"text\":\"a\\n\"}" }
 {}

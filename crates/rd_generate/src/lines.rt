@@ -86,7 +86,7 @@ fn push_insertions(alloc: Global, lines: &mut ListOf<ListOf<u8>>, seed: u32) -> 
     Ok(())
 }
 
-/// Adds the op that puts in the j-th hundred of lines, and answers the number behind those that it takes.
+/// Adds the op that puts in the j-th hundred of lines, and answers the last number that they take.
 fn push_insertion(line: &mut ListOf<u8>, j: u32, x: u32) -> Result<u32, Memory>
     requires { j < 30 }
     ensures line { OnOk result (line.new ≡ line.old ++ insertion j (lines_from (100 * j) x 100)) }
