@@ -8,7 +8,7 @@ use Rattle.std.specs.List.{range_with_len}
 use mathlib.Core.List.{reverse}
 use Rattle.rd_order.specs.Order.{l2_reversed, l2_reversed_down, highest, l2_visual_order}
 use Rattle.rd_order.specs.Places.{AreHigh, BeginsLow, IsRun, Moves, Comes}
-use Rattle.rd_order.proofs.Places.{Agree, Comes-agree, Comes-within, moves_of}
+use Rattle.rd_order.proofs.Places.{Agree, Comes-agree, Comes-within, moves_of, same_run}
 
 -- the level of what stands at a place of a list of indexes
 abbrev pub level_in : List ℕ → List ℕ → ℕ → ℕ
@@ -41,28 +41,9 @@ held run back q r e =
 first_run : (f : ℕ → ℕ) (n k l q r : ℕ) → AreHigh f k 0 l → l ≤ n → (l < n → f l < k) → q < l → Moves f n k q r → suc (q + r) ≡ l
 first_run f n k l q r high within low q_in (inl still) = let h = high q (omega arith) q_in in let s = still.0 in absurd (omega arith)
 first_run f n k l q r high within low q_in (inr t) =
-    let from = t.from in let to = t.to in let image = t.image in let t_within = t.run.within in
-    let begins : t.a ≡ 0 = elim (cases_eq t.a 0) [
-      | inl same ↦ same
-      | inr other ↦
-          let e : suc (t.a - 1) ≡ t.a = omega arith in
-          let before = t.run.before (t.a - 1) e in
-          let h = high (t.a - 1) (omega arith) (omega arith) in
-          absurd (omega arith)
-    ] in
-    let ends : t.b ≡ l = elim (cases_lt t.b l) [
-      | inl less ↦
-          let after = t.run.after (omega arith) in
-          let h = high t.b (omega arith) less in
-          absurd (omega arith)
-      | inr more ↦ elim (cases_lt l t.b) [
-        | inl less ↦
-            let after = low (omega arith) in
-            let h = t.run.high l (omega arith) less in
-            absurd (omega arith)
-        | inr same ↦ omega arith
-      ]
-    ] in
+    let run : IsRun f n k 0 l = record { order = omega arith; within = within; high = high; before = λ p e. absurd (omega arith); after = low } in
+    let (begins, ends) = same_run f n k 0 l t.a t.b q run t.run (omega arith) q_in t.from t.to in
+    let image = t.image in
     omega arith
 
 -- a move behind a low place, seen from there
