@@ -11,6 +11,7 @@ use Rattle.rd_io.specs.Lines.{lines_of, in_front}
 use Rattle.rd_term.specs.Pictures.{Picture, IsGrid, width_of}
 use Rattle.rd_dump.specs.Dumps.{cells_text, runs_of_row, windows_text, rows_text, cursor_line, dump_text}
 use Rattle.rd_dump.specs.declared.dump.WindowFacts.{WindowFacts}
+use Rattle.rd_base.proofs.Choices.{either}
 use Rattle.rd_audit.specs.Cuts.{stripped, cut_last}
 use Rattle.rd_audit.specs.Dumps.{last_group, ended_by, picture_from, picture_of, dump_in}
 use Rattle.rd_audit.specs.Numbers.{number_of, both}
@@ -116,21 +117,13 @@ group-read picture number more h =
 
 -- ---- the last group
 
-no-more_at : (number : ℕ) (line : List ℕ) (lines : List (List ℕ)) (begun found : Option (ℕ × List (List ℕ))) (t u : Bool) → u ≡ false
-    → ((n : ℕ) (b : Option (ℕ × List (List ℕ))) → last_group n b found lines ≡ found)
-    → (if t then last_group (number + 1) (option_or begun (Some (number, line ∷ lines))) found lines
-    else if u then last_group (number + 1) None (option_or begun found) lines
-    else last_group (number + 1) None found lines) ≡ found
-no-more_at number line lines begun found true u e so = so (number + 1) (option_or begun (Some (number, line ∷ lines)))
-no-more_at number line lines begun found false u e so =
-    ap (λ t. if t then last_group (number + 1) None (option_or begun found) lines else last_group (number + 1) None found lines) e ∙ so (number + 1) None
-
 -- where no line of a cursor follows, the last group stays
 no-more : (lines : List (List ℕ)) (number : ℕ) (begun found : Option (ℕ × List (List ℕ))) → HasNoCursor lines → last_group number begun found lines ≡ found
 no-more [] number begun found h = refl
 no-more (line ∷ lines) number begun found h =
-    no-more_at number line lines begun found (is_row line) (is_cursor line) (All-head (λ l. is_cursor l ≡ false) line lines h)
-    (λ n b. no-more lines n b found (All-tail (λ l. is_cursor l ≡ false) line lines h))
+    let so = λ (b : Option (ℕ × List (List ℕ))). no-more lines (number + 1) b found (All-tail (λ l. is_cursor l ≡ false) line lines h) in
+    rw (All-head (λ l. is_cursor l ≡ false) line lines h)
+    (either (λ o. o ≡ found) (is_row line) _ _ (so (option_or begun (Some (number, line ∷ lines)))) (so None))
 
 -- a group that has begun goes on to its cursor
 group-on : (rows : List (List Cell)) (row number : ℕ) (picture : Picture) (group : ℕ × List (List ℕ)) (found : Option (ℕ × List (List ℕ))) (more : List (List ℕ)) → HasNoCursor more
@@ -138,9 +131,13 @@ group-on : (rows : List (List Cell)) (row number : ℕ) (picture : Picture) (gro
 group-on [] row number picture group found more h = no-more more (number + 1) None (Some group) h
 group-on (cells ∷ rows) row number picture group found more h = group-on rows (row + 1) (number + 1) picture group found more h
 
+-- this group was found, at some number
+abbrev Finds : List (List ℕ) → Option (ℕ × List (List ℕ)) → Type 0
+Finds group found = (n : ℕ) × (found ≡ Some (n, group))
+
 -- these lines are found as the last group, whatever stands before them
 abbrev IsFound : List (List ℕ) → List (List ℕ) → Type 0
-IsFound group lines = (number : ℕ) (found : Option (ℕ × List (List ℕ))) → (n : ℕ) × (last_group number None found lines ≡ Some (n, group))
+IsFound group lines = (number : ℕ) (found : Option (ℕ × List (List ℕ))) → Finds group (last_group number None found lines)
 
 group-found : (picture : Picture) (rows : List (List Cell)) (more : List (List ℕ)) → 2 ≤ length rows → HasNoCursor more
     → IsFound (row_bodies 0 rows ++ cursor_body picture ∷ more) (row_bodies 0 rows ++ cursor_body picture ∷ more)
@@ -154,24 +151,18 @@ windows-passed (w ∷ windows) group lines h number found = windows-passed windo
 
 -- the same where a group may have begun that goes on at these lines
 abbrev IsFoundBehind : List (List ℕ) → List (List ℕ) → Type 0
-IsFoundBehind group lines = (number : ℕ) (begun found : Option (ℕ × List (List ℕ))) → (n : ℕ) × (last_group number begun found lines ≡ Some (n, group))
+IsFoundBehind group lines = (number : ℕ) (begun found : Option (ℕ × List (List ℕ))) → Finds group (last_group number begun found lines)
 
 window-between : (windows : List WindowFacts) (group lines : List (List ℕ)) → 0 < length windows → IsFound group lines → IsFoundBehind group (map window_body windows ++ lines)
 window-between [] group lines some h number begun found = absurd (omega (arith, some))
 window-between (w ∷ windows) group lines some h number begun found = windows-passed windows group lines h (number + 1) found
 
-before-passed_at : (number : ℕ) (line : List ℕ) (lines group : List (List ℕ)) (begun found : Option (ℕ × List (List ℕ))) (t u : Bool) → IsFoundBehind group lines
-    → (n : ℕ) × ((if t then last_group (number + 1) (option_or begun (Some (number, line ∷ lines))) found lines
-    else if u then last_group (number + 1) None (option_or begun found) lines
-    else last_group (number + 1) None found lines) ≡ Some (n, group))
-before-passed_at number line lines group begun found true u h = h (number + 1) (option_or begun (Some (number, line ∷ lines))) found
-before-passed_at number line lines group begun found false true h = h (number + 1) None (option_or begun found)
-before-passed_at number line lines group begun found false false h = h (number + 1) None found
-
 before-passed : (before lines group : List (List ℕ)) → IsFoundBehind group lines → IsFoundBehind group (before ++ lines)
 before-passed [] lines group h number begun found = h number begun found
 before-passed (line ∷ before) lines group h number begun found =
-    before-passed_at number line (before ++ lines) group begun found (is_row line) (is_cursor line) (before-passed before lines group h)
+    let passed = before-passed before lines group h (number + 1) in
+    either (Finds group) (is_row line) _ _ (passed (option_or begun (Some (number, line ∷ before ++ lines))) found)
+    (either (Finds group) (is_cursor line) _ _ (passed None (option_or begun found)) (passed None found))
 
 -- ---- the lines of a report
 
