@@ -1,4 +1,4 @@
--- The elements of strings.
+-- The elements of what an item or a part of a string shows, and of strings.
 use Rattle.std.specs.Prelude.{ℕ, if◌then◌else◌, Bool, true, false, List, [], ◌∷◌, replicate, slice_get, Option, None, Some, unwrap_or, ◌≡◌, All}
 use Rattle.std.specs.List.{flat_map}
 use Rattle.rd_base.specs.Cells.{HasColours, single}

@@ -50,6 +50,7 @@ abbrev pub spec_class : Spec → Class
 spec_class (Text n) = ON
 spec_class space = S
 
+-- what a spec puts: its string, or its space
 abbrev pub spec_kind : Spec → ItemKind
 spec_kind (Text n) = kind.Text n
 spec_kind space = kind.Space space

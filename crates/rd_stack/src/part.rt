@@ -17,8 +17,8 @@ pub struct Place {
     pub spec: Option<u32>,
 }
 
-/// A part of a row of a string, before the row is put in order. It shows what an item can: a character, or what a display spec puts
-/// for the places of its run.
+/// A part of a row of a string, before the row is put in order. It shows a character, or what a display spec puts for the places of
+/// its run.
 #[derive(Clone, Copy, Debug, PartialEq, Eq)]
 pub struct Part {
     pub class: Class,
@@ -28,7 +28,7 @@ pub struct Part {
     pub role: MarkRole,
 }
 
-/// A part in its turn, at an odd embedding level or not; or an ender, which stands for the newline that ends a row.
+/// An item of a block or a part of a string in its turn, at an odd embedding level or not. In a string an ender ends a row.
 #[derive(Clone, Copy, Debug, PartialEq, Eq)]
 pub struct Shown {
     pub kind: ItemKind,

@@ -15,7 +15,7 @@ use rd_objects::Spec;
 use rd_props::View;
 use std::alloc::Global;
 
-/// The step of what an item or a part of a string shows, where it is no string that is entered, by the look of an ender.
+/// The step of what an item or a part of a string shows, by the look of an ender. A string that is not entered gives nothing.
 pub fn kind_step<'a>(
     alloc: Global,
     view: &View<'a>,
