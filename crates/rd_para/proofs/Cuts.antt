@@ -1,10 +1,10 @@
 -- Lines of a text, as the code finds them.
-use Rattle.std.proofs.Common.{◌≡◌, ℕ, suc, ◌+◌, ◌-◌, ◌<◌, ◌≤◌, inl, inr, Bool, true, false, not, cond, if◌then◌else◌, List, [], ◌∷◌, length, get_or, take, drop, replicate, Option, None, refl, sym, ap, subst, ◌∙◌, arith}
-use Rattle.std.specs.List.{slice_split, onto_first, position_or_len}
-use Rattle.std.proofs.lemmas.List.Sums.{prefix_len-le-length}
+use Rattle.std.proofs.Common.{◌≡◌, ℕ, ◌+◌, ◌-◌, ◌<◌, ◌≤◌, inl, inr, Bool, not, if◌then◌else◌, List, [], ◌∷◌, length, get_or, take, drop, replicate, Option, None, refl, sym, ap, subst, ◌∙◌, arith}
+use Rattle.std.specs.List.{slice_split, position_or_len}
+use Rattle.std.proofs.lemmas.List.Sums.{prefix_len-le-length, fails_before_first}
 use Rattle.std.proofs.lemmas.Bool.{cases_lt}
 use Rattle.std.proofs.lemmas.List.{length-take-le, length-drop, length-replicate, get_or_append_left, get_or-append_right, get_or-replicate, take-take, drop-take, drop-drop, take_all}
-use Rattle.std.proofs.lemmas.List.Splits.{slice_split_first}
+use Rattle.std.proofs.lemmas.List.Splits.{slice_split_first, slice_split_none}
 use Rattle.std.specs.Option.{option_or}
 use Rattle.rd_text.specs.Texts.{TextValue, IsText, between, is_newline, next_newline}
 use Rattle.rd_ucd.specs.declared.spans.Span.{Span}
@@ -17,15 +17,6 @@ pub record IsCut (t : TextValue) (from to : ℕ) : Type 0 where
   pub within : to ≤ t.end
   pub last : to ≡ t.end → slice_split is_newline (between t from t.end) ≡ between t from to ∷ []
   pub more : to < t.end → slice_split is_newline (between t from t.end) ≡ between t from to ∷ slice_split is_newline (between t (to + 1) t.end)
-
--- a list without a separator is one piece
-whole_piece : (p : ℕ → Bool) (xs : List ℕ) → position_or_len p xs ≡ length xs → slice_split p xs ≡ xs ∷ []
-whole_piece p [] e = refl
-whole_piece p (x ∷ xs) e =
-    elim (p x) as (λ v. cond (not v) (1 + position_or_len p xs) 0 ≡ suc (length xs) → cond v ([] ∷ slice_split p xs) (onto_first x (slice_split p xs)) ≡ (x ∷ xs) ∷ []) [
-      | true ↦ λ f. absurd (omega arith)
-      | false ↦ λ f. ap (onto_first x) (whole_piece p xs (omega arith))
-    ] e
 
 pub line_cut : (t : TextValue) (from : ℕ) → IsText t → t.begin ≤ from → from ≤ t.end → IsCut t from (next_newline t from)
 line_cut t from right begin end =
@@ -45,7 +36,7 @@ line_cut t from right begin end =
       within = omega arith;
       last = λ e.
           let full : i ≡ length all = omega arith in
-          whole_piece is_newline all full ∙ ap (λ (xs : List ℕ). xs ∷ []) (sym (line ∙ ap (λ (k : ℕ). take k all) full ∙ take_all (length all) all (omega arith)));
+          slice_split_none is_newline all (λ k d less. fails_before_first is_newline all k d (omega arith)) ∙ ap (λ (xs : List ℕ). xs ∷ []) (sym (line ∙ ap (λ (k : ℕ). take k all) full ∙ take_all (length all) all (omega arith)));
       more = λ less.
           let inside : i < length all = omega arith in
           let cut = slice_split_first is_newline all 0 inside in

@@ -2,9 +2,11 @@
 use Rattle.std.proofs.Common.{◌≡◌, ◌≢◌, ◌==◌, ℕ, zero, suc, ◌+◌, ◌-◌, ◌<◌, ◌≤◌, Bool, true, false, ◌&&◌, if◌then◌else◌, List, [], ◌∷◌, ◌++◌, length, get_or, take, drop, refl, sym, ap, ◌∙◌, arith}
 use Rattle.std.proofs.lemmas.Bool.{eq-eqb, ne_eqb}
 use Rattle.std.proofs.lemmas.Bool.Decides.{nat_tests}
-use Rattle.std.specs.List.{slice_split, onto_first}
+use Rattle.std.specs.List.{slice_split}
 use Rattle.std.proofs.lemmas.List.{drop-drop, length-drop, take_more, length-append}
-use Rattle.std.proofs.lemmas.List.Splits.{slice_split-cons_yes, slice_split-cons_no}
+use Rattle.std.proofs.lemmas.List.Elements.{All-from_get_or}
+use Rattle.std.proofs.lemmas.List.Splits.{slice_split_first, slice_split_none}
+use Rattle.std.proofs.lemmas.List.Sums.{position_or_len_is}
 use Rattle.rd_ucd.specs.Pieces.{chomped, uncommented, is_blank, trimmed_back}
 
 pub first_of_pieces : (piece : List ℕ) (more all : List (List ℕ)) → all ≡ piece ∷ more → all ≡ piece ∷ drop 1 all
@@ -12,19 +14,17 @@ first_of_pieces piece more all e = e ∙ ap (λ (rest : List (List ℕ)). piece 
 
 -- without a separator there is one piece
 pub split_none : (c : ℕ) (bs : List ℕ) → ((k : ℕ) → k < length bs → get_or bs k 0 ≢ c) → slice_split (λ b. b == c) bs ≡ bs ∷ []
-split_none c [] none = refl
-split_none c (b ∷ bs) none =
-    slice_split-cons_no (λ x. x == c) b bs (ne_eqb b c (none 0 (omega arith)))
-    ∙ ap (onto_first b) (split_none c bs (λ k less. none (suc k) (omega arith)))
+split_none c bs none =
+    slice_split_none (λ b. b == c) bs (All-from_get_or (λ b. (b == c) ≡ false) bs 0 (λ k less. ne_eqb (get_or bs k 0) c (none k less)))
 
 -- the first piece ends at the first separator
 pub split_at_first : (c i : ℕ) (bs : List ℕ) → i < length bs → ((k : ℕ) → k < i → get_or bs k 0 ≢ c) → get_or bs i 0 ≡ c
     → slice_split (λ b. b == c) bs ≡ take i bs ∷ slice_split (λ b. b == c) (drop 1 (drop i bs))
-split_at_first c i [] within none found = absurd (omega arith)
-split_at_first c zero (b ∷ bs) within none found = slice_split-cons_yes (λ x. x == c) b bs (eq-eqb b c found)
-split_at_first c (suc i) (b ∷ bs) within none found =
-    slice_split-cons_no (λ x. x == c) b bs (ne_eqb b c (none 0 (omega arith)))
-    ∙ ap (onto_first b) (split_at_first c i bs (omega arith) (λ k less. none (suc k) (omega arith)) found)
+split_at_first c i bs within none found =
+    let p : ℕ → Bool = λ b. b == c in
+    let at = position_or_len_is p bs i 0 (omega arith) (λ k less. ne_eqb (get_or bs k 0) c (none k less)) (λ _. eq-eqb (get_or bs i 0) c found) in
+    slice_split_first p bs 0 (omega (arith, at)) ∙ ap (λ (k : ℕ). take k bs ∷ slice_split p (drop (k + 1) bs)) at
+    ∙ ap (λ (xs : List ℕ). take i bs ∷ slice_split p xs) (sym (drop-drop 1 i bs))
 
 -- the last byte of a tail
 tail_last : (b x : ℕ) (bs : List ℕ) → get_or (x ∷ bs) (length (x ∷ bs) - 1) 0 ≡ get_or (b ∷ x ∷ bs) (length (b ∷ x ∷ bs) - 1) 0
