@@ -1,10 +1,11 @@
 -- Blocks that stand one behind the other with rows of their own, and how many items of rows cover a position.
-use Rattle.std.proofs.Common.{◌≡◌, ℕ, suc, ◌+◌, ◌<◌, ◌≤◌, inl, inr, false, ◌&&◌, leb, ltb, List, [], ◌∷◌, ◌++◌, All, refl, sym, ap, ◌∙◌, arith}
+use Rattle.std.proofs.Common.{◌≡◌, ℕ, suc, ◌+◌, ◌<◌, ◌≤◌, inl, inr, false, ◌&&◌, leb, ltb, List, [], ◌∷◌, All, refl, sym, ap, ◌∙◌, arith}
 use Rattle.std.specs.List.{count_by, list_any}
 use Rattle.std.proofs.lemmas.Bool.{and_parts, cases_Bool, leb-true, ltb-true}
 use Rattle.std.proofs.lemmas.Bool.Decides.{nat_tests}
 use Rattle.std.proofs.lemmas.List.Folds.{list_any_none}
-use Rattle.rd_base.proofs.Lists.{count-append}
+use Rattle.rd_base.proofs.Lists.{count-append, total-append}
+use Rattle.rd_base.specs.Lists.{total}
 use Rattle.rd_matrix.proofs.Passing.{none-counted}
 use Rattle.rd_matrix.specs.Blocks.{IsAmong, StandFrom, first_start}
 use Rattle.rd_matrix.specs.Columns.{covers}
@@ -15,14 +16,12 @@ use Rattle.rd_rows.specs.Rows.{RowMeaning}
 use Rattle.rd_rows.specs.Shapes.{IsShape, ShapeValues}
 use Rattle.rd_rows.specs.declared.begin.Begin.{Begin}
 
--- how many items of these rows cover a position
-abbrev pub count_at : ℕ → List EntryMeaning → ℕ
-count_at point [] = 0
-count_at point (e ∷ es) = count_by (covers e.start point) e.row.begins + count_at point es
+-- how many items of a row cover a position, and how many of these rows
+abbrev pub covering : ℕ → EntryMeaning → ℕ
+covering point e = count_by (covers e.start point) e.row.begins
 
-pub count-joined : (point : ℕ) (xs ys : List EntryMeaning) → count_at point (xs ++ ys) ≡ count_at point xs + count_at point ys
-count-joined point [] ys = omega arith
-count-joined point (x ∷ xs) ys = let rest = count-joined point xs ys in omega (arith, rest)
+abbrev pub count_at : ℕ → List EntryMeaning → ℕ
+count_at point es = total (covering point) es
 
 count-numbered : (point start n : ℕ) (rs : List RowMeaning) → count_at point (numbered start n rs) ≡ count_by (covers start point) (begins_of rs)
 count-numbered point start n [] = refl
@@ -61,12 +60,12 @@ none-behind rows from (b ∷ bs) point h low =
     let some = h.1 in
     let here = none-in rows b point h.2 (grind (arith, nat_tests)) in
     let rest = none-behind rows b.end bs point h.3 (omega (arith, start, some, low)) in
-    count-joined point (entries_of rows b) (all_rows rows bs) ∙ rw (here, rest) refl
+    total-append (covering point) (entries_of rows b) (all_rows rows bs) ∙ rw (here, rest) refl
 
 few-all : (rows : Block → List RowMeaning) (from : ℕ) (bs : List Block) (point : ℕ) → Fit rows from bs → count_at point (all_rows rows bs) ≤ 1
 few-all rows from [] point h = omega arith
 few-all rows from (b ∷ bs) point h =
-    let sum = count-joined point (entries_of rows b) (all_rows rows bs) in
+    let sum = total-append (covering point) (entries_of rows b) (all_rows rows bs) in
     elim (cases_Bool (leb b.start point && ltb point b.end)) [
       | inl here ↦
           let both = and_parts (leb b.start point) (ltb point b.end) here in

@@ -5,8 +5,8 @@ use Rattle.std.specs.Option.{option_map}
 use Rattle.std.proofs.lemmas.Bool.{and_parts}
 use Rattle.std.proofs.lemmas.Bool.Decides.{nat_tests}
 use Rattle.std.proofs.lemmas.List.Elements.{All-head, All-tail}
-use Rattle.rd_base.proofs.Lists.{all-at}
-use Rattle.rd_matrix.proofs.Covering.{count-joined, count_at, few-whole}
+use Rattle.rd_base.proofs.Lists.{all-at, total-append}
+use Rattle.rd_matrix.proofs.Covering.{covering, count_at, few-whole}
 use Rattle.rd_matrix.proofs.Passing.{found-one, place-counted}
 use Rattle.rd_matrix.specs.Columns.{covers, shown_column}
 use Rattle.rd_matrix.specs.Cursors.{column_shown, cursor_in, or_below}
@@ -31,8 +31,8 @@ pub few-at : (m : SourceValues) (shape : ShapeValues) (es : List EntryMeaning) (
 few-at m shape es point source is rows =
     let all = few-whole m shape point source is in
     let whole : count_at point (rows_at m shape) ≡ count_at point (rows.above ++ (es ++ rows.below)) = ap (count_at point) rows.rows in
-    let outer = count-joined point rows.above (es ++ rows.below) in
-    let inner = count-joined point es rows.below in
+    let outer = total-append (covering point) rows.above (es ++ rows.below) in
+    let inner = total-append (covering point) es rows.below in
     omega (arith, all, whole, outer, inner)
 
 -- the cursor stands where the item of its position begins
