@@ -2,7 +2,7 @@
 use Rattle.std.proofs.Common.{◌≡◌, ℕ, ◌+◌, ◌-◌, ◌≤◌, Bool, true, false, if◌then◌else◌, ◌==◌, ◌&&◌, List, [], ◌∷◌, ◌++◌, append_assoc, append-nil, map, Option, None, Some, inl, inr, refl, sym, ap, subst, ◌∙◌, arith}
 use Rattle.std.specs.Prelude.{is_some, IfSome}
 use Rattle.std.proofs.lemmas.Bool.{cases_Bool, true≢false}
-use Rattle.std.proofs.Math.Bool.{or-false}
+use Rattle.std.proofs.Math.Bool.{or-false, and-true, and-false}
 use Rattle.std.proofs.lemmas.Bool.Decides.{nat_tests}
 use Rattle.std.proofs.lemmas.List.{map-append}
 use Rattle.std.proofs.lemmas.List.Folds.{list_any-append}
@@ -25,22 +25,8 @@ is_from-cut : (first size whole place : ℕ) → size ≤ whole → bit_of (is_f
 is_from-cut first size whole place h = grind (arith, nat_tests)
 
 bit_of-and : (a b c other : Bool) → bit_of a + bit_of b ≡ bit_of c → bit_of (a && other) + bit_of (b && other) ≡ bit_of (c && other)
-bit_of-and true true true true e = e
-bit_of-and true true true false e = refl
-bit_of-and true true false true e = e
-bit_of-and true true false false e = refl
-bit_of-and true false true true e = e
-bit_of-and true false true false e = refl
-bit_of-and true false false true e = e
-bit_of-and true false false false e = refl
-bit_of-and false true true true e = e
-bit_of-and false true true false e = refl
-bit_of-and false true false true e = e
-bit_of-and false true false false e = refl
-bit_of-and false false true true e = e
-bit_of-and false false true false e = refl
-bit_of-and false false false true e = e
-bit_of-and false false false false e = refl
+bit_of-and a b c true e = rw (and-true a, and-true b, and-true c) e
+bit_of-and a b c false e = rw (and-false a, and-false b, and-false c)
 
 and_bit_of : (other a b c : Bool) → bit_of a + bit_of b ≡ bit_of c → bit_of (other && a) + bit_of (other && b) ≡ bit_of (other && c)
 and_bit_of true a b c e = e
