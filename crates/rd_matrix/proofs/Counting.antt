@@ -1,9 +1,9 @@
 -- The rows of blocks, counted, and what the blocks cost that have rows of a kind.
-use Rattle.std.proofs.Common.{◌≡◌, ℕ, zero, suc, ◌+◌, ◌<◌, ◌≤◌, inl, inr, Bool, true, false, ◌||◌, if◌then◌else◌, List, [], ◌∷◌, ◌++◌, length, refl, ap, ◌∙◌, arith}
-use Rattle.std.proofs.Math.Bool.{or-true}
-use Rattle.std.proofs.lemmas.Bool.{cases_eq}
+use Rattle.std.proofs.Common.{◌≡◌, ℕ, suc, ◌+◌, ◌-◌, ◌<◌, ◌≤◌, Bool, true, false, if◌then◌else◌, List, [], ◌∷◌, ◌++◌, length, refl, ap, ◌∙◌, arith}
 use Rattle.std.proofs.lemmas.Grind.{flat_map-append}
 use Rattle.std.proofs.lemmas.List.{length-append}
+use Rattle.std.proofs.lemmas.List.Folds.{list_any_at}
+use Rattle.std.proofs.lemmas.List.FromFn.{length-range_with_len, get_or-range_with_len}
 use Rattle.std.specs.List.{list_any, range_with_len}
 use Rattle.rd_matrix.specs.Entries.{all_rows, entries_of, numbered}
 use Rattle.rd_matrix.specs.Rows.{blocks_with}
@@ -23,12 +23,9 @@ all-append rows xs ys = flat_map-append (entries_of rows) xs ys
 
 -- a test that passes at a number passes in each list of numbers that has it
 pub any-range : (p : ℕ → Bool) (from n k : ℕ) → from ≤ k → k < from + n → p k ≡ true → list_any p (range_with_len from n) ≡ true
-any-range p from zero k low high e = absurd (omega arith)
-any-range p from (suc n) k low high e =
-    elim (cases_eq from k) [
-      | inl here ↦ ap (λ b. b || list_any p (range_with_len (from + 1) n)) (ap p here ∙ e)
-      | inr other ↦ ap (λ b. p from || b) (any-range p (from + 1) n k (omega arith) (omega arith) e) ∙ or-true (p from)
-    ]
+any-range p from n k low high e =
+    list_any_at p (range_with_len from n) (k - from) 0 (omega (arith, length-range_with_len from n))
+    (ap p (get_or-range_with_len from n (k - from) 0 (omega arith) ∙ omega arith) ∙ e)
 
 -- the costs of a block that has a row of a kind, and of those behind it
 pub costs-here : (kind : ℕ → Bool) (rows : Block → List RowMeaning) (cost : Block → ℕ) (first : ℕ) (b : Block) (bs : List Block)
