@@ -276,10 +276,6 @@ module _ {m : SourceValues} {old : List Entry} {c : Change} {shape : ShapeValues
       sym (append-nil (shown_entries rows))
       ∙ (sym (ap (λ n. shown_entries rows ++ take n (drop first (all_rows (λ b. m.rows_of b shape) (block ∷ w.after)))) none) ∙ w.done)
 
-  -- what was spent
-  pub spent : steps ≤ base + fresh_costs m old c shape place (place + most)
-  spent = let paid = w.paid in omega (arith, paid)
-
   -- what is spent with the rows of the next block
   pub spends : (more : ℕ) → length rows < most → more ≤ steps + fresh_cost m old c shape block → more ≤ base + fresh_costs m old c shape place (place + most)
   spends more low cost =
