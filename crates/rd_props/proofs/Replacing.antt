@@ -32,21 +32,23 @@ itself t x = record { inside = refl; character = refl; to = λ h. h; from = λ h
 see-itself : (x : ℕ) (slots : List (Option Overlay)) → SeeSame x x slots slots
 see-itself x slots = record { covers = λ n. refl; starts = λ n. refl; ends = λ n. refl }
 
--- two states of one length that see the same before one position and behind another
-module _ (listings : AreListings) (old new : BufferValue) (objects : ObjectLists) (begin : new.text.begin ≡ old.text.begin) where
-  kept : (head tail : ℕ) (added : ℤ) → added ≡ pos 0 → ((x : ℕ) → (x < head) ⊎ (tail ≤ x) → StaysSame old x new x) → Unchanged old objects new objects head tail added
-  kept head tail added none stays = record {
-    begin = begin;
-    before = λ x low less reach. same-by listings old new objects x x (stays x (inl less)) reach;
-    behind = λ x y low more is reach.
-        let here : x ≡ y = omega (arith, ints, is, none) in
-        let P : ℕ → Type 0 = λ z. IsSame old objects z new objects y in
-        let Q : ℕ → Type 0 = λ z. IsInReach old z new y in
-        subst P (sym here) (same-by listings old new objects y y (stays y (inr (omega arith))) (subst Q here reach));
-  }
+-- two states of one length that see the same before one position and from another on
+kept : (old new : BufferValue) (made objects : ObjectLists) → new.text.begin ≡ old.text.begin → (head tail : ℕ) (added : ℤ) → added ≡ pos 0
+    → ((x : ℕ) → (x < head) ⊎ (tail ≤ x) → IsInReach old x new x → IsSame old made x new objects x) → Unchanged old made new objects head tail added
+kept old new made objects begin head tail added none same = record {
+  begin = begin;
+  before = λ x low less reach. same x (inl less) reach;
+  behind = λ x y low more is reach.
+      let here : x ≡ y = omega (arith, ints, is, none) in
+      let P : ℕ → Type 0 = λ z. IsInReach old x new z → IsSame old made x new objects z in
+      subst P here (same x (inr (omega arith))) reach;
+}
 
-  unmoved : (head last : ℕ) (added : ℤ) → added ≡ pos 0 → ((x : ℕ) → (x < head) ⊎ (last < x) → StaysSame old x new x) → Unchanged old objects new objects head (last + 1) added
-  unmoved head last added none stays = kept head (last + 1) added none (λ x away. stays x (elim away [ inl low ↦ inl low | inr high ↦ inr (omega (arith, high)) ]))
+unmoved : AreListings → (old new : BufferValue) (objects : ObjectLists) → new.text.begin ≡ old.text.begin → (head last : ℕ) (added : ℤ) → added ≡ pos 0
+    → ((x : ℕ) → (x < head) ⊎ (last < x) → StaysSame old x new x) → Unchanged old objects new objects head (last + 1) added
+unmoved listings old new objects begin head last added none stays =
+    kept old new objects objects begin head (last + 1) added none
+    (λ x away. same-by listings old new objects x x (stays x (elim away [ inl low ↦ inl low | inr high ↦ inr (omega (arith, high)) ])))
 
 no-more : (n : ℕ) → pos n -ℤ pos n ≡ pos 0
 no-more n = omega (arith, ints)
@@ -55,8 +57,8 @@ no-more n = omega (arith, ints)
 
 pub settings-edit : AreListings → (old new : BufferValue) (objects : ObjectLists) (head tail : ℕ) → HasOverlays old new old.overlays → Unchanged old objects new objects head tail (pos 0)
 settings-edit listings old new objects head tail edit =
-    kept listings old new objects (ap (λ (t : TextValue). t.begin) edit.text) head tail (pos 0) refl
-    (λ x away. stays-by old new x x _ _ edit.text edit.overlays (itself old.text x) (λ kind. sym (edit.properties kind x)) (see-itself x old.overlays))
+    kept old new objects objects (ap (λ (t : TextValue). t.begin) edit.text) head tail (pos 0) refl (λ x away. same-by listings old new objects x x
+    (stays-by old new x x _ _ edit.text edit.overlays (itself old.text x) (λ kind. sym (edit.properties kind x)) (see-itself x old.overlays)))
 
 -- ---- a property that is put
 
@@ -216,12 +218,4 @@ module _ (s : BufferValue) (old new : ObjectLists) (extends : Extends old new) (
       record { old_within = within; new_within = within; agree = seen-same x }
 
   pub objects-edit : (head tail : ℕ) → Unchanged s old s new head tail (pos 0)
-  objects-edit head tail = record {
-    begin = refl;
-    before = λ x low less reach. within-same x reach;
-    behind = λ x y low more is reach.
-        let here : x ≡ y = omega (arith, ints, is) in
-        let P : ℕ → Type 0 = λ z. IsSame s old z s new y in
-        let Q : ℕ → Type 0 = λ z. IsInReach s z s y in
-        subst P (sym here) (within-same y (subst Q here reach));
-  }
+  objects-edit head tail = kept s s old new refl head tail (pos 0) refl (λ x away reach. within-same x reach)
