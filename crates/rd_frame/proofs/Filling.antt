@@ -1,6 +1,6 @@
 -- What a window and a frame show fills them.
 use Rattle.std.proofs.Common.{◌≡◌, ℕ, ◌+◌, ◌-◌, ◌<◌, ◌≤◌, Bool, true, false, Option, None, Some, List, [], ◌∷◌, ◌++◌, length, get_or, refl, ◌∙◌, ap, arith, length-append}
-use Rattle.std.specs.Prelude.{map, replicate, if◌then◌else◌, IfSome, is_some}
+use Rattle.std.specs.Prelude.{map, replicate, if◌then◌else◌, IfSome, is_some, unwrap_or}
 use Rattle.std.specs.List.{All, AllByRecursion}
 use Rattle.std.proofs.lemmas.List.{length-map, length-replicate}
 use Rattle.std.proofs.lemmas.List.Elements.{recursion_from_All, All-from_recursion, All-nil, All-cons, All-append, All-map, All-replicate, All-weaker}
@@ -14,7 +14,7 @@ use Rattle.rd_tree.specs.Places.{AllHaveRoom, StandsIn}
 use Rattle.rd_tree.specs.Windows.{placed, columns_for, rows_for}
 use Rattle.rd_tree.specs.declared.placed.Placed.{Placed}
 use Rattle.rd_frame.specs.Panes.{GlyphRow, PaneValues, has_border, body_width, body_height, row_cells, body_rows, bordered, mode_line_row, window_rows}
-use Rattle.rd_frame.specs.Frames.{FrameValues, rows_of, frame_rows, selected_window, on_frame, cursor_or_first, frame_cursor, frame_picture}
+use Rattle.rd_frame.specs.Frames.{FrameValues, rows_of, frame_rows, selected_window, on_frame, frame_cursor, frame_picture}
 use Rattle.rd_frame.specs.Fits.{FitsRow, FitsWindow, IsInBody, FitsFrame, EachPart, EachPartOf}
 
 -- ---- a window
@@ -132,7 +132,7 @@ first-in-body width window across down = record {
 }
 
 pub cursor-in-body : (width : ℕ) (window : Placed) (cursor : Option (ℕ × ℕ)) → columns_for window.margins ≤ window.rect.width → rows_for window.mode ≤ window.rect.height
-    → IfSome cursor (IsInBody width window) → IsInBody width window (cursor_or_first cursor)
+    → IfSome cursor (IsInBody width window) → IsInBody width window (unwrap_or cursor (0, 0))
 cursor-in-body width window None across down h = first-in-body width window across down
 cursor-in-body width window (Some place) across down h = h
 
@@ -150,7 +150,7 @@ cursor-on-frame : (f : FrameValues) (selected : Option Placed) → IfSome select
     → ((frame_cursor selected f.cursor).0 < f.tree.height) × ((frame_cursor selected f.cursor).1 < f.tree.width)
 cursor-on-frame f None stands some h = absurd (cc)
 cursor-on-frame f (Some window) stands some h =
-    let place = place-inside f.tree.width window (cursor_or_first f.cursor) stands.1 stands.2 (cursor-in-body f.tree.width window f.cursor stands.1 stands.2 h) in
+    let place = place-inside f.tree.width window (unwrap_or f.cursor (0, 0)) stands.1 stands.2 (cursor-in-body f.tree.width window f.cursor stands.1 stands.2 h) in
     let w = stands.0 in
     (let a = place.0 in omega arith, let b = place.1 in omega arith)
 

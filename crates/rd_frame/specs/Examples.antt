@@ -1,24 +1,20 @@
 -- Frames that the worked examples speak of.
 use Rattle.std.specs.Prelude.{ℕ, ◌==◌, if◌then◌else◌, false, List, [], ◌∷◌, map, codes, None, Some, true}
-use Rattle.rd_base.specs.Cells.{single}
-use Rattle.rd_base.specs.Faces.{Attributes, plain}
+use Rattle.rd_base.specs.Faces.{plain}
 use Rattle.rd_base.specs.declared.cell.Cell.{Cell}
-use Rattle.rd_base.specs.declared.cell.Cell.TheVariants.{Blank, First}
+use Rattle.rd_term.specs.Terminals.{cell_of}
 use Rattle.rd_tree.specs.Windows.{Window, Split}
 use Rattle.rd_tree.specs.declared.side.Side.TheVariants.{Below, Right}
 use Rattle.rd_frame.specs.Panes.{GlyphRow, PaneValues, border_cell}
 use Rattle.rd_frame.specs.Frames.{FrameValues}
 
--- a letter of a text in a face, where a space is a blank
-abbrev pub letter : Attributes → ℕ → Cell
-letter face code = if code == 32 then Blank face else First (single code 1) face
-
+-- the cells of a text, where a space is a blank
 abbrev pub letters : List ℕ → List Cell
-letters text = map (letter plain) text
+letters text = map (λ code. cell_of code plain) text
 
 -- the same in the face of mode lines
 abbrev pub inverted : List ℕ → List Cell
-inverted text = map (letter (record plain { inverse = true })) text
+inverted text = map (λ code. cell_of code (record plain { inverse = true })) text
 
 -- a glyph row of two texts
 abbrev pub glyphs : List ℕ → List ℕ → GlyphRow

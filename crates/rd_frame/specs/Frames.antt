@@ -1,5 +1,5 @@
 -- The screen of a frame, put together from its windows and its echo area.
-use Rattle.std.specs.Prelude.{ℕ, ◌+◌, List, [], ◌∷◌, ◌++◌, Option, None, Some}
+use Rattle.std.specs.Prelude.{ℕ, ◌+◌, List, [], ◌∷◌, ◌++◌, Option, None, Some, unwrap_or}
 use Rattle.rd_base.specs.declared.cell.Cell.{Cell}
 use Rattle.rd_term.specs.Pictures.{Picture}
 use Rattle.rd_tree.specs.Calls.{Configuration, frame_of}
@@ -33,15 +33,10 @@ selected_window f = window_at f.selected f.tree.windows (frame_of f.tree)
 abbrev pub on_frame : Placed → ℕ × ℕ → ℕ × ℕ
 on_frame window place = (window.rect.y + place.0, window.rect.x + window.margins + place.1)
 
--- the cursor in a window's text, or the first cell of the text where the window has none
-abbrev pub cursor_or_first : Option (ℕ × ℕ) → ℕ × ℕ
-cursor_or_first None = (0, 0)
-cursor_or_first (Some place) = place
-
--- the cursor of the frame is that of the selected window
+-- the cursor of the frame is that of the selected window, or the first cell of its text where the window has none
 abbrev pub frame_cursor : Option Placed → Option (ℕ × ℕ) → ℕ × ℕ
 frame_cursor None cursor = (0, 0)
-frame_cursor (Some window) cursor = on_frame window (cursor_or_first cursor)
+frame_cursor (Some window) cursor = on_frame window (unwrap_or cursor (0, 0))
 
 -- the target screen of the frame
 abbrev pub frame_picture : FrameValues → Picture
