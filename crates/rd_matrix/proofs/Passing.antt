@@ -41,19 +41,29 @@ none-counted p (x ∷ xs) none =
     let here = both.0 in
     rw here (none-counted p xs both.1)
 
+-- with one more in front: as many pass behind it at least, and where no more pass with it than behind it, it doesn't
+pub fewer : {X : Type 0} (p : X → Bool) (x : X) (xs : List X) (most : ℕ) → count_by p (x ∷ xs) ≤ most → count_by p xs ≤ most
+fewer p x xs most few = let e = count-cons p x xs in omega (arith, e, few)
+
+pub not-counted : {X : Type 0} (p : X → Bool) (x : X) (xs : List X) (most : ℕ) → count_by p (x ∷ xs) ≤ most → most ≤ count_by p xs → p x ≡ false
+not-counted p x xs most few full = elim (cases_Bool (p x)) [
+  | inl here ↦ let e = count-cons p x xs ∙ ap (λ t. cond t 1 0 + count_by p xs) here in absurd (omega (arith, e, few, full))
+  | inr other ↦ other
+]
+
+pub none-here : {X : Type 0} (p : X → Bool) (x : X) (xs : List X) → count_by p (x ∷ xs) ≡ 0 → (p x ≡ false) × (count_by p xs ≡ 0)
+none-here p x xs none =
+    let rest = fewer p x xs 0 (omega (arith, none)) in
+    (not-counted p x xs 0 (omega (arith, none)) (omega arith), omega (arith, rest))
+
 -- where at most one passes, its place is that of the first, and it is the one that is found
 pub one-position : {X : Type 0} (p : X → Bool) (xs : List X) (k : ℕ) (x : X) → count_by p xs ≤ 1 → slice_get xs k ≡ Some x → p x ≡ true → position_or_len p xs ≡ k
 one-position p [] k x one there passes = absurd cc
 one-position p (y ∷ xs) zero x one there passes = let same : y ≡ x = cc in let first : p y ≡ true = ap p same ∙ passes in rw first refl
 one-position p (y ∷ xs) (suc k) x one there passes =
-    let some = place-counted p xs k x there passes in
-    elim (cases_Bool (p y)) [
-      | inl first ↦ let count = count-cons p y xs ∙ ap (λ t. cond t 1 0 + count_by p xs) first in absurd (omega (arith, count, some, one))
-      | inr other ↦
-          let count = count-cons p y xs ∙ ap (λ t. cond t 1 0 + count_by p xs) other in
-          let rest = one-position p xs k x (omega (arith, count, one)) there passes in
-          rw other (omega (arith, rest))
-    ]
+    let other = not-counted p y xs 1 one (place-counted p xs k x there passes) in
+    let rest = one-position p xs k x (fewer p y xs 1 one) there passes in
+    rw other (omega (arith, rest))
 
 pub found-one : {X : Type 0} (p : X → Bool) (xs : List X) (k : ℕ) (x : X) → count_by p xs ≤ 1 → slice_get xs k ≡ Some x → p x ≡ true → find p xs ≡ Some x
 found-one p xs k x one there passes = find_at p xs ∙ (ap (slice_get xs) (one-position p xs k x one there passes) ∙ there)

@@ -3,8 +3,7 @@ use Rattle.std.proofs.Common.{◌≡◌, ℕ, zero, suc, ◌+◌, ◌≤◌, ◌
 use Rattle.std.specs.Prelude.{count_by, find, slice_get}
 use Rattle.std.proofs.lemmas.Bool.{and_parts}
 use Rattle.std.proofs.lemmas.Bool.Decides.{nat_tests}
-use Rattle.rd_base.proofs.Lists.{count-cons}
-use Rattle.rd_matrix.proofs.Passing.{place-counted}
+use Rattle.rd_matrix.proofs.Passing.{fewer, none-here, not-counted, place-counted}
 use Rattle.rd_rows.specs.declared.begin.Begin.{Begin}
 use Rattle.rd_visual.specs.Hits.{covers_some, reaches, nearer, item_at, begins_at}
 
@@ -100,24 +99,12 @@ item-again column (x ∷ xs) b found = again-cases column x xs b _ _ refl refl (
 
 -- counts
 
-none-before : (p : Begin → Bool) (x : Begin) (xs : List Begin) (q : Bool) → p x ≡ q → count_by p (x ∷ xs) ≤ 1 → 1 ≤ count_by p xs → q ≡ false
-none-before p x xs false here few some = refl
-none-before p x xs true here few some = let e : count_by p (x ∷ xs) ≡ 1 + count_by p xs = count-cons p x xs ∙ rw here refl in absurd (omega (arith, e, few, some))
-
-fewer : (p : Begin → Bool) (x : Begin) (xs : List Begin) → count_by p (x ∷ xs) ≤ 1 → count_by p xs ≤ 1
-fewer p x xs few = let e = count-cons p x xs in omega (arith, e, few)
-
-not-first : (p : Begin → Bool) (x : Begin) (xs : List Begin) (q : Bool) → p x ≡ q → count_by p (x ∷ xs) ≡ 0 → q ≡ false
-not-first p x xs false here none = refl
-not-first p x xs true here none = let e : count_by p (x ∷ xs) ≡ 1 + count_by p xs = count-cons p x xs ∙ rw here refl in absurd (omega (arith, e, none))
-
 pub found-none : (p : Begin → Bool) (bs : List Begin) → count_by p bs ≡ 0 → find p bs ≡ None
 found-none p [] none = refl
 found-none p (x ∷ xs) none =
-    let e = count-cons p x xs in
-    let rest : count_by p xs ≡ 0 = omega (arith, e, none) in
-    let out = not-first p x xs _ refl none in
-    rw out (found-none p xs rest)
+    let both = none-here p x xs none in
+    let out = both.0 in
+    rw out (found-none p xs both.1)
 
 pass-behind : (column : ℕ) (x b : Begin) (q : Bool) → reaches column x ≡ q → begins_at column x ≡ false → b.column ≡ column → nearer (cond q (Some x) None) (Some b) ≡ Some b
 pass-behind column x b false here out same = refl
@@ -138,5 +125,5 @@ item-alone column (x ∷ xs) zero b there some same few =
 item-alone column (x ∷ xs) (suc k) b there some same few =
     let equal : nat_eq b.column column ≡ true = grind (arith, nat_tests) in
     let passes : begins_at column b ≡ true = rw (some, equal) refl in
-    let out = none-before (begins_at column) x xs _ refl few (place-counted (begins_at column) xs k b there passes) in
-    ap (nearer (cond (reaches column x) (Some x) None)) (item-alone column xs k b there some same (fewer (begins_at column) x xs few)) ∙ pass-behind column x b _ refl out same
+    let out = not-counted (begins_at column) x xs 1 few (place-counted (begins_at column) xs k b there passes) in
+    ap (nearer (cond (reaches column x) (Some x) None)) (item-alone column xs k b there some same (fewer (begins_at column) x xs 1 few)) ∙ pass-behind column x b _ refl out same

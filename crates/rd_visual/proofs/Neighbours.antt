@@ -4,6 +4,7 @@ use Rattle.std.specs.List.{AllByRecursion, count_by}
 use Rattle.std.proofs.lemmas.Bool.Decides.{nat_tests}
 use Rattle.rd_base.proofs.Lists.{count-append, count-cons}
 use Rattle.std.proofs.lemmas.Bool.{cond-false}
+use Rattle.rd_matrix.proofs.Passing.{fewer, none-here, not-counted, place-counted}
 use Rattle.rd_visual.specs.Motion.{before, behind, holds, first, last, least}
 use Rattle.rd_visual.specs.declared.range.Range.{Range}
 
@@ -14,33 +15,11 @@ AreSome rs = AllByRecursion (λ (r : Range). r.from < r.to) rs
 covers-first : (r : Range) → r.from < r.to → holds r.from r ≡ true
 covers-first r some = grind (arith, nat_tests)
 
-one-by : (b : Bool) (n : ℕ) → cond b 1 0 + n ≤ 1 → 1 ≤ n → b ≡ false
-one-by true n few some = absurd (omega (arith, few, some))
-one-by false n few some = refl
+counted-here : (pos : ℕ) (r : Range) (rs : List Range) → holds pos r ≡ true → 1 ≤ count_by (holds pos) (r ∷ rs)
+counted-here pos r rs h = place-counted (holds pos) (r ∷ rs) 0 r refl h
 
--- where one behind it holds a position this one doesn't
-other : (pos : ℕ) (r : Range) (rs : List Range) → count_by (holds pos) (r ∷ rs) ≤ 1 → 1 ≤ count_by (holds pos) rs → holds pos r ≡ false
-other pos r rs few some = let e = count-cons (holds pos) r rs in one-by (holds pos r) (count_by (holds pos) rs) (omega (arith, e, few)) some
-
-here-by : (b : Bool) (n : ℕ) → b ≡ true → 1 ≤ cond b 1 0 + n
-here-by true n h = omega arith
-here-by false n h = absurd (let q : false ≡ true = h in cc)
-
-pub counted-here : (pos : ℕ) (r : Range) (rs : List Range) → holds pos r ≡ true → 1 ≤ count_by (holds pos) (r ∷ rs)
-counted-here pos r rs h = let e = count-cons (holds pos) r rs in let one = here-by (holds pos r) (count_by (holds pos) rs) h in omega (arith, e, one)
-
-pub counted-behind : (pos : ℕ) (r : Range) (rs : List Range) → 1 ≤ count_by (holds pos) rs → 1 ≤ count_by (holds pos) (r ∷ rs)
+counted-behind : (pos : ℕ) (r : Range) (rs : List Range) → 1 ≤ count_by (holds pos) rs → 1 ≤ count_by (holds pos) (r ∷ rs)
 counted-behind pos r rs h = let e = count-cons (holds pos) r rs in omega (arith, e, h)
-
-none-by : (b : Bool) (n : ℕ) → cond b 1 0 + n ≡ 0 → (b ≡ false) × (n ≡ 0)
-none-by true n h = absurd (omega (arith, h))
-none-by false n h = (refl, omega (arith, h))
-
-pub none-here : (pos : ℕ) (r : Range) (rs : List Range) → count_by (holds pos) (r ∷ rs) ≡ 0 → (holds pos r ≡ false) × (count_by (holds pos) rs ≡ 0)
-none-here pos r rs h = let e = count-cons (holds pos) r rs in none-by (holds pos r) (count_by (holds pos) rs) (omega (arith, e, h))
-
-pub fewer : (pos : ℕ) (r : Range) (rs : List Range) → count_by (holds pos) (r ∷ rs) ≤ 1 → count_by (holds pos) rs ≤ 1
-fewer pos r rs few = let e = count-cons (holds pos) r rs in omega (arith, e, few)
 
 -- the one that is found behind, and before, is one of the list
 
@@ -74,7 +53,7 @@ abbrev pub CoverOnce : List Range → Type 0
 CoverOnce rs = (pos : ℕ) → count_by (holds pos) rs ≤ 1
 
 rest-once : (r : Range) (rs : List Range) → CoverOnce (r ∷ rs) → CoverOnce rs
-rest-once r rs once = λ pos. fewer pos r rs (once pos)
+rest-once r rs once = λ pos. fewer (holds pos) r rs 1 (once pos)
 
 back-by : (b : Bool) (pos q : ℕ) (r next : Range) (rs : List Range) → holds pos r ≡ b → next.from < next.to → AreSome rs → CoverOnce (next ∷ rs)
     → (if b then Some next.from else behind pos (next ∷ rs)) ≡ Some q → (behind pos (next ∷ rs) ≡ Some q → before q (next ∷ rs) ≡ least pos (next ∷ rs))
@@ -83,7 +62,7 @@ back-by true pos q r next rs e some more once h later =
     let same : next.from ≡ q = cc in
     ap (λ (t : Bool). if t then Some r.from else before q (next ∷ rs)) (subst (λ (k : ℕ). holds k next ≡ true) same (covers-first next some))
 back-by false pos q r next rs e some more once h later =
-    let out = other q next rs (once q) (behind-one pos q next rs more h) in
+    let out = not-counted (holds q) next rs 1 (once q) (behind-one pos q next rs more h) in
     ap (λ (t : Bool). if t then Some r.from else before q (next ∷ rs)) out ∙ later h
 
 pub back-again : (pos q : ℕ) (rs : List Range) → AreSome rs → CoverOnce rs → behind pos rs ≡ Some q → before q rs ≡ least pos rs
@@ -99,13 +78,13 @@ on-by : (b : Bool) (pos q : ℕ) (r next : Range) (rs : List Range) → holds po
 on-by true pos q r next rs e some more once h later =
     let same : r.from ≡ q = cc in
     let here : holds q r ≡ true = subst (λ (k : ℕ). holds k r ≡ true) same (covers-first r some) in
-    let out = other pos r (next ∷ rs) (once pos) (counted-here pos next rs e) in
+    let out = not-counted (holds pos) r (next ∷ rs) 1 (once pos) (counted-here pos next rs e) in
     ap (λ (t : Bool). if t then Some next.from else behind q (next ∷ rs)) here
     ∙ sym (ap (λ (t : Bool). if t then Some r.from else least pos (next ∷ rs)) out ∙ ap (λ (t : Bool). if t then Some next.from else least pos rs) e)
 on-by false pos q r next rs e some more once h later =
     let both = before-one pos q next rs more h in
-    let out = other q r (next ∷ rs) (once q) both.0 in
-    let other-one = other pos r (next ∷ rs) (once pos) (counted-behind pos next rs both.1) in
+    let out = not-counted (holds q) r (next ∷ rs) 1 (once q) both.0 in
+    let other-one = not-counted (holds pos) r (next ∷ rs) 1 (once pos) (counted-behind pos next rs both.1) in
     ap (λ (t : Bool). if t then Some next.from else behind q (next ∷ rs)) out ∙ later h
     ∙ sym (ap (λ (t : Bool). if t then Some r.from else least pos (next ∷ rs)) other-one)
 
@@ -125,7 +104,7 @@ behind-skip pos r (next ∷ rs) h = cond-false (holds pos r) (Some next.from) (b
 pub behind-front : (pos : ℕ) (front rs : List Range) → count_by (holds pos) front ≡ 0 → behind pos (front ++ rs) ≡ behind pos rs
 behind-front pos [] rs none = refl
 behind-front pos (r ∷ front) rs none =
-    let both = none-here pos r front none in
+    let both = none-here (holds pos) r front none in
     behind-skip pos r (front ++ rs) both.0 ∙ behind-front pos front rs both.1
 
 some-by : (b : Bool) (q : ℕ) (next : Range) (found more : Option ℕ) → (if b then Some next.from else found) ≡ Some q → (found ≡ Some q → more ≡ Some q) → (if b then Some next.from else more) ≡ Some q
@@ -172,12 +151,12 @@ before-skip pos r (next ∷ rs) h = cond-false (holds pos next) (Some r.from) (b
 
 first-front : (pos : ℕ) (front rs : List Range) → count_by (holds pos) front ≡ 0 → covers_first pos rs ≡ false → covers_first pos (front ++ rs) ≡ false
 first-front pos [] rs none h = h
-first-front pos (r ∷ front) rs none h = (none-here pos r front none).0
+first-front pos (r ∷ front) rs none h = (none-here (holds pos) r front none).0
 
 before-front : (pos : ℕ) (front rs : List Range) → count_by (holds pos) front ≡ 0 → covers_first pos rs ≡ false → before pos (front ++ rs) ≡ before pos rs
 before-front pos [] rs none h = refl
 before-front pos (r ∷ front) rs none h =
-    let both = none-here pos r front none in
+    let both = none-here (holds pos) r front none in
     before-skip pos r (front ++ rs) (first-front pos front rs both.1 h) ∙ before-front pos front rs both.1 h
 
 before-more : (pos q : ℕ) (rs back : List Range) → before pos rs ≡ Some q → before pos (rs ++ back) ≡ Some q
@@ -188,7 +167,7 @@ before-more pos q (r ∷ next ∷ rs) back h =
 
 not-first : (pos q : ℕ) (rs back : List Range) → AreSome rs → count_by (holds pos) rs ≤ 1 → before pos rs ≡ Some q → covers_first pos (rs ++ back) ≡ false
 not-first pos q [] back some few h = absurd cc
-not-first pos q (r ∷ rs) back some few h = other pos r rs few (before-one pos q r rs some h).1
+not-first pos q (r ∷ rs) back some few h = not-counted (holds pos) r rs 1 few (before-one pos q r rs some h).1
 
 pub before-some : (pos q : ℕ) (front rs back : List Range) → AreSome rs → count_by (holds pos) front ≡ 0 → count_by (holds pos) rs ≤ 1 → before pos rs ≡ Some q → before pos (front ++ (rs ++ back)) ≡ Some q
 before-some pos q front rs back some none few h =
@@ -197,7 +176,7 @@ before-some pos q front rs back some none few h =
 before-none-behind : (pos : ℕ) (r : Range) (rs : List Range) → count_by (holds pos) rs ≡ 0 → before pos (r ∷ rs) ≡ None
 before-none-behind pos r [] none = refl
 before-none-behind pos r (next ∷ rs) none =
-    let both = none-here pos next rs none in
+    let both = none-here (holds pos) next rs none in
     cond-false (holds pos next) (Some r.from) (before pos (next ∷ rs)) both.0 ∙ before-none-behind pos next rs both.1
 
 -- where none is before the one that covers a position it is the first
@@ -220,23 +199,18 @@ last-before : (pos : ℕ) (front : List Range) (r : Range) (rs : List Range) →
 last-before pos [] r rs none here behind = before-none-behind pos r rs behind
 last-before pos (f ∷ []) r rs none here behind = ap (λ (t : Bool). if t then Some f.from else before pos (r ∷ rs)) here
 last-before pos (f ∷ g ∷ front) r rs none here behind =
-    let both = none-here pos f (g ∷ front) none in
-    let out = (none-here pos g front both.1).0 in
+    let both = none-here (holds pos) f (g ∷ front) none in
+    let out = (none-here (holds pos) g front both.1).0 in
     cond-false (holds pos g) (Some f.from) (before pos (g ∷ front ++ (r ∷ rs))) out ∙ last-before pos (g ∷ front) r rs both.1 here behind
-
-only-by : (b : Bool) (n : ℕ) → b ≡ true → cond b 1 0 + n ≡ 1 → n ≡ 0
-only-by true n h one = omega (arith, one)
-only-by false n h one = absurd (let q : false ≡ true = h in cc)
 
 pub before-none : (pos : ℕ) (front rs back : List Range) → count_by (holds pos) front ≡ 0 → count_by (holds pos) rs ≡ 1 → count_by (holds pos) back ≡ 0 → before pos rs ≡ None
     → before pos (front ++ (rs ++ back)) ≡ last front
 before-none pos front [] back none one later h = absurd (omega (arith, one))
 before-none pos front (r ∷ rs) back none one later h =
     let here = is-first pos r rs h (omega (arith, one)) in
-    let e = count-cons (holds pos) r rs in
-    let rest = only-by (holds pos r) (count_by (holds pos) rs) here (omega (arith, e, one)) in
+    let e = count-cons (holds pos) r rs ∙ ap (λ t. cond t 1 0 + count_by (holds pos) rs) here in
     let all = count-append (holds pos) rs back in
-    last-before pos front r (rs ++ back) none here (omega (arith, rest, all, later))
+    last-before pos front r (rs ++ back) none here (omega (arith, one, e, all, later))
 
 -- the first and the last of ranges of several blocks
 pub first-append : (xs ys : List Range) (pos : ℕ) → 1 ≤ count_by (holds pos) xs → first (xs ++ ys) ≡ first xs
