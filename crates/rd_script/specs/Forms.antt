@@ -1,5 +1,5 @@
 -- What is in form: the characters of names and texts, the ranges of numbers.
-use Rattle.std.specs.Prelude.{ℕ, ◌≤◌, ◌<◌, ◌&&◌, ◌||◌, ◌==◌, not, Bool, nat_lt, nat_le, IsTrue, All, List, [], ◌∷◌, length, true, false, pos, Option, None, Some}
+use Rattle.std.specs.Prelude.{ℕ, ◌≤◌, ◌<◌, ◌&&◌, ◌||◌, ◌==◌, not, Bool, nat_lt, nat_le, IsTrue, All, List, length, true, false, pos, Option, None, Some}
 use Rattle.std.specs.List.{list_all}
 use Rattle.std.specs.Str.{chars}
 use Rattle.rd_base.specs.Chars.{is_scalar}
@@ -22,8 +22,7 @@ use Rattle.rd_script.specs.declared.setting.Setting.TheVariants as settings
 
 -- what a test finds of each element
 abbrev pub each : (ℕ → Bool) → List ℕ → Bool
-each f [] = true
-each f (c ∷ cs) = f c && each f cs
+each f cs = list_all f cs
 
 -- a character that a buffer's name may have: a scalar value, none below 32, none from 127 to 159
 abbrev pub is_name_character : ℕ → Bool
