@@ -1,15 +1,15 @@
 -- How many items and columns a line has at most, by the limits of texts, overlays, strings and specs.
-use Rattle.std.specs.Prelude.{ℕ, ◌+◌, ◌*◌, ◌≤◌, List, [], ◌∷◌, length}
+use Rattle.std.specs.Prelude.{ℕ, ◌+◌, ◌*◌, ◌≤◌, List, length}
 use Rattle.rd_base.specs.declared.limits.TheConstants.{OVERLAYS, SPACE_COLUMNS, STRING_CHARACTERS, TEXT_CHARACTERS}
 use Rattle.rd_base.specs.declared.element.Element.{Element}
 use Rattle.rd_base.specs.Elements.{columns_at_most}
+use Rattle.rd_base.specs.Lists.{total}
 use Rattle.rd_props.specs.Seen.{Seen}
 use Rattle.rd_stack.specs.Shown.{AreRight}
 
 -- how many strings of overlays stand before the positions that are read
 abbrev pub strings_in : List Seen → ℕ
-strings_in [] = 0
-strings_in (e ∷ es) = length e.strings + strings_in es
+strings_in es = total (λ e. length e.strings) es
 
 -- the most items of a line: one for each position of a text, its end included, and both strings of each overlay
 abbrev pub most_items : ℕ
