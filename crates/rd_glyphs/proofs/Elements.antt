@@ -1,5 +1,5 @@
 -- What the elements of a character always are.
-use Rattle.std.proofs.Common.{rules, ◌≡◌, ℕ, ◌*◌, ◌<◌, ◌≤◌, Bool, true, false, IsTrue, List, [], ◌∷◌, length, Option, Some, None, IfSome, All, refl, map, arith, slice_index_or, unwrap_or}
+use Rattle.std.proofs.Common.{rules, ◌≡◌, ℕ, ◌*◌, ◌≤◌, Bool, true, false, IsTrue, List, [], ◌∷◌, length, Option, Some, None, IfSome, All, refl, map, arith, slice_index_or}
 use Rattle.std.specs.Prelude.{◌≢◌, ◌==◌, nat_le, ◌&&◌, if◌then◌else◌}
 use Rattle.std.specs.List.{AllByRecursion, list_all}
 use Rattle.std.proofs.lemmas.Bool.Decides.{nat_tests}
@@ -7,11 +7,9 @@ use Rattle.std.proofs.lemmas.List.{length-map}
 use Rattle.std.proofs.lemmas.List.Sums.{AllPass-from_list_all}
 use Rattle.std.proofs.lemmas.List.Elements.{All-map, All-from_recursion, recursion_from_All}
 use Rattle.rd_base.specs.Chars.{is_code}
-use Rattle.rd_base.specs.Cells.{single}
 use Rattle.rd_base.specs.Elements.{width_at_most, columns_at_most}
 use Rattle.rd_base.specs.Faces.{Attributes}
-use Rattle.rd_base.specs.Glyphs.{IsMeasured, IsMeasuredLook, AreMeasured}
-use Rattle.rd_base.proofs.Rows.{printable-measured}
+use Rattle.rd_base.specs.Glyphs.{IsMeasuredLook, AreMeasured}
 use Rattle.rd_base.specs.declared.cell.Glyph.{Glyph}
 use Rattle.rd_base.specs.declared.class.Class.{Class}
 use Rattle.rd_base.specs.declared.element.Element.{Element}
@@ -20,16 +18,16 @@ use Rattle.rd_base.specs.declared.element.Look.TheVariants as look
 use Rattle.rd_base.specs.declared.element.Origin.{Origin}
 use Rattle.rd_ucd.specs.Lookup.{class_of}
 use Rattle.rd_ucd.specs.declared.spans.Pair.{Pair}
-use Rattle.rd_objects.specs.Tables.{TableValue, IsTable, HoldsGlyph, is_glyph_character, is_glyph_text, is_slot_glyph}
+use Rattle.rd_objects.specs.Tables.{TableValue, IsTable, is_glyph_character, is_glyph_text}
 use Rattle.rd_objects.specs.Widths.{columns}
 use Rattle.rd_objects.proofs.Entries.{entry-text}
 use Rattle.rd_objects.proofs.Widths.{few-columns}
 use Rattle.rd_objects.specs.declared.run.Slot.TheVariants.{Escape, Control}
 use Rattle.rd_glyphs.specs.declared.shown.Shown.{Shown}
 use Rattle.rd_glyphs.specs.declared.shown.Shown.TheVariants.{Caret, Octal, Space, Mark, Itself}
-use Rattle.rd_glyphs.specs.Characters.{PartValues, AreSoundParts, HasOrigin, TakesColumns, ShowsColumns, IsShortElement, is_control, is_formatting, shown_as, mirrored, looks_of, element_of, glyph_elements, entry_of, slot_or, own_looks, elements_by, elements_of, tab_of}
+use Rattle.rd_glyphs.specs.Characters.{PartValues, AreSoundParts, HasOrigin, TakesColumns, ShowsColumns, IsShortElement, is_control, is_formatting, shown_as, mirrored, looks_of, element_of, glyph_elements, entry_of, own_looks, elements_by, elements_of, tab_of}
 use Rattle.rd_glyphs.specs.MarkRoles.{is_empty_entry}
-use Rattle.rd_glyphs.proofs.Measures.{slot-measured, character-measured, shown-by, shown_as-measured, mirrored-measured, looks-measured, elements-measured}
+use Rattle.rd_glyphs.proofs.Measures.{character-measured, slot_or-is, shown-by, shown_as-measured, mirrored-measured, looks-measured, elements-measured}
 use Rattle.rd_glyphs.proofs.Short.{short_elements, short_glyphs, glyph_count}
 
 -- what holds of the elements of a character
@@ -74,33 +72,16 @@ looks-count escape control Space = (omega arith, omega arith)
 looks-count escape control (Mark code) = (omega arith, omega arith)
 looks-count escape control (Itself code width) = (omega arith, omega arith)
 
--- a slot's glyph of one column, or the one that stands for it
-pub record IsSlot (g : Glyph) : Type 0 where
-  pub measured : IsMeasured g
-  pub width : g.width ≡ 1
-
-slot-or : (slot : Option Glyph) (code : ℕ) → HoldsGlyph is_slot_glyph slot → 32 ≤ code → code < 127 → IsSlot (unwrap_or slot (single code 1))
-slot-or None code is low high = record { measured = printable-measured code low high; width = refl }
-slot-or (Some g) code is low high =
-    let own : is_slot_glyph g ≡ true = is g refl in
-    record { measured = slot-measured g own; width = grind (arith, nat_tests) }
-
-escape-slot : (table : Option TableValue) → IfSome table (λ t. IsTable t) → IsSlot (slot_or Escape table 92)
-escape-slot None is = record { measured = printable-measured 92 (omega arith) (omega arith); width = refl }
-escape-slot (Some t) is = slot-or t.escape 92 is.escape (omega arith) (omega arith)
-
-control-slot : (table : Option TableValue) → IfSome table (λ t. IsTable t) → IsSlot (slot_or Control table 94)
-control-slot None is = record { measured = printable-measured 94 (omega arith) (omega arith); width = refl }
-control-slot (Some t) is = slot-or t.control 94 is.control (omega arith) (omega arith)
-
 own-columns : (parts : PartValues) (ch : ℕ) (odd : Bool) → AreSoundParts parts → AllByRecursion TakesColumns (own_looks parts ch odd)
 own-columns parts ch odd is =
-    looks-columns _ _ _ (escape-slot parts.table is.table).width (control-slot parts.table is.table).width
+    looks-columns _ _ _ (slot_or-is Escape parts.table 92 is.table (omega arith) (omega arith)).width
+    (slot_or-is Control parts.table 94 is.table (omega arith) (omega arith)).width
     (mirrored-columns parts.mirrors odd _ (shown_as-columns parts.settings.ctl_arrow (class_of parts.classes ch) ch))
 
 own-measured : (parts : PartValues) (ch : ℕ) (odd : Bool) → AreSoundParts parts → IsTrue (is_code ch) → All IsMeasuredLook (own_looks parts ch odd)
 own-measured parts ch odd is code =
-    looks-measured _ _ _ (escape-slot parts.table is.table).measured (control-slot parts.table is.table).measured
+    looks-measured _ _ _ (slot_or-is Escape parts.table 92 is.table (omega arith) (omega arith)).measured
+    (slot_or-is Control parts.table 94 is.table (omega arith) (omega arith)).measured
     (mirrored-measured parts.mirrors odd _ (shown_as-measured parts.settings.ctl_arrow (class_of parts.classes ch) ch code))
 
 -- ---- columns

@@ -2,7 +2,7 @@
 use Rattle.std.proofs.Common.{rules, ◌≡◌, ℕ, ◌+◌, ◌<◌, ◌≤◌, Bool, true, false, IsTrue, List, [], ◌∷◌, length, get_or, Option, Some, None, All, IfSome, refl, sym, subst, ap, map, ◌∙◌, ◌⊎◌, inl, inr, arith, tests, unwrap_or, replicate}
 use Rattle.std.specs.Prelude.{zero, suc, ◌-◌, ◌/◌, ◌%◌, ◌≢◌, ◌==◌, nat_le, ◌&&◌, if◌then◌else◌}
 use Rattle.std.specs.List.{list_all}
-use Rattle.std.proofs.lemmas.Bool.{and_parts}
+use Rattle.std.proofs.lemmas.Bool.{and_parts, eqb-true}
 use Rattle.std.proofs.lemmas.Bool.Decides.{nat_tests}
 use Rattle.std.proofs.lemmas.List.{get_or-replicate}
 use Rattle.std.proofs.lemmas.List.Sums.{AllPass-from_list_all}
@@ -19,7 +19,9 @@ use Rattle.rd_base.specs.declared.cell.Glyph.{Glyph}
 use Rattle.rd_base.specs.declared.class.Class.{Class}
 use Rattle.rd_objects.specs.Widths.{columns}
 use Rattle.rd_objects.proofs.Widths.{few-columns}
-use Rattle.rd_objects.specs.Tables.{is_glyph_character, is_slot_glyph}
+use Rattle.rd_objects.specs.Tables.{TableValue, IsTable, HoldsGlyph, is_glyph_character, is_slot_glyph, slot_of}
+use Rattle.rd_objects.specs.declared.run.Slot.{Slot}
+use Rattle.rd_objects.specs.declared.run.Slot.TheVariants.{Truncation, Continuation, Escape, Control, Border}
 use Rattle.rd_base.specs.Faces.{Attributes}
 use Rattle.rd_base.specs.declared.element.Element.{Element}
 use Rattle.rd_base.specs.declared.element.Origin.{Origin}
@@ -31,7 +33,7 @@ use Rattle.rd_glyphs.specs.declared.shown.Shown.{Shown}
 use Rattle.rd_glyphs.specs.declared.shown.Shown.TheVariants.{Caret, Octal, Space, Mark, Itself}
 use Rattle.rd_glyphs.specs.MarkRoles.{mark_role_by, mark_role_of, base_of, mark_of, IsMark, IsMeasuredRole}
 use Rattle.rd_glyphs.specs.Marks.{marked_glyph}
-use Rattle.rd_glyphs.specs.Characters.{PartValues, is_control, is_formatting, caret, shown_as, turned, mirrored, on_blank, narrow, digit, looks_of, element_of}
+use Rattle.rd_glyphs.specs.Characters.{PartValues, is_control, is_formatting, caret, shown_as, turned, mirrored, on_blank, narrow, digit, looks_of, element_of, slot_or}
 
 -- what is put for a character has the columns that Unicode gives it: a letter is printable, a mark takes none, and a character
 -- that is shown itself takes 1 to 3
@@ -192,8 +194,27 @@ looks-measured escape control (Itself code width) e c s =
 pub elements-measured : (face : Attributes) (origin : Origin) (ls : List Look) → All IsMeasuredLook ls → AreMeasured (map (element_of face origin) ls)
 elements-measured face origin ls each = All-map (λ (e : Element). IsMeasuredLook e.look) (element_of face origin) ls each
 
-pub slot-measured : (g : Glyph) → IsTrue (is_slot_glyph g) → IsMeasured g
-slot-measured g is = character-measured g (and_parts (is_glyph_character g) (g.width == 1) is).0
+-- a slot's glyph of one column, or the one that stands for it
+pub record IsSlot (g : Glyph) : Type 0 where
+  pub measured : IsMeasured g
+  pub width : g.width ≡ 1
+
+slot-or : (slot : Option Glyph) (code : ℕ) → HoldsGlyph is_slot_glyph slot → 32 ≤ code → code < 127 → IsSlot (unwrap_or slot (single code 1))
+slot-or None code is low high = record { measured = printable-measured code low high; width = refl }
+slot-or (Some g) code is low high =
+    let parts = and_parts (is_glyph_character g) (g.width == 1) (is g refl) in
+    record { measured = character-measured g parts.0; width = eqb-true g.width 1 parts.1 }
+
+-- what a table has in a slot, or the printable character that stands for it
+pub slot_or-is : (slot : Slot) (table : Option TableValue) (code : ℕ) → IfSome table (λ t. IsTable t) → 32 ≤ code → code < 127 → IsSlot (slot_or slot table code)
+slot_or-is slot None code is low high = record { measured = printable-measured code low high; width = refl }
+slot_or-is slot (Some t) code is low high = slot-or (slot_of slot t) code (held slot) low high where
+  held : (slot : Slot) → HoldsGlyph is_slot_glyph (slot_of slot t)
+  held Truncation = is.truncation
+  held Continuation = is.continuation
+  held Escape = is.escape
+  held Control = is.control
+  held Border = is.border
 
 -- how a character that no table shows stands towards marks
 pub role-measured : (shown : Shown) → ShowsMeasured shown → IsMeasuredRole (mark_role_by None shown)
