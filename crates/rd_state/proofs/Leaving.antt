@@ -156,14 +156,6 @@ others-whole laws s t i k edit b c e hb hc ne =
     subst (λ (o : ObjectLists). StaysWhole b.content s.objects c.content o) (ap (λ (x : StateValue). x.objects) e.is)
     (subst (λ (x : BufferValue). StaysWhole b.content s.objects x.content s.objects) (other-at s t i k edit b c e hb hc ne) (whole laws s.objects b.content))
 
--- what an edit leaves of its own buffer
-pub here-stays : (s t : StateValue) (i k : ℕ) (edit : ContentValue → Result ContentValue Refused) (b c : BufferValue) (P : ContentValue → ContentValue → ObjectLists → Type 0) → IsEditOf s t i edit
-    → slice_get s.buffers k ≡ Some b → slice_get t.buffers k ≡ Some c → ((c d : ContentValue) → slice_get s.buffers i ≡ Some b → edit c ≡ Ok d → c ≡ b.content → P c d s.objects) → k ≡ i
-    → P b.content c.content t.objects
-here-stays s t i k edit b c P e hb hc stays is =
-    let both = same-at s t i k edit b c e hb hc is in
-    subst (P b.content c.content) (ap (λ (x : StateValue). x.objects) e.is) (stays b.content c.content both.1 both.0 refl)
-
 -- what an edit of a part leaves of its own buffer, and of the others
 pub part-stays : (laws : LeaveLaws) (s t : StateValue) (i head tail : ℕ) (added : ℤ) (edit : ContentValue → Result ContentValue Refused) → IsEditOf s t i edit
     → ((b : BufferValue) (d : ContentValue) → slice_get s.buffers i ≡ Some b → edit b.content ≡ Ok d → Stays b.content s.objects d s.objects head tail added)

@@ -35,7 +35,7 @@ use Rattle.rd_state.proofs.AllSteps.{moved-buffer}
 use Rattle.rd_state.proofs.Below.{LeaveLaws, GrowLaws}
 use Rattle.rd_state.proofs.ByNumber.{NumberedWindow, Each, window-each, each-same, each-with, each-moved, each-end, each-without}
 use Rattle.rd_state.proofs.Keeping.{moved_by}
-use Rattle.rd_state.proofs.Leaving.{whole, whole-objects, stays-inserted, stays-deleted, StaysAround, stays-put, stays-made, AroundOverlay, stays-dropped, stays-given, stays-moved, stays-margin, others-whole, here-stays, part-stays}
+use Rattle.rd_state.proofs.Leaving.{whole, whole-objects, stays-inserted, stays-deleted, StaysAround, stays-put, stays-made, AroundOverlay, stays-dropped, stays-given, stays-moved, stays-margin, others-whole, part-stays}
 use Rattle.rd_state.proofs.Naming.{made-none}
 use Rattle.rd_state.proofs.StepParts.{with_content, found, unless, objects-if, tree-if, treed-if, making-if, edited-if, edited_moving-if, typing-if, setting-if, placing-if}
 use Rattle.rd_state.proofs.Stepping.{IsEditOf}
@@ -153,22 +153,31 @@ found-overlay : (s : StateValue) (name : List ℕ) (number : ℕ) (b : BufferVal
     → overlay_in s name number ≡ Some o
 found-overlay s name number b o at is = ap (option_and_then (λ (x : BufferValue). overlay_at x.content.overlays number)) at ∙ is
 
+-- an edit of an overlay: what its effect tells of the overlay holds of each that the edit finds there, since that is one
+around-outcome : (s t : StateValue) (name : List ℕ) (number : ℕ) (edit : ContentValue → Result ContentValue Refused) (effect : Option Overlay → Effect) (P : Overlay → ContentValue → ContentValue → Type 0)
+    → IsEditOf s t (number_of name s.buffers) edit
+    → ((b : BufferValue) (d : ContentValue) → slice_get s.buffers (number_of name s.buffers) ≡ Some b → edit b.content ≡ Ok d
+    → (o : Overlay) × (overlay_at b.content.overlays number ≡ Some o) × P o b.content d)
+    → ((o : Overlay) → ((b : BufferValue) (d : ContentValue) → slice_get s.buffers (number_of name s.buffers) ≡ Some b → edit b.content ≡ Ok d → P o b.content d) → Outcome s t (effect (Some o)))
+    → Outcome s t (effect (overlay_in s name number))
+around-outcome s t name number edit effect P e stays done =
+    let there = stays e.buffer e.content e.at e.gives in
+    let is : overlay_in s name number ≡ Some there.0 = found-overlay s name number e.buffer there.0 e.at there.1 in
+    subst (λ (o : Option Overlay). Outcome s t (effect o)) (sym is)
+    (done there.0 (λ b d at gives.
+    let here = stays b d at gives in
+    let same : here.0 ≡ there.0 = one-value (overlay_in s name number) here.0 there.0 (found-overlay s name number b here.0 at here.1) is in
+    subst (λ (o : Overlay). P o b.content d) same here.2))
+
 -- an edit of what an overlay covers
-overlay-outcome : (laws : LeaveLaws) (grow : GrowLaws) (s t : StateValue) (name : List ℕ) (number : ℕ) (edit : ContentValue → Result ContentValue Refused) → IsValid s
+overlay-outcome : (laws : LeaveLaws) (grow : GrowLaws) (s t : StateValue) (name : List ℕ) (number : ℕ) (edit : ContentValue → Result ContentValue Refused)
     → IsEditOf s t (number_of name s.buffers) edit × (t.windows ≡ s.windows)
     → ((b : BufferValue) (d : ContentValue) → slice_get s.buffers (number_of name s.buffers) ≡ Some b → edit b.content ≡ Ok d → AroundOverlay s.objects number b.content d)
     → Outcome s t (covered_effect (number_of name s.buffers) (overlay_in s name number))
-overlay-outcome laws grow s t name number edit v e stays =
+overlay-outcome laws grow s t name number edit e stays =
     let i = number_of name s.buffers in
-    let there = stays e.0.buffer e.0.content e.0.at e.0.gives in
-    let is : overlay_in s name number ≡ Some there.0 = found-overlay s name number e.0.buffer there.0 e.0.at there.1 in
-    subst (λ (o : Option Overlay). Outcome s t (covered_effect i o)) (sym is)
-    (range-outcome laws grow s t i there.0.from (there.0.to - there.0.from) (there.0.to - there.0.from) edit e.0
-    (λ b d at gives.
-    let here = stays b d at gives in
-    let same : here.0 ≡ there.0 = one-value (overlay_in s name number) here.0 there.0 (found-overlay s name number b here.0 at here.1) is in
-    subst (λ (x : Overlay). StaysAround s.objects x.from x.to b.content d) same here.2)
-    (show-same s t (Edit i there.0.from (there.0.to - there.0.from) (there.0.to - there.0.from)) e.1))
+    around-outcome s t name number edit (covered_effect i) (λ o. StaysAround s.objects o.from o.to) e.0 stays
+    (λ o all. let n = o.to - o.from in range-outcome laws grow s t i o.from n n edit e.0 all (show-same s t (Edit i o.from n n) e.1))
 
 -- both ranges of an overlay that is moved
 moved-outcome : (laws : LeaveLaws) (grow : GrowLaws) (s t : StateValue) (name : List ℕ) (number from to : ℕ) → IsValid s
@@ -177,27 +186,19 @@ moved-outcome : (laws : LeaveLaws) (grow : GrowLaws) (s t : StateValue) (name : 
 moved-outcome laws grow s t name number from to v e =
     let i = number_of name s.buffers in
     let edit = overlay_moving number from to in
-    let stays = λ (b : BufferValue) (d : ContentValue) (at : slice_get s.buffers i ≡ Some b) (gives : edit b.content ≡ Ok d). stays-moved laws s.objects number from to b.content d (v.buffers.contents i b at) gives in
-    let there = stays e.0.buffer e.0.content e.0.at e.0.gives in
-    let is : overlay_in s name number ≡ Some there.0 = found-overlay s name number e.0.buffer there.0 e.0.at there.1 in
-    subst (λ (o : Option Overlay). Outcome s t (moved_effect i from to o)) (sym is)
-    (edit-outcome laws grow s t i edit (Moved i (there.0.from, there.0.to) (from, to)) e.0
-    (part-stays laws s t i (min there.0.from from) (max there.0.to to + 1) (pos 0) edit e.0
-    (λ b d at gives.
-    let here = stays b d at gives in
-    let same : here.0 ≡ there.0 = one-value (overlay_in s name number) here.0 there.0 (found-overlay s name number b here.0 at here.1) is in
-    subst (λ (o : Overlay). Stays b.content s.objects d s.objects (min o.from from) (max o.to to + 1) (pos 0)) same here.2))
-    (show-same s t (Moved i (there.0.from, there.0.to) (from, to)) e.1))
+    around-outcome s t name number edit (moved_effect i from to) (λ o c d. Stays c s.objects d s.objects (min o.from from) (max o.to to + 1) (pos 0)) e.0
+    (λ b d at gives. stays-moved laws s.objects number from to b.content d (v.buffers.contents i b at) gives)
+    (λ o all. let effect = Moved i (o.from, o.to) (from, to) in
+    edit-outcome laws grow s t i edit effect e.0 (part-stays laws s t i (min o.from from) (max o.to to + 1) (pos 0) edit e.0 all) (show-same s t effect e.1))
 
 -- a margin string changes nothing that is seen
 margin-outcome : (laws : LeaveLaws) (grow : GrowLaws) (s t : StateValue) (i number : ℕ) (string : Option ℕ) → IsEditOf s t i (margin_putting s.objects number string) × (t.windows ≡ s.windows) → Outcome s t Nothing
 margin-outcome laws grow s t i number string e =
     let edit = margin_putting s.objects number string in
     edit-outcome laws grow s t i edit Nothing e.0
-    (λ k b c hb hc. elim (cases_eq k i) [
-      | inl p ↦ here-stays s t i k edit b c (λ x y o. StaysWhole x s.objects y o) e.0 hb hc (λ x y at gives eq. stays-margin laws s.objects number string x y gives) p
-      | inr q ↦ others-whole laws s t i k edit b c e.0 hb hc q
-    ])
+    (λ k b c hb hc head tail.
+    let parts = part-stays laws s t i head tail (pos 0) edit e.0 (λ x y at gives. stays-margin laws s.objects number string x.content y gives head tail) k b c hb hc in
+    elim (cases_eq k i) [ inl p ↦ parts.0 p | inr q ↦ parts.1 q head tail ])
     (show-same s t Nothing e.1)
 
 -- ---- objects and new buffers
@@ -300,13 +301,13 @@ outcome laws grow s (ops.OverlayMove name overlay from to) v form =
     IfOk-weaker _ _ _ (λ t e. moved-outcome laws grow s t name overlay from to v e) (edited-is s name (overlay_moving overlay from to))
 outcome laws grow s (ops.OverlayDrop name overlay) v form =
     IfOk-weaker _ _ _
-    (λ t e. overlay-outcome laws grow s t name overlay (overlay_dropping overlay) v e
+    (λ t e. overlay-outcome laws grow s t name overlay (overlay_dropping overlay) e
     (λ b d at gives. stays-dropped laws s.objects overlay b.content d (v.buffers.contents (number_of name s.buffers) b at) gives))
     (edited-is s name (overlay_dropping overlay))
 outcome laws grow s (ops.OverlayPut name overlay kind value) v form =
     let edit = overlay_putting s.objects overlay kind value in
     IfOk-weaker _ _ _
-    (λ t e. overlay-outcome laws grow s t name overlay edit v e
+    (λ t e. overlay-outcome laws grow s t name overlay edit e
     (λ b d at gives. stays-given laws s.objects overlay kind value b.content d (v.buffers.contents (number_of name s.buffers) b at) gives))
     (edited-is s name edit)
 outcome laws grow s (ops.Setting name value) v form =
