@@ -12,7 +12,8 @@ use rd_text::Buffer;
 use rd_ucd::Classes;
 use std::alloc::Global;
 
-/// The cells of a window's mode line in so many columns, and none where the window has no format for it.
+/// The cells of a window's mode line in so many columns, and none where the window has no format for it. A window's format is
+/// good, so that only memory can be wanting.
 pub(crate) fn mode_line(
     alloc: Global,
     classes: &Classes,
@@ -24,27 +25,12 @@ pub(crate) fn mode_line(
     requires { IsViewOf content.now.content.text shown.now }
     ensures { IfOk result (λ cells. cells ≡ mode_line (of_classes classes.now) (facts_of content.now shown.now) width text.now) }
 {
-    match text {
-        Some(text) => formatted(alloc, classes, content, shown, width, text.as_slice()),
-        None => Ok(ListOf::new(alloc)),
-    }
-}
-
-/// The cells of a mode line of a format. A window's format is good, so that only memory can be wanting.
-fn formatted(
-    alloc: Global,
-    classes: &Classes,
-    content: &Content<'_>,
-    shown: &ShownWindow<'_>,
-    width: u32,
-    text: &[Ch],
-) -> Result<ListOf<Cell>, Memory>
-    requires { IsViewOf content.now.content.text shown.now }
-    ensures { IfOk result (λ cells. cells ≡ mode_line (of_classes classes.now) (facts_of content.now shown.now) width (Some text.now)) }
-{
+    let Some(text) = text else {
+        return Ok(ListOf::new(alloc));
+    };
     let name = characters(alloc, content.name)?;
     let facts = facts(name.as_slice(), content, shown);
-    match format(alloc, text, classes, &facts, width) {
+    match format(alloc, text.as_slice(), classes, &facts, width) {
         Ok(cells) => Ok(cells),
         Err(_fault) => Err(Memory),
     }
