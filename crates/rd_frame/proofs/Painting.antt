@@ -3,6 +3,7 @@ use Rattle.std.proofs.Common.{◌≡◌, ℕ, zero, suc, ◌+◌, ◌-◌, ◌�
 use Rattle.std.specs.List.{AllByRecursion}
 use Rattle.std.proofs.lemmas.List.{append-nil, length-take, length-take-le, length-drop, take_at, drop_at, drop-drop, drop_all}
 use Rattle.std.proofs.lemmas.List.Elements.{recursion_from_All}
+use Rattle.rd_base.proofs.Lists.{each-weaker}
 use Rattle.rd_base.specs.Cells.{row_at}
 use Rattle.rd_term.specs.Pictures.{with_cells, written_over}
 use Rattle.rd_tree.specs.declared.placed.Placed.{Placed}
@@ -80,12 +81,10 @@ abbrev pub AreWide : {C : Type 0} → ℕ → List (List C) → Type 0
 AreWide n rows = AllByRecursion (λ row. n ≤ length row) rows
 
 pub narrower : {C : Type 0} (n m : ℕ) (rows : List (List C)) → m ≤ n → AreWide n rows → AreWide m rows
-narrower n m [] less h = tt
-narrower n m (row ∷ rows) less h = (let a = h.0 in omega arith, narrower n m rows less h.1)
+narrower n m rows less h = each-weaker (λ row. n ≤ length row) (λ row. m ≤ length row) (λ row a. omega (arith, less, a)) rows h
 
 pub just-wide : {C : Type 0} (n : ℕ) (rows : List (List C)) → AllByRecursion (λ row. length row ≡ n) rows → AreWide n rows
-just-wide n [] h = tt
-just-wide n (row ∷ rows) h = (let a = h.0 in omega arith, just-wide n rows h.1)
+just-wide n rows h = each-weaker (λ row. length row ≡ n) (λ row. n ≤ length row) (λ row a. omega (arith, a)) rows h
 
 over-wide : {C : Type 0} (n column : ℕ) (news rows : List (List C)) → AreWide n rows → AreWide n (laid_over column news rows)
 over-wide n column [] rows h = h

@@ -3,6 +3,7 @@ use Rattle.std.proofs.Common.{◌≡◌, ℕ, ◌+◌, ◌<◌, ◌≤◌, nat_l
 use Rattle.std.specs.List.{AllByRecursion, flat_map}
 use Rattle.std.proofs.lemmas.Bool.Decides.{nat_tests}
 use Rattle.std.proofs.lemmas.List.Elements.{All-from_recursion}
+use Rattle.rd_base.proofs.Lists.{each-weaker}
 use Rattle.rd_term.specs.Pictures.{Picture}
 use Rattle.rd_update.specs.Updates.{differing}
 use Rattle.rd_lineshift.specs.Choices.{cheaper, cheapest, choice, cost, if_gains, shifts_of}
@@ -13,14 +14,10 @@ use Rattle.rd_lineshift.specs.declared.band.Shift.{Shift}
 abbrev IsLeast : (Shift → ℕ) → List Shift → Option Shift → Type 0
 IsLeast f xs s = MatchOption s (xs ≡ []) (λ s. AllByRecursion (λ t. f s ≤ f t) xs)
 
-lower : (f : Shift → ℕ) (m n : ℕ) (xs : List Shift) → m ≤ n → AllByRecursion (λ t. n ≤ f t) xs → AllByRecursion (λ t. m ≤ f t) xs
-lower f m n [] le h = tt
-lower f m n (x ∷ xs) le h = (omega (arith, h.0), lower f m n xs le h.1)
-
 least-if : (f : Shift → ℕ) (b : Bool) (x s : Shift) (xs : List Shift) → nat_le (f x) (f s) ≡ b → AllByRecursion (λ t. f s ≤ f t) xs → IsLeast f (x ∷ xs) (if b then Some x else Some s)
 least-if f true x s xs e h =
     let le : f x ≤ f s = grind (arith, nat_tests) in
-    (omega arith, lower f (f x) (f s) xs le h)
+    (omega arith, each-weaker (λ t. f s ≤ f t) (λ t. f x ≤ f t) (λ t k. omega (arith, le, k)) xs h)
 least-if f false x s xs e h =
     let le : f s ≤ f x = grind (arith, nat_tests) in
     (le, h)
@@ -45,16 +42,12 @@ gains : (f : Shift → ℕ) (rows : ℕ) (xs : List Shift) (r : Option Shift) (s
 gains f rows xs None s h g = absurd (cc)
 gains f rows xs (Some r) s h g = gains-if f rows xs (nat_le (f r + 3) rows) r s refl h g
 
-higher : (f : Shift → ℕ) (rows n : ℕ) (xs : List Shift) → rows < n + 3 → AllByRecursion (λ t. n ≤ f t) xs → AllByRecursion (λ t. rows < f t + 3) xs
-higher f rows n [] lt h = tt
-higher f rows n (x ∷ xs) lt h = (omega (arith, h.0), higher f rows n xs lt h.1)
-
 none-if : (f : Shift → ℕ) (rows : ℕ) (xs : List Shift) (b : Bool) (r : Shift) → nat_le (f r + 3) rows ≡ b → AllByRecursion (λ t. f r ≤ f t) xs
     → (if b then Some r else None) ≡ None → AllByRecursion (λ t. rows < f t + 3) xs
 none-if f rows xs true r e h g = absurd (cc)
 none-if f rows xs false r e h g =
     let lt : rows < f r + 3 = grind (arith, nat_tests) in
-    higher f rows (f r) xs lt h
+    each-weaker (λ t. f r ≤ f t) (λ t. rows < f t + 3) (λ t k. omega (arith, lt, k)) xs h
 
 none-gains : (f : Shift → ℕ) (rows : ℕ) (xs : List Shift) (r : Option Shift) → IsLeast f xs r → if_gains f rows r ≡ None → AllByRecursion (λ t. rows < f t + 3) xs
 none-gains f rows xs None h g = subst (λ ys. AllByRecursion (λ t. rows < f t + 3) ys) (sym h) tt

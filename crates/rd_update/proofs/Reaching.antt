@@ -4,6 +4,7 @@ use Rattle.std.specs.List.{AllByRecursion}
 use Rattle.std.proofs.lemmas.List.Elements.{recursion_from_All, All-from_recursion}
 use Rattle.std.proofs.lemmas.List.{length-map, get_or-map, length-replicate}
 use Rattle.rd_base.proofs.Choices.{either}
+use Rattle.rd_base.proofs.Lists.{each-weaker}
 use Rattle.rd_base.specs.Faces.{plain}
 use Rattle.rd_base.specs.Glyphs.{IsRowAfter}
 use Rattle.rd_base.specs.declared.cell.Cell.{Cell}
@@ -71,10 +72,6 @@ start-size width height (Some screen) target t h = h.now.0
 
 -- ---- the end
 
-coloured-rows : (rows : List (List Cell)) → AllByRecursion (λ row. All IsColoured row) rows → AllByRecursion (λ row. AllByRecursion IsColoured row) rows
-coloured-rows [] h = tt
-coloured-rows (row ∷ rows) h = (recursion_from_All IsColoured row h.0, coloured-rows rows h.1)
-
 -- the terminal after the rows, and then after the cursor's move where all rows were sent
 ended : (region : Option (ℕ × ℕ)) → (width height : ℕ) (u : Update) (done : Bool) (target : Picture) (cursor : Option (ℕ × ℕ)) (wait : Bool) (latest : Option (ℕ × ℕ)) → u.done ≡ done → IsOfSize width height u.screen
     → target.row < length u.screen.rows → target.column < length (get_or u.screen.rows target.row []) → target.row < 65535 → target.column < 65535
@@ -96,7 +93,7 @@ updated width height current target limit t h =
     let old_wide = recursion_from_All (λ row. length row ≡ width) old.rows size.each in
     let new_wide = recursion_from_All (λ row. length row ≡ width) target.rows h.size.each in
     let wholes = recursion_from_All (λ row. IsRowAfter 0 row) target.rows h.whole.glyphs in
-    let colours = coloured-rows target.rows (recursion_from_All (λ row. All IsColoured row) target.rows h.colours) in
+    let colours = each-weaker (All IsColoured) (AllByRecursion IsColoured) (recursion_from_All IsColoured) target.rows (recursion_from_All (λ row. All IsColoured row) target.rows h.colours) in
     let same : length old.rows ≡ length target.rows = size.rows ∙ sym h.size.rows in
     let few : length {A = List (Option Cell)} [] + length old.rows ≤ 200 = omega (arith, h.tall, size.rows) in
     let sent = rows_fed t.region [] limit old.rows target.rows width begun.cursor begun.wait begun.latest few h.wide same old_wide new_wide wholes colours in
