@@ -4,6 +4,7 @@ use Rattle.std.specs.List.{flat_map}
 use Rattle.std.proofs.lemmas.Bool.Decides.{nat_tests}
 use Rattle.std.proofs.lemmas.List.{drop_more}
 use Rattle.std.specs.Prelude.{pos, neg_ℤ}
+use Rattle.rd_base.proofs.Choices.{either}
 use Rattle.rd_lineshift.specs.Choices.{cheaper, cheapest, if_gains, shift_by, shifts_from, shifts_of}
 use Rattle.rd_lineshift.specs.Numbers.{gained, lesser, priced}
 use Rattle.rd_lineshift.specs.declared.band.Band.{Band}
@@ -38,14 +39,10 @@ lesser-assoc (Some p) None r = refl
 lesser-assoc (Some p) (Some q) None = lesser-none (lesser (Some p) (Some q))
 lesser-assoc (Some p) (Some q) (Some r) = lesser-by (nat_le p.cost q.cost) (nat_le q.cost r.cost) (nat_le p.cost r.cost) p q r refl refl refl
 
-bound-by : (b : Bool) (p q : Priced) → p.cost ≤ 200 → q.cost ≤ 200 → IfSome (if b then Some p else Some q) (λ r. r.cost ≤ 200)
-bound-by true p q h k = h
-bound-by false p q h k = k
-
 pub lesser-bound : (p q : Option Priced) → IfSome p (λ r. r.cost ≤ 200) → IfSome q (λ r. r.cost ≤ 200) → IfSome (lesser p q) (λ r. r.cost ≤ 200)
 lesser-bound None q h k = k
 lesser-bound (Some p) None h k = h
-lesser-bound (Some p) (Some q) h k = bound-by (nat_le p.cost q.cost) p q h k
+lesser-bound (Some p) (Some q) h k = either (λ o. IfSome o (λ r. r.cost ≤ 200)) (nat_le p.cost q.cost) (Some p) (Some q) h k
 
 priced-fields : (s t : Shift) (m n : ℕ) → s ≡ t → m ≡ n → let p : Priced = record { shift = s; cost = m } in let q : Priced = record { shift = t; cost = n } in Some p ≡ Some q
 priced-fields s t m n e f = cc

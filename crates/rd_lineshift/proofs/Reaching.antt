@@ -1,11 +1,12 @@
 -- What the bytes of a shift do to the terminal that reads them, and the law of the update that begins with one.
-use Rattle.std.proofs.Common.{◌≡◌, ℕ, zero, suc, ◌+◌, ◌-◌, ◌<◌, ◌≤◌, ◌==◌, ◌&&◌, nat_lt, nat_le, if◌then◌else◌, Bool, true, false, List, [], ◌∷◌, ◌++◌, length, get_or, map, take, drop, replicate, Option, None, Some, IfSome, refl, sym, ap, ◌∙◌, arith, subst, All}
+use Rattle.std.proofs.Common.{◌≡◌, ℕ, zero, suc, ◌+◌, ◌-◌, ◌<◌, ◌≤◌, ◌==◌, ◌&&◌, nat_lt, nat_le, Bool, true, false, List, [], ◌∷◌, ◌++◌, length, get_or, map, take, drop, replicate, Option, None, Some, IfSome, refl, sym, ap, ◌∙◌, arith, subst, All}
 use Rattle.std.specs.Prelude.{ℤ, pos, negsuc, unsigned_abs, IsSome}
 use Rattle.std.specs.List.{AllByRecursion, flat_map}
 use Rattle.std.proofs.lemmas.Bool.Decides.{nat_tests}
 use Rattle.std.proofs.lemmas.List.{length-map, length-take-le, length-drop, length-replicate}
 use Rattle.std.proofs.lemmas.List.Elements.{recursion_from_All, All-take, All-drop, All-nil}
 use Rattle.std.specs.Char.{is_ascii_digit}
+use Rattle.rd_base.proofs.Choices.{either}
 use Rattle.rd_base.proofs.Lists.{each-append, all-one}
 use Rattle.rd_base.specs.Faces.{Attributes, plain}
 use Rattle.rd_base.specs.declared.cell.Cell.{Cell}
@@ -158,25 +159,17 @@ shifts-some height band (suc k) e within =
 shifts-all : (height : ℕ) (band : Band) → band.top + band.height ≤ height → AllByRecursion (IsShift height) (shifts_of band)
 shifts-all height band within = shifts-some height band band.height refl within
 
-cheaper-one : (P : Shift → Type 0) (f : Shift → ℕ) (b : Bool) (s t : Shift) → P s → P t → IfSome (if b then Some s else Some t) P
-cheaper-one P f true s t p q = p
-cheaper-one P f false s t p q = q
-
 cheaper-keeps : (P : Shift → Type 0) (f : Shift → ℕ) (s : Shift) (t : Option Shift) → P s → IfSome t P → IfSome (cheaper f (Some s) t) P
 cheaper-keeps P f s None p q = p
-cheaper-keeps P f s (Some t) p q = cheaper-one P f (nat_le (f s) (f t)) s t p q
+cheaper-keeps P f s (Some t) p q = either (λ o. IfSome o P) (nat_le (f s) (f t)) (Some s) (Some t) p q
 
 cheapest-one : (P : Shift → Type 0) (f : Shift → ℕ) (xs : List Shift) → AllByRecursion P xs → IfSome (cheapest f xs) P
 cheapest-one P f [] h = tt
 cheapest-one P f (x ∷ xs) h = cheaper-keeps P f x (cheapest f xs) h.0 (cheapest-one P f xs h.1)
 
-gains-if : (P : Shift → Type 0) (b : Bool) (s : Shift) → P s → IfSome (if b then Some s else None) P
-gains-if P true s p = p
-gains-if P false s p = tt
-
 gains-one : (P : Shift → Type 0) (f : Shift → ℕ) (rows : ℕ) (s : Option Shift) → IfSome s P → IfSome (if_gains f rows s) P
 gains-one P f rows None p = tt
-gains-one P f rows (Some s) p = gains-if P (nat_le (f s + 3) rows) s p
+gains-one P f rows (Some s) p = either (λ o. IfSome o P) (nat_le (f s + 3) rows) (Some s) None p tt
 
 pub taken-fits : (height : ℕ) (current : Option Picture) (target : Picture) (bands : List Band) → AreWithin height bands → IfSome (choice current target bands) (IsShift height)
 taken-fits height None target bands h = tt

@@ -1,5 +1,5 @@
 -- The new current screen of an update keeps what its screens have.
-use Rattle.std.proofs.Common.{◌≡◌, ℕ, suc, ◌<◌, Bool, true, false, not, if◌then◌else◌, List, [], ◌∷◌, length, get_or, Option, None, Some, refl, ap, ◌∙◌, arith}
+use Rattle.std.proofs.Common.{◌≡◌, ℕ, suc, ◌<◌, Bool, not, if◌then◌else◌, List, [], ◌∷◌, length, get_or, Option, None, Some, refl, ap, ◌∙◌, arith}
 use Rattle.std.specs.List.{AllByRecursion}
 use Rattle.std.specs.Prelude.{All, IfSome}
 use Rattle.std.proofs.lemmas.List.{length-replicate}
@@ -19,18 +19,16 @@ use Rattle.rd_update.proofs.Parts.{start-length}
 
 -- ---- what holds of each row of both screens holds of each row of the new one
 
-after-step : (P : List Cell → Type 0) (differ may : Bool) (o n : List Cell) (os a b : List (List Cell)) → P o → P n → AllByRecursion P os → AllByRecursion P a → AllByRecursion P b
-    → AllByRecursion P (if not differ then n ∷ a else if may then n ∷ b else o ∷ os)
-after-step P false may o n os a b po pn pos pa pb = (pn, pa)
-after-step P true true o n os a b po pn pos pa pb = (pn, pb)
-after-step P true false o n os a b po pn pos pa pb = (po, pos)
+chosen : (P : List (List Cell) → Type 0) (differ may : Bool) (a b c : List (List Cell)) → P a → P b → P c → P (if not differ then a else if may then b else c)
+chosen P differ may a b c x y z = either P (not differ) a (if may then b else c) x (either P may b c y z)
 
 pub after-all : (P : List Cell → Type 0) (limit : Option ℕ) (olds news : List (List Cell)) → AllByRecursion P olds → AllByRecursion P news → AllByRecursion P (rows_after limit olds news)
 after-all P limit [] [] p q = tt
 after-all P limit [] (n ∷ ns) p q = tt
 after-all P limit (o ∷ os) [] p q = p
 after-all P limit (o ∷ os) (n ∷ ns) p q =
-    after-step P (differs o n) (allows limit) o n os (rows_after limit os ns) (rows_after (less_one limit) os ns) p.0 q.0 p.1 (after-all P limit os ns p.1 q.1) (after-all P (less_one limit) os ns p.1 q.1)
+    chosen (AllByRecursion P) (differs o n) (allows limit) (n ∷ rows_after limit os ns) (n ∷ rows_after (less_one limit) os ns) (o ∷ os)
+    (q.0, after-all P limit os ns p.1 q.1) (q.0, after-all P (less_one limit) os ns p.1 q.1) p
 
 each-after : (P : List Cell → Type 0) (limit : Option ℕ) (olds news : List (List Cell)) → All P olds → All P news → All P (rows_after limit olds news)
 each-after P limit olds news p q =
@@ -38,30 +36,21 @@ each-after P limit olds news p q =
 
 -- ---- sizes
 
-length-chosen : (differ may : Bool) (n : ℕ) (a b c : List (List Cell)) → length a ≡ n → length b ≡ n → length c ≡ n → length (if not differ then a else if may then b else c) ≡ n
-length-chosen false may n a b c x y z = x
-length-chosen true true n a b c x y z = y
-length-chosen true false n a b c x y z = z
-
 pub length-after : (limit : Option ℕ) (olds news : List (List Cell)) → length olds ≡ length news → length (rows_after limit olds news) ≡ length olds
 length-after limit [] [] n = refl
 length-after limit [] (x ∷ xs) n = absurd (cc)
 length-after limit (x ∷ xs) [] n = absurd (cc)
 length-after limit (x ∷ xs) (y ∷ ys) n =
     let less : length xs ≡ length ys = omega arith in
-    length-chosen (differs x y) (allows limit) (suc (length xs)) (y ∷ rows_after limit xs ys) (y ∷ rows_after (less_one limit) xs ys) (x ∷ xs)
+    chosen (λ rows. length rows ≡ suc (length xs)) (differs x y) (allows limit) (y ∷ rows_after limit xs ys) (y ∷ rows_after (less_one limit) xs ys) (x ∷ xs)
     (ap suc (length-after limit xs ys less)) (ap suc (length-after (less_one limit) xs ys less)) refl
-
-width-chosen : (differ may : Bool) (o n : List Cell) (os a b : List (List Cell)) → length o ≡ length n → width_of (if not differ then n ∷ a else if may then n ∷ b else o ∷ os) ≡ length n
-width-chosen false may o n os a b e = refl
-width-chosen true true o n os a b e = refl
-width-chosen true false o n os a b e = e
 
 width-after : (limit : Option ℕ) (olds news : List (List Cell)) → length olds ≡ length news → width_of olds ≡ width_of news → width_of (rows_after limit olds news) ≡ width_of news
 width-after limit [] [] n e = refl
 width-after limit [] (x ∷ xs) n e = absurd (cc)
 width-after limit (x ∷ xs) [] n e = absurd (cc)
-width-after limit (x ∷ xs) (y ∷ ys) n e = width-chosen (differs x y) (allows limit) x y xs (rows_after limit xs ys) (rows_after (less_one limit) xs ys) e
+width-after limit (x ∷ xs) (y ∷ ys) n e =
+    chosen (λ rows. width_of rows ≡ length y) (differs x y) (allows limit) (y ∷ rows_after limit xs ys) (y ∷ rows_after (less_one limit) xs ys) (x ∷ xs) refl refl e
 
 blank-width : (rows : List (List Cell)) → width_of (blank_like rows) ≡ width_of rows
 blank-width [] = refl
