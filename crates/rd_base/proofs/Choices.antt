@@ -1,6 +1,6 @@
 -- What follows from a test, from an option, and of the one of two that is chosen.
 use Rattle.std.proofs.Common.{◌≡◌, ◌≤◌, ◌⊎◌, inl, inr, Bool, true, false, not, ◌||◌, if◌then◌else◌, Option, None, Some, IfSome, is_some, refl, sym, ap, ◌∙◌, arith, IsSome}
-use Rattle.std.specs.Option.{option_map, option_or}
+use Rattle.std.specs.Option.{option_map, option_or, unwrap_or}
 use Rattle.std.proofs.Math.Bool.{not-not}
 use Rattle.std.proofs.lemmas.Option.{none-some}
 
@@ -39,6 +39,15 @@ some-of (Some x) e = (x, refl)
 pub if-value : {X : Type 0} (P : X → Type 0) (o : Option X) → ((x : X) → o ≡ Some x → P x) → IfSome o P
 if-value P None all = tt
 if-value P (Some x) all = all x refl
+
+-- what holds of what stands there holds of the first of two, and of that or what is taken where there is none
+pub if-or : {X : Type 0} (P : X → Type 0) (o p : Option X) → IfSome o P → IfSome p P → IfSome (option_or o p) P
+if-or P None p these those = those
+if-or P (Some x) p these those = these
+
+pub if-else : {X : Type 0} (P : X → Type 0) (o : Option X) (d : X) → IfSome o P → P d → P (unwrap_or o d)
+if-else P None d these that = that
+if-else P (Some x) d these that = these
 
 pub or-some : {X : Type 0} (o p : Option X) (x : X) → option_or o p ≡ Some x → (o ≡ Some x) ⊎ (p ≡ Some x)
 or-some None p x e = inr e

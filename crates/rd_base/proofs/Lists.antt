@@ -2,8 +2,9 @@
 use Rattle.std.proofs.Common.{◌≡◌, ◌≢◌, ◌⊎◌, ℕ, zero, suc, ◌+◌, ◌<◌, ◌≤◌, nat_le, nat_lt, Bool, false, ◌&&◌, List, [], ◌∷◌, ◌++◌, length, length-append, take, drop, get_or, None, Some, inl, inr, All, refl, sym, subst, ap, ap₂, cond, ◌∙◌, arith, map, set}
 use Rattle.std.specs.Prelude.{slice_get}
 use Rattle.std.specs.List.{AllByRecursion, count_by, range_with_len}
+use Rattle.std.proofs.lemmas.Bool.{cases_lt}
 use Rattle.std.proofs.lemmas.Bool.Decides.{nat_tests}
-use Rattle.std.proofs.lemmas.List.{get_or_append_left, drop_more, drop_all, drop-set-lt, drop-drop, get_or-drop, map_more, take_more_set}
+use Rattle.std.proofs.lemmas.List.{get_or_append_left, get_or_past, drop_more, drop_all, drop-set-lt, drop-drop, get_or-drop, map_more, take_more, take_more_set}
 use Rattle.std.proofs.lemmas.List.Sums.{sum_by-append, sum_by-cons}
 use Rattle.std.proofs.Math.Seq.{drop-append_seam}
 use Rattle.std.proofs.lemmas.List.Elements.{All-drop, All-cons, All-nil}
@@ -16,6 +17,10 @@ drop-read xs i x inside here = drop_more xs i x inside ∙ ap (λ y. y ∷ drop 
 
 pub drop-at : {X : Type 0} (xs : List X) (i : ℕ) (x : X) → slice_get xs i ≡ Some x → drop i xs ≡ x ∷ drop (i + 1) xs
 drop-at xs i x found = drop-read xs i x (slice_get_within xs i x found) (sym (get_or_from_slice_get xs i x x found))
+
+-- up to behind it stands one element more
+pub take-at : {X : Type 0} (xs : List X) (i : ℕ) (x : X) → slice_get xs i ≡ Some x → take (i + 1) xs ≡ take i xs ++ x ∷ []
+take-at xs i x found = take_more xs i x (slice_get_within xs i x found) ∙ ap (λ y. take i xs ++ y ∷ []) (get_or_from_slice_get xs i x x found)
 
 -- where a list has no element it has ended
 pub ended : {X : Type 0} (xs : List X) (i : ℕ) → slice_get xs i ≡ None → length xs ≤ i
@@ -51,6 +56,10 @@ get-drop (suc n) [] i j e = refl
 get-drop (suc n) (x ∷ xs) zero j e = absurd (omega arith)
 get-drop (suc n) (x ∷ xs) (suc i) j e = get-drop n xs i j (omega arith)
 
+-- what heads the rest from a place stands there
+pub drop-cons : {X : Type 0} (xs : List X) (a : ℕ) (x : X) (rest : List X) → drop a xs ≡ x ∷ rest → (slice_get xs a ≡ Some x) × (drop (a + 1) xs ≡ rest)
+drop-cons {X} xs a x rest e = (sym (get-drop a xs a 0 (omega arith)) ∙ ap (λ (l : List X). slice_get l 0) e, sym (drop-drop 1 a xs) ∙ ap (drop 1) e)
+
 -- the element at a place that lies within
 pub element-at : {X : Type 0} (xs : List X) (i : ℕ) → i < length xs → (x : X) × (slice_get xs i ≡ Some x)
 element-at [] i low = absurd (omega (arith, low))
@@ -77,6 +86,14 @@ get-set (x ∷ xs) (suc i) (suc k) c b h = elim (get-set xs i k c b h) [
   | inl p ↦ inl (ap suc p.0, p.1)
   | inr p ↦ inr (λ e. p.0 (omega arith), p.1)
 ]
+
+-- what holds of what is read at a place, and of what is written, holds after the write
+pub read-set : {X : Type 0} (P : X → Type 0) (xs : List X) (i k : ℕ) (x d : X) → P x → P (get_or xs k d) → P (get_or (set xs i x) k d)
+read-set P [] i k x d new old = old
+read-set P (y ∷ xs) zero zero x d new old = new
+read-set P (y ∷ xs) zero (suc k) x d new old = old
+read-set P (y ∷ xs) (suc i) zero x d new old = old
+read-set P (y ∷ xs) (suc i) (suc k) x d new old = read-set P xs i k x d new old
 
 pub get-end : {X : Type 0} (xs : List X) (y : X) (k : ℕ) (b : X) → slice_get (xs ++ y ∷ []) k ≡ Some b → (slice_get xs k ≡ Some b) ⊎ ((k ≡ length xs) × (b ≡ y))
 get-end [] y zero b h = inr (refl, cc)
@@ -164,6 +181,13 @@ range-more a n m same = ap (λ (k : ℕ). range_with_len a n ++ k ∷ []) same �
 -- what holds of all holds of the one at a place
 pub all-at : {X : Type 0} (P : X → Type 0) (xs : List X) (i : ℕ) (x : X) → All P xs → slice_get xs i ≡ Some x → P x
 all-at P xs i x all found = subst P (get_or_from_slice_get xs i x x found) (all i x (slice_get_within xs i x found))
+
+-- and of what is read at a place, where it holds of what stands in for an element
+pub all-read : {X : Type 0} (P : X → Type 0) (xs : List X) (i : ℕ) (d : X) → All P xs → P d → P (get_or xs i d)
+all-read P xs i d all that = elim (cases_lt i (length xs)) as (λ _. P (get_or xs i d)) [
+  | inl inside ↦ all i d inside
+  | inr past ↦ subst P (sym (get_or_past xs i d past)) that
+]
 
 pub all-one : {X : Type 0} (P : X → Type 0) (x : X) → P x → All P (x ∷ [])
 all-one P x holds = All-cons P x [] holds (All-nil P)

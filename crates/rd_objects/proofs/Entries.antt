@@ -6,6 +6,7 @@ use Rattle.std.proofs.lemmas.List.Elements.{recursion_from_All}
 use Rattle.std.specs.List.{All, AllByRecursion, find}
 use Rattle.std.specs.Option.{option_or}
 use Rattle.std.specs.Prelude.{IfSome, option_map, reverse}
+use Rattle.rd_base.proofs.Choices.{either, if-or}
 use Rattle.rd_base.specs.declared.cell.Glyph.{Glyph}
 use Rattle.rd_objects.specs.declared.table.TableEntry.{TableEntry}
 use Rattle.rd_objects.specs.Tables.{entry_in, is_glyph_text}
@@ -27,12 +28,8 @@ last-found (e ∷ es) code =
 -- what it shows are glyph characters
 pub entry-text : (entries : List TableEntry) (code : ℕ) → All (λ e. IsTrue (is_glyph_text e.text)) entries → IfSome (entry_in entries code) (λ text. IsTrue (is_glyph_text text))
 entry-text entries code all = of-each entries (recursion_from_All (λ (e : TableEntry). IsTrue (is_glyph_text e.text)) entries all) where
-  by-last : (rest : Option (List Glyph)) (same : Bool) (e : TableEntry) → IsTrue (is_glyph_text e.text) → IfSome rest (λ text. IsTrue (is_glyph_text text))
-      → IfSome (option_or rest (if same then Some e.text else None)) (λ text. IsTrue (is_glyph_text text))
-  by-last (Some text) same e one is = is
-  by-last None true e one is = one
-  by-last None false e one is = tt
-
   of-each : (es : List TableEntry) → AllByRecursion (λ e. IsTrue (is_glyph_text e.text)) es → IfSome (entry_in es code) (λ text. IsTrue (is_glyph_text text))
   of-each [] each = tt
-  of-each (e ∷ es) each = by-last (entry_in es code) (e.code == code) e each.0 (of-each es each.1)
+  of-each (e ∷ es) each =
+      if-or (λ text. IsTrue (is_glyph_text text)) (entry_in es code) (if e.code == code then Some e.text else None) (of-each es each.1)
+      (either (λ o. IfSome o (λ text. IsTrue (is_glyph_text text))) (e.code == code) (Some e.text) None each.0 tt)

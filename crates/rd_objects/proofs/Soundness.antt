@@ -1,17 +1,17 @@
 -- What holds of all objects where one more is made.
-use Rattle.std.proofs.Common.{◌≡◌, ℕ, zero, suc, ◌<◌, ◌≤◌, true, false, if◌then◌else◌, not, List, [], ◌∷◌, ◌++◌, length, length-append, append_assoc, append-nil, get_or, Option, Some, None, refl, sym, arith}
-use Rattle.std.specs.Prelude.{nat_le, nat_lt, slice_get, IfSome, unwrap_or, reverse, find, option_map}
+use Rattle.std.proofs.Common.{◌≡◌, ℕ, ◌<◌, ◌≤◌, true, false, if◌then◌else◌, not, List, [], ◌∷◌, ◌++◌, length, length-append, append_assoc, append-nil, Option, Some, None, refl, sym, arith}
+use Rattle.std.specs.Prelude.{nat_le, nat_lt, slice_get, IfSome, reverse, find, option_map}
 use Rattle.std.specs.List.{All, AllByRecursion, list_all}
 use Rattle.std.proofs.lemmas.Bool.{not-false}
 use Rattle.std.proofs.lemmas.Bool.Decides.{nat_tests}
 use Rattle.std.proofs.lemmas.List.Elements.{recursion_from_All, All-from_recursion, All-nil, All-push, All-weaker}
 use Rattle.std.proofs.lemmas.List.Sorted.{All-permutation, IsPermutation-reverse}
 use Rattle.std.proofs.lemmas.List.Sums.{AllPass-from_list_all}
-use Rattle.rd_base.proofs.Choices.{none-chosen}
+use Rattle.rd_base.proofs.Choices.{if-else, none-chosen}
 use Rattle.rd_base.specs.Faces.{Attributes, plain}
 use Rattle.rd_base.specs.Cells.{HasColours}
 use Rattle.rd_base.proofs.Colours.{plain-coloured}
-use Rattle.rd_base.proofs.Lists.{all-at, get-first}
+use Rattle.rd_base.proofs.Lists.{all-at, all-read, get-first}
 use Rattle.rd_objects.specs.declared.run.Run.{Run}
 use Rattle.rd_objects.specs.declared.run.RunKind.{RunKind}
 use Rattle.rd_objects.specs.declared.run.RunKind.TheVariants.{Face, Display}
@@ -58,16 +58,11 @@ pushed_one : {X : Type 0} (xs : List X) (x : X) → length xs ≤ length (xs ++ 
 pushed_one xs x = omega (arith, length-append xs (x ∷ []))
 
 -- the faces that runs name have colours in their range
-named_coloured : (faces : List Attributes) (i : ℕ) → AllByRecursion HasColours faces → HasColours (get_or faces i plain)
-named_coloured [] i h = plain-coloured
-named_coloured (f ∷ faces) zero h = h.0
-named_coloured (f ∷ faces) (suc i) h = named_coloured faces i h.1
-
-run_coloured : (kind : RunKind) (faces : List Attributes) (run : Run) (runs : List (RunOf Attributes)) → AllByRecursion HasColours faces → AllByRecursion (λ run. HasColours run.value) runs → AllByRecursion (λ run. HasColours run.value) (with_run run (face_by kind faces run.value) runs)
-run_coloured Face faces run runs h r = (named_coloured faces run.value h, r)
+run_coloured : (kind : RunKind) (faces : List Attributes) (run : Run) (runs : List (RunOf Attributes)) → All HasColours faces → AllByRecursion (λ run. HasColours run.value) runs → AllByRecursion (λ run. HasColours run.value) (with_run run (face_by kind faces run.value) runs)
+run_coloured Face faces run runs h r = (all-read HasColours faces run.value plain h plain-coloured, r)
 run_coloured Display faces run runs h r = r
 
-runs_coloured : (faces : List Attributes) (runs : List Run) → AllByRecursion HasColours faces → AllByRecursion (λ run. HasColours run.value) (face_runs faces runs)
+runs_coloured : (faces : List Attributes) (runs : List Run) → All HasColours faces → AllByRecursion (λ run. HasColours run.value) (face_runs faces runs)
 runs_coloured faces [] h = tt
 runs_coloured faces (run ∷ runs) h = run_coloured run.kind faces run (face_runs faces runs) h (runs_coloured faces runs h)
 
@@ -75,7 +70,7 @@ string_sound : (o : ObjectLists) (chars : List ℕ) (runs : List Run) → AreCod
 string_sound o chars runs codes short sound = record {
   chars = codes;
   few = short;
-  faces = All-from_recursion (λ run. HasColours run.value) (face_runs o.faces runs) (runs_coloured o.faces runs (recursion_from_All HasColours o.faces sound.faces));
+  faces = All-from_recursion (λ run. HasColours run.value) (face_runs o.faces runs) (runs_coloured o.faces runs sound.faces);
 }
 
 pub nothing_sound : AreObjects nothing_made
@@ -245,12 +240,8 @@ pub named_strings : (o : ObjectLists) (spec number : ℕ) → IsClosed o → sli
 named_strings o spec number closed e = all-at (NamesMade (length o.strings)) o.specs spec (Text number) closed.specs e
 
 -- the face at each place of a sound string
-else_plain : (o : Option Attributes) → IfSome o HasColours → HasColours (unwrap_or o plain)
-else_plain (Some face) p = p
-else_plain None p = plain-coloured
-
 pub string_coloured : (text : TextValue) (i : ℕ) → IsString text → HasColours (face_of text i)
-string_coloured text i sound = else_plain (given_at text.faces i) (given_at-each HasColours text.faces i sound.faces)
+string_coloured text i sound = if-else HasColours (given_at text.faces i) plain (given_at-each HasColours text.faces i sound.faces) plain-coloured
 
 -- where there is no fault
 pub has_room : (most made : ℕ) → made < most → full_fault most made ≡ None

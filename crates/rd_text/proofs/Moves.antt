@@ -2,8 +2,7 @@
 use Rattle.std.proofs.Common.{◌≡◌, ℕ, ◌+◌, ◌-◌, ◌*◌, ◌<◌, ◌≤◌, List, ◌++◌, length, get_or, take, drop, sym, ap, subst, ◌∙◌, arith}
 use Rattle.std.specs.Prelude.{IsTrue, slice_range}
 use Rattle.std.proofs.lemmas.Bool.{cases_lt}
-use Rattle.std.proofs.Common.{get_or-set_same, get_or-set_other, set, inl, inr}
-use Rattle.std.proofs.lemmas.Bool.{cases_eq}
+use Rattle.std.proofs.Common.{inl, inr}
 use Rattle.std.proofs.lemmas.List.{ext_get_or, take_at, drop_at, drop-drop, length-take-le, length-append, length-drop, append_assoc, get_or_append_left, get_or-append_right, get_or-take, get_or-drop}
 use Rattle.rd_base.specs.Chars.{is_code}
 use Rattle.rd_text.specs.Stretches.{summary}
@@ -133,15 +132,6 @@ module _ (old new : List ℕ) (olds news : List Stretch) (front back at first la
       let size = is.size in
       gapped-on old new olds news front back at (back + (at - front)) first last right place (omega arith) (omega arith) (omega arith) size
       (copied_codes old new back front (at - front) is right.are_codes) (λ k less. is.below k 0 less) (λ k more. is.from k 0 (omega arith)) again fl fh ll lh
-
--- a code is written
-pub code_written : (xs : List ℕ) (i x : ℕ) → i < length xs → IsTrue (is_code x) → ((k : ℕ) → IsTrue (is_code (get_or xs k 0))) → (k : ℕ) → IsTrue (is_code (get_or (set xs i x) k 0))
-code_written xs i x within code codes k =
-    let C : ℕ → Type 0 = λ y. IsTrue (is_code y) in
-    elim (cases_eq k i) [
-      | inl same ↦ subst C (sym (ap (λ (j : ℕ). get_or (set xs i x) j 0) same ∙ get_or-set_same xs i x 0 within)) code
-      | inr other ↦ subst C (sym (get_or-set_other xs i k x 0 other)) (codes k)
-    ]
 
 -- a text is written into the gap
 module _ (old new : List ℕ) (olds news : List Stretch) (at back first last : ℕ) (text : List ℕ) (right : IsGapped old olds at back) (room : at + length text ≤ back)
