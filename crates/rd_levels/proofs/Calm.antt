@@ -1,8 +1,9 @@
 -- The weak rules (W1 to W7), N0, and the neutral rules (N1, N2) over a sequence at level 0 without anything that is read from the right.
-use Rattle.std.proofs.Common.{◌≡◌, ℕ, zero, suc, ◌-◌, Bool, true, false, ◌||◌, List, [], ◌∷◌, length, take, drop, set, replicate, Option, None, Some, refl, sym, ap, ap₂, subst, ◌∙◌}
+use Rattle.std.proofs.Common.{◌≡◌, ℕ, zero, suc, ◌-◌, Bool, true, false, ◌||◌, List, [], ◌∷◌, length, take, drop, set, replicate, Option, None, Some, IfSome, refl, sym, ap, ap₂, subst, ◌∙◌}
 use Rattle.std.specs.List.{AllByRecursion as Each}
-use Rattle.std.specs.Prelude.{if◌then◌else◌, unwrap_or}
+use Rattle.std.specs.Prelude.{if◌then◌else◌}
 use Rattle.std.proofs.lemmas.List.{length-set}
+use Rattle.rd_base.proofs.Choices.{either, if-else}
 use Rattle.rd_base.proofs.Lists.{each-take, each-drop}
 use Rattle.rd_base.specs.declared.class.Class.{Class}
 use Rattle.rd_base.specs.declared.class.Class.TheVariants.{L, R, AL, BN, EN, ES, ET, AN, CS, NSM, B, S, WS, ON, LRI, RLI, FSI, PDI}
@@ -142,17 +143,12 @@ set-calm zero (u ∷ ts) t p ps = (p, ps.1)
 set-calm (suc n) (u ∷ ts) t p ps = (ps.0, set-calm n ts t p ps.1)
 
 abbrev IsCalmSide : Option Class → Type 0
-IsCalmSide None = Unit {0}
-IsCalmSide (Some t) = IsCalm t
-
-either-calm : (a : Bool) (x : Option Class) → IsCalmSide x → IsCalmSide (if a then Some L else x)
-either-calm true x p = refl
-either-calm false x p = p
+IsCalmSide side = IfSome side IsCalm
 
 n0_pair_side-calm : (before : Class) (ts : List Class) → Each IsCalm ts → IsCalmSide (sides.n0_pair_side L before ts)
 n0_pair_side-calm before ts ps =
     let S : Option Class = Some (if sides.counts_as R before then R else L) in
-    either-calm (sides.holds L ts) (if sides.holds R ts then S else None)
+    either IsCalmSide (sides.holds L ts) (Some L) (if sides.holds R ts then S else None) refl
     (subst (λ b. IsCalmSide (if b then S else None)) (sym (holds-absent ts ps)) tt)
 
 both-calm : (side : Option Class) (a b : ℕ) (ts : List Class) → IsCalmSide side → Each IsCalm ts → Each IsCalm (sides.put_both side a b ts)
@@ -171,21 +167,13 @@ followed-calm : (side : Option Class) (c t : Class) → IsCalmSide side → IsCa
 followed-calm side NSM ON p = p
 followed-calm side c t p = tt
 
-choice-calm : (b : Bool) (t : Class) (x : Option Class) → IsCalm t → IsCalmSide x → IsCalmSide (if b then Some t else x)
-choice-calm true t x p q = p
-choice-calm false t x p q = q
-
-unwrapped-calm : (side : Option Class) (t : Class) → IsCalmSide side → IsCalm t → IsCalm (unwrap_or side t)
-unwrapped-calm None t p q = q
-unwrapped-calm (Some u) t p q = p
-
 n0_with_marks-calm : (side : Option Class) (cs bs ts : List Class) → IsCalmSide side → Each IsCalm ts → Each IsCalm (sides.n0_with_marks side cs bs ts)
 n0_with_marks-calm side [] bs ts p ps = ps
 n0_with_marks-calm side (c ∷ cs) [] ts p ps = ps
 n0_with_marks-calm side (c ∷ cs) (b ∷ bs) [] p ps = tt
 n0_with_marks-calm side (c ∷ cs) (b ∷ bs) (t ∷ ts) p ps =
-    let next = choice-calm (sides.became b t) t (sides.followed side c t) ps.0 (followed-calm side c t p) in
-    (unwrapped-calm (sides.side_taken side c b t) t next ps.0, n0_with_marks-calm (sides.side_taken side c b t) cs bs ts next ps.1)
+    let next = either IsCalmSide (sides.became b t) (Some t) (sides.followed side c t) ps.0 (followed-calm side c t p) in
+    (if-else IsCalm (sides.side_taken side c b t) t next ps.0, n0_with_marks-calm (sides.side_taken side c b t) cs bs ts next ps.1)
 
 -- the types after the paired brackets
 pub n0_bracket_types-calm : (entries : List BracketEntry) (sos : Class) (cs : List Class) (codes : List ℕ) (ts : List Class) → Each IsCalm ts → Each IsCalm (sides.n0_bracket_types entries L sos cs codes ts)

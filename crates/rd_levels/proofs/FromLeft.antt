@@ -3,7 +3,10 @@ use Rattle.std.proofs.Common.{◌≡◌, ℕ, zero, suc, ◌+◌, ◌<◌, ◌�
 use Rattle.std.specs.List.{AllByRecursion as Each}
 use Rattle.std.specs.Prelude.{if◌then◌else◌, max, is_none, slice_index}
 use Rattle.std.proofs.lemmas.Bool.{and_parts, cases_eq, cases_lt, cond_both}
-use Rattle.std.proofs.lemmas.List.{length-map, length-replicate, get_or-set_same, get_or-set_other, length-set, get_or-drop, drop-drop, get_or_past}
+use Rattle.std.proofs.lemmas.List.{length-map, length-replicate, get_or-set_same, get_or-set_other, length-set, get_or_past}
+use Rattle.std.proofs.lemmas.Option.{get_or_from_slice_get}
+use Rattle.rd_base.proofs.Choices.{either}
+use Rattle.rd_base.proofs.Lists.{drop-cons, read-set}
 use Rattle.rd_base.specs.Classes.{is_removed, is_initiator, direction_of}
 use Rattle.rd_base.specs.declared.class.Class.{Class}
 use Rattle.rd_base.specs.declared.class.Class.TheVariants.{L, BN, LRE, LRO, RLE, RLO, PDF, LRI, RLI, FSI, PDI}
@@ -69,15 +72,11 @@ first-zero : (xs : List Item) → Each IsZero xs → first_level 0 xs ≡ 0
 first-zero [] zs = refl
 first-zero (x ∷ xs) zs = zs.0.level
 
-either-zero : (b : Bool) (n : ℕ) → n ≡ 0 → (if b then 0 else n) ≡ 0
-either-zero true n e = refl
-either-zero false n e = e
-
 item-zero : (i : ℕ) (c : Class) (cs : List Class) (xs : List Item) → Each IsZero xs → IsZero (item_at 0 0 i c cs 0 xs)
 item-zero i c cs xs zs = record {
   level = refl;
   before = refl;
-  after = either-zero (is_initiator c && is_none (partner_of i c cs)) (first_level 0 xs) (first-zero xs zs);
+  after = either (λ n. n ≡ 0) (is_initiator c && is_none (partner_of i c cs)) 0 (first_level 0 xs) refl (first-zero xs zs);
 }
 
 abbrev all_items : ℕ → List Class → List Item
@@ -159,16 +158,9 @@ module _ (whole : List Class) where
   abbrev IsItemAt : Item → Type 0
   IsItemAt x = IsItem (get_or whole x.index L)
 
-  next-at : (i : ℕ) (c : Class) (cs : List Class) → drop i whole ≡ c ∷ cs → (get_or whole i L ≡ c) × (drop (i + 1) whole ≡ cs)
-  next-at i c cs e =
-      let here : i + 0 ≡ i = omega arith in (
-        ap (λ j. get_or whole j L) (sym here) ∙ sym (get_or-drop i whole 0 L) ∙ ap (λ l. get_or l 0 L) e,
-        sym (drop-drop 1 i whole) ∙ ap (drop 1) e,
-      )
-
   items-at : (i : ℕ) (cs : List Class) → drop i whole ≡ cs → are_leveled cs ≡ true → Each IsItemAt (all_items i cs)
   items-at i [] at h = tt
-  items-at i (BN ∷ cs) at h = items-at (i + 1) cs (next-at i BN cs at).1 h
+  items-at i (BN ∷ cs) at h = items-at (i + 1) cs (drop-cons whole i BN cs at).1 h
   items-at i (LRE ∷ cs) at h = absurd (cc)
   items-at i (RLE ∷ cs) at h = absurd (cc)
   items-at i (LRO ∷ cs) at h = absurd (cc)
@@ -176,8 +168,8 @@ module _ (whole : List Class) where
   items-at i (PDF ∷ cs) at h = absurd (cc)
   items-at i (c ∷ cs) at h =
       let parts = and_parts (is_leveled c) (are_leveled cs) h in
-      let step = next-at i c cs at in
-      (subst IsItem (sym step.0) (leveled-item c parts.0 refl), items-at (i + 1) cs step.1 parts.1)
+      let step = drop-cons whole i c cs at in
+      (subst IsItem (sym (get_or_from_slice_get whole i c L step.0)) (leveled-item c parts.0 refl), items-at (i + 1) cs step.1 parts.1)
 
   types-item : (xs : List Item) → Each IsItemAt xs → Each IsItem (types_at (indexes xs) whole)
   types-item [] qs = tt
@@ -191,17 +183,11 @@ module _ (P : Class → Type 0) (default : P L) where
     | inr past ↦ let size = length-set ts i v in subst P (sym (get_or_past (set ts i v) j L (omega arith))) default
   ]
 
-  set-keeps : (ts : List Class) (i : ℕ) (v : Class) (j : ℕ) → P v → P (get_or ts j L) → P (get_or (set ts i v) j L)
-  set-keeps ts i v j p here = elim (cases_eq j i) [
-    | inl same ↦ set-gives ts i v j p same
-    | inr other ↦ subst P (sym (get_or-set_other ts i j v L other)) here
-  ]
-
   put-covers : (is : List ℕ) (vs ts : List Class) → length is ≤ length vs → Each P vs → (j : ℕ) → P (get_or ts j L) ⊎ In j is → P (get_or (put_at is vs ts) j L)
   put-covers [] vs ts few ps j (inl here) = here
   put-covers [] vs ts few ps j (inr none) = absurd none
   put-covers (i ∷ is) [] ts few ps j known = absurd (omega arith)
-  put-covers (i ∷ is) (v ∷ vs) ts few ps j (inl here) = put-covers is vs (set ts i v) (omega arith) ps.1 j (inl (set-keeps ts i v j ps.0 here))
+  put-covers (i ∷ is) (v ∷ vs) ts few ps j (inl here) = put-covers is vs (set ts i v) (omega arith) ps.1 j (inl (read-set P ts i j v L ps.0 here))
   put-covers (i ∷ is) (v ∷ vs) ts few ps j (inr (inl same)) = put-covers is vs (set ts i v) (omega arith) ps.1 j (inl (set-gives ts i v j ps.0 same))
   put-covers (i ∷ is) (v ∷ vs) ts few ps j (inr (inr member)) = put-covers is vs (set ts i v) (omega arith) ps.1 j (inr member)
 
@@ -348,8 +334,7 @@ module _ (entries : List BracketEntry) (cs : List Class) (codes : List ℕ) (lev
   flat-by (x ∷ xs) is_whole = flat-sequence x xs is_whole
 
 same-either : {X : Type 0} (b : Bool) (x : X) → (if b then x else x) ≡ x
-same-either true x = refl
-same-either false x = refl
+same-either b x = either (λ y. y ≡ x) b x x refl refl
 
 raised-zero : (n : ℕ) (ts : List Class) → Each IsFlat ts → i1_i2 ts (replicate n 0) ≡ replicate n 0
 raised-zero n [] flat = refl
