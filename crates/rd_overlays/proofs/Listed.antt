@@ -14,13 +14,13 @@ use Rattle.std.proofs.lemmas.Bool.Decides.{nat_tests}
 use Rattle.std.proofs.lemmas.List.Elements.{filter-append}
 use Rattle.std.proofs.lemmas.List.Sorted.{ranks_by, sum_by-IsPermutation}
 use Rattle.std.proofs.lemmas.List.Sums.{sum_by-cons}
-use Rattle.rd_base.proofs.Lists.{each-weaker}
+use Rattle.rd_base.proofs.Lists.{each-weaker, drop-cons}
 use Rattle.rd_overlays.specs.declared.overlay.Overlay.{Overlay}
 use Rattle.rd_overlays.specs.declared.listing.Rank.{Rank}
 use Rattle.rd_overlays.specs.Overlays.{live, overlay_at, precedes, placed, with_slot, ranked_from}
 use Rattle.rd_overlays.specs.Listings.{rank_of, rank_at, found_from, found_in}
 use Rattle.rd_overlays.specs.Bounds.{passed}
-use Rattle.rd_overlays.proofs.Passing.{drop-cons, passed-whole}
+use Rattle.rd_overlays.proofs.Passing.{passed-whole}
 use Rattle.rd_overlays.proofs.Sorting.{AllAfter, Rises, rises-never_falls, sorted-never_falls, unique}
 
 order : IsTotalOrder (λ (a b : Rank). ordering_then (int_cmp a.priority b.priority) (nat_cmp a.number b.number))

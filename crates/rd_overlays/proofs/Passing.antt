@@ -3,11 +3,10 @@ use Rattle.std.proofs.Common.{◌≡◌, ℕ, ◌+◌, ◌-◌, ◌<◌, ◌≤�
 use Rattle.std.specs.Prelude.{slice_get}
 use Rattle.std.specs.List.{range_with_len}
 use Rattle.std.specs.List.Sorted.{IsPermutation}
-use Rattle.std.proofs.lemmas.List.{drop-drop}
 use Rattle.std.proofs.lemmas.List.FromFn.{length-range_with_len, get_or-range_with_len}
 use Rattle.std.proofs.lemmas.List.Sorted.{IsPermutation-append_left, IsPermutation-map, length_permutation}
 use Rattle.std.proofs.lemmas.Option.{slice_get-get_or}
-use Rattle.rd_base.proofs.Lists.{get-drop, get-second, range-split, range-more}
+use Rattle.rd_base.proofs.Lists.{drop-cons, get-second, range-split, range-more}
 use Rattle.rd_overlays.specs.declared.overlay.Overlay.{Overlay}
 use Rattle.rd_overlays.specs.declared.bounds.Bounds.{Bounds}
 use Rattle.rd_overlays.specs.declared.way.Way.{Way}
@@ -47,9 +46,6 @@ passed-whole slots order size whole =
     let parts : range_with_len 0 m ++ range_with_len m (n - m) ≡ range_with_len 0 n
     = ap (λ (a : ℕ). range_with_len 0 m ++ range_with_len a (n - m)) first ∙ (sym (range-split 0 m (n - m)) ∙ ap (range_with_len 0) e) in
     subst P parts (IsPermutation-append_left (range_with_len m (n - m)) (range_with_len 0 m) order whole)
-
-pub drop-cons : {X : Type 0} (xs : List X) (a : ℕ) (x : X) (rest : List X) → drop a xs ≡ x ∷ rest → (slice_get xs a ≡ Some x) × (drop (a + 1) xs ≡ rest)
-drop-cons {X} xs a x rest e = (sym (get-drop a xs a 0 (omega arith)) ∙ ap (λ (l : List X). slice_get l 0) e, sym (drop-drop 1 a xs) ∙ ap (drop 1) e)
 
 -- by number they are all overlays
 all-by : (all : List (Option Overlay)) (a : ℕ) (rest : List (Option Overlay)) → drop a all ≡ rest → map (overlay_at all) (range_with_len a (length rest)) ≡ rest
