@@ -16,6 +16,7 @@ use crate::name::ObjectOp;
 use crate::object::{OpSpec, SpecName};
 use crate::object_form::{EntryForm, RunForm};
 use crate::op::Op;
+use crate::place_field::within;
 use crate::text_form::{GlyphText, Slot, Text};
 use rd_base::limits::{SPACE_COLUMNS, STRING_RUNS, TABLE_ENTRIES};
 use rd_base::{Ch, Face, ListOf};
@@ -88,14 +89,11 @@ fn spec_value(alloc: Global, asked: &mut Asked, name: SpecName) -> Result<OpSpec
     ensures value { IsRead result ((spec_value name).taken (members_view asked.old.members)) }
     ensures keys { OnOk result (asked.new ≡ asked_too (codes "value" ∷ []) asked.old) }
 {
-    let columns = Within {
-        least: 0,
-        greatest: SPACE_COLUMNS,
-    };
+    let key = "value";
     match name {
-        SpecName::Text => Ok(OpSpec::Text(number(alloc, asked, "value")?)),
-        SpecName::Width => Ok(OpSpec::Width(required(alloc, asked, "value", &columns)?)),
-        SpecName::Align => Ok(OpSpec::Align(required(alloc, asked, "value", &columns)?)),
+        SpecName::Text => Ok(OpSpec::Text(number(alloc, asked, key)?)),
+        SpecName::Width => Ok(OpSpec::Width(within(alloc, asked, key, 0, SPACE_COLUMNS)?)),
+        SpecName::Align => Ok(OpSpec::Align(within(alloc, asked, key, 0, SPACE_COLUMNS)?)),
     }
 }
 

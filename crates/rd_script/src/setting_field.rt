@@ -9,8 +9,9 @@ ghost use Rattle.rd_script.specs.Settings.{setting, value_of};
 use crate::asked::Asked;
 use crate::fault::OpFault;
 use crate::field::{named, optional, required};
-use crate::form::{Flag, Form, Whole, Within, small_within};
+use crate::form::{Flag, Form, Whole, small_within};
 use crate::item::AtMost;
+use crate::place_field::within;
 use crate::setting::{Setting, SettingName};
 use rd_base::limits::{ATOMS, INVISIBLE_ATOMS, TAB_COLUMNS};
 use rd_base::{Invisible, Memory};
@@ -54,11 +55,7 @@ fn value_of(alloc: Global, asked: &mut Asked, name: SettingName) -> Result<Setti
 fn tab_width(alloc: Global, asked: &mut Asked, key: &'static str) -> Result<u8, OpFault>
     ensures { IsTaken result (required key.now (within 1 TAB_COLUMNS)) asked.old asked.new }
 {
-    let columns = Within {
-        least: 1,
-        greatest: TAB_COLUMNS as u32,
-    };
-    Ok(required(alloc, asked, key, &columns)? as u8)
+    Ok(within(alloc, asked, key, 1, TAB_COLUMNS as u32)? as u8)
 }
 
 /// Which invisible text is hidden: all of it where the value is true, or that of the atoms of pairs.
