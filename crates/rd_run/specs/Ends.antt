@@ -162,7 +162,7 @@ abbrev pub told_in : Option Mode → List Input → List ℕ
 told_in None inputs = []
 told_in (Some mode) inputs = (run (opened mode) inputs).told
 
--- where the lines that were run may place no more elements than this
+-- the most elements that the lines that were run may place
 abbrev pub allowed_in : Option Mode → List Input → ℕ
 allowed_in None inputs = 0
 allowed_in (Some mode) inputs = (run (opened mode) inputs).allowed
