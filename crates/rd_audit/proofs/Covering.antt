@@ -1,8 +1,9 @@
 -- The runs of faces of a row, read back.
 use Rattle.std.proofs.Common.{◌≡◌, ◌==◌, ℕ, ◌+◌, ◌-◌, ◌<◌, ◌≤◌, ◌&&◌, not, nat_lt, nat_le, Bool, true, false, if◌then◌else◌, None, Some, option_and_then, decimal, List, [], ◌∷◌, ◌++◌, length, refl, sym, ap, ap₂, subst, ◌∙◌, arith, append_assoc, append-nil, length-append, true≢false}
+use Rattle.std.specs.List.{AllByRecursion, concat}
 use Rattle.std.specs.Prelude.{All}
 use Rattle.std.proofs.lemmas.Bool.Decides.{nat_tests}
-use Rattle.std.proofs.lemmas.List.{get_or_past}
+use Rattle.std.proofs.lemmas.List.{get_or_past, length-map, map-append}
 use Rattle.std.proofs.lemmas.List.Elements.{All-head, All-tail}
 use Rattle.std.proofs.Math.Seq.{take-append_seam, drop-append_seam, get_or-append_seam}
 use Rattle.rd_base.specs.Cells.{HasColours, IsColoured, face_after}
@@ -16,12 +17,11 @@ use Rattle.rd_base.proofs.Colours.{plain-coloured}
 use Rattle.rd_term.specs.Pictures.{blank}
 use Rattle.rd_update.specs.Updates.{is_rest}
 use Rattle.rd_dump.specs.Dumps.{faces_of, with_columns, runs_of, runs_text, runs_of_row, numbers_text}
-use Rattle.rd_dump.specs.Dumps as dumps
 use Rattle.rd_audit.specs.Cuts.{pieces}
 use Rattle.rd_audit.specs.Runs.{is_edge, fits, with_face, faced, painted_by, with_run, painted, runs_over}
 use Rattle.rd_audit.specs.declared.run.SaidFaceRun.{SaidFaceRun}
 use Rattle.rd_audit.proofs.Faces.{run_piece, piece-lacks, run-read}
-use Rattle.rd_audit.proofs.Lacking.{lacks, lacks-append, pieces-seam, pieces-one}
+use Rattle.rd_audit.proofs.Lacking.{AllLack, lacks, lacks-append, pieces-seam, pieces-one}
 use Rattle.rd_audit.proofs.Spelling.{plainly}
 
 abbrev pub Stretch : Type 0
@@ -31,8 +31,7 @@ Stretch = ℕ × Attributes
 
 -- cells of a face
 abbrev pub AreOf : Attributes → List Cell → Type 0
-AreOf face [] = Unit {0}
-AreOf face (cell ∷ cells) = (with_face face cell ≡ cell) × AreOf face cells
+AreOf face cells = AllByRecursion (λ (cell : Cell). with_face face cell ≡ cell) cells
 
 -- no character goes on at the first of these cells
 abbrev pub is_start : List Cell → Bool
@@ -110,7 +109,7 @@ spaced [] = []
 spaced (text ∷ more) = 32 ∷ (text ++ spaced more)
 
 spaced_at : (column end : ℕ) (face : Attributes) (runs : List Stretch) (t : Bool) → runs_text end runs ≡ spaced (texts end runs)
-    → (if t then [] else dumps.pieces ((32 ∷ []) ∷ decimal column ∷ (45 ∷ []) ∷ decimal (end - 1) ∷ []) ++ numbers_text face) ++ runs_text end runs
+    → (if t then [] else concat ((32 ∷ []) ∷ decimal column ∷ (45 ∷ []) ∷ decimal (end - 1) ∷ []) ++ numbers_text face) ++ runs_text end runs
     ≡ spaced (if t then texts end runs else run_piece column (end - 1) face ∷ texts end runs)
 spaced_at column end face runs true e = e
 spaced_at column end face runs false e =
@@ -120,10 +119,6 @@ spaced_at column end face runs false e =
 runs-spaced : (column : ℕ) (runs : List Stretch) → runs_text column runs ≡ spaced (texts column runs)
 runs-spaced column [] = refl
 runs-spaced column (run ∷ runs) = spaced_at column (column + run.0) run.1 runs (same_face run.1 plain) (runs-spaced (column + run.0) runs)
-
-abbrev AllLack : ℕ → List (List ℕ) → Type 0
-AllLack byte [] = Unit {0}
-AllLack byte (text ∷ more) = (lacks byte text ≡ true) × AllLack byte more
 
 texts-lack_at : (byte column end : ℕ) (face : Attributes) (more : List (List ℕ)) (t : Bool) → lacks byte (run_piece column (end - 1) face) ≡ true → AllLack byte more
     → AllLack byte (if t then more else run_piece column (end - 1) face ∷ more)
@@ -156,14 +151,6 @@ over-spaced cells [] h = refl
 over-spaced cells (text ∷ more) h = ap (painted 0 cells) (pieces-spaced text more h.0 h.1)
 
 -- ---- cells that are painted
-
-plainly-append : (front back : List Cell) → plainly (front ++ back) ≡ plainly front ++ plainly back
-plainly-append [] back = refl
-plainly-append (cell ∷ cells) back = ap (λ l. with_face plain cell ∷ l) (plainly-append cells back)
-
-pub length-plainly : (cells : List Cell) → length (plainly cells) ≡ length cells
-length-plainly [] = refl
-length-plainly (cell ∷ cells) = omega (arith, length-plainly cells)
 
 plain-alike : (front : List Cell) → AreOf plain front → plainly front ≡ front
 plain-alike [] h = refl
@@ -198,11 +185,11 @@ fits-there from n face done front back less size some start next =
     let last = length done + n - 1 in
     let a : nat_le from (length done) ≡ true = grind (arith, nat_tests) in
     let b : nat_le (length done) last ≡ true = grind (arith, nat_tests) in
-    let within : last < length cells = omega (arith, length-append done (plainly (front ++ back)), length-plainly (front ++ back), length-append front back, size, some) in
+    let within : last < length cells = omega (arith, length-append done (plainly (front ++ back)), length-map (front ++ back), length-append front back, size, some) in
     let c : nat_lt last (length cells) ≡ true = grind (arith, nat_tests) in
     let d : is_edge cells (length done) ≡ true = edge-seam done (front ++ back) start in
-    let behind : length (done ++ plainly front) ≡ last + 1 = omega (arith, length-append done (plainly front), length-plainly front, size, some) in
-    let whole : (done ++ plainly front) ++ plainly back ≡ cells = append_assoc done (plainly front) (plainly back) ∙ ap (λ l. done ++ l) (sym (plainly-append front back)) in
+    let behind : length (done ++ plainly front) ≡ last + 1 = omega (arith, length-append done (plainly front), length-map front, size, some) in
+    let whole : (done ++ plainly front) ++ plainly back ≡ cells = append_assoc done (plainly front) (plainly back) ∙ ap (λ l. done ++ l) (sym (map-append (with_face plain) front back)) in
     let e : is_edge cells (last + 1) ≡ true = sym (ap₂ is_edge whole behind) ∙ edge-seam (done ++ plainly front) back next in
     and-five (nat_le from (length done)) (nat_le (length done) last) (nat_lt last (length cells)) (is_edge cells (length done)) (is_edge cells (last + 1)) a b c d e
   where
@@ -241,7 +228,7 @@ paint-run : (from : ℕ) (done front back : List Cell) (run : Stretch) (runs : L
 paint-run from done front back run runs true e less small size some own range start next so =
     let same : plainly front ≡ front = plain-alike front (subst (λ f. AreOf f front) (face-told run.1 plain e) own) in
     let ends : length done + run.0 ≡ length (done ++ front) = omega (arith, length-append done front, size) in
-    ap (λ l. painted from (done ++ l) (texts (length done + run.0) runs)) (plainly-append front back ∙ ap (λ l. l ++ plainly back) same)
+    ap (λ l. painted from (done ++ l) (texts (length done + run.0) runs)) (map-append (with_face plain) front back ∙ ap (λ l. l ++ plainly back) same)
     ∙ ap₂ (λ l k. painted from l (texts k runs)) (sym (append_assoc done front (plainly back))) ends
     ∙ so from (omega (arith, less, length-append done front))
     ∙ ap Some (append_assoc done front back)

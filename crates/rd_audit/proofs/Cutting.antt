@@ -1,8 +1,10 @@
 -- Pieces of bytes, as the code finds them.
-use Rattle.std.proofs.Common.{◌≡◌, ◌≢◌, ◌==◌, ℕ, zero, suc, ◌<◌, Bool, true, false, if◌then◌else◌, Option, None, Some, option_map, List, [], ◌∷◌, ◌++◌, length, get_or, take, drop, refl, sym, ap, ◌∙◌, arith, Bor}
+use Rattle.std.proofs.Common.{◌≡◌, ◌≢◌, ◌==◌, ℕ, zero, suc, ◌<◌, Bool, true, false, if◌then◌else◌, Option, None, Some, option_map, List, [], ◌∷◌, ◌++◌, length, get_or, take, drop, refl, sym, ap, ◌∙◌, subst, arith, Bor}
 use Rattle.std.specs.Prelude.{MatchOption}
+use Rattle.std.proofs.lemmas.Bool.{eqb-true, eqb-false}
 use Rattle.std.proofs.lemmas.Bool.Decides.{Decides-eqb}
-use Rattle.rd_io.specs.Lines.{lines_of, in_front}
+use Rattle.rd_io.specs.Lines.{lines_of, IsUnbroken}
+use Rattle.rd_io.proofs.Cuts.{lines-whole, lines-rest, last-some}
 use Rattle.rd_audit.specs.Cuts.{stripped, cut, cut_last_or, cut_last}
 
 -- ---- a front
@@ -31,9 +33,6 @@ stripped-is f s (Some x) m = stripped-behind f s x.now m
 
 -- ---- the first of a byte
 
-abbrev cut_here : List ℕ → Option (List ℕ × List ℕ)
-cut_here bs = Some ([], bs)
-
 -- what was cut, behind these bytes
 abbrev pub behind : List ℕ → Option (List ℕ × List ℕ) → Option (List ℕ × List ℕ)
 behind front None = None
@@ -50,38 +49,22 @@ last-here byte (suc i) (b ∷ bs) less found none = ap (cut_last_or byte b bs) (
 
 -- ---- lines
 
-abbrev front_of : List ℕ → Option (List ℕ × List ℕ) → List ℕ
-front_of a None = a
-front_of a (Some parts) = parts.0
+-- bytes that have no newline, or were cut at the first one
+abbrev IsCut : List ℕ → Option (List ℕ × List ℕ) → Type 0
+IsCut bytes o = MatchOption o (IsUnbroken bytes) (λ parts. IsUnbroken parts.0 × (bytes ≡ parts.0 ++ 10 ∷ parts.1))
 
-abbrev back_of : List ℕ → Option (List ℕ × List ℕ) → List ℕ
-back_of b None = b
-back_of b (Some parts) = parts.1
+cut-by : (b : ℕ) (bs : List ℕ) (t : Bool) (o : Option (List ℕ × List ℕ)) → (b == 10) ≡ t → IsCut bs o
+    → IsCut (b ∷ bs) (if t then Some ([], bs) else option_map (λ parts. (b ∷ parts.0, parts.1)) o)
+cut-by b bs true o test h = (tt, ap (λ c. c ∷ bs) (eqb-true b 10 test))
+cut-by b bs false None test h = (eqb-false b 10 test, h)
+cut-by b bs false (Some parts) test h = ((eqb-false b 10 test, h.0), ap (λ l. b ∷ l) h.1)
 
-parts-listed : (a b f k : List ℕ) → ◌≡◌ {A = Option (List ℕ × List ℕ)} (Some (a, b)) (Some (f, k)) → a ∷ lines_of b ≡ f ∷ lines_of k
-parts-listed a b f k e =
-    ap (λ l. l ∷ lines_of b) (ap (λ x. front_of a x) e) ∙ ap (λ l. f ∷ lines_of l) (ap (λ x. back_of b x) e)
-
--- a first line stands before those of the rest
-line-cut : (b : ℕ) (bs f k : List ℕ) (t : Bool) (o : Option (List ℕ × List ℕ)) → ((f' k' : List ℕ) → o ≡ Some (f', k') → lines_of bs ≡ f' ∷ lines_of k')
-    → (if t then cut_here bs else option_map (λ parts. (b ∷ parts.0, parts.1)) o) ≡ Some (f, k)
-    → (if t then [] ∷ lines_of bs else in_front b (lines_of bs)) ≡ f ∷ lines_of k
-line-cut b bs f k true o so e = parts-listed [] bs f k e
-line-cut b bs f k false None so e = absurd (cc)
-line-cut b bs f k false (Some parts) so e = ap (in_front b) (so parts.0 parts.1 refl) ∙ parts-listed (b ∷ parts.0) parts.1 f k e
+cut-is : (bs : List ℕ) → IsCut bs (cut 10 bs)
+cut-is [] = tt
+cut-is (b ∷ bs) = cut-by b bs (b == 10) (cut 10 bs) refl (cut-is bs)
 
 pub lines-cut : (bs f k : List ℕ) → cut 10 bs ≡ Some (f, k) → lines_of bs ≡ f ∷ lines_of k
-lines-cut [] f k e = absurd (cc)
-lines-cut (b ∷ bs) f k e = line-cut b bs f k (b == 10) (cut 10 bs) (lines-cut bs) e
-
-lines-uncut_at : (b : ℕ) (bs : List ℕ) (t : Bool) (o : Option (List ℕ × List ℕ)) → (o ≡ None → 0 < length bs → lines_of bs ≡ bs ∷ [])
-    → (if t then cut_here bs else option_map (λ parts. (b ∷ parts.0, parts.1)) o) ≡ None
-    → (if t then [] ∷ lines_of bs else in_front b (lines_of bs)) ≡ (b ∷ bs) ∷ []
-lines-uncut_at b bs true o so e = absurd (cc)
-lines-uncut_at b [] false None so e = refl
-lines-uncut_at b (c ∷ bs) false None so e = ap (in_front b) (so refl (omega arith))
-lines-uncut_at b bs false (Some parts) so e = absurd (cc)
+lines-cut bs f k e = let h = subst (IsCut bs) e (cut-is bs) in ap lines_of h.1 ∙ lines-whole f k h.0
 
 pub lines-uncut : (bs : List ℕ) → cut 10 bs ≡ None → 0 < length bs → lines_of bs ≡ bs ∷ []
-lines-uncut [] e some = absurd (omega (arith, some))
-lines-uncut (b ∷ bs) e some = lines-uncut_at b bs (b == 10) (cut 10 bs) (lines-uncut bs) e
+lines-uncut bs e some = lines-rest bs (subst (IsCut bs) e (cut-is bs)) ∙ last-some bs some

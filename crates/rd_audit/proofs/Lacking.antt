@@ -1,9 +1,10 @@
 -- Bytes that lack a byte, and where they are cut by it.
-use Rattle.std.proofs.Common.{◌≡◌, ◌==◌, ℕ, zero, suc, ◌+◌, ◌/◌, ◌%◌, ◌<◌, ◌||◌, ◌&&◌, not, nat_lt, Bool, true, false, if◌then◌else◌, None, Some, option_map, decimal, List, [], ◌∷◌, ◌++◌, refl, ap, ◌∙◌, arith}
+use Rattle.std.proofs.Common.{◌≡◌, ◌==◌, ℕ, zero, suc, ◌+◌, ◌/◌, ◌%◌, ◌<◌, ◌||◌, not, nat_lt, Bool, true, false, if◌then◌else◌, None, Some, option_map, decimal, List, [], ◌∷◌, ◌++◌, refl, ap, ◌∙◌, arith}
 use Rattle.std.proofs.lemmas.Bool.{and_from, and_parts, not-true}
 use Rattle.std.proofs.lemmas.Bool.Decides.{nat_tests, Decides-eqb}
-use Rattle.std.specs.List.{All}
+use Rattle.std.specs.List.{All, AllByRecursion, list_all}
 use Rattle.std.proofs.lemmas.List.Elements.{All-cons, All-nil}
+use Rattle.std.proofs.lemmas.List.Folds.{list_all-append}
 use Rattle.std.proofs.lemmas.List.Splits.{slice_split_at, slice_split_none}
 use Rattle.std.specs.Fmt.{digits, digits_onto, digit_glyph}
 use Rattle.rd_io.specs.Lines.{lines_of}
@@ -12,14 +13,14 @@ use Rattle.rd_audit.proofs.Cutting.{lines-cut}
 
 -- whether bytes do not have a byte
 abbrev pub lacks : ℕ → List ℕ → Bool
-lacks byte [] = true
-lacks byte (b ∷ bs) = not (b == byte) && lacks byte bs
+lacks byte bytes = list_all (λ (b : ℕ). not (b == byte)) bytes
 
 pub lacks-append : (byte : ℕ) (front back : List ℕ) → lacks byte front ≡ true → lacks byte back ≡ true → lacks byte (front ++ back) ≡ true
-lacks-append byte [] back p q = q
-lacks-append byte (b ∷ bs) back p q =
-    let h = and_parts (not (b == byte)) (lacks byte bs) p in
-    and_from (not (b == byte)) (lacks byte (bs ++ back)) h.0 (lacks-append byte bs back h.1 q)
+lacks-append byte front back p q = list_all-append (λ (b : ℕ). not (b == byte)) front back ∙ rw (p, q) refl
+
+-- whether none of these texts has it
+abbrev pub AllLack : ℕ → List (List ℕ) → Type 0
+AllLack byte texts = AllByRecursion (λ (text : List ℕ). lacks byte text ≡ true) texts
 
 -- ---- numbers
 

@@ -1,18 +1,17 @@
 -- The lines of a dump.
 use Rattle.std.proofs.Common.{◌≡◌, ℕ, ◌+◌, true, Option, None, Some, decimal, codes, List, [], ◌∷◌, ◌++◌, map, refl, sym, ap, ◌∙◌, append_assoc}
 use Rattle.std.specs.Prelude.{All}
-use Rattle.std.specs.List.{AllByRecursion}
+use Rattle.std.specs.List.{AllByRecursion, concat}
 use Rattle.std.proofs.lemmas.List.Elements.{All-head, All-tail}
 use Rattle.rd_base.specs.Glyphs.{IsRowAfter}
 use Rattle.rd_base.specs.declared.cell.Cell.{Cell}
 use Rattle.rd_io.specs.Lines.{lines_of}
 use Rattle.rd_term.specs.Pictures.{Picture}
 use Rattle.rd_dump.specs.Dumps.{place_text, window_line, windows_text, cells_text, runs_of_row, row_line, rows_text, cursor_line}
-use Rattle.rd_dump.specs.Dumps as dumps
 use Rattle.rd_dump.specs.declared.dump.WindowFacts.{WindowFacts}
 use Rattle.rd_audit.proofs.Covering.{runs-lack}
 use Rattle.rd_audit.proofs.Faces.{piece-lacks}
-use Rattle.rd_audit.proofs.Lacking.{lacks, lacks-append, lacks-decimal, lines-seam}
+use Rattle.rd_audit.proofs.Lacking.{AllLack, lacks, lacks-append, lacks-decimal, lines-seam}
 use Rattle.rd_audit.proofs.Spelling.{text-lacks}
 
 -- bytes that are one line and its newline
@@ -46,22 +45,17 @@ place-line (Some place) = record {
 
 -- ---- windows
 
--- pieces of which none has a newline
-abbrev AreUnbroken : List (List ℕ) → Type 0
-AreUnbroken [] = Unit {0}
-AreUnbroken (text ∷ texts) = (lacks 10 text ≡ true) × AreUnbroken texts
-
-pieces-unbroken : (texts : List (List ℕ)) → AreUnbroken texts → lacks 10 (dumps.pieces texts) ≡ true
+pieces-unbroken : (texts : List (List ℕ)) → AllLack 10 texts → lacks 10 (concat texts) ≡ true
 pieces-unbroken [] h = refl
-pieces-unbroken (text ∷ texts) h = lacks-append 10 text (dumps.pieces texts) h.0 (pieces-unbroken texts h.1)
+pieces-unbroken (text ∷ texts) h = lacks-append 10 text (concat texts) h.0 (pieces-unbroken texts h.1)
 
 -- numbers, each behind a label, before other pieces
 abbrev labelled : List (List ℕ × ℕ) → List (List ℕ) → List (List ℕ)
 labelled [] texts = texts
 labelled (number ∷ numbers) texts = number.0 ∷ decimal number.1 ∷ labelled numbers texts
 
-labelled-unbroken : (numbers : List (List ℕ × ℕ)) (texts : List (List ℕ)) → AllByRecursion (λ (number : List ℕ × ℕ). lacks 10 number.0 ≡ true) numbers → AreUnbroken texts
-    → AreUnbroken (labelled numbers texts)
+labelled-unbroken : (numbers : List (List ℕ × ℕ)) (texts : List (List ℕ)) → AllByRecursion (λ (number : List ℕ × ℕ). lacks 10 number.0 ≡ true) numbers → AllLack 10 texts
+    → AllLack 10 (labelled numbers texts)
 labelled-unbroken [] texts labels h = h
 labelled-unbroken (number ∷ numbers) texts labels h = (labels.0, (lacks-decimal 10 number.1 refl, labelled-unbroken numbers texts labels.1 h))
 
@@ -79,18 +73,18 @@ abbrev window_head : WindowFacts → List (List ℕ)
 window_head w = labelled (window_numbers w) (codes " cursor " ∷ [])
 
 abbrev pub window_body : WindowFacts → List ℕ
-window_body w = dumps.pieces (window_head w) ++ place_body w.cursor
+window_body w = concat (window_head w) ++ place_body w.cursor
 
 pub window-line : (w : WindowFacts) → IsLine (window_line w) (window_body w)
 window-line w =
     let labels : AllByRecursion (λ (number : List ℕ × ℕ). lacks 10 number.0 ≡ true) (window_numbers w) = (refl, (refl, (refl, (refl, (refl, (refl, (refl, (refl, tt)))))))) in
     let numbers = labelled-unbroken (window_numbers w) (codes " cursor " ∷ []) labels (refl, tt) in
-    line-behind (dumps.pieces (window_head w)) (place_text w.cursor) (place_body w.cursor) (pieces-unbroken (window_head w) numbers) (place-line w.cursor)
+    line-behind (concat (window_head w)) (place_text w.cursor) (place_body w.cursor) (pieces-unbroken (window_head w) numbers) (place-line w.cursor)
 
 -- ---- rows and the cursor
 
 abbrev pub row_front : ℕ → List ℕ
-row_front row = dumps.pieces (codes "row " ∷ decimal row ∷ codes " |" ∷ [])
+row_front row = concat (codes "row " ∷ decimal row ∷ codes " |" ∷ [])
 
 abbrev pub row_body : ℕ → List Cell → List ℕ
 row_body row cells = row_front row ++ (cells_text cells ++ 124 ∷ runs_of_row cells)

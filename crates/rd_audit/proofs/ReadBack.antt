@@ -3,18 +3,19 @@ use Rattle.std.proofs.Common.{◌≡◌, ◌==◌, ℕ, ◌+◌, ◌<◌, ◌≤
 use Rattle.std.specs.Prelude.{All}
 use Rattle.std.proofs.lemmas.Bool.Decides.{nat_tests, Decides-eqb}
 use Rattle.std.proofs.lemmas.List.Elements.{All-head, All-tail}
-use Rattle.std.specs.Option.{option_or}
+use Rattle.std.specs.List.{onto_first}
+use Rattle.std.specs.Option.{option_or, option_zip}
 use Rattle.rd_base.specs.Cells.{IsColoured, AreColoured}
 use Rattle.rd_base.specs.Glyphs.{IsRowAfter}
 use Rattle.rd_base.specs.declared.cell.Cell.{Cell}
-use Rattle.rd_io.specs.Lines.{lines_of, in_front}
+use Rattle.rd_io.specs.Lines.{lines_of}
 use Rattle.rd_term.specs.Pictures.{Picture, IsGrid, width_of}
 use Rattle.rd_dump.specs.Dumps.{cells_text, runs_of_row, windows_text, rows_text, cursor_line, dump_text}
 use Rattle.rd_dump.specs.declared.dump.WindowFacts.{WindowFacts}
 use Rattle.rd_base.proofs.Choices.{either}
 use Rattle.rd_audit.specs.Cuts.{stripped, cut_last}
 use Rattle.rd_audit.specs.Dumps.{last_group, ended_by, picture_from, picture_of, dump_in}
-use Rattle.rd_audit.specs.Numbers.{number_of, both}
+use Rattle.rd_audit.specs.Numbers.{number_of}
 use Rattle.rd_audit.specs.Printed.{HasDump, HasNoCursor}
 use Rattle.rd_audit.specs.Rows.{is_row, is_cursor, row_text, row_cells, is_as_wide, next_row, place_in, cursor_place}
 use Rattle.rd_audit.specs.Runs.{runs_over}
@@ -89,8 +90,8 @@ rows-read width (cells ∷ rows) done number last whole h colours grid few narro
 
 place-read : (picture : Picture) → picture.row < 1000 → picture.column < 1000 → place_in (cursor_body picture) ≡ Some (picture.row, picture.column)
 place-read picture p q =
-    ap (option_and_then (λ (parts : List ℕ × List ℕ). both (number_of parts.0) (number_of parts.1))) (cut-seam 44 (decimal picture.row) (decimal picture.column) (lacks-decimal 44 picture.row refl))
-    ∙ ap₂ both (number-read picture.row p) (number-read picture.column q)
+    ap (option_and_then (λ (parts : List ℕ × List ℕ). option_zip (number_of parts.0) (number_of parts.1))) (cut-seam 44 (decimal picture.row) (decimal picture.column) (lacks-decimal 44 picture.row refl))
+    ∙ ap₂ option_zip (number-read picture.row p) (number-read picture.column q)
 
 cursor-read : (picture : Picture) → HasDump picture → cursor_place picture.rows (cursor_body picture) ≡ Some (picture.row, picture.column)
 cursor-read picture h =
@@ -182,9 +183,9 @@ IsCutAt front = (first : List ℕ) × (more : List (List ℕ)) × ((rest : List 
 
 cut-at_by : (b : ℕ) (bs : List ℕ) (t : Bool) → IsCutAt bs
     → (first : List ℕ) × (more : List (List ℕ))
-    × ((rest : List ℕ) → (if t then [] ∷ lines_of (bs ++ 10 ∷ rest) else in_front b (lines_of (bs ++ 10 ∷ rest))) ≡ first ∷ (more ++ lines_of rest))
+    × ((rest : List ℕ) → (if t then [] ∷ lines_of (bs ++ 10 ∷ rest) else onto_first b (lines_of (bs ++ 10 ∷ rest))) ≡ first ∷ (more ++ lines_of rest))
 cut-at_by b bs true h = ([], h.0 ∷ h.1, λ rest. ap (λ l. [] ∷ l) (h.2 rest))
-cut-at_by b bs false h = (b ∷ h.0, h.1, λ rest. ap (in_front b) (h.2 rest))
+cut-at_by b bs false h = (b ∷ h.0, h.1, λ rest. ap (onto_first b) (h.2 rest))
 
 cut-at : (front : List ℕ) → IsCutAt front
 cut-at [] = ([], [], λ rest. refl)

@@ -1,7 +1,7 @@
 -- The text of a row, read back.
-use Rattle.std.proofs.Common.{◌≡◌, ◌==◌, ℕ, zero, suc, ◌+◌, ◌-◌, ◌/◌, ◌%◌, ◌<◌, ◌≤◌, nat_lt, true, false, if◌then◌else◌, Option, None, Some, option_and_then, option_map, List, [], ◌∷◌, ◌++◌, length, take, drop, get_or, replicate, inl, inr, refl, sym, ap, ap₂, ◌∙◌, arith, append_assoc, append-nil, length-append, length-take}
+use Rattle.std.proofs.Common.{◌≡◌, ◌==◌, ℕ, zero, suc, ◌+◌, ◌-◌, ◌/◌, ◌%◌, ◌<◌, ◌≤◌, nat_lt, true, false, if◌then◌else◌, Option, None, Some, option_and_then, option_map, List, [], ◌∷◌, ◌++◌, length, map, take, drop, get_or, replicate, inl, inr, refl, sym, ap, ap₂, ◌∙◌, arith, append_assoc, append-nil, length-append, length-take}
 use Rattle.std.specs.Char.{encode_utf8}
-use Rattle.std.specs.List.{flat_map}
+use Rattle.std.specs.List.{AllByRecursion, flat_map}
 use Rattle.std.specs.Str.{all_scalars, encode_utf8_all, chars}
 use Rattle.std.proofs.lemmas.Bool.{cases_lt, cond-true}
 use Rattle.std.proofs.lemmas.Bool.Decides.{nat_tests}
@@ -9,6 +9,7 @@ use Rattle.std.proofs.lemmas.Str.{chars-encodes, is_utf8-from_IsUtf8}
 use Rattle.std.proofs.Math.Seq.{set-append_seam}
 use Rattle.std.proofs.lemmas.List.{replicate-append-replicate, take-append-drop, length-replicate}
 use Rattle.unicode_width.specs.Width.{char_width}
+use Rattle.rd_base.proofs.Lists.{each-append}
 use Rattle.rd_base.proofs.Rows.{spare-marks}
 use Rattle.rd_base.specs.Cells.{single, with_mark}
 use Rattle.rd_base.specs.Chars.{is_scalar, encoded, columns_of}
@@ -36,8 +37,7 @@ codes_of (Rest ∷ cells) = codes_of cells
 
 -- cells in the plain face
 abbrev pub plainly : List Cell → List Cell
-plainly [] = []
-plainly (cell ∷ cells) = with_face plain cell ∷ plainly cells
+plainly cells = map (with_face plain) cells
 
 -- ---- characters and their bytes
 
@@ -46,12 +46,7 @@ abbrev pub IsShown : ℕ → Type 0
 IsShown code = (is_scalar code ≡ true) × ((width : ℕ) × (columns_of code ≡ Some width))
 
 abbrev pub AreShown : List ℕ → Type 0
-AreShown [] = Unit {0}
-AreShown (code ∷ codes) = IsShown code × AreShown codes
-
-shown-append : (front back : List ℕ) → AreShown front → AreShown back → AreShown (front ++ back)
-shown-append [] back p q = q
-shown-append (code ∷ codes) back p q = (p.0, shown-append codes back p.1 q)
+AreShown codes = AllByRecursion IsShown codes
 
 encodes-append : (front back : List ℕ) → encode_utf8_all (front ++ back) ≡ encode_utf8_all front ++ encode_utf8_all back
 encodes-append [] back = refl
@@ -105,8 +100,7 @@ encodes-lack (code ∷ codes) h =
 
 -- characters of no column
 abbrev pub AreMarks : List ℕ → Type 0
-AreMarks [] = Unit {0}
-AreMarks (mark ∷ marks) = ((is_scalar mark ≡ true) × (columns_of mark ≡ Some 0)) × AreMarks marks
+AreMarks marks = AllByRecursion (λ (mark : ℕ). (is_scalar mark ≡ true) × (columns_of mark ≡ Some 0)) marks
 
 are-marks : (n : ℕ) (marks : List ℕ) → n ≤ length marks
     → ((k : ℕ) → k < n → (is_scalar (get_or marks k 0) ≡ true) × (columns_of (get_or marks k 0) ≡ Some 0)) → AreMarks (take n marks)
@@ -126,7 +120,7 @@ row-shown zero [] h = tt
 row-shown zero (Blank f ∷ cells) h = ((refl, (1, space-columns)), row-shown zero cells h)
 row-shown zero (First g f ∷ cells) h = (
   (h.0.measured.scalar, (g.width, base-columns g h.0.measured)),
-  shown-append (marks_of g) (codes_of cells) (marks-shown (marks_of g) (marks-are g h.0.measured)) (row-shown (g.width - 1) cells h.1),
+  each-append IsShown (marks_of g) (codes_of cells) (marks-shown (marks_of g) (marks-are g h.0.measured)) (row-shown (g.width - 1) cells h.1),
 )
 row-shown zero (Rest ∷ cells) h = absurd h
 row-shown (suc due) [] h = absurd h

@@ -4,19 +4,15 @@ use Rattle.rd_io.specs.Lines.{text_of_lines}
 use Rattle.rd_run.specs.Alike.{End}
 use Rattle.rd_run.specs.Ends.{drawn, lines_in, sunk}
 use Rattle.rd_run.specs.Given.{Given}
-use Rattle.rd_run.specs.Runs.{Input, Mode}
+use Rattle.rd_run.specs.Runs.{Input, Mode, input_of}
 use Rattle.rd_run.specs.declared.status.Status.TheVariants.{Done}
-
--- a line whose redisplay, if it is one, finds memory
-abbrev pub fed : List ℕ → Input
-fed line = record { line = line; starved = false }
 
 -- a frame, two letters, and a redisplay
 abbrev pub before_redisplay : List Input
-before_redisplay = fed (codes "{\"op\":\"frame\",\"width\":12,\"height\":2}") ∷ fed (codes "{\"op\":\"type\",\"text\":\"ab\"}") ∷ []
+before_redisplay = input_of (codes "{\"op\":\"frame\",\"width\":12,\"height\":2}") false ∷ input_of (codes "{\"op\":\"type\",\"text\":\"ab\"}") false ∷ []
 
 abbrev pub redisplay : Input
-redisplay = fed (codes "{\"op\":\"redisplay\"}")
+redisplay = input_of (codes "{\"op\":\"redisplay\"}") false
 
 abbrev pub short_inputs : List Input
 short_inputs = before_redisplay ++ redisplay ∷ []

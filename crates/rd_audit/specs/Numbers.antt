@@ -21,8 +21,3 @@ number_of (a ∷ []) = digit a
 number_of (a ∷ b ∷ []) = longer (lead a) (digit b)
 number_of (a ∷ b ∷ c ∷ []) = longer (longer (lead a) (digit b)) (digit c)
 number_of bytes = None
-
--- two numbers, where there are both
-abbrev pub both : Option ℕ → Option ℕ → Option (ℕ × ℕ)
-both (Some m) (Some n) = Some (m, n)
-both m n = None

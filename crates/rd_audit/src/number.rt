@@ -1,6 +1,6 @@
 //! Numbers in decimal.
 ghost use Rattle.std.specs.Prelude.{◌≡◌, ◌<◌, IfSome};
-ghost use Rattle.rd_audit.specs.Numbers.{digit, lead, longer, number_of, both};
+ghost use Rattle.rd_audit.specs.Numbers.{digit, lead, longer, number_of};
 
 /// The number that bytes say in decimal, without leading zeros; None also for one of more than three digits.
 pub fn number_of(bytes: &[u8]) -> Option<u32>
@@ -45,16 +45,6 @@ fn longer(number: Option<u32>, digit: Option<u32>) -> Option<u32>
 {
     match (number, digit) {
         (Some(n), Some(d)) => Some(10 * n + d),
-        _ => None,
-    }
-}
-
-/// Two numbers, where there are both.
-pub fn both(first: Option<u32>, second: Option<u32>) -> Option<(u32, u32)>
-    ensures { result ≡ both first second }
-{
-    match (first, second) {
-        (Some(m), Some(n)) => Some((m, n)),
         _ => None,
     }
 }

@@ -3,7 +3,7 @@ ghost use Rattle.std.specs.Prelude.{◌≡◌, ◌≤◌, IfOk, IfSome, length, 
 ghost use Rattle.rd_audit.specs.Rows.{is_row, is_cursor, row_text, row_cells, is_as_wide, next_row, place_in, cursor_place};
 
 use crate::cuts::{begins_with, cut, cut_last, stripped};
-use crate::number::{both, number_of};
+use crate::number::number_of;
 use crate::run::runs_over;
 use crate::text::text_cells;
 use itoa::Buffer;
@@ -102,5 +102,5 @@ fn place_in(line: &[u8]) -> Option<(u32, u32)>
 {
     let place = stripped(b"cursor ", line)?;
     let (row, column) = cut(b',', place)?;
-    both(number_of(row), number_of(column))
+    number_of(row).zip(number_of(column))
 }

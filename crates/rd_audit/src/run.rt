@@ -5,7 +5,7 @@ ghost use Rattle.rd_audit.specs.Cuts.{pieces};
 ghost use Rattle.rd_audit.specs.Runs.{painted, place_of, comes_behind, with_number, face_of, span_of, run_of, is_edge, fits, with_face, painted_by, with_run, runs_over};
 
 use crate::cuts::cut;
-use crate::number::{both, number_of};
+use crate::number::number_of;
 use rd_base::{Cell, Face, ListOf};
 use rd_term::{dressed, is_rendition};
 
@@ -73,7 +73,7 @@ fn span_of(text: &[u8]) -> Option<(u32, u32)>
     ensures bound { IfSome result (λ span. span.1 < 1000) }
 {
     let (first, last) = cut(b'-', text)?;
-    both(number_of(first), number_of(last))
+    number_of(first).zip(number_of(last))
 }
 
 /// The face of its numbers between semicolons.

@@ -6,7 +6,7 @@ use Rattle.rd_base.specs.Faces.{Attributes, plain}
 use Rattle.rd_base.specs.Equals.{same_face}
 use Rattle.rd_base.proofs.Equals.{face-told, face-itself}
 use Rattle.rd_base.proofs.Lists.{drop-read}
-use Rattle.rd_dump.specs.Dumps.{with_columns, runs_of, run_text, runs_text, ended_text, faces_of, pieces, numbers_text, number_text, numbers_behind, rows_text, row_line}
+use Rattle.rd_dump.specs.Dumps.{with_columns, runs_of, run_text, runs_text, ended_text, faces_of, numbers_text, number_text, numbers_behind, rows_text, row_line}
 use Rattle.std.specs.Result.{IsErr}
 use Rattle.rd_base.specs.Cells.{face_after}
 use Rattle.rd_dump.specs.Prints.{Prints}
@@ -100,7 +100,7 @@ open-step first column first' face next face' cells p q =
     ∙ ap (λ f. ended_text first column face next ++ open_text first' (column + 1) f (faces_of f cells)) (sym q)
 
 pub run_text-shown : (first end : ℕ) (face : Attributes) → same_face face plain ≡ false
-    → pieces (codes " " ∷ decimal first ∷ codes "-" ∷ decimal (end - 1) ∷ []) ++ numbers_text face ≡ run_text first end face
+    → concat (codes " " ∷ decimal first ∷ codes "-" ∷ decimal (end - 1) ∷ []) ++ numbers_text face ≡ run_text first end face
 run_text-shown first end face e = sym (cond-false (same_face face plain) [] _ e)
 
 -- what is left of a row, by its next cell
@@ -124,9 +124,9 @@ rows-step rows i less = ap (rows_text i) (drop_more rows i [] less)
 
 -- a run's text, where the last column is told by an equation
 pub run_text-last : (first end last : ℕ) (face : Attributes) → same_face face plain ≡ false → last ≡ end - 1
-    → pieces (codes " " ∷ decimal first ∷ codes "-" ∷ decimal last ∷ []) ++ numbers_text face ≡ run_text first end face
+    → concat (codes " " ∷ decimal first ∷ codes "-" ∷ decimal last ∷ []) ++ numbers_text face ≡ run_text first end face
 run_text-last first end last face shown is =
-    ap (λ n. pieces (codes " " ∷ decimal first ∷ codes "-" ∷ decimal n ∷ []) ++ numbers_text face) is ∙ run_text-shown first end face shown
+    ap (λ n. concat (codes " " ∷ decimal first ∷ codes "-" ∷ decimal n ∷ []) ++ numbers_text face) is ∙ run_text-shown first end face shown
 
 -- the next number failed
 pub numbers-failed : {U F : Type 0} (a b c : Option (List ℕ)) (f g h : ℕ) (all : List ℕ) (any : Bool) (i : ℕ) (number : Option ℕ) (numbers : List (Option ℕ)) (s : Result U F)

@@ -1,7 +1,7 @@
 -- The text of a dump.
 use Rattle.std.specs.Prelude.{ℕ, ◌+◌, ◌-◌, ◌||◌, Bool, false, if◌then◌else◌, List, [], ◌∷◌, ◌++◌, Option, None, Some, is_some, codes}
 use Rattle.std.specs.Fmt.{decimal}
-use Rattle.std.specs.List.{flat_map}
+use Rattle.std.specs.List.{concat, flat_map}
 use Rattle.rd_base.specs.Cells.{face_after}
 use Rattle.rd_base.specs.Equals.{same_face}
 use Rattle.rd_base.specs.Faces.{Attributes, plain}
@@ -28,21 +28,16 @@ token_text (Number n) = decimal n
 abbrev pub tokens_text : List Token → List ℕ
 tokens_text tokens = flat_map token_text tokens
 
--- pieces of a text, one after the other
-abbrev pub pieces : List (List ℕ) → List ℕ
-pieces [] = []
-pieces (text ∷ texts) = text ++ pieces texts
-
 -- ---- windows
 
 -- a cursor's row and column, to the end of the line
 abbrev pub place_text : Option (ℕ × ℕ) → List ℕ
 place_text None = codes "none\n"
-place_text (Some place) = pieces (decimal place.0 ∷ codes "," ∷ decimal place.1 ∷ newline ∷ [])
+place_text (Some place) = concat (decimal place.0 ∷ codes "," ∷ decimal place.1 ∷ newline ∷ [])
 
 -- a window: its number, its place and size, its start, its point and its cursor
 abbrev pub window_line : WindowFacts → List ℕ
-window_line w = pieces (
+window_line w = concat (
     codes "window " ∷ decimal w.window
     ∷ codes " at " ∷ decimal w.rect.y ∷ codes "," ∷ decimal w.rect.x
     ∷ codes " size " ∷ decimal w.rect.width ∷ codes "x" ∷ decimal w.rect.height
@@ -86,7 +81,7 @@ runs_of (face ∷ faces) = with_columns 1 face (runs_of faces)
 -- a number, behind `;` where there are others before it and else behind `:`
 abbrev pub number_text : Bool → Option ℕ → List ℕ
 number_text any None = []
-number_text any (Some n) = pieces ((if any then codes ";" else codes ":") ∷ decimal n ∷ [])
+number_text any (Some n) = concat ((if any then codes ";" else codes ":") ∷ decimal n ∷ [])
 
 abbrev pub numbers_behind : Bool → List (Option ℕ) → List ℕ
 numbers_behind any [] = []
@@ -98,7 +93,7 @@ numbers_text f = numbers_behind false (numbers_of_face f)
 
 -- a run from a column up to one that it does not hold, by its first and last column; a plain one has no text
 abbrev pub run_text : ℕ → ℕ → Attributes → List ℕ
-run_text first end face = if same_face face plain then [] else pieces (codes " " ∷ decimal first ∷ codes "-" ∷ decimal (end - 1) ∷ []) ++ numbers_text face
+run_text first end face = if same_face face plain then [] else concat (codes " " ∷ decimal first ∷ codes "-" ∷ decimal (end - 1) ∷ []) ++ numbers_text face
 
 -- the text of a run that ends where the next column has another face
 abbrev pub ended_text : ℕ → ℕ → Attributes → Attributes → List ℕ
@@ -116,7 +111,7 @@ runs_of_row cells = runs_text 0 (runs_of (faces_of plain cells))
 
 -- a row: its text between two bytes `|`, and its runs that are not plain
 abbrev pub row_line : ℕ → List Cell → List ℕ
-row_line row cells = pieces (codes "row " ∷ decimal row ∷ codes " |" ∷ []) ++ cells_text cells ++ codes "|" ++ runs_of_row cells ++ newline
+row_line row cells = concat (codes "row " ∷ decimal row ∷ codes " |" ∷ []) ++ cells_text cells ++ codes "|" ++ runs_of_row cells ++ newline
 
 -- rows, of which the first has this number
 abbrev pub rows_text : ℕ → List (List Cell) → List ℕ

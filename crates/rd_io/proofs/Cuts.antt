@@ -1,5 +1,5 @@
 -- Texts without a newline, and the lines of a text.
-use Rattle.std.proofs.Common.{◌≡◌, ◌≢◌, ℕ, suc, ◌+◌, ◌==◌, Bool, true, false, cond, List, [], ◌∷◌, ◌++◌, take, drop, Option, None, Some, refl, sym, ap, ◌∙◌, subst, append_assoc, arith, add-one, MatchOption}
+use Rattle.std.proofs.Common.{◌≡◌, ◌≢◌, ℕ, suc, ◌+◌, ◌<◌, ◌==◌, Bool, true, false, cond, List, [], ◌∷◌, ◌++◌, length, take, drop, Option, None, Some, refl, sym, ap, ◌∙◌, subst, append_assoc, arith, add-one, MatchOption}
 use Rattle.std.specs.List.{AllByRecursion, position_from}
 use Rattle.std.specs.Prelude.{position}
 use Rattle.std.proofs.lemmas.Bool.{eqb-true, eqb-false, ne_eqb}
@@ -55,6 +55,10 @@ pub lines-rest : (rest : List ℕ) → IsUnbroken rest → lines_of rest ≡ las
 lines-rest [] p = refl
 lines-rest (b ∷ []) p = rw (ne_eqb b 10 p.0) refl
 lines-rest (b ∷ c ∷ cs) p = rw (ne_eqb b 10 p.0, lines-rest (c ∷ cs) p.1) refl
+
+pub last-some : (line : List ℕ) → 0 < length line → last_of line ≡ line ∷ []
+last-some [] p = absurd (omega arith)
+last-some (b ∷ bs) p = refl
 
 pub lines-behind : (lines : List (List ℕ)) (rest : List ℕ) → AllByRecursion IsUnbroken lines → lines_of (text_of_lines lines ++ rest) ≡ lines ++ lines_of rest
 lines-behind [] rest p = refl

@@ -1,20 +1,15 @@
 -- The lines of a text, and what a reader of lines answers.
 use Rattle.std.specs.Prelude.{◌≡◌, ◌≢◌, ℕ, ◌+◌, ◌<◌, ◌≤◌, ◌⊎◌, ◌==◌, Bool, true, false, List, [], ◌∷◌, ◌++◌, length, take, if◌then◌else◌, Option, None, Some, Result, Ok, Err, flat_map}
-use Rattle.std.specs.List.{AllByRecursion}
+use Rattle.std.specs.List.{AllByRecursion, onto_first}
 use Rattle.std.specs.Io.KnownBytes.{IsAtEnd}
 use Rattle.rd_base.specs.declared.limits.TheConstants.{LINE_BYTES, LINES}
 use Rattle.rd_io.specs.declared.lines.LineFault.{LineFault}
 use Rattle.rd_io.specs.declared.lines.LineFault.TheVariants.{Failed, TooLong, TooMany, Memory}
 
--- a byte in front of the first line
-abbrev pub in_front : ℕ → List (List ℕ) → List (List ℕ)
-in_front b [] = (b ∷ []) ∷ []
-in_front b (line ∷ lines) = (b ∷ line) ∷ lines
-
 -- the lines of a text: it is cut at each newline, byte 10, and what follows the last one is a line where it is not empty
 abbrev pub lines_of : List ℕ → List (List ℕ)
 lines_of [] = []
-lines_of (b ∷ bs) = if b == 10 then [] ∷ lines_of bs else in_front b (lines_of bs)
+lines_of (b ∷ bs) = if b == 10 then [] ∷ lines_of bs else onto_first b (lines_of bs)
 
 -- no byte is a newline
 abbrev pub IsUnbroken : List ℕ → Type 0

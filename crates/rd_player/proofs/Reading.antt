@@ -6,9 +6,9 @@ use Rattle.std.proofs.KnownBytes.{Consumes-nil, Consumes-trans}
 use Rattle.std.proofs.lemmas.Bool.{both_ways, false_from_ne_true}
 use Rattle.std.proofs.lemmas.List.{length_push}
 use Rattle.rd_base.proofs.Lists.{each-append}
-use Rattle.rd_io.specs.Lines.{Reading, Answers, IsLine, Gives, GivesNone, IsUnbroken, lines_of, text_of_lines, last_of, unread}
+use Rattle.rd_io.specs.Lines.{Reading, Answers, IsLine, Gives, GivesNone, IsUnbroken, lines_of, text_of_lines, unread}
 use Rattle.rd_io.specs.declared.lines.LineFault.{LineFault}
-use Rattle.rd_io.proofs.Cuts.{lines-text_of_lines}
+use Rattle.rd_io.proofs.Cuts.{last-some, lines-text_of_lines}
 use Rattle.rd_run.specs.Ends.{AreFirst, AreInLimits}
 
 pub record HasRead (lines : List (List ℕ)) (bytes : List ℕ) (l0 l1 : Option (List ℕ)) (r : Reading) : Type 0 where
@@ -33,10 +33,6 @@ text_of_lines-push : (lines : List (List ℕ)) (line rest : List ℕ) → text_o
 text_of_lines-push [] line rest = simp append_assoc
 text_of_lines-push (l ∷ ls) line rest =
     append_assoc (l ++ 10 ∷ []) (text_of_lines (ls ++ line ∷ [])) rest ∙ ap (λ x. (l ++ 10 ∷ []) ++ x) (text_of_lines-push ls line rest) ∙ sym (append_assoc (l ++ 10 ∷ []) (text_of_lines ls) (line ++ 10 ∷ rest))
-
-last-some : (line : List ℕ) → 0 < length line → last_of line ≡ line ∷ []
-last-some [] p = absurd (omega arith)
-last-some (b ∷ bs) p = refl
 
 -- the bytes that came behind the lines so far
 pub come : (lines : List (List ℕ)) (bytes held more : List ℕ) → bytes ≡ text_of_lines lines ++ held → bytes ++ more ≡ text_of_lines lines ++ (held ++ more)

@@ -1,9 +1,10 @@
 -- The lines of a script, by the bytes of it that were taken.
 use Rattle.std.proofs.Common.{◌≡◌, ℕ, zero, suc, ◌<◌, ◌≤◌, inl, inr, ◌==◌, Bool, true, false, if◌then◌else◌, List, [], ◌∷◌, ◌++◌, length, take, Option, None, Some, refl, sym, ap, ◌∙◌, subst, append_assoc, append-nil, arith, length-append}
 use Rattle.std.proofs.lemmas.List.{take-append-le}
+use Rattle.std.specs.List.{onto_first}
 use Rattle.std.specs.Io.KnownBytes.{Consumes, IsAtEnd}
 use Rattle.std.proofs.lemmas.Bool.{ne_eqb}
-use Rattle.rd_io.specs.Lines.{lines_of, in_front, text_of_lines, IsUnbroken}
+use Rattle.rd_io.specs.Lines.{lines_of, text_of_lines, IsUnbroken}
 use Rattle.rd_io.proofs.Cuts.{lines-behind}
 use Rattle.rd_run.specs.Ends.{Begins, AreFirst}
 
@@ -16,12 +17,12 @@ pub record HasFirst (n : ℕ) (lines : List (List ℕ)) : Type 0 where
   pub split : lines ≡ line ∷ others
   pub long : n ≤ length line
 
-longer : (n b : ℕ) (lines : List (List ℕ)) → HasFirst n lines → HasFirst (suc n) (in_front b lines)
+longer : (n b : ℕ) (lines : List (List ℕ)) → HasFirst n lines → HasFirst (suc n) (onto_first b lines)
 longer n b lines h =
     let long : suc n ≤ length (b ∷ h.line) = let k = h.long in omega arith in
-    record { line = b ∷ h.line; others = h.others; split = ap (in_front b) h.split; long = long }
+    record { line = b ∷ h.line; others = h.others; split = ap (onto_first b) h.split; long = long }
 
-alone : (b : ℕ) (lines : List (List ℕ)) → HasFirst 1 (in_front b lines)
+alone : (b : ℕ) (lines : List (List ℕ)) → HasFirst 1 (onto_first b lines)
 alone b [] = record { line = b ∷ []; others = []; split = refl; long = omega arith }
 alone b (line ∷ lines) = record { line = b ∷ line; others = lines; split = refl; long = omega arith }
 
@@ -34,7 +35,7 @@ first-long (suc n) (b ∷ bs) p h =
     rw (ne_eqb b 10 h.0) (longer (suc n) b (lines_of bs) (first-long n bs within h.1))
 
 -- a text that is not empty has a line
-some-if : (c : Bool) (b : ℕ) (lines : List (List ℕ)) → 0 < length (if c then [] ∷ lines else in_front b lines)
+some-if : (c : Bool) (b : ℕ) (lines : List (List ℕ)) → 0 < length (if c then [] ∷ lines else onto_first b lines)
 some-if true b lines = omega arith
 some-if false b [] = omega arith
 some-if false b (line ∷ lines) = omega arith

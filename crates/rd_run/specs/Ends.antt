@@ -11,7 +11,7 @@ use Rattle.rd_state.specs.Windows.{selected_window}
 use Rattle.rd_layout.specs.Sessions.{length_of}
 use Rattle.rd_run.specs.Given.{Given, IsMode, IsBadData, FileFailed}
 use Rattle.rd_run.specs.Reports.{last_line, summary_lines}
-use Rattle.rd_run.specs.Runs.{Mode, Standing, Input, opened, effect, run, outcome_at, is_sent, ShowsEach}
+use Rattle.rd_run.specs.Runs.{Mode, Standing, Input, input_of, opened, effect, run, outcome_at, is_sent, ShowsEach}
 use Rattle.rd_run.specs.declared.status.ScriptFault.{ScriptFault}
 use Rattle.rd_run.specs.declared.status.ScriptFault.TheVariants.{TooLong, TooMany}
 use Rattle.rd_run.specs.declared.status.Status.{Status}
@@ -191,7 +191,7 @@ pub record IsInHand (given : Given) (mode : Mode) (inputs : List Input) (line by
   pub begun : IsMode given mode
   pub ran : Ran mode inputs
   pub lines : AreScript mode.generated (lines_in inputs ++ line ∷ []) bytes left
-  pub shown : is_sent (outcome_at (run (opened mode) inputs) (record { line = line; starved = false })) ≡ true
+  pub shown : is_sent (outcome_at (run (opened mode) inputs) (input_of line false)) ≡ true
 
 -- the report has `write fault`, or a front of it where the report failed too
 abbrev pub TellsFault : Sunk → List ℕ → List Input → Type 0
@@ -201,7 +201,7 @@ TellsFault report told inputs =
 -- the screen failed at an update
 pub record ScreenBroke (given : Given) (mode : Mode) (inputs : List Input) (line bytes : List ℕ) (source : Drawn) (screen report : Sunk) : Type 0 where
   pub hand : IsInHand given mode inputs line bytes source.left
-  pub sent : Broke screen (run (opened mode) inputs).sent (effect (run (opened mode) inputs).now (record { line = line; starved = false })).sent
+  pub sent : Broke screen (run (opened mode) inputs).sent (effect (run (opened mode) inputs).now (input_of line false)).sent
   pub told : TellsFault report (run (opened mode) inputs).told inputs
 
 -- The report failed at the lines of a redisplay, whose update, where it found memory, was sent whole: the terminal shows it,

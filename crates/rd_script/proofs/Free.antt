@@ -1,12 +1,12 @@
 -- What a line says is never want of memory.
-use Rattle.std.proofs.Common.{◌≡◌, ◌≢◌, Option, None, Some, Result, Ok, Err, List, ◌∷◌, codes, if◌then◌else◌}
+use Rattle.std.proofs.Common.{◌≡◌, ◌≢◌, Option, None, Some, Result, Ok, Err, List, ◌∷◌, chars, codes, ok_or, if◌then◌else◌}
 use Rattle.std.specs.Prelude.{ℕ}
 use Rattle.std.specs.Str.{is_utf8}
 use Rattle.serde_json.specs.Data.{Data, Members}
 use Rattle.serde_json.specs.Find.{get_member, as_str, as_object}
 use Rattle.serde_json.specs.Read.{read}
 use Rattle.rd_script.specs.declared.fault.OpFault.{OpFault}
-use Rattle.rd_script.specs.declared.fault.OpFault.TheVariants.{NotJson, NotObject, NoSuchOp, Memory}
+use Rattle.rd_script.specs.declared.fault.OpFault.TheVariants.{BadField, NotJson, NotObject, NoSuchOp, Memory}
 use Rattle.rd_overlays.specs.declared.overlay.Kind.{Kind}
 use Rattle.rd_script.specs.declared.name.Name.{Name}
 use Rattle.rd_script.specs.declared.name.Name.TheVariants as names
@@ -28,7 +28,7 @@ use Rattle.rd_script.specs.declared.setting.SettingName.TheVariants as setting_n
 use Rattle.rd_script.specs.Fields.{Fields, or_bad, required_of, present, optional_of, required, optional, defaulted, and_then, both, made, then_by}
 use Rattle.rd_script.specs.Objects.{spec_value}
 use Rattle.rd_script.specs.Properties.{property, property_value}
-use Rattle.rd_script.specs.Reading.{reading, reading_name, reading_row, reading_members, object_of, json_of, or_fault, closed, extra_key, unless_extra}
+use Rattle.rd_script.specs.Reading.{reading, reading_name, reading_row, reading_members, object_of, json_of, closed, extra_key, unless_extra}
 use Rattle.rd_script.specs.Settings.{value_of}
 use Rattle.rd_script.specs.Table.{row, text_row, property_row, object_row, window_row, screen_row, stretch_fields, overlay_manner, name_of}
 
@@ -46,9 +46,12 @@ and_then-free f (Err fault) h g = λ e. g (cc)
 ok-free : {T : Type 0} (x : T) → IsFree (Ok x)
 ok-free x = λ e. cc
 
+ok_or-free : {T : Type 0} (fault : OpFault) (o : Option T) → (fault ≡ Memory → ⊥) → IsFree (ok_or o fault)
+ok_or-free fault None h = λ e. h (cc)
+ok_or-free fault (Some x) h = ok-free x
+
 or_bad-free : {T : Type 0} (key : List ℕ) (o : Option T) → IsFree (or_bad key o)
-or_bad-free key None = λ e. cc
-or_bad-free key (Some x) = λ e. cc
+or_bad-free key o = ok_or-free (BadField (chars key)) o (λ e. cc)
 
 required_of-free : {T : Type 0} (key : List ℕ) (kind : Data → Option T) (o : Option Data) → IsFree (required_of key kind o)
 required_of-free key kind None = λ e. cc
@@ -166,10 +169,6 @@ row-free (names.Object op) = object-free op
 row-free (names.Window op) = window-free op
 row-free (names.Screen op) = screen-free op
 
-or_fault-free : {T : Type 0} (fault : OpFault) (o : Option T) → (fault ≡ Memory → ⊥) → IsFree (or_fault fault o)
-or_fault-free fault None h = λ e. h (cc)
-or_fault-free fault (Some x) h = ok-free x
-
 unless_extra-free : (key : Option (List ℕ)) (op : Op) → IsFree (unless_extra key op)
 unless_extra-free None op = ok-free op
 unless_extra-free (Some key) op = λ e. cc
@@ -179,12 +178,12 @@ row-is_free ms n = and_then-free (closed (codes "op" ∷ (row n).keys) ms) ((row
     (λ op. unless_extra-free (extra_key (codes "op" ∷ (row n).keys) ms) op) ((row-free n).free ms)
 
 name-free : (ms : Members) → IsFree (reading_name ms)
-name-free ms = and_then-free (λ text. or_fault NoSuchOp (name_of text)) (required_of (codes "op") as_str (get_member (codes "op") ms))
-    (λ text. or_fault-free NoSuchOp (name_of text) (λ e. cc)) (required_of-free (codes "op") as_str (get_member (codes "op") ms))
+name-free ms = and_then-free (λ text. ok_or (name_of text) NoSuchOp) (required_of (codes "op") as_str (get_member (codes "op") ms))
+    (λ text. ok_or-free NoSuchOp (name_of text) (λ e. cc)) (required_of-free (codes "op") as_str (get_member (codes "op") ms))
 
 object_of-free : (line : List ℕ) → IsFree (object_of line)
-object_of-free line = and_then-free (λ d. or_fault NotObject (as_object d)) (json_of line)
-    (λ d. or_fault-free NotObject (as_object d) (λ e. cc)) (or_fault-free NotJson (if is_utf8 line then read line else None) (λ e. cc))
+object_of-free line = and_then-free (λ d. ok_or (as_object d) NotObject) (json_of line)
+    (λ d. ok_or-free NotObject (as_object d) (λ e. cc)) (ok_or-free NotJson (if is_utf8 line then read line else None) (λ e. cc))
 
 pub reading-free : (line : List ℕ) → IsFree (reading line)
 unfolding reading

@@ -1,8 +1,9 @@
 -- An op that a line says is in form.
-use Rattle.std.proofs.Common.{◌≡◌, ℕ, suc, ◌≤◌, ◌<◌, ◌-◌, ◌&&◌, Bool, true, false, ℤ, pos, List, [], ◌∷◌, length, Option, None, Some, Result, Ok, Err, IsTrue, refl, sym, ap, subst, ◌∙◌, arith, unwrap_or, option_and_then, option_map, nat_le, chars, true≢false, codes}
+use Rattle.std.proofs.Common.{◌≡◌, ℕ, suc, ◌≤◌, ◌<◌, ◌-◌, ◌&&◌, Bool, true, false, ℤ, pos, List, [], ◌∷◌, length, Option, None, Some, Result, Ok, Err, IsTrue, refl, sym, ap, subst, ◌∙◌, arith, unwrap_or, option_and_then, option_map, nat_le, chars, codes}
 use Rattle.std.proofs.lemmas.Bool.Decides.{nat_tests}
 use Rattle.std.proofs.lemmas.List.Elements.{All-nil, All-cons}
 use Rattle.std.proofs.lemmas.Option.{none-some, cond_some}
+use Rattle.std.specs.Option.{option_zip}
 use Rattle.std.specs.Prelude.{All}
 use Rattle.serde_json.specs.Data.{Data, Items, no_items, item, Members}
 use Rattle.serde_json.specs.Find.{get_member, as_number, as_u64, as_i64, as_bool, as_str, as_array}
@@ -32,7 +33,7 @@ use Rattle.rd_script.specs.declared.name.ScreenOp.TheVariants as screens
 use Rattle.rd_overlays.specs.declared.overlay.Kind.{Kind}
 use Rattle.rd_overlays.specs.declared.overlay.Kind.TheVariants as kinds
 use Rattle.rd_script.specs.Forms.{is_buffer_name, is_text, is_plain_text, is_text_kind, IsRawByte, IsFormat, IsPropertyValue, is_glyph_text, is_slot, IsWhole, IsStop, IsNumber, IsInvisible, IsSettingInForm, IsSpecInForm, IsRunInForm, IsEntryInForm, IsSlot, IsEllipsis, IsInForm}
-use Rattle.rd_script.specs.Fields.{Fields, kept_if, within, whole, signed, text, plain_text, items_of, buffer_name, word, items_count, consed, each_item, list_of, pair_of, two_items_of, two_items, four_items_of, four_items, or_bad, required_of, present, optional_of, required, optional, defaulted, and_then, both, made, then_by}
+use Rattle.rd_script.specs.Fields.{Fields, kept_if, within, whole, signed, text, plain_text, items_of, buffer_name, word, items_count, consed, each_item, list_of, two_items_of, two_items, four_items_of, four_items, or_bad, required_of, present, optional_of, required, optional, defaulted, and_then, both, made, then_by}
 use Rattle.rd_script.specs.Numbers.{is_near_zero}
 use Rattle.rd_script.specs.Objects.{run_kinds, run_of, run, spec_names as spec_words, spec_value, face_of, glyph_text, only, slot, entry_of, entry, slot_field}
 use Rattle.rd_script.specs.Settings.{setting_names as setting_words, direction_names, invisible_by, invisible, value_of as value_of_setting}
@@ -48,21 +49,8 @@ record Gives {T : Type 0} (fields : Fields T) (P : T → Type 0) : Type 0 where
 record Finds {T : Type 0} (kind : Data → Option T) (P : T → Type 0) : Type 0 where
   pub found : (d : Data) (x : T) → kind d ≡ Some x → P x
 
--- ---- constructors are told apart
-
-abbrev value_of : {T : Type 0} → T → Result T OpFault → T
-value_of x (Ok y) = y
-value_of x (Err fault) = x
-
-abbrev is_good : {T : Type 0} → Result T OpFault → Bool
-is_good (Ok y) = true
-is_good (Err fault) = false
-
 ok-same : {T : Type 0} (x y : T) → ◌≡◌ {A = Result T OpFault} (Ok x) (Ok y) → x ≡ y
-ok-same x y e = ap (value_of x) e
-
-err≢ok : {T : Type 0} (fault : OpFault) (x : T) → Err fault ≡ Ok x → ⊥
-err≢ok fault x e = true≢false (sym (ap is_good e))
+ok-same x y e = cc
 
 -- ---- kinds of values
 
@@ -89,11 +77,11 @@ buffer_name-finds = record { found = λ d t e. (kept_if-found is_buffer_name (as
 -- ---- fields
 
 or_bad-ok : {T : Type 0} (key : List ℕ) (o : Option T) (x : T) → or_bad key o ≡ Ok x → o ≡ Some x
-or_bad-ok key None x e = absurd (err≢ok _ x e)
+or_bad-ok key None x e = absurd (cc)
 or_bad-ok key (Some y) x e = ap Some (ok-same y x e)
 
 required-ok : {T : Type 0} (key : List ℕ) (kind : Data → Option T) (P : T → Type 0) → Finds kind P → (o : Option Data) (x : T) → required_of key kind o ≡ Ok x → P x
-required-ok key kind P finds None x e = absurd (err≢ok _ x e)
+required-ok key kind P finds None x e = absurd (cc)
 required-ok key kind P finds (Some d) x e = finds.found d x (or_bad-ok key (kind d) x e)
 
 required-gives : {T : Type 0} (key : List ℕ) (kind : Data → Option T) (P : T → Type 0) → Finds kind P → Gives (required key kind) P
@@ -101,7 +89,7 @@ required-gives key kind P finds = record { given = λ ms x e. required-ok key ki
 
 and_then-ok : {A B : Type 0} (f : A → Result B OpFault) (r : Result A OpFault) (b : B) → and_then f r ≡ Ok b → (a : A) × (r ≡ Ok a) × (f a ≡ Ok b)
 and_then-ok f (Ok a) b e = (a, refl, e)
-and_then-ok f (Err g) b e = absurd (err≢ok g b e)
+and_then-ok f (Err g) b e = absurd (cc)
 
 both-gives : {A B : Type 0} (f : Fields A) (g : Fields B) (P : A → Type 0) (Q : B → Type 0) → Gives f P → Gives g Q → Gives (both f g) (λ x. P x.0 × Q x.1)
 both-gives f g P Q hf hg = record {
@@ -172,7 +160,7 @@ mapped-finds f kind P Q finds so = record {
   found = λ d x e. let y = map-some f (kind d) x e in subst Q y.2 (so y.0 (finds.found d y.0 y.1));
 }
 
-pair-some : {A B : Type 0} (a : Option A) (b : Option B) (x : A × B) → pair_of a b ≡ Some x → (a ≡ Some x.0) × (b ≡ Some x.1)
+pair-some : {A B : Type 0} (a : Option A) (b : Option B) (x : A × B) → option_zip a b ≡ Some x → (a ≡ Some x.0) × (b ≡ Some x.1)
 pair-some None b x e = absurd (none-some x e)
 pair-some (Some a) None x e = absurd (none-some x e)
 pair-some (Some a) (Some b) x e = let same : (a, b) ≡ x = cc in (ap (λ z. Some z.0) same, ap (λ z. Some z.1) same)
@@ -200,8 +188,8 @@ run-some (item a no_items) x e = absurd (none-some x e)
 run-some (item a (item b no_items)) x e = absurd (none-some x e)
 run-some (item a (item b (item c no_items))) x e = absurd (none-some x e)
 run-some (item a (item b (item c (item d no_items)))) x e =
-    let first = pair-some (whole a) (pair_of (whole b) (pair_of (word run_kinds c) (whole d))) x e in
-    let second = pair-some (whole b) (pair_of (word run_kinds c) (whole d)) x.1 first.1 in
+    let first = pair-some (whole a) (option_zip (whole b) (option_zip (word run_kinds c) (whole d))) x e in
+    let second = pair-some (whole b) (option_zip (word run_kinds c) (whole d)) x.1 first.1 in
     let third = pair-some (word run_kinds c) (whole d) x.1.1 second.1 in
     (whole-finds.found a x.0 first.0, whole-finds.found b x.1.0 second.0, whole-finds.found d x.1.1.1 third.1)
 run-some (item a (item b (item c (item d (item f ds))))) x e = absurd (none-some x e)
@@ -434,7 +422,7 @@ row-gives (names.Screen op) = screen-gives op
 
 unless_extra-same : (key : Option (List ℕ)) (op x : Op) → unless_extra key op ≡ Ok x → op ≡ x
 unless_extra-same None op x e = ok-same op x e
-unless_extra-same (Some key) op x e = absurd (err≢ok _ x e)
+unless_extra-same (Some key) op x e = absurd (cc)
 
 reading_row-in_form : (ms : Members) (n : Name) (op : Op) → reading_row ms n ≡ Ok op → IsInForm op
 reading_row-in_form ms n op e =

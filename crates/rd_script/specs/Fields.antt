@@ -1,5 +1,6 @@
 -- Fields of an object: which keys are asked for, and what is read of their values.
-use Rattle.std.specs.Prelude.{ℕ, zero, suc, ◌≡◌, ◌&&◌, Bool, ℤ, nat_le, bytes_eq, if◌then◌else◌, List, [], ◌∷◌, ◌++◌, Option, None, Some, option_and_then, option_map, is_some, unwrap_or, Result, Ok, Err, OnOk, String}
+use Rattle.std.specs.Prelude.{ℕ, zero, suc, ◌≡◌, ◌&&◌, Bool, ℤ, nat_le, bytes_eq, if◌then◌else◌, List, [], ◌∷◌, ◌++◌, Option, None, Some, option_and_then, option_map, is_some, unwrap_or, ok_or, Result, Ok, Err, OnOk, String}
+use Rattle.std.specs.Option.{option_zip}
 use Rattle.std.specs.Str.{chars}
 use Rattle.std.specs.declared.alloc.Global.{Global}
 use Rattle.serde_json.specs.Data.{Data, Items, no_items, item, Members}
@@ -73,15 +74,9 @@ list_of most kind d = option_and_then (each_item kind) (option_and_then (kept_if
 abbrev pub items_of : {T : Type 0} → (Data → Option T) → Data → Option (List T)
 items_of kind d = option_and_then (each_item kind) (as_array d)
 
--- two values, where there are both
-abbrev pub pair_of : {A B : Type 0} → Option A → Option B → Option (A × B)
-pair_of (Some a) (Some b) = Some (a, b)
-pair_of (Some a) None = None
-pair_of None b = None
-
 -- an array of two items of these kinds
 abbrev pub two_items_of : {A B : Type 0} → (Data → Option A) → (Data → Option B) → Items → Option (A × B)
-two_items_of first second (item d (item e no_items)) = pair_of (first d) (second e)
+two_items_of first second (item d (item e no_items)) = option_zip (first d) (second e)
 two_items_of first second ds = None
 
 abbrev pub two_items : {A B : Type 0} → (Data → Option A) → (Data → Option B) → Data → Option (A × B)
@@ -89,7 +84,7 @@ two_items first second d = option_and_then (two_items_of first second) (as_array
 
 -- an array of four
 abbrev pub four_items_of : {A B C D : Type 0} → (Data → Option A) → (Data → Option B) → (Data → Option C) → (Data → Option D) → Items → Option (A × (B × (C × D)))
-four_items_of a b c d (item w (item x (item y (item z no_items)))) = pair_of (a w) (pair_of (b x) (pair_of (c y) (d z)))
+four_items_of a b c d (item w (item x (item y (item z no_items)))) = option_zip (a w) (option_zip (b x) (option_zip (c y) (d z)))
 four_items_of a b c d ds = None
 
 abbrev pub four_items : {A B C D : Type 0} → (Data → Option A) → (Data → Option B) → (Data → Option C) → (Data → Option D) → Data → Option (A × (B × (C × D)))
@@ -103,8 +98,7 @@ pub record Fields (T : Type 0) : Type 0 where
   pub taken : Members → Result T OpFault
 
 abbrev pub or_bad : {T : Type 0} → List ℕ → Option T → Result T OpFault
-or_bad key None = Err (BadField (chars key))
-or_bad key (Some x) = Ok x
+or_bad key o = ok_or o (BadField (chars key))
 
 abbrev pub required_of : {T : Type 0} → List ℕ → (Data → Option T) → Option Data → Result T OpFault
 required_of key kind None = Err (Missing (chars key))

@@ -1,5 +1,5 @@
 -- What a line of a script says: an op, or the first fault.
-use Rattle.std.specs.Prelude.{ℕ, ◌||◌, Bool, false, bytes_eq, if◌then◌else◌, List, [], ◌∷◌, Option, None, Some, Result, Ok, Err, codes}
+use Rattle.std.specs.Prelude.{ℕ, ◌||◌, Bool, false, bytes_eq, if◌then◌else◌, List, [], ◌∷◌, Option, None, Some, ok_or, Result, Ok, Err, codes}
 use Rattle.std.specs.Str.{chars, is_utf8}
 use Rattle.serde_json.specs.Data.{Data, Members, no_members, member}
 use Rattle.serde_json.specs.Find.{get_member, as_object, as_str}
@@ -11,17 +11,13 @@ use Rattle.rd_script.specs.declared.op.Op.{Op}
 use Rattle.rd_script.specs.Fields.{Fields, and_then, required_of}
 use Rattle.rd_script.specs.Table.{name_of, row}
 
-abbrev pub or_fault : {T : Type 0} → OpFault → Option T → Result T OpFault
-or_fault fault None = Err fault
-or_fault fault (Some x) = Ok x
-
 -- the value that a line is in JSON, where its bytes are UTF-8
 abbrev pub json_of : List ℕ → Result Data OpFault
-json_of line = or_fault NotJson (if is_utf8 line then read line else None)
+json_of line = ok_or (if is_utf8 line then read line else None) NotJson
 
 -- which op an object says
 abbrev pub reading_name : Members → Result Name OpFault
-reading_name ms = and_then (λ text. or_fault NoSuchOp (name_of text)) (required_of (codes "op") as_str (get_member (codes "op") ms))
+reading_name ms = and_then (λ text. ok_or (name_of text) NoSuchOp) (required_of (codes "op") as_str (get_member (codes "op") ms))
 
 abbrev pub is_among : List (List ℕ) → List ℕ → Bool
 is_among [] key = false
@@ -49,7 +45,7 @@ reading_row ms name = reading_fields ms (row name)
 
 -- the object that a line is
 abbrev pub object_of : List ℕ → Result Members OpFault
-object_of line = and_then (λ d. or_fault NotObject (as_object d)) (json_of line)
+object_of line = and_then (λ d. ok_or (as_object d) NotObject) (json_of line)
 
 -- what an object says
 abbrev pub reading_members : Members → Result Op OpFault

@@ -1,7 +1,8 @@
 //! The forms of what the ops that make objects say.
 ghost use Rattle.std.specs.Prelude.{◌≡◌, IfOk, option_map};
+ghost use Rattle.std.specs.Option.{option_zip};
 ghost use Rattle.serde_json.specs.View.{view, items_view};
-ghost use Rattle.rd_script.specs.Fields.{whole, within, word, pair_of, two_items_of, four_items_of};
+ghost use Rattle.rd_script.specs.Fields.{whole, within, word, two_items_of, four_items_of};
 ghost use Rattle.rd_script.specs.Objects.{run_of, run_kinds, entry_of, glyph_text};
 
 use crate::form::{Form, small_within};
@@ -87,7 +88,7 @@ fn entry_of(alloc: Global, items: &[Value]) -> Result<Option<OpEntry>, Memory>
 
 /// The entry of these parts, where there are both.
 fn entry_parts(code: Option<u32>, text: Option<ListOf<Ch>>) -> Option<OpEntry>
-    ensures { result ≡ option_map entry_of (pair_of code text) }
+    ensures { result ≡ option_map entry_of (option_zip code text) }
 {
     Some(OpEntry {
         code: code?,
