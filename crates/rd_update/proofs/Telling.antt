@@ -1,11 +1,12 @@
 -- The words of two rows tell where their cells differ.
-use Rattle.std.proofs.Common.{◌≡◌, inl, inr, if◌then◌else◌, cond, ◌*◌, ℕ, zero, suc, ◌+◌, ◌-◌, ◌/◌, ◌<◌, ◌≤◌, ◌==◌, ◌&&◌, not, nat_lt, Bool, true, false, List, [], ◌∷◌, ◌++◌, length, get_or, All, Option, None, Some, refl, sym, ap, ap₂, subst, ◌∙◌, arith, take, append_assoc, append-nil}
+use Rattle.std.proofs.Common.{◌≡◌, inl, inr, if◌then◌else◌, cond, ◌*◌, ℕ, zero, suc, ◌+◌, ◌-◌, ◌/◌, ◌<◌, ◌≤◌, ◌==◌, ◌&&◌, not, nat_lt, Bool, true, false, List, [], ◌∷◌, ◌++◌, length, get_or, All, Option, None, Some, refl, sym, ap, ap₂, subst, ◌∙◌, arith, take, append-nil}
 use Rattle.std.specs.Cmp.Derive.{one_truth}
 use Rattle.std.specs.List.{AllByRecursion, position_or_len, suffix_len}
 use Rattle.std.specs.Prelude.{zip}
 use Rattle.std.proofs.lemmas.Bool.{and_parts, cases_eq}
 use Rattle.std.proofs.lemmas.Bool.Decides.{nat_tests, Decides-eqb}
 use Rattle.std.proofs.lemmas.List.{take_more}
+use Rattle.std.proofs.lemmas.List.Concat.{flat_map-append}
 use Rattle.std.proofs.lemmas.List.Elements.{All-append, All-from_recursion, recursion_from_All}
 use Rattle.std.proofs.lemmas.List.Sums.{suffix_len_is}
 use Rattle.rd_base.proofs.Choices.{none-chosen}
@@ -207,17 +208,14 @@ words-even xs ys olds news n a b = ap length a ∙ length-row xs ∙ ap (λ k. 3
 
 -- ---- words that are read one after another
 
-row_words-append : (xs : List Cell) (x : Cell) → row_words (xs ++ x ∷ []) ≡ row_words xs ++ words_of x
-row_words-append [] x = append-nil (words_of x)
-row_words-append (y ∷ xs) x = ap (λ ws. words_of y ++ ws) (row_words-append xs x) ∙ sym (append_assoc (words_of y) (row_words xs) (words_of x))
-
 -- the words of one more cell
 pub read-more : (cells : List Cell) (i : ℕ) (x : Cell) (words before after : List ℕ) → i < length cells → x ≡ get_or cells i x → words ≡ words_of x
     → before ≡ row_words (take i cells) → after ≡ before ++ words → after ≡ row_words (take (i + 1) cells)
 read-more cells i x words before after lt here w b e =
     e
     ∙ ap₂ (λ ws vs. ws ++ vs) b w
-    ∙ sym (row_words-append (take i cells) x)
+    ∙ ap (λ ws. row_words (take i cells) ++ ws) (sym (append-nil (words_of x)))
+    ∙ sym (flat_map-append words_of (take i cells) (x ∷ []))
     ∙ ap (λ y. row_words (take i cells ++ y ∷ [])) here
     ∙ ap row_words (sym (take_more cells i x lt))
 

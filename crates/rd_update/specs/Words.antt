@@ -1,5 +1,6 @@
 -- Where two rows differ, as the words of their cells tell it.
-use Rattle.std.specs.Prelude.{ℕ, ◌+◌, ◌/◌, if◌then◌else◌, List, [], ◌∷◌, ◌++◌, All, Option, None, Some}
+use Rattle.std.specs.Prelude.{ℕ, ◌+◌, ◌/◌, if◌then◌else◌, List, All, Option, None, Some}
+use Rattle.std.specs.List.{flat_map}
 use Rattle.rd_lanes.specs.Kernels.{first_difference as first_word, last_difference as last_word}
 use Rattle.rd_base.specs.Cells.{words_of, AreOnlyOf}
 use Rattle.rd_base.specs.declared.cell.Cell.{Cell}
@@ -8,8 +9,7 @@ use Rattle.rd_update.specs.declared.span.Columns.{Columns}
 
 -- the words of a row's cells, in order
 abbrev pub row_words : List Cell → List ℕ
-row_words [] = []
-row_words (cell ∷ cells) = words_of cell ++ row_words cells
+row_words cells = flat_map words_of cells
 
 -- cells that their words tell
 abbrev pub AreTold : List Cell → Type 0
