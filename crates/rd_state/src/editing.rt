@@ -1,5 +1,5 @@
-//! The ops on the texts of buffers by name, as methods of `StateParts`. Each moves the windows' points with the text, and answers its
-//! effect.
+//! The ops on the texts of buffers by name, as methods of `StateParts`. Each answers its effect; those that change a text or narrow it
+//! move the windows' points with it.
 ghost use Rattle.std.specs.Prelude.{◌≡◌, ◌≢◌, ◌+◌, ◌<◌, if◌then◌else◌, Err, IfOk, IfErr, OnErr};
 ghost use Rattle.rd_base.specs.declared.limits.TheConstants.{TEXT_CHARACTERS};
 ghost use Rattle.rd_script.specs.Forms.{IsInForm};

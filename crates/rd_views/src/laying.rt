@@ -22,7 +22,7 @@ use rd_window::{Laying, lay_out_again};
 use std::sync::ledger::Ledger;
 
 impl Views {
-    /// The place of the window with a number in leaf order, from 0; None exactly past the last.
+    /// The window at a place in leaf order, from 0, and its rectangle; None exactly past the last.
     pub(crate) fn place(&self, i: u32) -> Option<Placed>
         ensures place { result ≡ slice_get (places self.now.state) i }
         ensures found { IfSome result (λ place. place_of place.number self.now.state ≡ Some place) }
