@@ -1,10 +1,9 @@
 -- A start is a row.
-use Rattle.std.proofs.Common.{◌≡◌, ℕ, ◌<◌, inl, inr, Bool, true, false, cond, ltb, List, [], ◌∷◌, length, Option, None, Some, refl, sym, ap, ◌∙◌, arith}
-use Rattle.std.proofs.lemmas.Bool.{and_parts, cases_Bool, ltb-true}
-use Rattle.std.proofs.lemmas.Option.{same_Some}
+use Rattle.std.proofs.Common.{◌≡◌, ℕ, ◌<◌, Bool, true, false, cond, ltb, length, Option, None, Some, refl, arith}
+use Rattle.std.proofs.lemmas.Bool.{and_parts, ltb-true}
 use Rattle.std.specs.List.{find}
 use Rattle.std.specs.Option.{unwrap_or}
-use Rattle.rd_matrix.proofs.Passing.{first-inside}
+use Rattle.rd_matrix.proofs.Passing.{first-inside, found-passes}
 use Rattle.rd_matrix.specs.Blocks.{IsWithin}
 use Rattle.rd_matrix.specs.Sources.{IsSource, SourceValues, rows_at}
 use Rattle.rd_rows.specs.Shapes.{IsShape, ShapeValues}
@@ -17,20 +16,10 @@ point-inside : (m : SourceValues) (shape : ShapeValues) (w : Wanted) → IsSourc
 point-inside m shape w source is within =
     first-inside (begins_item w.point) (rows_at m shape) (some-begins m shape w.point source is within)
 
-found-passes : (p : ℕ → Bool) (xs : List ℕ) (x : ℕ) → find p xs ≡ Some x → p x ≡ true
-found-passes p [] x e = absurd cc
-found-passes p (y ∷ xs) x e =
-    elim (cases_Bool (p y)) [
-      | inl here ↦
-          let same : y ≡ x = same_Some y x (sym (ap (λ b. cond b (Some y) (find p xs)) here) ∙ e) in
-          sym (ap p same) ∙ here
-      | inr not_here ↦ found-passes p xs x (sym (ap (λ b. cond b (Some y) (find p xs)) not_here) ∙ e)
-    ]
-
 following-inside : (w : Wanted) (at : Places) (o : Option ℕ) → find (suits w at) (around at.old w.conservatively) ≡ o → at.point < at.count → unwrap_or o (centred w at) < at.count
 following-inside w at None e low = omega arith
 following-inside w at (Some j) e low =
-    let fits = found-passes (suits w at) (around at.old w.conservatively) j e in
+    let fits = (found-passes (suits w at) (around at.old w.conservatively) j e).0 in
     ltb-true j at.count (and_parts (ltb j at.count) (is_inside w.height (wanted_above w j) (wanted_below w at.count j) j at.point) fits).0
 
 start-held : (w : Wanted) (at : Places) (b : Bool) → at.point < at.count → cond b (scrolled w at) (following w at) < at.count
