@@ -185,10 +185,10 @@ fits-there from n face done front back less size some start next =
     let last = length done + n - 1 in
     let a : nat_le from (length done) ≡ true = grind (arith, nat_tests) in
     let b : nat_le (length done) last ≡ true = grind (arith, nat_tests) in
-    let within : last < length cells = omega (arith, length-append done (plainly (front ++ back)), length-map (front ++ back), length-append front back, size, some) in
+    let within : last < length cells = omega (arith, length-append done (plainly (front ++ back)), length-map (front ++ back) (with_face plain), length-append front back, size, some) in
     let c : nat_lt last (length cells) ≡ true = grind (arith, nat_tests) in
     let d : is_edge cells (length done) ≡ true = edge-seam done (front ++ back) start in
-    let behind : length (done ++ plainly front) ≡ last + 1 = omega (arith, length-append done (plainly front), length-map front, size, some) in
+    let behind : length (done ++ plainly front) ≡ last + 1 = omega (arith, length-append done (plainly front), length-map front (with_face plain), size, some) in
     let whole : (done ++ plainly front) ++ plainly back ≡ cells = append_assoc done (plainly front) (plainly back) ∙ ap (λ l. done ++ l) (sym (map-append (with_face plain) front back)) in
     let e : is_edge cells (last + 1) ≡ true = sym (ap₂ is_edge whole behind) ∙ edge-seam (done ++ plainly front) back next in
     and-five (nat_le from (length done)) (nat_le (length done) last) (nat_lt last (length cells)) (is_edge cells (length done)) (is_edge cells (last + 1)) a b c d e
