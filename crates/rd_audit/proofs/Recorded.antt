@@ -9,13 +9,14 @@ use Rattle.rd_dump.specs.declared.dump.WindowFacts.{WindowFacts}
 use Rattle.rd_io.specs.Lines.{lines_of}
 use Rattle.rd_layout.specs.Copies.{redisplayed as redisplayed_session}
 use Rattle.rd_layout.specs.Facts.{fact_of, facts_of}
+use Rattle.rd_layout.specs.Laws.{PlaceLaws}
 use Rattle.rd_layout.specs.Redisplays.{update_of}
 use Rattle.rd_layout.specs.Screens.{laid_out}
 use Rattle.rd_layout.specs.Sessions.{SessionValue}
 use Rattle.rd_layout.specs.Since.{FitsFrame, IsSession}
 use Rattle.rd_layout.specs.Windows.{of_place, of_window, places}
 use Rattle.rd_run.proofs.Effects.{effect-is, shown-done}
-use Rattle.rd_run.proofs.Leading.{Lives, LiveLaws, all-live}
+use Rattle.rd_run.proofs.Leading.{Lives, all-live}
 use Rattle.rd_update.proofs.Sizes.{is-screen, width-is}
 use Rattle.rd_run.proofs.Inputs.{run-append, run-clear, run-push}
 use Rattle.rd_run.specs.Alike.{End}
@@ -51,7 +52,7 @@ pub record RunLaws : Type 0 where
   pub session : (mode : Mode) (inputs : List Input) → IsSession (run (opened mode) inputs).now.session
   pub in_mode : (mode : Mode) (inputs : List Input) → (run (opened mode) inputs).now.mode ≡ mode
   pub leads : (mode : Mode) (inputs : List Input) (t : Input) → LeadsOn (run (opened mode) inputs) t
-  pub live : LiveLaws
+  pub places : PlaceLaws
 
 -- ---- the dump of a screen
 
@@ -86,7 +87,7 @@ some-facts v (p ∷ ps) some h =
     let one = told-of v p h.0 in
     omega (arith, one, length-append (of_place (fact_of v) v.state p) (flat_map (of_place (fact_of v) v.state) ps))
 
-windows-told : (laws : LiveLaws) (v : SessionValue) → IsValid v.state → 0 < length (facts_of v)
+windows-told : (laws : PlaceLaws) (v : SessionValue) → IsValid v.state → 0 < length (facts_of v)
 windows-told laws v valid = some-facts v (places v.state) (some-placed v.state.tree.windows (frame_of v.state.tree)) (all-live laws v.state valid)
 
 -- ---- what a redisplay tells that is shown
@@ -193,7 +194,7 @@ shown-run laws mode before t behind dumps read ran shown leave =
       picture = screen;
       has = has-dump next.now.session.state screen session.state fits;
       windows = facts_of next.now.session;
-      some = windows-told laws.live next.now.session session.state;
+      some = windows-told laws.places next.now.session session.state;
       front = w.told ++ line;
       tail = leaves.tail;
       told = ap (λ (x : World). x.told) whole ∙ leaves.told ∙ ap (λ l. l ++ leaves.tail) told ∙ joined w.told line dump leaves.tail;

@@ -18,7 +18,6 @@ ghost use Rattle.rd_audit.specs.declared.verdict.Verdict.TheVariants.{NoMemory, 
 
 use rd_layout::windows_are_placed;
 use rd_run::a_session_stands_behind_each_line;
-use rd_state::windows_are_leaves;
 
 /// A dump that is printed of a sound screen of 12 to 400 columns and 2 to 200 rows is read back as that screen (`alone`), also where
 /// lines follow of which none begins as a cursor's does (`first`). It is the last dump of a report where it stands behind a newline,
@@ -48,6 +47,5 @@ pub fn recorded_runs_get_yes()
         → verdict ≢ ReadFault → verdict ≢ NoMemory → verdict ≡ Yes }
 {
     a_session_stands_behind_each_line();
-    windows_are_leaves();
     windows_are_placed();
 }

@@ -1,18 +1,15 @@
 -- A redisplay that is sent leads from a session to a session, whose layouts are those from nothing.
-use Rattle.std.proofs.Common.{◌≡◌, ℕ, Bool, List, [], ◌∷◌, ◌++◌, map, Option, None, Some, refl, sym, ap, ◌∙◌, subst}
+use Rattle.std.proofs.Common.{◌≡◌, ℕ, Bool, List, [], ◌∷◌, ◌++◌, map, Option, None, Some, refl, sym, ap, subst}
 use Rattle.std.proofs.lemmas.List.Elements.{recursion_from_All}
 use Rattle.std.proofs.lemmas.Option.{none-some}
 use Rattle.std.specs.List.{AllByRecursion, flat_map}
-use Rattle.rd_base.proofs.Choices.{map-some}
 use Rattle.rd_matrix.specs.Entries.{EntryMeaning, shown_entries, made_entry}
+use Rattle.rd_state.proofs.Leaves.{placed-window}
 use Rattle.rd_state.specs.States.{StateValue}
 use Rattle.rd_state.specs.Valid.{IsValid}
-use Rattle.rd_state.specs.Windows.{leaf_at, leaf_of, window_of}
+use Rattle.rd_state.specs.Windows.{window_of}
 use Rattle.rd_state.specs.declared.window.WindowState.{WindowState}
-use Rattle.rd_tree.specs.Calls.{frame_of}
-use Rattle.rd_tree.specs.Windows.{Windows, window_at}
 use Rattle.rd_tree.specs.declared.placed.Placed.{Placed}
-use Rattle.rd_tree.specs.declared.rect.Rect.{Rect}
 use Rattle.rd_ucd.specs.Data.{Data}
 use Rattle.rd_window.specs.Layouts.{IsLaidOut}
 use Rattle.rd_window.specs.declared.layout.Layout.{Layout}
@@ -24,14 +21,9 @@ use Rattle.rd_layout.specs.Since.{IsSession}
 use Rattle.rd_layout.specs.Windows.{of_place, of_window, place_of, places, view_in, wanted_of, window_shape, window_source}
 use Rattle.rd_layout.proofs.Placed.{all-places}
 
--- what the layers below say of the windows of a frame: their places, and that each of them lives
-pub record LiveLaws : Type 0 where
-  pub places : PlaceLaws
-  pub leaves : (number : ℕ) (windows : Windows) (rect : Rect) (window : Placed) → window_at number windows rect ≡ Some window → leaf_at number windows ≡ Some (window.mode, window.margins)
-
--- and what they say of redisplays
+-- what the layers below say of the places of a frame's windows, and of redisplays
 pub record LeadLaws : Type 0 where
-  pub live : LiveLaws
+  pub places : PlaceLaws
   pub lead : (rows : ℕ) (done : Bool) (stop : Option ℕ) (old new : SessionValue) (before after : Option (List ℕ)) → IsSession old
       → IsSent rows done stop old new before after → IsSession new
 
@@ -64,12 +56,11 @@ bare-session v h = record { state = h.state; screen = h.screen; made = λ number
 abbrev pub Lives : StateValue → Placed → Type 0
 Lives s p = (w : WindowState) × (window_of p.number s.windows ≡ Some w)
 
-pub all-live : (laws : LiveLaws) (s : StateValue) → IsValid s → AllByRecursion (Lives s) (places s)
-all-live laws s valid = recursion_from_All (Lives s) (places s) (all-places laws.places s valid (Lives s) lives) where
+pub all-live : (laws : PlaceLaws) (s : StateValue) → IsValid s → AllByRecursion (Lives s) (places s)
+all-live laws s valid = recursion_from_All (Lives s) (places s) (all-places laws s valid (Lives s) lives) where
   lives : (p : Placed) → place_of p.number s ≡ Some p → Lives s p
   lives p at =
-      let leaf = laws.leaves p.number s.tree.windows (frame_of s.tree) p at in
-      let w = map-some leaf_of (window_of p.number s.windows) (p.mode, p.margins) (sym (valid.windows.leaves p.number) ∙ leaf) in
+      let w = placed-window s p.number p valid at in
       (w.0, w.1)
 
 laid-by : (files : Data) (s : StateValue) (p : Placed) (o : Option WindowState) (w : WindowState) (l : Layout) → o ≡ Some w
@@ -92,7 +83,7 @@ sent laws v stop h = record {
   files = refl;
   state = refl;
   current = refl;
-  layouts = all-laid v (places v.state) (all-live laws.live v.state h.state);
+  layouts = all-laid v (places v.state) (all-live laws.places v.state h.state);
   bytes = tt;
   count = refl;
   whole = refl;

@@ -16,7 +16,6 @@ use rd_layout::{
 };
 use rd_lineshift::{shift_law, shifted_updates_reach_their_targets};
 use rd_script::no_line_says_want_of_memory;
-use rd_state::windows_are_leaves;
 
 /// Behind any lines of a run stands a session: its state is valid, and a known screen is the frame's and sound (`session`). The run is in
 /// the mode in which it began (`in_mode`). The next line leads on from there: the frame keeps its size unless a new terminal begins, and
@@ -32,7 +31,6 @@ pub fn a_session_stands_behind_each_line()
     shift_law();
     shifted_updates_reach_their_targets();
     targets_are_sound();
-    windows_are_leaves();
     windows_are_placed();
 }
 

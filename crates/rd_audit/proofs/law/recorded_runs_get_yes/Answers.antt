@@ -16,7 +16,7 @@ laws c =
       session = runs.session;
       in_mode = runs.in_mode;
       leads = runs.leads;
-      live = record { places = c.windows_are_placed.ensures; leaves = c.windows_are_leaves.ensures.placed };
+      places = c.windows_are_placed.ensures;
     }
 
 agree : goal.After-windows_are_placed → (e : End) (mode : Mode) (stream file : List ℕ) → IsRecording e mode stream file → Agree stream file
