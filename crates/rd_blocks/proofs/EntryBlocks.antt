@@ -1,11 +1,12 @@
 -- The blocks of rows that stand under a start and a number.
-use Rattle.std.proofs.Common.{◌≡◌, ℕ, suc, Bool, true, false, List, [], ◌∷◌, All, Some, refl, sym, ap, subst, ◌∙◌}
-use Rattle.std.specs.Prelude.{cond, find, slice_get, take, drop}
+use Rattle.std.proofs.Common.{◌≡◌, ℕ, suc, List, [], ◌∷◌, All, Some, refl, sym, ap, subst, ◌∙◌}
+use Rattle.std.specs.Prelude.{slice_get, take, drop}
 use Rattle.std.proofs.lemmas.List.Elements.{All-from_recursion, All-nil, All-cons, All-head, All-tail, All-take, All-drop}
 use Rattle.std.proofs.lemmas.Option.{same_Some}
 use Rattle.rd_base.proofs.Lists.{all-at}
 use Rattle.rd_matrix.proofs.EachRow.{entries-each}
 use Rattle.rd_matrix.proofs.HeldLemmas.{same-place}
+pub use Rattle.rd_matrix.proofs.Passing.{found-passes}
 use Rattle.rd_matrix.specs.Blocks.{IsAmong, StandFrom}
 use Rattle.rd_matrix.specs.Entries.{EntryMeaning, shown_entry, shown_entries}
 use Rattle.rd_matrix.specs.Sources.{SourceValues, rows_at}
@@ -14,23 +15,6 @@ use Rattle.rd_matrix.specs.declared.matrix.Entry.{Entry}
 use Rattle.rd_rows.specs.Rows.{RowMeaning}
 use Rattle.rd_rows.specs.Shapes.{ShapeValues}
 use Rattle.rd_blocks.specs.Kept.{AreRowsAt}
-
--- what a search finds passes the test, and is an element
-abbrev pub IsFound : {X : Type 0} → (X → Bool) → List X → X → Type 0
-IsFound test xs x = (test x ≡ true) × (k : ℕ) × (slice_get xs k ≡ Some x)
-
-found-by : {X : Type 0} (test : X → Bool) (y : X) (ys : List X) (x : X) (t : Bool) → test y ≡ t → cond t (Some y) (find test ys) ≡ Some x → (find test ys ≡ Some x → IsFound test ys x)
-    → IsFound test (y ∷ ys) x
-found-by test y ys x true passes e later =
-    let same : y ≡ x = same_Some y x e in
-    (ap test (sym same) ∙ passes, 0, e)
-found-by test y ys x false passes e later =
-    let rest = later e in
-    (rest.0, suc rest.1, rest.2)
-
-pub found-passes : {X : Type 0} (test : X → Bool) (xs : List X) (x : X) → find test xs ≡ Some x → IsFound test xs x
-found-passes test [] x e = absurd cc
-found-passes test (y ∷ ys) x e = found-by test y ys x (test y) refl e (found-passes test ys x)
 
 -- ---- the block of a row
 

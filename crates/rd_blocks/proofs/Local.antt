@@ -1,7 +1,7 @@
 -- The rows of a block depend on what is read of it alone.
 use Rattle.std.proofs.Common.{◌≡◌, ℕ, ◌<◌, List, [], ◌∷◌, length, Option, None, Some, IfSome, refl, sym, ap, ◌∙◌}
-use Rattle.std.specs.Option.{option_or}
 use Rattle.std.proofs.lemmas.List.Elements.{All-head}
+use Rattle.rd_base.proofs.Choices.{if-or}
 use Rattle.rd_base.specs.Settings.{SettingValues, without_flags}
 use Rattle.rd_ucd.specs.Data.{Data}
 use Rattle.rd_objects.specs.Sound.{IsClosed, Extends}
@@ -27,10 +27,6 @@ pub record GrowthLaws : Type 0 where
   pub lines : (old new : Scene) (base : ℕ) (es : List Seen) → GoesOnFrom old new → IsClosed old.objects → ReadsMade old.objects es → line_elements new base es ≡ line_elements old base es
   pub prefixes : (old new : Scene) (base number : ℕ) → GoesOnFrom old new → IsClosed old.objects → number < length old.objects.strings → prefix new base number ≡ prefix old base number
 
-either : (P : ℕ → Type 0) (first setting : Option ℕ) → IfSome first P → IfSome setting P → IfSome (option_or first setting) P
-either P None setting a b = b
-either P (Some n) setting a b = a
-
 module _ (laws : GrowthLaws) (old new : Scene) (goes : GoesOnFrom old new) (closed : IsClosed old.objects) (settings : SettingsMade old.objects old.parts.settings) where
   abbrev IsString : ℕ → Type 0
   IsString n = n < length old.objects.strings
@@ -38,7 +34,7 @@ module _ (laws : GrowthLaws) (old new : Scene) (goes : GoesOnFrom old new) (clos
   prefix-made : (own : Seen → Option ℕ) (setting : Option ℕ) (es : List Seen) → ((e : Seen) → SeesMade old.objects e → IfSome (own e) IsString) → IfSome setting IsString
       → ReadsMade old.objects es → IfSome (prefix_of own setting es) IsString
   prefix-made own setting [] each set made = set
-  prefix-made own setting (e ∷ es) each set made = either IsString (own e) setting (each e (All-head (SeesMade old.objects) e es made)) set
+  prefix-made own setting (e ∷ es) each set made = if-or IsString (own e) setting (each e (All-head (SeesMade old.objects) e es made)) set
 
   same-prefix : (base : ℕ) (number : Option ℕ) → IfSome number IsString → prefix_elements new base number ≡ prefix_elements old base number
   same-prefix base None made = refl
