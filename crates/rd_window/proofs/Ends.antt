@@ -6,7 +6,7 @@ use Rattle.std.proofs.lemmas.Bool.Decides.{nat_tests}
 use Rattle.std.proofs.lemmas.List.{append_assoc, length-append, length-drop, length-map, length-take}
 use Rattle.std.proofs.lemmas.Option.{slice_get-map, slice_get_within}
 use Rattle.rd_base.proofs.Choices.{opposite}
-use Rattle.rd_base.proofs.Lists.{get-first, get-second, get-take, get-drop, at-seam}
+use Rattle.rd_base.proofs.Lists.{element-at, get-first, get-second, get-take, get-drop, at-seam}
 use Rattle.rd_base.specs.declared.settings.Anchor.{Anchor}
 use Rattle.rd_matrix.proofs.Counting.{all-append, count-cons, length-numbered}
 use Rattle.rd_matrix.specs.Blocks.{HoldsPosition, StandFrom, block_before, first_start}
@@ -35,13 +35,6 @@ last-is (x ∷ y ∷ rows) zero r e at =
 last-is (x ∷ y ∷ rows) (suc k) r e at =
     let next : (suc (suc k) == length (x ∷ y ∷ rows)) ≡ (suc k == length (y ∷ rows)) = grind (arith, nat_tests) in
     next ∙ last-is (y ∷ rows) k r (and_parts (not x.ends_block) (ends_last (y ∷ rows)) e).1 at
-
--- ---- places in lists
-
-some-here : {X : Type 0} (xs : List X) (k : ℕ) → k < length xs → is_none (slice_get xs k) ≡ false
-some-here [] k low = absurd (omega arith)
-some-here (x ∷ xs) zero low = refl
-some-here (x ∷ xs) (suc k) low = some-here xs k (omega arith)
 
 -- ---- the blocks of a source
 
@@ -77,7 +70,7 @@ module _ {m : SourceValues} {shape : ShapeValues} (source : IsSource m) (is : Is
   first-by (x ∷ xs) after b o place pieces at count =
       let some = some-rows [] (xs ++ b ∷ after) xs x pieces in
       let size = length-append (x ∷ xs) (b ∷ after) in
-      ap is_none (at ∙ ap (λ bs. slice_get bs (length xs)) pieces) ∙ some-here ((x ∷ xs) ++ b ∷ after) (length xs) (omega (arith, size)) ∙ sym (ne_eqb place 0 (λ none. omega (arith, some, count, none)))
+      ap is_none (at ∙ ap (λ bs. slice_get bs (length xs)) pieces) ∙ ap is_none (element-at ((x ∷ xs) ++ b ∷ after) (length xs) (omega (arith, size))).1 ∙ sym (ne_eqb place 0 (λ none. omega (arith, some, count, none)))
 
   -- the first row of a block is that of the source exactly where no block is before it
   pub first-row : (anchor : Anchor) (place : ℕ) (block : Block) (o : Option Block) → Names anchor (rows_at m shape) place → HoldsPosition anchor.pos m.blocks block

@@ -1,6 +1,7 @@
 -- Where the item that covers a point begins, among all rows of a source and in a view.
-use Rattle.std.proofs.Common.{◌≡◌, ℕ, zero, suc, ◌+◌, ◌-◌, ◌<◌, ◌≤◌, inl, inr, Bool, true, false, cond, ◌||◌, List, [], ◌∷◌, length, take, drop, slice_get, option_map, is_some, Option, None, Some, refl, sym, ap, ◌∙◌, arith}
+use Rattle.std.proofs.Common.{◌≡◌, ℕ, suc, ◌+◌, ◌-◌, ◌<◌, ◌≤◌, inl, inr, Bool, true, false, cond, ◌||◌, List, [], ◌∷◌, length, take, drop, slice_get, option_map, is_some, Option, None, Some, refl, sym, ap, ◌∙◌, arith}
 use Rattle.std.proofs.lemmas.Bool.{cases_Bool}
+use Rattle.std.proofs.lemmas.List.{length-take}
 use Rattle.std.proofs.lemmas.Option.{slice_get_within}
 use Rattle.std.proofs.lemmas.Map.Keys.{any_passes_from_place}
 use Rattle.std.specs.List.{count_by, find, list_any}
@@ -87,12 +88,6 @@ cursor-none point (e ∷ es) at =
 
 -- ---- in a view
 
-taken-below : {X : Type 0} (n : ℕ) (xs : List X) (k : ℕ) (x : X) → slice_get (take n xs) k ≡ Some x → k < n
-taken-below zero xs k x at = absurd cc
-taken-below (suc n) [] k x at = absurd cc
-taken-below (suc n) (y ∷ xs) zero x at = omega arith
-taken-below (suc n) (y ∷ xs) (suc k) x at = let rest = taken-below n xs k x at in omega (arith, rest)
-
 module _ {m : SourceValues} {shape : ShapeValues} (w : Wanted) (source : IsSource m) (is : IsShape shape) where
   -- point's row, where a view shows it
   pub point-shown : (i height : ℕ) (place : ℕ × ℕ) → cursor_in w.point (take height (drop i (rows_at m shape))) ≡ Some place
@@ -100,7 +95,9 @@ module _ {m : SourceValues} {shape : ShapeValues} (w : Wanted) (source : IsSourc
   point-shown i height place at =
       let rows = rows_at m shape in
       let found = cursor-row w.point (take height (drop i rows)) place at in
-      let low = taken-below height (drop i rows) place.0 found.0 found.1 in
+      let taken = slice_get_within (take height (drop i rows)) place.0 found.0 found.1 in
+      let size = length-take height (drop i rows) in
+      let low : place.0 < height = omega (arith, taken, size) in
       let there = sym (in-view rows i height place.0 low) ∙ found.1 in
       let less = rows-counted w.point rows in
       let few = few-whole m shape w.point source is in
