@@ -36,54 +36,16 @@ pub fn around(levels: &[u8], level: u8, place: usize) -> ReversedRun
     ensures from { result.start ≤ place }
     ensures to { place < result.end }
 {
-    ahead(levels, level, back(levels, level, place))
-}
-
-/// The part of the run around an index that ends with this index.
-fn back(levels: &[u8], level: u8, place: usize) -> ReversedRun
-    requires place { place < length levels.now }
-    requires level { level ≤ slice_index levels.now place }
-    ensures high { AreHigh (slice_index levels.now) result.lowest result.start result.end }
-    ensures before { BeginsLow (slice_index levels.now) level result.start }
-    ensures up { level ≤ result.lowest }
-    ensures from { result.start ≤ place }
-    ensures end { result.end ≡ place + 1 }
-{
     let mut start = place;
     let mut lowest = levels[place];
     while start > 0 && levels[start - 1] >= level {
         start -= 1;
         lowest = lowest.min(levels[start]);
     }
-    ReversedRun {
-        start,
-        end: place + 1,
-        lowest,
-    }
-}
-
-/// The whole run, from the part of it that ends somewhere inside.
-fn ahead(levels: &[u8], level: u8, part: ReversedRun) -> ReversedRun
-    requires high { AreHigh (slice_index levels.now) part.lowest part.start part.end }
-    requires before { BeginsLow (slice_index levels.now) level part.start }
-    requires up { level ≤ part.lowest }
-    requires order { part.start < part.end }
-    requires within { part.end ≤ length levels.now }
-    ensures run { IsRun (slice_index levels.now) (length levels.now) level result.start result.end }
-    ensures lowest { AreHigh (slice_index levels.now) result.lowest result.start result.end }
-    ensures up { level ≤ result.lowest }
-    ensures start { result.start ≡ part.start }
-    ensures end { part.end ≤ result.end }
-{
-    let mut end = part.end;
-    let mut lowest = part.lowest;
+    let mut end = place + 1;
     while end < levels.len() && levels[end] >= level {
         lowest = lowest.min(levels[end]);
         end += 1;
     }
-    ReversedRun {
-        start: part.start,
-        end,
-        lowest,
-    }
+    ReversedRun { start, end, lowest }
 }
