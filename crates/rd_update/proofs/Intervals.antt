@@ -1,6 +1,6 @@
 -- The interval of a row that is sent is the least one that holds all differences and cuts no character.
 use Rattle.std.proofs.Common.{◌≡◌, if◌then◌else◌, ◌⊎◌, inl, inr, ◌||◌, ℕ, zero, suc, ◌+◌, ◌-◌, ◌<◌, ◌≤◌, Bool, true, false, List, [], ◌∷◌, length, get_or, drop, refl, sym, ap, ap₂, ◌∙◌, arith}
-use Rattle.std.proofs.lemmas.List.{get_or-drop, length-drop}
+use Rattle.std.proofs.lemmas.List.{get_or-take, get_or-drop, length-drop}
 use Rattle.std.proofs.lemmas.Bool.{cases_eq, cases_lt}
 use Rattle.rd_base.specs.Glyphs.{IsRowAfter}
 use Rattle.rd_base.specs.declared.cell.Cell.{Cell}
@@ -8,28 +8,19 @@ use Rattle.rd_base.specs.declared.cell.Cell.TheVariants.{Blank, First, Rest}
 use Rattle.rd_term.specs.Pictures.{blank}
 use Rattle.rd_update.specs.Laws.{IsLeastInterval}
 use Rattle.rd_base.specs.Equals.{same_cell}
+use Rattle.rd_base.proofs.Equals.{cell-itself}
 use Rattle.rd_term.proofs.Cutting.{later-chosen}
 use Rattle.rd_update.specs.Updates.{first_difference, end_before, end_of_differences, is_rest, goes_on, begin_before, going_on, begin_of, end_of}
-use Rattle.rd_update.proofs.Spans.{first_before, behind-here, behind-step, last-step, end_within, begin-le, begin-is, going-stops}
+use Rattle.rd_update.proofs.Spans.{front-same, first_before, behind-here, behind-step, last-step, end_within, begin-le, begin-is, going-stops}
 
 -- ---- the first and the last difference
 
-first-same-step : (same : Bool) (k n : ℕ) (x y d : Cell) (xs ys : List Cell) → same_cell x y ≡ same → (k < n → same_cell (get_or xs k d) (get_or ys k d) ≡ true)
-    → suc k < (if same then suc n else 0) → same_cell (get_or xs k d) (get_or ys k d) ≡ true
-first-same-step true k n x y d xs ys e h lt = h (omega arith)
-first-same-step false k n x y d xs ys e h lt = absurd (omega arith)
-
-first-same-here : (same : Bool) (n : ℕ) (x y : Cell) → same_cell x y ≡ same → 0 < (if same then suc n else 0) → same_cell x y ≡ true
-first-same-here true n x y e lt = e
-first-same-here false n x y e lt = absurd (omega arith)
-
 -- before the first difference cells are the same
 before-first : (k : ℕ) (d : Cell) (old new : List Cell) → k < first_difference old new → same_cell (get_or old k d) (get_or new k d) ≡ true
-before-first k d [] [] lt = absurd (omega arith)
-before-first k d [] (y ∷ ys) lt = absurd (omega arith)
-before-first k d (x ∷ xs) [] lt = absurd (omega arith)
-before-first zero d (x ∷ xs) (y ∷ ys) lt = first-same-here (same_cell x y) (first_difference xs ys) x y refl lt
-before-first (suc k) d (x ∷ xs) (y ∷ ys) lt = first-same-step (same_cell x y) k (first_difference xs ys) x y d xs ys refl (before-first k d xs ys) lt
+before-first k d old new lt =
+    let front = first_difference old new in
+    ap (same_cell (get_or old k d)) (sym (get_or-take front new k d lt) ∙ ap (λ xs. get_or xs k d) (front-same old new) ∙ get_or-take front old k d lt)
+    ∙ cell-itself (get_or old k d)
 
 -- from the end of the differences on cells are the same
 pub behind-last : (k : ℕ) (d : Cell) (old new : List Cell) → length old ≡ length new → k < length new → end_of_differences old new ≤ k → same_cell (get_or old k d) (get_or new k d) ≡ true
