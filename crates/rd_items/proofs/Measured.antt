@@ -11,7 +11,7 @@ use Rattle.rd_glyphs.proofs.Measures.{MarkLaws}
 use Rattle.rd_props.specs.Seen.{Seen}
 use Rattle.rd_items.specs.declared.piece.Piece.{Piece}
 use Rattle.rd_items.specs.declared.item.Item.{Item}
-use Rattle.rd_items.specs.Readings.{HaveCodes}
+use Rattle.rd_items.specs.Readings.{HasCode, HaveCodes}
 use Rattle.rd_items.specs.Pieces.{Scene, char_piece, IsMeasuredKind}
 use Rattle.rd_items.specs.Items.{piece_joins, items_of, AreMeasuredItems}
 use Rattle.rd_items.proofs.EachItem.{GivesOnly, items-each}
@@ -21,9 +21,6 @@ record IsMeasuredPiece (x : Piece) : Type 0 where
   kind : IfSome x.kind IsMeasuredKind
   base : IfSome x.base (λ g. IsMeasured g)
   mark : IfSome x.mark (λ code. IsMark code)
-
-abbrev HasCode : Seen → Type 0
-HasCode e = IfSome e.character (λ c. IsTrue (is_code c))
 
 -- ---- the pieces of what is read
 

@@ -62,9 +62,12 @@ IsReading setting [] = ⊥
 IsReading setting (e ∷ []) = is_ender setting e ≡ true
 IsReading setting (e ∷ f ∷ es) = (is_ender setting e ≡ false) × IsReading setting (f ∷ es)
 
--- each character that is read has a code
+-- a character that is read has a code, and each of these has
+abbrev pub HasCode : Seen → Type 0
+HasCode e = IfSome e.character (λ c. IsTrue (is_code c))
+
 abbrev pub HaveCodes : List Seen → Type 0
-HaveCodes es = All (λ e. IfSome e.character (λ c. IsTrue (is_code c))) es
+HaveCodes es = All HasCode es
 
 -- all but the first
 abbrev pub behind : List Seen → List Seen

@@ -1,8 +1,9 @@
 -- The colours of merged faces are in range where those of all faces are.
-use Rattle.std.proofs.Common.{inl, inr, ℕ, nat_lt, List, [], ◌∷◌, All, Option, None, Some, unwrap_or, slice_get, subst}
+use Rattle.std.proofs.Common.{ℕ, nat_lt, List, [], ◌∷◌, All, Option, None, Some, subst, sym}
 use Rattle.std.proofs.lemmas.Bool.{cond_both}
-use Rattle.std.proofs.lemmas.Option.{slice_get_cases}
+use Rattle.std.proofs.lemmas.Option.{unwrap_or-slice_get}
 use Rattle.rd_base.proofs.Colours.{plain-coloured, over-coloured}
+use Rattle.rd_base.proofs.Lists.{all-read}
 use Rattle.rd_base.specs.Cells.{HasColours}
 use Rattle.rd_base.specs.Faces.{Attributes, plain}
 use Rattle.rd_objects.specs.Sound.{AreObjects}
@@ -14,15 +15,10 @@ use Rattle.rd_props.specs.Buffers.{BufferValue, property}
 use Rattle.rd_props.specs.Faces.{face_of, laid_over, face_at}
 use Rattle.rd_props.specs.Values.{value_of}
 
-found-coloured : (faces : List Attributes) (number : ℕ) → All HasColours faces → HasColours (unwrap_or (slice_get faces number) plain)
-found-coloured faces number h = elim (slice_get_cases faces number).1 [
-  | inl found ↦ let some = found.2 in rw some (subst HasColours found.3 (h number found.0 found.1))
-  | inr none ↦ let past = none.1 in rw past plain-coloured
-]
-
 face-coloured : (objects : ObjectLists) (number : Option ℕ) → All HasColours objects.faces → HasColours (face_of objects number)
 face-coloured objects None h = plain-coloured
-face-coloured objects (Some number) h = found-coloured objects.faces number h
+face-coloured objects (Some number) h =
+    subst HasColours (sym (unwrap_or-slice_get objects.faces number plain)) (all-read HasColours objects.faces number plain h plain-coloured)
 
 laid-coloured : (objects : ObjectLists) (slots : List (Option Overlay)) (numbers : List ℕ) (face : Attributes) → All HasColours objects.faces → HasColours face → HasColours (laid_over objects slots numbers face)
 laid-coloured objects slots [] face h k = k

@@ -1,11 +1,12 @@
 -- The parts of sound strings.
-use Rattle.std.proofs.Common.{◌≡◌, ℕ, zero, suc, ◌+◌, ◌-◌, ◌≤◌, Bool, true, false, IsTrue, List, [], ◌∷◌, ◌++◌, length, map, Option, None, Some, IfSome, refl, subst, ◌∙◌, length-append, arith}
-use Rattle.std.specs.Prelude.{if◌then◌else◌, get_or, slice_get, option_map, unwrap_or}
+use Rattle.std.proofs.Common.{◌≡◌, ℕ, suc, ◌+◌, ◌-◌, ◌≤◌, Bool, true, false, IsTrue, List, [], ◌∷◌, ◌++◌, length, map, Option, None, Some, IfSome, refl, subst, ◌∙◌, length-append, arith}
+use Rattle.std.specs.Prelude.{if◌then◌else◌, slice_get, option_map}
 use Rattle.std.specs.List.{flat_map, range_with_len, AllByRecursion}
 use Rattle.std.proofs.lemmas.List.{length-map}
 use Rattle.std.proofs.lemmas.List.FromFn.{length-range_with_len}
-use Rattle.std.proofs.lemmas.List.Elements.{recursion_from_All}
 use Rattle.std.proofs.lemmas.Bool.{cond_both}
+use Rattle.rd_base.proofs.Choices.{if-else}
+use Rattle.rd_base.proofs.Lists.{all-read}
 use Rattle.rd_base.specs.Chars.{is_code}
 use Rattle.rd_base.specs.Faces.{Attributes}
 use Rattle.rd_base.specs.Glyphs.{IsMeasured}
@@ -52,12 +53,8 @@ IsFitPlace p = IsTrue (is_code p.ch)
 
 -- ---- what is found of sound objects
 
-small-or : (spec : Option Spec) → IfSome spec IsSmallSpec → IsSmallSpec (unwrap_or spec (Width 0))
-small-or None small = omega arith
-small-or (Some spec) small = small
-
 pub spec-small : (o : ObjectLists) → AreObjects o → (number : ℕ) → IsSmallSpec (spec_in o number)
-spec-small o sound number = small-or (slice_get o.specs number) (found IsSmallSpec o.specs number sound.specs)
+spec-small o sound number = if-else IsSmallSpec (slice_get o.specs number) (Width 0) (found IsSmallSpec o.specs number sound.specs) (omega arith)
 
 pub string-at : (o : ObjectLists) → AreObjects o → (number : ℕ) → IfSome (slice_get o.strings number) (λ t. IsString t)
 string-at o sound number = found (λ (t : TextValue). IsString t) o.strings number sound.strings
@@ -84,16 +81,11 @@ module _ (laws : MarkLaws) (s : Scene) (base : ℕ) (sound : AreObjects s.object
       let measured : IsMeasured glyph = subst (λ (m : Option Glyph). IfSome m (λ (g : Glyph). IsMeasured g)) e joins in
       (measured, measured)
 
-  code-at : (chars : List ℕ) (i : ℕ) → AllByRecursion (λ c. IsTrue (is_code c)) chars → IsTrue (is_code (get_or chars i 0))
-  code-at [] i all = refl
-  code-at (c ∷ cs) zero all = all.0
-  code-at (c ∷ cs) (suc i) all = code-at cs i all.1
-
   -- the parts of a sound string are fit
   pub string-fit : (replaced : Bool) (text : TextValue) (under : Attributes) → IsString text → AllByRecursion IsFitShown (string_parts s base replaced text under)
   string-fit replaced text under is =
       string-each s base IsFitPlace IsFitPart IsFitShown (λ p code. part-by-fit (option_map (spec_in s.objects) p.spec) p (named-small p.spec) code) grows (λ odd x fit. fit.0) (λ p code. tt)
-      replaced text under (λ i. code-at text.chars i (recursion_from_All (λ c. IsTrue (is_code c)) text.chars is.chars))
+      replaced text under (λ i. all-read (λ c. IsTrue (is_code c)) text.chars i 0 is.chars refl)
 
 -- ---- how many there are
 
