@@ -9,7 +9,7 @@ use Rattle.rd_blocks.specs.Sources.{text_source}
 use Rattle.rd_matrix.proofs.EachRow.{begins-each}
 use Rattle.rd_matrix.proofs.HeldLemmas.{later-start}
 use Rattle.rd_matrix.specs.Blocks.{IsAmong, first_start}
-use Rattle.rd_matrix.specs.Entries.{EntryMeaning, shown_entries, shown_entry}
+use Rattle.rd_matrix.specs.Entries.{shown_entries, shown_entry}
 use Rattle.rd_matrix.specs.Sources.{IsSource, SourceValues, rows_at}
 use Rattle.rd_matrix.specs.declared.block.Block.{Block}
 use Rattle.rd_matrix.specs.declared.matrix.Entry.{Entry}
@@ -20,7 +20,7 @@ use Rattle.rd_state.specs.States.{StateValue}
 use Rattle.rd_state.specs.declared.window.WindowState.{WindowState}
 use Rattle.rd_text.specs.Texts.{IsText}
 use Rattle.rd_ucd.specs.Data.{Data}
-use Rattle.rd_visual.specs.Hits.{AreInPositions, Fits}
+use Rattle.rd_visual.specs.Hits.{AreInPositions, AreInRow, Fits}
 use Rattle.rd_window.specs.declared.layout.Layout.{Layout}
 use Rattle.rd_layout.specs.Laws.{ViewLaws}
 use Rattle.rd_layout.specs.Since.{IsKnown}
@@ -34,9 +34,6 @@ module _ (views : ViewLaws) (s : props.BufferValue) (objects : ObjectLists) (fil
   source : IsSource m
   source = views.source s objects files text
 
-  abbrev EntryFits : EntryMeaning → Type 0
-  EntryFits e = All (Fits e.start) e.row.begins
-
   block-end : (b : Block) → IsAmong m.blocks b → b.end < 2 ^ 32
   block-end b at =
       let some = (later-start (first_start m.blocks) at.0 m.blocks b source.blocks.stand at.1).1 in
@@ -46,7 +43,7 @@ module _ (views : ViewLaws) (s : props.BufferValue) (objects : ObjectLists) (fil
       let short = text.short in
       omega arith
 
-  rows-fit : All EntryFits (rows_at m shape)
+  rows-fit : All AreInRow (rows_at m shape)
   rows-fit = begins-each Fits (λ b. m.rows_of b shape) m.blocks (λ b at. λ k x below.
       let low = block-end b at in
       let lies = (source.rows b shape at is).inside k x below in
@@ -55,11 +52,11 @@ module _ (views : ViewLaws) (s : props.BufferValue) (objects : ObjectLists) (fil
 
   pub entries-fit : (es : List Entry) → AreRowsAt m shape es → AreInPositions (shown_entries es)
   entries-fit es at =
-      All-map EntryFits shown_entry es
+      All-map AreInRow shown_entry es
       (λ k d less.
       let e = shown_entry (slice_index_or es k d) in
       let place = at k d less in
-      subst EntryFits (get_or_from_slice_get (rows_at m shape) place.0 e e place.1) (rows-fit place.0 e (slice_get_within (rows_at m shape) place.0 e place.1)))
+      subst AreInRow (get_or_from_slice_get (rows_at m shape) place.0 e e place.1) (rows-fit place.0 e (slice_get_within (rows_at m shape) place.0 e place.1)))
 
 pub known-fit : ViewLaws → (files : Data) (s : StateValue) (w : WindowState) (l : Layout) → IsKnown files s w l → AreInPositions (shown_entries l.matrix)
 known-fit views files s w l known = entries-fit views known.old known.made files l.shape known.text known.shape l.matrix known.rows

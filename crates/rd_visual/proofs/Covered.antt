@@ -16,7 +16,7 @@ use Rattle.rd_matrix.specs.declared.matrix.Entry.{Entry}
 use Rattle.rd_rows.specs.Rows.{RowMeaning}
 use Rattle.rd_rows.specs.Shapes.{ShapeValues, IsShape}
 use Rattle.rd_rows.specs.declared.begin.Begin.{Begin}
-use Rattle.rd_visual.specs.Hits.{AreInPositions, AreRowsAt, Fits, begins_at, covers_some, hit_in, item_at, item_of_cell, least_at, reading_column}
+use Rattle.rd_visual.specs.Hits.{AreInPositions, AreInRow, AreRowsAt, Fits, begins_at, covers_some, hit_in, item_at, item_of_cell, least_at, reading_column}
 use Rattle.rd_visual.proofs.Items.{found-none, item-again, item-alone, item-column, item-member}
 
 covers-parts : (start point : ℕ) (b : Begin) → covers start point b ≡ true → (start + b.from ≤ point) × (point < start + b.to)
@@ -111,14 +111,11 @@ hit-entry [] row column e there = absurd cc
 hit-entry (x ∷ xs) zero column e there = let same : x ≡ e = cc in ap (λ (y : Entry). least_at (shown_entry y) column) same
 hit-entry (x ∷ xs) (suc row) column e there = hit-entry xs row column e there
 
-abbrev pub AreInRow : EntryMeaning → Type 0
-AreInRow e = All (Fits e.start) e.row.begins
-
-pub fits-entry : (es : List Entry) (row : ℕ) (e : Entry) → AreInPositions (shown_entries es) → slice_get es row ≡ Some e → All (Fits e.start) e.row.shown.begins
+pub fits-entry : (es : List Entry) (row : ℕ) (e : Entry) → AreInPositions (shown_entries es) → slice_get es row ≡ Some e → AreInRow (shown_entry e)
 fits-entry [] row e fits there = absurd cc
 fits-entry (x ∷ xs) zero e fits there =
     let same : x ≡ e = cc in
-    subst (λ (y : Entry). All (Fits y.start) y.row.shown.begins) same (All-head AreInRow (shown_entry x) (shown_entries xs) fits)
+    subst (λ (y : Entry). AreInRow (shown_entry y)) same (All-head AreInRow (shown_entry x) (shown_entries xs) fits)
 fits-entry (x ∷ xs) (suc row) e fits there = fits-entry xs row e (All-tail AreInRow (shown_entry x) (shown_entries xs) fits) there
 
 some-cell : (row : RowMeaning) (column : ℕ) (b : Begin) (q : Bool) → nat_lt column (length row.cells) ≡ q → item_of_cell row column ≡ Some b → item_at (reading_column row column) row.begins ≡ Some b

@@ -4,7 +4,7 @@ use Rattle.std.specs.Prelude.{count_by, slice_get}
 use Rattle.std.specs.List.{flat_map}
 use Rattle.std.proofs.lemmas.Bool.Decides.{nat_tests}
 use Rattle.std.proofs.lemmas.Grind.{flat_map-append}
-use Rattle.std.proofs.lemmas.List.{append-nil}
+use Rattle.std.proofs.lemmas.List.{append-nil, take-append-drop}
 use Rattle.std.proofs.lemmas.Option.{slice_get_within}
 use Rattle.rd_ucd.specs.Data.{Data}
 use Rattle.rd_objects.specs.Things.{ObjectLists}
@@ -21,7 +21,7 @@ use Rattle.rd_visual.specs.declared.range.Range.{Range}
 use Rattle.rd_visual.specs.declared.way.Way.{Way}
 use Rattle.rd_visual.specs.declared.way.Way.TheVariants.{Forward, Backward}
 use Rattle.rd_visual.proofs.Counts.{block-some}
-use Rattle.rd_base.proofs.Lists.{drop-at, none-left, count-append, element-at}
+use Rattle.rd_base.proofs.Lists.{drop-at, none-left, count-append, element-at, take-at}
 use Rattle.rd_visual.proofs.Neighbours.{AreSome, before-none, before-some, behind-front, behind-none, behind-some, first-append, last-append}
 
 -- blocks that stand one behind the other
@@ -64,16 +64,6 @@ opposite-by way false = refl
 pub opposite-in : (way : Way) (base : ℕ) → opposite (way_in way base) ≡ way_in (opposite way) base
 opposite-in way base = opposite-by way (base == 0)
 
-split-at : {X : Type 0} (k : ℕ) (xs : List X) (x : X) → slice_get xs k ≡ Some x → xs ≡ take k xs ++ x ∷ drop (suc k) xs
-split-at k [] x there = absurd cc
-split-at zero (y ∷ ys) x there = let same : y ≡ x = cc in ap (λ z. z ∷ ys) same
-split-at (suc k) (y ∷ ys) x there = ap (λ zs. y ∷ zs) (split-at k ys x there)
-
-take-next : {X : Type 0} (k : ℕ) (xs : List X) (x : X) → slice_get xs k ≡ Some x → take (suc k) xs ≡ take k xs ++ x ∷ []
-take-next k [] x there = absurd cc
-take-next zero (y ∷ ys) x there = let same : y ≡ x = cc in ap (λ z. z ∷ []) same
-take-next (suc k) (y ∷ ys) x there = ap (λ zs. y ∷ zs) (take-next k ys x there)
-
 among-beside : (way : Way) (k : ℕ) (bs : List Block) (x : Block) → block_beside way bs k ≡ Some x → IsAmong bs x
 among-beside Forward k bs x at = (k + 1, at)
 among-beside Backward zero bs x at = absurd cc
@@ -85,10 +75,11 @@ module _ (f : Block → List Range) (bs : List Block) (pos k : ℕ) (b : Block) 
   front = flat_map f (take k bs)
 
   abbrev back : List Range
-  back = flat_map f (drop (suc k) bs)
+  back = flat_map f (drop (k + 1) bs)
 
   whole : flat_map f bs ≡ front ++ (f b ++ back)
-  whole = ap (flat_map f) (split-at k bs b there) ∙ flat_map-append f (take k bs) (b ∷ drop (suc k) bs)
+  whole =
+      ap (flat_map f) (sym (take-append-drop k bs) ∙ ap (λ xs. take k bs ++ xs) (drop-at bs k b there)) ∙ flat_map-append f (take k bs) (b ∷ drop (k + 1) bs)
 
   apart : (count_by (holds pos) front ≡ 0) × (count_by (holds pos) back ≡ 0)
   apart =
@@ -107,7 +98,9 @@ module _ (f : Block → List Range) (bs : List Block) (pos k : ℕ) (b : Block) 
   last-by : (j p : ℕ) (prev : Block) → block_before bs j ≡ Some prev → count_by (holds p) (f prev) ≡ 1 → last (flat_map f (take j bs)) ≡ last (f prev)
   last-by zero p prev at some = absurd cc
   last-by (suc j) p prev at some =
-      ap (λ xs. last (flat_map f xs)) (take-next j bs prev at)
+      let one : suc j ≡ j + 1 = omega arith in
+      ap (λ n. last (flat_map f (take n bs))) one
+      ∙ ap (λ xs. last (flat_map f xs)) (take-at bs j prev at)
       ∙ ap last (flat_map-append f (take j bs) (prev ∷ []))
       ∙ last-append (flat_map f (take j bs)) (flat_map f (prev ∷ [])) p
       (let one = count-append (holds p) (f prev) [] in omega (arith, one, some))
@@ -117,20 +110,17 @@ module _ (f : Block → List Range) (bs : List Block) (pos k : ℕ) (b : Block) 
   none-by zero low at = refl
   none-by (suc j) low at = absurd (let q = element-at bs j (omega (arith, low)) in let x = q.1 in cc)
 
-  next-at : (o : Option Block) → slice_get bs (k + 1) ≡ o → slice_get bs (suc k) ≡ o
-  next-at o at = let one : k + 1 ≡ suc k = omega arith in subst (λ (j : ℕ). slice_get bs j ≡ o) one at
-
   within-block : (way : Way) → AreSome (f b) → (q : ℕ) → beside way pos (f b) ≡ Some q → beside way pos (flat_map f bs) ≡ Some q
   within-block Forward some q found = ap (behind pos) whole ∙ behind-front pos front (f b ++ back) apart.0 ∙ behind-some pos q (f b) back found
   within-block Backward some q found = ap (before pos) whole ∙ before-some pos q front (f b) back some apart.0 (omega (arith, here)) found
 
   into-block : (way : Way) (p : ℕ) (x : Block) → beside way pos (f b) ≡ None → block_beside way bs k ≡ Some x → count_by (holds p) (f x) ≡ 1 → beside way pos (flat_map f bs) ≡ entered way (f x)
   into-block Forward p x none at some =
-      forward-end none ∙ ap (λ xs. first (flat_map f xs)) (drop-at bs (suc k) x (next-at (Some x) at)) ∙ first-append (f x) (flat_map f (drop (suc k + 1) bs)) p (omega (arith, some))
+      forward-end none ∙ ap (λ xs. first (flat_map f xs)) (drop-at bs (k + 1) x at) ∙ first-append (f x) (flat_map f (drop (k + 1 + 1) bs)) p (omega (arith, some))
   into-block Backward p x none at some = backward-end none ∙ last-by k p x at some
 
   out-of-blocks : (way : Way) → beside way pos (f b) ≡ None → block_beside way bs k ≡ None → beside way pos (flat_map f bs) ≡ None
-  out-of-blocks Forward none at = forward-end none ∙ ap (λ xs. first (flat_map f xs)) (none-left bs (suc k) (next-at None at))
+  out-of-blocks Forward none at = forward-end none ∙ ap (λ xs. first (flat_map f xs)) (none-left bs (k + 1) at)
   out-of-blocks Backward none at = let inside = slice_get_within bs k b there in backward-end none ∙ none-by k (omega (arith, inside)) at
 
 -- what law says how often a position is covered, in all blocks and in one

@@ -50,9 +50,12 @@ hit_in (e ∷ es) (suc row) column = hit_in es row column
 abbrev pub Fits : ℕ → Begin → Type 0
 Fits start b = start + b.to < 2 ^ 32
 
--- each item that begins in these rows ends at a position
+-- each item that begins in a row, or in any of these rows, ends at a position
+abbrev pub AreInRow : EntryMeaning → Type 0
+AreInRow e = All (Fits e.start) e.row.begins
+
 abbrev pub AreInPositions : List EntryMeaning → Type 0
-AreInPositions es = All (λ e. All (Fits e.start) e.row.begins) es
+AreInPositions es = All AreInRow es
 
 -- rows of a source at a shape, one behind the other
 pub record AreRowsAt (m : SourceValues) (shape : ShapeValues) (es : List EntryMeaning) : Type 0 where
