@@ -1,12 +1,12 @@
 -- The PDIs that wait for their initiators, against the matching by nesting (BD9).
-use Rattle.std.proofs.Common.{◌≡◌, ℕ, zero, suc, ◌+◌, ◌<◌, ◌≤◌, nat_lt, if◌then◌else◌, List, [], ◌∷◌, ◌++◌, length, reverse, Option, None, Some, MatchOption, refl, ap, sym, ◌∙◌, add-zero, inl, inr, arith}
+use Rattle.std.proofs.Common.{◌≡◌, ℕ, zero, suc, ◌+◌, ◌<◌, ◌≤◌, nat_lt, if◌then◌else◌, List, [], ◌∷◌, ◌++◌, length, drop, reverse, Option, None, Some, MatchOption, refl, ap, sym, ◌∙◌, add-zero, inl, inr, arith}
 use Rattle.std.specs.Prelude.{slice_get}
 use Rattle.std.proofs.lemmas.List.{same_from_push, length-append, reverse-append}
 use Rattle.std.proofs.lemmas.Bool.{cases_Bool, ltb-true, ltb-false, lt-ltb, le-ltb}
 use Rattle.rd_base.specs.declared.class.Class.{Class}
 use Rattle.rd_base.specs.declared.class.Class.TheVariants.{LRI, RLI, FSI, PDI}
 use Rattle.rd_explicit.specs.Isolates.{inside}
-use Rattle.rd_explicit.specs.Links.{tail_of, unmatched}
+use Rattle.rd_explicit.specs.Links.{unmatched}
 
 abbrev pub closing : ℕ → ℕ → List Class → Option ℕ
 closing i depth cs = if nat_lt (length (inside cs depth)) (length cs) then Some (i + length (inside cs depth)) else None
@@ -19,7 +19,7 @@ shifted a b i = elim (cases_Bool (nat_lt a b)) [
   | inr n ↦ let more : suc b ≤ suc a = omega (arith, ltb-false a b n) in rw (n, le-ltb (suc a) (suc b) more)
 ]
 
-get-tail : (ps : List ℕ) (depth : ℕ) → slice_get (tail_of ps) depth ≡ slice_get ps (suc depth)
+get-tail : (ps : List ℕ) (depth : ℕ) → slice_get (drop 1 ps) depth ≡ slice_get ps (suc depth)
 get-tail [] depth = refl
 get-tail (p ∷ ps) depth = refl
 
@@ -35,7 +35,7 @@ get-unmatched (c ∷ cs) i depth = get-unmatched cs (i + 1) depth ∙ shifted (l
 -- what a pop of the waiting PDIs gives and leaves
 pub popped : (ps old new : List ℕ) (r : Option ℕ) → old ≡ reverse ps
     → MatchOption r ((old ≡ []) × (new ≡ [])) (λ last. old ≡ new ++ last ∷ [])
-    → (r ≡ slice_get ps 0) × (new ≡ reverse (tail_of ps))
+    → (r ≡ slice_get ps 0) × (new ≡ reverse (drop 1 ps))
 popped [] old new None same h = (refl, h.1)
 popped [] old new (Some last) same h = absurd (omega (arith, ap length (sym same ∙ h), length-append new (last ∷ [])))
 popped (p ∷ ps) old new None same h = absurd (omega (arith, ap length (sym h.0 ∙ same ∙ reverse-append (p ∷ []) ps), length-append (reverse ps) (p ∷ [])))

@@ -45,14 +45,10 @@ abbrev pub sequences_from : ℕ → ℕ → ℕ → List Class → List ℕ → 
 sequences_from base before i cs ls = map sequence (bd13_joined_runs (bd7_level_runs (x9_items base before i cs ls)))
 
 -- the indexes of the PDIs that no initiator of these classes matches, the first one first
-abbrev pub tail_of : List ℕ → List ℕ
-tail_of [] = []
-tail_of (p ∷ ps) = ps
-
 abbrev pub unmatched : ℕ → List Class → List ℕ
 unmatched i [] = []
 unmatched i (PDI ∷ cs) = i ∷ unmatched (i + 1) cs
-unmatched i (c ∷ cs) = if is_initiator c then tail_of (unmatched (i + 1) cs) else unmatched (i + 1) cs
+unmatched i (c ∷ cs) = if is_initiator c then drop 1 (unmatched (i + 1) cs) else unmatched (i + 1) cs
 
 abbrev pub first_of : List Item → Option First
 first_of [] = None
