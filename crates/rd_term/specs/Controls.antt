@@ -1,4 +1,4 @@
--- The control functions of ECMA-48 that the terminal obeys, by the last bytes of their sequences.
+-- The control functions of ECMA-48 that the terminal obeys, and the VT100's for the region, by the last bytes of their sequences.
 use Rattle.std.specs.Prelude.{ℕ, ◌==◌, if◌then◌else◌, Option, None, Some}
 use Rattle.rd_term.specs.declared.control.Control.{Control}
 use Rattle.rd_term.specs.declared.control.Control.TheVariants.{MoveTo, ClearAll, EraseToEnd, InsertRows, DeleteRows, ChangePen, SetRegion}
