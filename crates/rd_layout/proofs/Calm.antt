@@ -245,7 +245,7 @@ pub calm-step : (s : StateValue) (op : Op) → AreApart s.windows → IfOk (step
 unfolding step effect_of
 calm-step s (ops.Frame width height) apart = tree-if (Calm Nothing s) (resize_tree s.tree width (height - 1)) _ (λ d is. calm Nothing s _ refl refl)
 calm-step s (ops.Buffer name) apart =
-    making-if (Calm Nothing s) s name (record { contents = contents-pushed Nothing s.buffers (new_buffer name); windows = windows-same Nothing s.windows })
+    making-if (Calm Nothing s) s name (λ free room. record { contents = contents-pushed Nothing s.buffers (new_buffer name); windows = windows-same Nothing s.windows })
 calm-step s (ops.Insert name place text) apart = edited_moving-calm _ s name (Inserted place (length text)) (insertion place text) (loud-edit (number_of name s.buffers) place 0 (length text))
 calm-step s (ops.InsertRaw name place bytes) apart =
     edited_moving-calm _ s name (Inserted place (length (raw_text bytes))) (insertion place (raw_text bytes)) (loud-edit (number_of name s.buffers) place 0 (length (raw_text bytes)))

@@ -99,7 +99,7 @@ unfolding step
 goes s (ops.Frame width height) =
     tree-if (Goes true s) (resize_tree s.tree width (height - 1)) _
     (λ d is. record { size = λ no. absurd (cc); made = IfOk-at_ok (Grows s.tree) is (resize-grows s.tree width (height - 1)); lives = λ n _ l. l })
-goes s (ops.Buffer name) = making-if (Goes false s) s name (same-windows s _ refl refl refl refl false)
+goes s (ops.Buffer name) = making-if (Goes false s) s name (λ free room. same-windows s _ refl refl refl refl false)
 goes s (ops.Insert name place text) = edited_moving-leads s name (Inserted place (length text)) (insertion place text)
 goes s (ops.InsertRaw name place bytes) = edited_moving-leads s name (Inserted place (length (raw_text bytes))) (insertion place (raw_text bytes))
 goes s (ops.TypeText text) =

@@ -22,14 +22,14 @@ use Rattle.rd_state.proofs.ByNumber.{window-each}
 use Rattle.rd_state.proofs.Keeping.{holding, moved_by}
 use Rattle.rd_state.specs.Valid.{IsContent, IsWindow, IsValid}
 use Rattle.rd_state.specs.Edits.{insertion, deletion, narrowing, widening, property_putting, overlay_making, overlay_moving, overlay_dropping, overlay_putting, margin_putting, setting_putting}
-use Rattle.rd_state.specs.Making.{table_of}
+use Rattle.rd_state.specs.Making.{run_of, spec_of, table_of}
 use Rattle.rd_state.specs.Moves.{moved, moved_in}
 use Rattle.rd_state.specs.Steps.{typing, raw_text, held, step, settled}
 use Rattle.rd_state.proofs.Below.{TextLaws, MadeLaws, ObjectLaws, TreeLaws}
-use Rattle.rd_state.proofs.Naming.{setting-keeps, margin-keeps, string-valid, spec-valid, face-valid, table-valid, making-valid, new-valid}
+use Rattle.rd_state.proofs.Naming.{setting-keeps, margin-keeps, objects-valid, small-spec, making-valid, new-valid}
 use Rattle.rd_state.proofs.Showing.{set-valid, placing-valid, point-keeps, start-keeps, look-keeps, scroll-keeps, showing-valid, splitting-valid, removing-valid, resizing-valid, selecting-valid, mode_lining-valid, margining-valid}
 use Rattle.rd_state.proofs.Slots.{table-right}
-use Rattle.rd_state.proofs.StepParts.{with_content, each-if, setting-if, typing-if}
+use Rattle.rd_state.proofs.StepParts.{with_content, setting-if, typing-if}
 use Rattle.rd_state.proofs.Stepping.{raw-codes, edited-valid, edited_moving-valid, moving-valid, insertion-keeps, insertion-means, deletion-keeps, narrowing-keeps, widening-keeps, put-keeps, making-keeps, moving-keeps, dropping-keeps, giving-keeps}
 use Rattle.rd_state.proofs.Tests.{text-codes}
 
@@ -38,7 +38,7 @@ pub record Laws : Type 0 where
   pub texts : TextLaws
   pub made : MadeLaws
   pub objects : ObjectLaws
-  pub extends : (s t : StateValue) (op : Op) → IsValid s → IsInForm op → step s op ≡ Ok t → Extends s.objects t.objects
+  pub extends : (s : StateValue) (op : Op) → IsValid s → IsInForm op → IfOk (step s op) (λ t. Extends s.objects t.objects)
   pub trees : TreeLaws
 
 -- ---- typing
@@ -100,7 +100,7 @@ framed-valid s margin conservatively echo shifting v few rows plain = record {
 pub step-valid : (laws : Laws) (s : StateValue) (op : Op) → IsValid s → IsInForm op → IfOk (step s op) IsValid
 unfolding step
 step-valid laws s (ops.Frame width height) v form = resizing-valid laws.trees s width height v form.0 form.1 form.2 form.3
-step-valid laws s (ops.Buffer name) v form = each-if IsValid _ (λ t h. making-valid s t name v form h)
+step-valid laws s (ops.Buffer name) v form = making-valid s name v form
 step-valid laws s (ops.Insert name place text) v form =
     edited_moving-valid s name (Inserted place (length text)) (insertion place text) v (insertion-keeps laws.texts laws.made s.objects place text (text-codes text form.2))
 step-valid laws s (ops.InsertRaw name place bytes) v form =
@@ -120,15 +120,21 @@ step-valid laws s (ops.OverlayPut name overlay kind value) v form =
     edited-valid s name (overlay_putting s.objects overlay kind value) v (giving-keeps laws.made s.objects overlay kind value)
 step-valid laws s (ops.Setting name value) v form = edited-valid s name (setting_putting s.objects value) v (setting-keeps s.objects value form.1)
 step-valid laws s (ops.AddString text runs) v form =
-    each-if IsValid _ (λ t h. string-valid laws.made laws.objects s t text runs v (text-codes text form.0) (laws.extends s t (ops.AddString text runs) v form h) h)
+    let rs = map run_of runs in
+    objects-valid laws.made s _ _ v (λ none. laws.objects.sound.string s.objects text rs (text-codes text form.0) none v.objects) (λ none. laws.objects.closed.string s.objects text rs none v.closed)
+    (laws.extends s (ops.AddString text runs) v form)
 step-valid laws s (ops.AddSpec spec) v form =
-    each-if IsValid _ (λ t h. spec-valid laws.made laws.objects s t spec v form (laws.extends s t (ops.AddSpec spec) v form h) h)
+    let x = spec_of spec in
+    objects-valid laws.made s _ _ v (λ none. laws.objects.sound.spec s.objects x (small-spec spec form) none v.objects) (λ none. laws.objects.closed.spec s.objects x none v.closed)
+    (laws.extends s (ops.AddSpec spec) v form)
 step-valid laws s (ops.AddFace face) v form =
-    each-if IsValid _ (λ t h. face-valid laws.made laws.objects s t face v (record { fg = form.0; bg = form.1 }) (laws.extends s t (ops.AddFace face) v form h) h)
+    objects-valid laws.made s _ _ v (λ none. laws.objects.sound.face s.objects face (record { fg = form.0; bg = form.1 }) none v.objects) (λ none. laws.objects.closed.face s.objects face v.closed)
+    (laws.extends s (ops.AddFace face) v form)
 step-valid laws s (ops.AddTable entries truncation continuation escape control ellipsis border) v form =
-    each-if IsValid _ (λ t h. table-valid laws.made laws.objects s t (table_of entries truncation continuation escape control ellipsis border) v
-    (table-right entries truncation continuation escape control ellipsis border form.1 form.2 form.3 form.4 form.5 form.6 form.7)
-    (laws.extends s t (ops.AddTable entries truncation continuation escape control ellipsis border) v form h) h)
+    let table = table_of entries truncation continuation escape control ellipsis border in
+    let right = table-right entries truncation continuation escape control ellipsis border form.1 form.2 form.3 form.4 form.5 form.6 form.7 in
+    objects-valid laws.made s _ _ v (λ none. laws.objects.sound.table s.objects table right none v.objects) (λ none. laws.objects.closed.table s.objects table v.closed)
+    (laws.extends s (ops.AddTable entries truncation continuation escape control ellipsis border) v form)
 step-valid laws s (ops.Split window side size) v form = splitting-valid laws.trees s window side size v
 step-valid laws s (ops.Remove window) v form = removing-valid laws.trees s window v
 step-valid laws s (ops.Select window) v form = selecting-valid s window v

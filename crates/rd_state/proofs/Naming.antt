@@ -1,45 +1,40 @@
 -- A step leads from a valid state to a valid one: settings, margin strings, objects and new buffers.
-use Rattle.std.proofs.Common.{◌≡◌, ℕ, zero, suc, ◌<◌, ◌≤◌, Bool, true, false, is_some, cond, if◌then◌else◌, nat_lt, nat_le, Option, None, Some, Result, Ok, Err, List, [], ◌∷◌, ◌++◌, length, map, subst, sym, ap, refl, ◌∙◌, arith, length-append, IsTrue}
+use Rattle.std.proofs.Common.{◌≡◌, ℕ, zero, suc, ◌<◌, ◌≤◌, Bool, true, false, is_some, cond, Option, None, Some, List, [], ◌∷◌, ◌++◌, length, subst, sym, ap, refl, ◌∙◌, arith, length-append, IsTrue}
 use Rattle.std.proofs.lemmas.Bool.{ltb-true, ltb-false, leb-false}
 use Rattle.std.proofs.lemmas.List.Elements.{All-nil}
 use Rattle.std.specs.Cmp.{nat_cmp_total}
 use Rattle.std.specs.FinMap as finite
 use Rattle.std.specs.FinMap.{get, get-insert, get-remove, get-empty}
 use Rattle.std.specs.Ordering.{nat_cmp, eq_by_cmp}
-use Rattle.std.specs.Prelude.{IfSome}
-use Rattle.rd_base.specs.Cells.{HasColours}
+use Rattle.std.specs.Prelude.{IfOk, IfSome}
 use Rattle.rd_base.specs.Chars.{is_code}
-use Rattle.rd_base.specs.Faces.{Attributes}
 use Rattle.rd_base.specs.Settings.{SettingValues}
-use Rattle.rd_base.specs.declared.limits.TheConstants.{FACES, TABLES}
 use Rattle.rd_text.specs.Texts.{IsText, no_text}
 use Rattle.rd_overlays.specs.Overlays.{overlay_at, place_of}
-use Rattle.rd_objects.specs.Sound.{AreCodes, AreObjects, IsClosed, Extends, GoesOn}
-use Rattle.rd_objects.specs.Tables.{TableValue, IsTable}
-use Rattle.rd_objects.specs.Things.{ObjectLists, string_fault, spec_fault, full_fault, string_added, spec_added, face_added, table_added, IsSmallSpec}
+use Rattle.rd_objects.specs.Sound.{AreObjects, IsClosed, Extends, GoesOn}
+use Rattle.rd_objects.specs.Things.{ObjectLists, IsSmallSpec}
 use Rattle.rd_objects.specs.declared.fault.ObjectFault.{ObjectFault}
 use Rattle.rd_props.specs.Buffers as props
 use Rattle.rd_props.specs.Made.{SettingsMade}
 use Rattle.rd_margins.specs.Marks.{MarkValues, marked}
 use Rattle.rd_script.specs.Forms.{IsSettingInForm, IsSpecInForm, is_buffer_name}
-use Rattle.rd_script.specs.declared.object.OpRun.{OpRun}
 use Rattle.rd_script.specs.declared.object.OpSpec.{OpSpec}
 use Rattle.rd_script.specs.declared.object.OpSpec.TheVariants as specs
 use Rattle.rd_script.specs.declared.setting.Setting.{Setting}
 use Rattle.rd_script.specs.declared.setting.Setting.TheVariants as setting
-use Rattle.rd_state.specs.declared.refused.Refused.{Refused}
-use Rattle.rd_state.specs.declared.refused.Refused.TheVariants.{NoObject, NoOverlay, NameTaken, TooManyBuffers}
+use Rattle.rd_state.specs.declared.refused.Refused.TheVariants.{NoObject, NoOverlay}
 use Rattle.rd_state.specs.States.{ContentValue, StateValue, seen, value_in, values_on, new_buffer, new_content, number_of}
 use Rattle.rd_state.specs.Valid.{most_buffers, IsContent, IsValid}
 use Rattle.rd_state.specs.Edits.{is_made, is_setting_made, margin_putting, setting_putting, with_setting}
-use Rattle.rd_state.specs.Making.{unless_fault, run_of, spec_of, string_making, spec_making, face_making, table_making}
+use Rattle.rd_state.specs.Making.{unless_fault, spec_of}
 use Rattle.rd_state.specs.Steps.{with_objects, making}
-use Rattle.rd_state.proofs.Below.{MadeLaws, ObjectLaws}
+use Rattle.rd_state.proofs.Below.{MadeLaws}
 use Rattle.rd_state.proofs.ByNumber.{some-none}
 use Rattle.rd_state.proofs.Keeping.{buffers-appended, windows-appended}
+use Rattle.rd_state.proofs.StepParts.{making-if}
 use Rattle.rd_state.proofs.Stepping.{Keeps, text-kept}
 use Rattle.rd_state.proofs.Tables.{nothing-within}
-use Rattle.rd_state.proofs.Tests.{both-ok, if-not, made-ok}
+use Rattle.rd_state.proofs.Tests.{both-ok, made-ok}
 use Rattle.rd_state.proofs.WithParts.{with_parts}
 
 -- ---- settings
@@ -137,58 +132,21 @@ content-extended made o p c more v =
     }
 
 -- other objects, that go on from those that there were
-objects-done : (made : MadeLaws) (s t : StateValue) (p : ObjectLists) → IsValid s → AreObjects p → IsClosed p → Extends s.objects t.objects → record s { objects = p } ≡ t → IsValid t
-objects-done made s t p v sound closed more same =
-    let extends : Extends s.objects p = subst (λ (x : StateValue). Extends s.objects x.objects) (sym same) more in
-    subst IsValid same (with_parts s s.buffers p s.tree s.windows s.selected s.width s.height v (record {
+pub objects-valid : (made : MadeLaws) (s : StateValue) (fault : Option ObjectFault) (added : ObjectLists) → IsValid s → (fault ≡ None → AreObjects added) → (fault ≡ None → IsClosed added)
+    → IfOk (with_objects s (unless_fault fault added)) (λ t. Extends s.objects t.objects) → IfOk (with_objects s (unless_fault fault added)) IsValid
+objects-valid made s (Some e) added v sound closed more = tt
+objects-valid made s None added v sound closed more =
+    with_parts s s.buffers added s.tree s.windows s.selected s.width s.height v (record {
       few = v.buffers.few;
       told = v.buffers.told;
       names = v.buffers.names;
-      contents = λ k b h. content-extended made s.objects p b.content extends (v.buffers.contents k b h);
-    }) sound closed v.windows v.frame)
+      contents = λ k b h. content-extended made s.objects added b.content more (v.buffers.contents k b h);
+    }) (sound refl) (closed refl) v.windows v.frame
 
-pub made-none : (fault : Option ObjectFault) (made p : ObjectLists) → unless_fault fault made ≡ Ok p → (fault ≡ None) × (made ≡ p)
-made-none None made p h = (refl, cc)
-made-none (Some fault) made p h = absurd (cc)
-
-with_objects-valid : (made : MadeLaws) (s t : StateValue) (fault : Option ObjectFault) (added : ObjectLists) (r : Result ObjectLists Refused) → IsValid s → unless_fault fault added ≡ r
-    → (fault ≡ None → AreObjects added) → (fault ≡ None → IsClosed added) → Extends s.objects t.objects → with_objects s r ≡ Ok t → IsValid t
-with_objects-valid made s t fault added (Err e) v is sound closed more h = absurd (cc)
-with_objects-valid made s t fault added (Ok p) v is sound closed more h =
-    let m = made-none fault added p is in
-    let same : record s { objects = p } ≡ t = cc (h) in
-    objects-done made s t added v (sound m.0) (closed m.0) more (ap (λ (x : ObjectLists). record s { objects = x }) m.1 ∙ same)
-
-pub string-valid : (made : MadeLaws) (laws : ObjectLaws) (s t : StateValue) (text : List ℕ) (runs : List OpRun) → IsValid s → AreCodes text → Extends s.objects t.objects
-    → with_objects s (string_making s.objects text runs) ≡ Ok t → IsValid t
-string-valid made laws s t text runs v codes more h =
-    let rs = map run_of runs in
-    with_objects-valid made s t (string_fault s.objects text rs) (string_added s.objects text rs) (string_making s.objects text runs) v refl
-    (λ none. laws.sound.string s.objects text rs codes none v.objects) (λ none. laws.closed.string s.objects text rs none v.closed) more h
-
-small-spec : (spec : OpSpec) → IsSpecInForm spec → IsSmallSpec (spec_of spec)
+pub small-spec : (spec : OpSpec) → IsSpecInForm spec → IsSmallSpec (spec_of spec)
 small-spec (specs.Text n) form = tt
 small-spec (specs.Width n) form = form
 small-spec (specs.Align n) form = form
-
-pub spec-valid : (made : MadeLaws) (laws : ObjectLaws) (s t : StateValue) (spec : OpSpec) → IsValid s → IsSpecInForm spec → Extends s.objects t.objects
-    → with_objects s (spec_making s.objects spec) ≡ Ok t → IsValid t
-spec-valid made laws s t spec v form more h =
-    let x = spec_of spec in
-    with_objects-valid made s t (spec_fault s.objects x) (spec_added s.objects x) (spec_making s.objects spec) v refl
-    (λ none. laws.sound.spec s.objects x (small-spec spec form) none v.objects) (λ none. laws.closed.spec s.objects x none v.closed) more h
-
-pub face-valid : (made : MadeLaws) (laws : ObjectLaws) (s t : StateValue) (face : Attributes) → IsValid s → HasColours face → Extends s.objects t.objects
-    → with_objects s (face_making s.objects face) ≡ Ok t → IsValid t
-face-valid made laws s t face v form more h =
-    with_objects-valid made s t (full_fault FACES (length s.objects.faces)) (face_added s.objects face) (face_making s.objects face) v refl
-    (λ none. laws.sound.face s.objects face form none v.objects) (λ none. laws.closed.face s.objects face v.closed) more h
-
-pub table-valid : (made : MadeLaws) (laws : ObjectLaws) (s t : StateValue) (table : TableValue) → IsValid s → IsTable table → Extends s.objects t.objects
-    → with_objects s (table_making s.objects table) ≡ Ok t → IsValid t
-table-valid made laws s t table v form more h =
-    with_objects-valid made s t (full_fault TABLES (length s.objects.tables)) (table_added s.objects table) (table_making s.objects table) v refl
-    (λ none. laws.sound.table s.objects table form none v.objects) (λ none. laws.closed.table s.objects table v.closed) more h
 
 -- ---- a new buffer
 
@@ -231,13 +189,10 @@ new-valid o = record {
   marks = λ k x h. absurd (no-margin k x h);
 }
 
-pub making-valid : (s t : StateValue) (name : List ℕ) → IsValid s → IsTrue (is_buffer_name name) → making s name ≡ Ok t → IsValid t
-making-valid s t name v form h =
-    let made : StateValue = record s { buffers = s.buffers ++ new_buffer name ∷ [] } in
-    let outer = if-not (nat_lt (number_of name s.buffers) (length s.buffers)) (if nat_le most_buffers (length s.buffers) then Err TooManyBuffers else Ok made) NameTaken t h in
-    let inner = if-not (nat_le most_buffers (length s.buffers)) (Ok made) TooManyBuffers t outer.1 in
-    let free = ltb-false (number_of name s.buffers) (length s.buffers) outer.0 in
-    let room = leb-false most_buffers (length s.buffers) inner.0 in
-    let same : made ≡ t = cc (inner.1) in
-    subst IsValid same (with_parts s made.buffers s.objects s.tree s.windows s.selected s.width s.height v (buffers-appended s.objects s.buffers name v.buffers (new-valid s.objects) form room free)
+pub making-valid : (s : StateValue) (name : List ℕ) → IsValid s → IsTrue (is_buffer_name name) → IfOk (making s name) IsValid
+making-valid s name v form =
+    let count = length s.buffers in
+    making-if IsValid s name
+    (λ free room. with_parts s (s.buffers ++ new_buffer name ∷ []) s.objects s.tree s.windows s.selected s.width s.height v
+    (buffers-appended s.objects s.buffers name v.buffers (new-valid s.objects) form (leb-false most_buffers count room) (ltb-false (number_of name s.buffers) count free))
     v.objects v.closed (windows-appended s.buffers name s.tree s.windows s.selected v.windows) v.frame)

@@ -1,5 +1,5 @@
 -- What each op leaves: of buffers what its effect tells, objects that go on, and windows that show what they showed.
-use Rattle.std.proofs.Common.{◌≡◌, ℕ, ◌+◌, ◌-◌, ◌≤◌, inl, inr, ◌==◌, false, is_some, min, max, pos, Option, Some, Result, Ok, List, [], ◌∷◌, length, map, subst, sym, ap, refl, ◌∙◌, arith, length-append, unwrap_or}
+use Rattle.std.proofs.Common.{◌≡◌, ℕ, ◌+◌, ◌-◌, ◌≤◌, inl, inr, ◌==◌, false, is_some, min, max, pos, Option, None, Some, Result, Ok, List, [], ◌∷◌, length, map, subst, sym, ap, refl, ◌∙◌, arith, length-append, unwrap_or}
 use Rattle.std.proofs.lemmas.Bool.{cases_eq}
 use Rattle.std.proofs.lemmas.List.{length-set}
 use Rattle.std.proofs.lemmas.Option.{slice_get_within}
@@ -11,6 +11,7 @@ use Rattle.rd_overlays.specs.declared.overlay.Overlay.{Overlay}
 use Rattle.rd_overlays.specs.Overlays.{overlay_at}
 use Rattle.rd_objects.specs.Sound.{Extends}
 use Rattle.rd_objects.specs.Things.{ObjectLists}
+use Rattle.rd_objects.specs.declared.fault.ObjectFault.{ObjectFault}
 use Rattle.rd_script.specs.Forms.{IsInForm}
 use Rattle.rd_script.specs.declared.op.Op.{Op}
 use Rattle.rd_script.specs.declared.op.Op.TheVariants as ops
@@ -28,7 +29,7 @@ use Rattle.rd_state.specs.Windows.{window_of, with_window, selected_window}
 use Rattle.rd_state.specs.Changes.{Stays, StaysWhole, Leaves}
 use Rattle.rd_state.specs.Edits.{insertion, deletion, narrowing, widening, property_putting, overlay_making, overlay_moving, overlay_dropping, overlay_putting, margin_putting, setting_putting}
 use Rattle.rd_state.specs.Effects.{overlay_in, inserted_effect, covered_effect, moved_effect, effect_of}
-use Rattle.rd_state.specs.Making.{run_of, spec_of, table_of, string_making, spec_making, face_making, table_making}
+use Rattle.rd_state.specs.Making.{unless_fault, run_of, spec_of, table_of}
 use Rattle.rd_state.specs.Moves.{moved, moved_in}
 use Rattle.rd_state.specs.Steps.{with_objects, changing, inserting, typing, on_tree, edited, edited_moving, format_fault, making, raw_text, step}
 use Rattle.rd_state.proofs.AllSteps.{moved-buffer}
@@ -36,8 +37,7 @@ use Rattle.rd_state.proofs.Below.{LeaveLaws, GrowLaws}
 use Rattle.rd_state.proofs.ByNumber.{NumberedWindow, Each, window-each, each-same, each-with, each-moved, each-end, each-without}
 use Rattle.rd_state.proofs.Keeping.{moved_by}
 use Rattle.rd_state.proofs.Leaving.{whole, whole-objects, stays-inserted, stays-deleted, StaysAround, stays-put, stays-made, AroundOverlay, stays-dropped, stays-given, stays-moved, stays-margin, others-whole, part-stays}
-use Rattle.rd_state.proofs.Naming.{made-none}
-use Rattle.rd_state.proofs.StepParts.{with_content, found, unless, objects-if, tree-if, treed-if, making-if, edited-if, edited_moving-if, typing-if, setting-if, placing-if}
+use Rattle.rd_state.proofs.StepParts.{with_content, found, unless, tree-if, treed-if, making-if, edited-if, edited_moving-if, typing-if, setting-if, placing-if}
 use Rattle.rd_state.proofs.Stepping.{IsEditOf}
 use Rattle.rd_state.proofs.Options.{one-value}
 
@@ -203,21 +203,20 @@ margin-outcome laws grow s t i number string e =
 
 -- ---- objects and new buffers
 
-objects-outcome : (laws : LeaveLaws) (s : StateValue) (r : Result ObjectLists Refused) → IsValid s → ((p : ObjectLists) → r ≡ Ok p → Extends s.objects p) → IfOk (with_objects s r) (Quiet s)
-objects-outcome laws s r v more =
-    objects-if (Quiet s) s r
-    (λ p is. record {
-      contents = λ k b c hb hc.
-          subst (λ (x : BufferValue). StaysWhole b.content s.objects x.content p) (one-value (slice_get s.buffers k) b c hb hc)
-          (whole-objects laws s.objects p b.content (v.buffers.contents k b hb) (more p is));
-      objects = more p is;
-      buffers = omega arith;
-      windows = show-same s s Nothing refl;
-    })
+objects-outcome : (laws : LeaveLaws) (s : StateValue) (fault : Option ObjectFault) (p : ObjectLists) → IsValid s → Extends s.objects p → IfOk (with_objects s (unless_fault fault p)) (Quiet s)
+objects-outcome laws s (Some e) p v more = tt
+objects-outcome laws s None p v more = record {
+  contents = λ k b c hb hc.
+      subst (λ (x : BufferValue). StaysWhole b.content s.objects x.content p) (one-value (slice_get s.buffers k) b c hb hc)
+      (whole-objects laws s.objects p b.content (v.buffers.contents k b hb) more);
+  objects = more;
+  buffers = omega arith;
+  windows = show-same s s Nothing refl;
+}
 
 making-outcome : (laws : LeaveLaws) (grow : GrowLaws) (s : StateValue) (name : List ℕ) → IfOk (making s name) (Quiet s)
 making-outcome laws grow s name =
-    making-if (Quiet s) s name (record {
+    making-if (Quiet s) s name (λ free room. record {
       contents = λ k b c hb hc. elim (get-end s.buffers (new_buffer name) k c hc) [
         | inl p ↦ same-whole laws s k b c hb p
         | inr p ↦ absurd (omega (arith, p.0, slice_get_within s.buffers k b hb))
@@ -314,16 +313,11 @@ outcome laws grow s (ops.Setting name value) v form =
     let i = number_of name s.buffers in
     let edit = setting_putting s.objects value in
     IfOk-weaker _ _ _ (λ t e. all-outcome laws grow s t i edit e.0 (show-same s t (All i) e.1)) (edited-is s name edit)
-outcome laws grow s (ops.AddString text runs) v form =
-    objects-outcome laws s (string_making s.objects text runs) v
-    (λ p is. subst (Extends s.objects) (made-none _ _ p is).1 (grow.string s.objects text (map run_of runs)))
-outcome laws grow s (ops.AddSpec spec) v form =
-    objects-outcome laws s (spec_making s.objects spec) v (λ p is. subst (Extends s.objects) (made-none _ _ p is).1 (grow.spec s.objects (spec_of spec)))
-outcome laws grow s (ops.AddFace face) v form =
-    objects-outcome laws s (face_making s.objects face) v (λ p is. subst (Extends s.objects) (made-none _ _ p is).1 (grow.face s.objects face))
+outcome laws grow s (ops.AddString text runs) v form = objects-outcome laws s _ _ v (grow.string s.objects text (map run_of runs))
+outcome laws grow s (ops.AddSpec spec) v form = objects-outcome laws s _ _ v (grow.spec s.objects (spec_of spec))
+outcome laws grow s (ops.AddFace face) v form = objects-outcome laws s _ _ v (grow.face s.objects face)
 outcome laws grow s (ops.AddTable entries truncation continuation escape control ellipsis border) v form =
-    let table = table_of entries truncation continuation escape control ellipsis border in
-    objects-outcome laws s (table_making s.objects table) v (λ p is. subst (Extends s.objects) (made-none _ _ p is).1 (grow.table s.objects table))
+    objects-outcome laws s _ _ v (grow.table s.objects (table_of entries truncation continuation escape control ellipsis border))
 outcome laws grow s (ops.Split window side size) v form =
     found (Quiet s) _ (window_of window s.windows) _
     (λ w lives. tree-if (Quiet s) (split_tree s.tree window side size) _

@@ -24,6 +24,11 @@ tested : {T E : Type 0} (t : Bool) (r : Result T E) (e : E) (P : T → Type 0) �
 tested true r e P h = h refl
 tested false r e P h = tt
 
+-- where it refuses what holds
+untested : {T E : Type 0} (t : Bool) (r : Result T E) (e : E) (P : T → Type 0) → (t ≡ false → IfOk r P) → IfOk (if t then Err e else r) P
+untested true r e P h = tt
+untested false r e P h = h refl
+
 -- a state in which a buffer holds something else
 abbrev pub with_content : StateValue → ℕ → BufferValue → ContentValue → StateValue
 with_content s i b c = record s { buffers = slice_set s.buffers i (record b { content = c }) }
@@ -70,8 +75,9 @@ module _ (P : StateValue → Type 0) where
   treed-if s (Err fault) n f h = tt
   treed-if s (Ok d) n f h = h d refl
 
-  pub making-if : (s : StateValue) (name : List ℕ) → P (record s { buffers = s.buffers ++ new_buffer name ∷ [] }) → IfOk (making s name) P
-  making-if s name h = one-of (nat_lt (number_of name s.buffers) (length s.buffers)) _ _ P tt (one-of (nat_le most_buffers (length s.buffers)) _ _ P tt h)
+  pub making-if : (s : StateValue) (name : List ℕ)
+      → (nat_lt (number_of name s.buffers) (length s.buffers) ≡ false → nat_le most_buffers (length s.buffers) ≡ false → P (record s { buffers = s.buffers ++ new_buffer name ∷ [] })) → IfOk (making s name) P
+  making-if s name h = untested (nat_lt (number_of name s.buffers) (length s.buffers)) _ _ P (λ free. untested (nat_le most_buffers (length s.buffers)) _ _ P (λ room. h free room))
 
   pub edited-if : (s : StateValue) (name : List ℕ) (edit : ContentValue → Result ContentValue Refused)
       → ((b : BufferValue) (c : ContentValue) → slice_get s.buffers (number_of name s.buffers) ≡ Some b → edit b.content ≡ Ok c → P (with_content s (number_of name s.buffers) b c)) → IfOk (edited s name edit) P

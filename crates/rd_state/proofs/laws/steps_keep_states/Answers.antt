@@ -1,6 +1,9 @@
 use Rattle.std.proofs.lemmas.Result.{IfOk-at_ok}
+use Rattle.rd_objects.specs.Sound.{Extends}
+use Rattle.rd_state.specs.Steps.{step}
 use Rattle.rd_state.specs.Valid.{IsValid}
 use Rattle.rd_state.proofs.AllSteps.{Laws, step-valid, opening-valid}
+use Rattle.rd_state.proofs.StepParts.{each-if}
 use Rattle.rd_state.proofs.laws.steps_keep_states.Goals as goal
 
 pub returns : goal.returns
@@ -9,7 +12,7 @@ returns c =
       texts = c.edits_keep_texts.ensures;
       made = c.edits_keep_what_is_made.ensures;
       objects = record { sound = c.objects_stay_sound.ensures; closed = c.objects_stay_closed.ensures };
-      extends = c.ops_leave_the_rest.ensures.objects;
+      extends = λ s op v form. each-if (λ t. Extends s.objects t.objects) (step s op) (λ t h. c.ops_leave_the_rest.ensures.objects s t op v form h);
       trees = c.calls_keep_trees.ensures;
     } in
     record { opening = opening-valid laws; step = λ s t op v form h. IfOk-at_ok IsValid h (step-valid laws s op v form) }
