@@ -1,22 +1,23 @@
 -- Where windows stand.
 use Rattle.std.proofs.Common.{◌≡◌, ℕ, ◌+◌, ◌-◌, ◌≤◌, Bool, true, false, if◌then◌else◌, ◌==◌, ◌&&◌, List, [], ◌∷◌, ◌++◌, append_assoc, append-nil, map, Option, None, Some, inl, inr, refl, sym, ap, subst, ◌∙◌, arith}
-use Rattle.std.specs.Prelude.{is_some, IfSome}
-use Rattle.std.proofs.lemmas.Bool.{cases_Bool, true≢false}
+use Rattle.std.specs.Prelude.{IfSome}
+use Rattle.std.specs.List.{list_any}
+use Rattle.std.proofs.lemmas.Bool.{cases_Bool, or_parts}
 use Rattle.std.proofs.Math.Bool.{or-false, and-true, and-false}
 use Rattle.std.proofs.lemmas.Bool.Decides.{nat_tests}
 use Rattle.std.proofs.lemmas.List.{map-append}
 use Rattle.std.proofs.lemmas.List.Folds.{list_any-append}
 use Rattle.std.specs.Option.{option_or}
-use Rattle.rd_base.proofs.Choices.{none-chosen, none-of}
+use Rattle.rd_base.proofs.Choices.{none-of}
 use Rattle.rd_base.proofs.Lists.{each-append, total-append}
 use Rattle.rd_base.specs.Cells.{bit_of}
 use Rattle.rd_tree.specs.declared.rect.Rect.{Rect}
 use Rattle.rd_tree.specs.declared.side.Side.{Side}
 use Rattle.rd_tree.specs.declared.side.Side.TheVariants.{Below, Right}
 use Rattle.rd_tree.specs.declared.placed.Placed.{Placed}
-use Rattle.rd_tree.specs.Windows.{Windows, Window, Split, columns_for, rows_for, first_part, second_part, HasRoom, first_size, resized, leaves, placed, of_number, window_at, holds, replaced, is_leaf_of, is_single, sibling, removed, times}
+use Rattle.rd_tree.specs.Windows.{Windows, Window, Split, columns_for, rows_for, first_part, second_part, HasRoom, first_size, resized, leaves, placed, window_at, holds, replaced, is_leaf_of, is_single, sibling, removed, times}
 use Rattle.rd_tree.specs.Calls.{Configuration, IsValid, frame_of, rect_of_placed}
-use Rattle.rd_tree.specs.Places.{is_from, lies_in, windows_with, AllHaveRoom, in_place_of, without, is_among, IsWithin, StandsIn, LiesIn}
+use Rattle.rd_tree.specs.Places.{is_from, lies_in, windows_with, AllHaveRoom, in_place_of, replaced_first, without, is_among, IsWithin, StandsIn, LiesIn}
 use Rattle.rd_tree.proofs.Rooms.{rows_for-some, room_needs, room_within, of_number-append}
 use Rattle.rd_tree.proofs.Keeping.{found_held, found_in, by_way}
 
@@ -62,20 +63,27 @@ all_room (Split side size first second) rect h =
     let b = second_part side size rect in
     each-append (λ (window : Placed). (columns_for window.margins ≤ window.rect.width) × (rows_for window.mode ≤ window.rect.height)) (placed first a) (placed second b) (all_room first a h.0) (all_room second b h.1)
 
--- others in place of a window that stands among the first windows, or behind them
-in_place-back : (w : ℕ) (others : Placed → List Placed) (xs ys : List Placed) → of_number w xs ≡ None → in_place_of w others (xs ++ ys) ≡ xs ++ in_place_of w others ys
-in_place-back w others [] ys e = refl
-in_place-back w others (window ∷ xs) ys e =
-    let s = none-chosen (window.number == w) window (of_number w xs) e in
-    rw s.0 (ap (λ (zs : List Placed). window ∷ zs) (in_place-back w others xs ys s.1))
-
-in_place-front : (w : ℕ) (others : Placed → List Placed) (xs ys : List Placed) → is_some (of_number w xs) ≡ true → in_place_of w others (xs ++ ys) ≡ in_place_of w others xs ++ ys
-in_place-front w others [] ys e = absurd (cc)
-in_place-front w others (window ∷ xs) ys e =
-    elim (cases_Bool (window.number == w)) [
-      | inl p ↦ rw (p, append_assoc) refl
-      | inr p ↦ rw p (ap (λ (zs : List Placed). window ∷ zs) (in_place-front w others xs ys (rw p at e)))
+-- others in place of the first element that passes, where it stands among the first elements, or behind them
+first-front : {X : Type 0} (p : X → Bool) (others : X → List X) (xs ys : List X) → list_any p xs ≡ true → replaced_first p others (xs ++ ys) ≡ replaced_first p others xs ++ ys
+first-front p others [] ys e = absurd (cc)
+first-front p others (x ∷ xs) ys e =
+    elim (cases_Bool (p x)) [
+      | inl h ↦ rw (h, append_assoc) refl
+      | inr h ↦ rw h (ap (λ zs. x ∷ zs) (first-front p others xs ys (rw h at e)))
     ]
+
+first-back : {X : Type 0} (p : X → Bool) (others : X → List X) (xs ys : List X) → list_any p xs ≡ false → replaced_first p others (xs ++ ys) ≡ xs ++ replaced_first p others ys
+first-back p others [] ys e = refl
+first-back p others (x ∷ xs) ys e =
+    let both = or_parts (p x) (list_any p xs) e in
+    rw both.0 (ap (λ zs. x ∷ zs) (first-back p others xs ys both.1))
+
+-- a window is one of those that stand
+placed_among : (n : ℕ) (windows : Windows) (rect : Rect) → holds n windows ≡ list_any (λ (window : Placed). window.number == n) (placed windows rect)
+placed_among n (Window number mode margins) rect = sym (or-false (number == n))
+placed_among n (Split side size first second) rect =
+    rw (placed_among n first (first_part side size rect), placed_among n second (second_part side size rect))
+    (sym (list_any-append (λ (window : Placed). window.number == n) (placed first (first_part side size rect)) (placed second (second_part side size rect))))
 
 at_place : (b : Bool) (others : Placed → List Placed) (other same : Windows) (rect : Rect) (window : Placed) → placed other rect ≡ others window → placed same rect ≡ window ∷ [] → placed (if b then other else same) rect ≡ (if b then others window ++ [] else window ∷ [])
 at_place true others other same rect window e s = rw e (sym (append-nil (others window)))
@@ -88,9 +96,10 @@ replaced_places w other (Window number mode margins) rect =
 replaced_places w other (Split side size first second) rect =
     let a = first_part side size rect in
     let b = second_part side size rect in
+    let others : Placed → List Placed = λ window. placed (other window.mode window.margins) window.rect in
     elim (cases_Bool (holds w first)) [
-      | inl p ↦ rw (p, in_place-front w (λ window. placed (other window.mode window.margins) window.rect) (placed first a) (placed second b) (found_held w first a ∙ p)) (ap (λ (zs : List Placed). zs ++ placed second b) (replaced_places w other first a))
-      | inr p ↦ rw (p, in_place-back w (λ window. placed (other window.mode window.margins) window.rect) (placed first a) (placed second b) (none-of (window_at w first a) (found_held w first a ∙ p))) (ap (λ (zs : List Placed). placed first a ++ zs) (replaced_places w other second b))
+      | inl p ↦ rw (p, first-front (λ (window : Placed). window.number == w) others (placed first a) (placed second b) (sym (placed_among w first a) ∙ p)) (ap (λ (zs : List Placed). zs ++ placed second b) (replaced_places w other first a))
+      | inr p ↦ rw (p, first-back (λ (window : Placed). window.number == w) others (placed first a) (placed second b) (sym (placed_among w first a) ∙ p)) (ap (λ (zs : List Placed). placed first a ++ zs) (replaced_places w other second b))
     ]
 
 -- the windows of a rectangle that is shared anew are the same in the same order
@@ -124,22 +133,6 @@ held_among n (Split side size first second) = rw (held_among n first, held_among
 pub resized_held : (n : ℕ) (windows : Windows) (rect : Rect) → holds n (resized windows rect) ≡ holds n windows
 resized_held n windows rect = held_among n (resized windows rect) ∙ (ap (is_among n) (resized_leaves windows rect) ∙ sym (held_among n windows))
 
-without-front : (n : ℕ) (xs ys : List ℕ) → is_among n xs ≡ true → without n (xs ++ ys) ≡ without n xs ++ ys
-without-front n [] ys e = absurd (cc)
-without-front n (x ∷ xs) ys e =
-    elim (cases_Bool (x == n)) [
-      | inl p ↦ rw p refl
-      | inr p ↦ rw p (ap (λ (zs : List ℕ). x ∷ zs) (without-front n xs ys (rw p at e)))
-    ]
-
-without-back : (n : ℕ) (xs ys : List ℕ) → is_among n xs ≡ false → without n (xs ++ ys) ≡ xs ++ without n ys
-without-back n [] ys e = refl
-without-back n (x ∷ xs) ys e =
-    elim (cases_Bool (x == n)) [
-      | inl p ↦ absurd (true≢false (rw p at e))
-      | inr p ↦ rw p (ap (λ (zs : List ℕ). x ∷ zs) (without-back n xs ys (rw p at e)))
-    ]
-
 window_without : (n : ℕ) (windows : Windows) (numbers : List ℕ) → is_leaf_of n windows ≡ true → without n (leaves windows ++ numbers) ≡ numbers
 window_without n (Window number mode margins) numbers e = rw e refl
 window_without n (Split side size first second) numbers e = absurd (cc)
@@ -172,12 +165,12 @@ removed_leaves n (Split side size first second) rect once e s =
     λ k. sym (held_among n first) ∙ once_in_first n first second once k in
     by_way (λ left _ _. leaves left ≡ without n (leaves first ++ leaves second)) n side size first second rect
     (λ p. rw (resized_leaves second rect, window_without n first (leaves second) p) refl)
-    (λ p. rw (resized_leaves first rect, without-back n (leaves first) (leaves second) (away (window_held n second p)))
+    (λ p. rw (resized_leaves first rect, first-back (λ (m : ℕ). m == n) (λ _. []) (leaves first) (leaves second) (away (window_held n second p)))
     (sym (ap (λ (zs : List ℕ). leaves first ++ zs) (ap (without n) (sym (append-nil (leaves second))) ∙ window_without n second [] p)
     ∙ append-nil (leaves first))))
-    (λ h many. rw (without-front n (leaves first) (leaves second) (sym (held_among n first) ∙ h))
+    (λ h many. rw (first-front (λ (m : ℕ). m == n) (λ _. []) (leaves first) (leaves second) (sym (held_among n first) ∙ h))
     (ap (λ (zs : List ℕ). zs ++ leaves second) (removed_leaves n first (first_part side size rect) (omega arith) h many)))
-    (λ h there. rw (without-back n (leaves first) (leaves second) (away (there e).0))
+    (λ h there. rw (first-back (λ (m : ℕ). m == n) (λ _. []) (leaves first) (leaves second) (away (there e).0))
     (ap (λ (zs : List ℕ). leaves first ++ zs) (removed_leaves n second (second_part side size rect) (omega arith) (there e).0 (there e).1)))
 
 pub not_found : (v : ℕ) (windows : Windows) (rect : Rect) → holds v windows ≡ false → window_at v windows rect ≡ None

@@ -38,15 +38,18 @@ abbrev pub LiesIn : Option Rect → Rect → Type 0
 LiesIn None whole = Unit {0}
 LiesIn (Some rect) whole = IsWithin rect whole × (LEAST_WINDOW_COLUMNS ≤ rect.width) × (1 ≤ rect.height) × (whole.width ≤ FRAME_COLUMNS) × (whole.height ≤ FRAME_ROWS)
 
+-- a list where others stand for the first element that passes a test
+abbrev pub replaced_first : {X : Type 0} → (X → Bool) → (X → List X) → List X → List X
+replaced_first p others [] = []
+replaced_first p others (x ∷ xs) = if p x then others x ++ xs else x ∷ replaced_first p others xs
+
 -- the windows where others stand for the first that has a number
 abbrev pub in_place_of : ℕ → (Placed → List Placed) → List Placed → List Placed
-in_place_of number others [] = []
-in_place_of number others (window ∷ windows) = if window.number == number then others window ++ windows else window ∷ in_place_of number others windows
+in_place_of number = replaced_first (λ (window : Placed). window.number == number)
 
 -- the numbers without the first that is the given one
 abbrev pub without : ℕ → List ℕ → List ℕ
-without number [] = []
-without number (n ∷ numbers) = if n == number then numbers else n ∷ without number numbers
+without number = replaced_first (λ (n : ℕ). n == number) (λ _. [])
 
 -- whether a number is among some
 abbrev pub is_among : ℕ → List ℕ → Bool
