@@ -1,11 +1,12 @@
 -- What holds of each element of a list, and what a list is from one of its places.
-use Rattle.std.proofs.Common.{◌≡◌, ◌≢◌, ◌⊎◌, ℕ, zero, suc, ◌+◌, ◌<◌, ◌≤◌, nat_le, nat_lt, Bool, false, ◌&&◌, List, [], ◌∷◌, ◌++◌, length, length-append, take, drop, get_or, None, Some, inl, inr, All, refl, sym, subst, ap, ap₂, cond, ◌∙◌, arith, map, set}
+use Rattle.std.proofs.Common.{◌≡◌, ◌≢◌, ◌⊎◌, ℕ, zero, suc, ◌+◌, ◌<◌, ◌≤◌, nat_le, nat_lt, Bool, true, false, ◌&&◌, List, [], ◌∷◌, ◌++◌, length, length-append, take, drop, get_or, None, Some, inl, inr, All, refl, sym, subst, ap, ap₂, cond, ◌∙◌, arith, map, set}
 use Rattle.std.specs.Prelude.{slice_get}
-use Rattle.std.specs.List.{AllByRecursion, count_by, range_with_len}
+use Rattle.std.specs.List.{AllByRecursion, count_by, find, position_or_len, range_with_len}
 use Rattle.std.proofs.lemmas.Bool.{cases_lt}
 use Rattle.std.proofs.lemmas.Bool.Decides.{nat_tests}
 use Rattle.std.proofs.lemmas.List.{get_or_append_left, get_or_past, drop_more, drop_all, drop-set-lt, drop-drop, get_or-drop, map_more, take_more, take_more_set}
-use Rattle.std.proofs.lemmas.List.Sums.{sum_by-append, sum_by-cons}
+use Rattle.std.proofs.lemmas.List.Folds.{find_at}
+use Rattle.std.proofs.lemmas.List.Sums.{passes_at_first, sum_by-append, sum_by-cons}
 use Rattle.std.proofs.Math.Seq.{drop-append_seam}
 use Rattle.std.proofs.lemmas.List.Elements.{All-drop, All-cons, All-nil}
 use Rattle.std.proofs.lemmas.Option.{slice_get_within, slice_get_cases, get_or_from_slice_get}
@@ -116,6 +117,13 @@ one-becomes f xs whole i new d lt same above below made =
     let front = take_more_set xs i new lt in
     let mapped = map_more f whole i d within in
     (cc, drop-next xs whole i new below)
+
+-- what is found passes, and is an element
+pub found-passes : {X : Type 0} (p : X → Bool) (xs : List X) (x : X) → find p xs ≡ Some x → (p x ≡ true) × (k : ℕ) × (slice_get xs k ≡ Some x)
+found-passes p xs x found =
+    let k = position_or_len p xs in
+    let there : slice_get xs k ≡ Some x = sym (find_at p xs) ∙ found in
+    (sym (ap p (get_or_from_slice_get xs k x x there)) ∙ passes_at_first p xs x (slice_get_within xs k x there), k, there)
 
 -- how many elements pass a test
 pub count-cons : {X : Type 0} (p : X → Bool) (x : X) (xs : List X) → count_by p (x ∷ xs) ≡ cond (p x) 1 0 + count_by p xs

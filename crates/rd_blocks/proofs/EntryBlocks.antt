@@ -6,7 +6,6 @@ use Rattle.std.proofs.lemmas.Option.{same_Some}
 use Rattle.rd_base.proofs.Lists.{all-at}
 use Rattle.rd_matrix.proofs.EachRow.{entries-each}
 use Rattle.rd_matrix.proofs.HeldLemmas.{same-place}
-pub use Rattle.rd_matrix.proofs.Passing.{found-passes}
 use Rattle.rd_matrix.specs.Blocks.{IsAmong, StandFrom}
 use Rattle.rd_matrix.specs.Entries.{EntryMeaning, shown_entry, shown_entries}
 use Rattle.rd_matrix.specs.Sources.{SourceValues, rows_at}

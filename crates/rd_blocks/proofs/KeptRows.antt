@@ -7,7 +7,7 @@ use Rattle.std.proofs.lemmas.Bool.{and_parts, both_ways, not-true}
 use Rattle.std.proofs.lemmas.Bool.Decides.{nat_tests, Decides-eqb, Decides-int_eq}
 use Rattle.std.proofs.lemmas.Int.{ints}
 use Rattle.std.proofs.lemmas.Option.{same_Some}
-use Rattle.rd_base.proofs.Lists.{all-at}
+use Rattle.rd_base.proofs.Lists.{all-at, found-passes}
 use Rattle.rd_base.specs.Settings.{SettingValues, without_flags}
 use Rattle.rd_base.specs.declared.element.Element.{Element}
 use Rattle.rd_text.specs.Texts.{IsText}
@@ -35,7 +35,7 @@ use Rattle.rd_stack.specs.Lines.{line_elements}
 use Rattle.rd_blocks.specs.Kept.{Follows, AreRowsAt}
 use Rattle.rd_blocks.specs.Rows.{block_cutting}
 use Rattle.rd_blocks.specs.Sources.{rows_in, text_source}
-use Rattle.rd_blocks.proofs.EntryBlocks.{IsRowOf, found-passes, row-block, same-start}
+use Rattle.rd_blocks.proofs.EntryBlocks.{IsRowOf, row-block, same-start}
 use Rattle.rd_blocks.proofs.SameReading.{AreRead, reads-before, reads-behind}
 use Rattle.rd_blocks.proofs.Sources.{listed-at}
 

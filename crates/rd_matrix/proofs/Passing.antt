@@ -3,8 +3,7 @@ use Rattle.std.proofs.Common.{◌≡◌, ℕ, zero, suc, ◌+◌, ◌<◌, ◌�
 use Rattle.std.specs.List.{count_by, find, list_any, position_or_len, slice_get}
 use Rattle.std.proofs.lemmas.Bool.{cases_Bool, or_parts}
 use Rattle.std.proofs.lemmas.List.Folds.{find_at}
-use Rattle.std.proofs.lemmas.List.Sums.{passes_at_first}
-use Rattle.std.proofs.lemmas.Option.{get_or_from_slice_get, slice_get_within}
+use Rattle.std.proofs.lemmas.Option.{slice_get_within}
 use Rattle.rd_base.proofs.Lists.{count-cons}
 
 -- where some element passes, the first that does stands at its place
@@ -65,13 +64,6 @@ one-position p (y ∷ xs) (suc k) x one there passes =
     let other = not-counted p y xs 1 one (place-counted p xs k x there passes) in
     let rest = one-position p xs k x (fewer p y xs 1 one) there passes in
     rw other (omega (arith, rest))
-
--- what is found passes, and is an element
-pub found-passes : {X : Type 0} (p : X → Bool) (xs : List X) (x : X) → find p xs ≡ Some x → (p x ≡ true) × (k : ℕ) × (slice_get xs k ≡ Some x)
-found-passes p xs x found =
-    let k = position_or_len p xs in
-    let there : slice_get xs k ≡ Some x = sym (find_at p xs) ∙ found in
-    (sym (ap p (get_or_from_slice_get xs k x x there)) ∙ passes_at_first p xs x (slice_get_within xs k x there), k, there)
 
 pub found-one : {X : Type 0} (p : X → Bool) (xs : List X) (k : ℕ) (x : X) → count_by p xs ≤ 1 → slice_get xs k ≡ Some x → p x ≡ true → find p xs ≡ Some x
 found-one p xs k x one there passes = find_at p xs ∙ (ap (slice_get xs) (one-position p xs k x one there passes) ∙ there)

@@ -3,7 +3,8 @@ use Rattle.std.proofs.Common.{◌≡◌, ℕ, ◌<◌, Bool, true, false, cond, 
 use Rattle.std.proofs.lemmas.Bool.{and_parts, ltb-true}
 use Rattle.std.specs.List.{find}
 use Rattle.std.specs.Option.{unwrap_or}
-use Rattle.rd_matrix.proofs.Passing.{first-inside, found-passes}
+use Rattle.rd_base.proofs.Lists.{found-passes}
+use Rattle.rd_matrix.proofs.Passing.{first-inside}
 use Rattle.rd_matrix.specs.Blocks.{IsWithin}
 use Rattle.rd_matrix.specs.Sources.{IsSource, SourceValues, rows_at}
 use Rattle.rd_rows.specs.Shapes.{IsShape, ShapeValues}

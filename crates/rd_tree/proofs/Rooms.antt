@@ -1,8 +1,9 @@
 -- Needs, sizes and rectangles.
-use Rattle.std.proofs.Common.{◌≡◌, ℕ, ◌≤◌, ◌<◌, length, length-append, Bool, true, false, ◌==◌, inl, inr, List, [], ◌∷◌, ◌++◌, Option, None, Some, sym, ap, ◌∙◌, arith}
+use Rattle.std.proofs.Common.{◌≡◌, ℕ, ◌≤◌, ◌<◌, length, length-append, Bool, true, false, ◌==◌, List, ◌++◌, Option, None, Some, sym, ap, ◌∙◌, arith}
 use Rattle.std.specs.Option.{option_or}
-use Rattle.std.proofs.lemmas.Bool.{cases_Bool, eqb-true}
+use Rattle.std.proofs.lemmas.Bool.{eqb-true}
 use Rattle.std.proofs.lemmas.List.Folds.{find-append}
+use Rattle.rd_base.proofs.Lists.{found-passes}
 use Rattle.rd_tree.specs.declared.rect.Rect.{Rect}
 use Rattle.rd_tree.specs.declared.side.Side.{Side}
 use Rattle.rd_tree.specs.declared.side.Side.TheVariants.{Below, Right}
@@ -138,12 +139,7 @@ resized_room (Split side size first second) rect p n =
 
 -- a window that a number finds has this number
 pub found_number : (w : ℕ) (windows : List Placed) (window : Placed) → of_number w windows ≡ Some window → window.number ≡ w
-found_number w [] window e = absurd (cc)
-found_number w (p ∷ windows) window e =
-    elim (cases_Bool (p.number == w)) [
-      | inl q ↦ let same : Some p ≡ Some window = rw q at e in let p_is : p ≡ window = cc in ap (λ (p : Placed). p.number) (sym p_is) ∙ eqb-true p.number w q
-      | inr q ↦ found_number w windows window (rw q at e)
-    ]
+found_number w windows window e = eqb-true window.number w (found-passes (λ (p : Placed). p.number == w) windows window e).0
 
 -- the window with a number among two lists
 pub of_number-append : (number : ℕ) (xs ys : List Placed) → of_number number (xs ++ ys) ≡ option_or (of_number number xs) (of_number number ys)
