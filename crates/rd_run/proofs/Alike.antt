@@ -95,7 +95,7 @@ behind-alike o w n ts us more s r on (inl a) (inr b) = absurd (none-some a.0 (sy
 behind-alike o w n ts us more s r on (inr a) (inl b) = absurd (none-some b.0 (sym a.0 ∙ b.1))
 behind-alike o w n ts us more s r on (inr a) (inr b) = on a.1 b.1
 
-stops-alike : (o : Option ℕ) (w : World) (n : ℕ) (ts us : List Input) (lines : List (List ℕ)) (s r : Status) → AreStarvedAlike w ts us → Stops o w n ts lines s → Stops o w n us lines r
+pub stops-alike : (o : Option ℕ) (w : World) (n : ℕ) (ts us : List Input) (lines : List (List ℕ)) (s r : Status) → AreStarvedAlike w ts us → Stops o w n ts lines s → Stops o w n us lines r
     → AreRunAlike w ts us × (s ≡ r)
 stops-alike o w n [] [] lines s r h p q = (record { same = refl; count = refl }, before-alike o n lines s r p q)
 stops-alike o w n [] (u ∷ us) lines s r h p q = absurd (not-further o n u.line q.0 lines s p q.1 q.2)
@@ -122,7 +122,7 @@ passed-read n (t ∷ ts) short few =
     let within : n + 1 + length ts ≤ 1000000 = omega arith in
     ((less, short.0), passed-read (n + 1) ts short.1 within)
 
-passed-generated : (number n : ℕ) (ts : List Input) → ArePassed (Some number) n ts
+pub passed-generated : (number n : ℕ) (ts : List Input) → ArePassed (Some number) n ts
 passed-generated number n [] = tt
 passed-generated number n (t ∷ ts) = (tt, passed-generated number (n + 1) ts)
 
@@ -136,7 +136,7 @@ passed-last o n (u ∷ ts) t h =
     let same : n + 1 + length ts ≡ n + suc (length ts) = omega arith in
     subst (λ k. IsLet o k t.line) same (passed-last o (n + 1) ts t h.1)
 
-passed-limits : (inputs : List Input) → AreInLimits (lines_in inputs) → ArePassed None 0 inputs
+pub passed-limits : (inputs : List Input) → AreInLimits (lines_in inputs) → ArePassed None 0 inputs
 passed-limits inputs limits =
     let few : 0 + length inputs ≤ 1000000 = (let k = limits.few in omega (arith, lines-length inputs)) in
     passed-read 0 inputs limits.short few
@@ -153,7 +153,7 @@ stops-behind o w n (t ∷ ts) us more s clear passed h =
     (lines_in ts ++ more, refl, passed.0, inr (run-clear (run_line w t) ts clear, on))
 
 -- all lines that were run are good, and the run stops before the next
-stops-before : (o : Option ℕ) (mode : Mode) (lines : List (List ℕ)) (inputs : List Input) (more : List (List ℕ)) (s : Status) → Ran mode inputs → ArePassed o 0 inputs
+pub stops-before : (o : Option ℕ) (mode : Mode) (lines : List (List ℕ)) (inputs : List Input) (more : List (List ℕ)) (s : Status) → Ran mode inputs → ArePassed o 0 inputs
     → lines ≡ lines_in inputs ++ more → StopsBefore o (length inputs) more s → Stops o (opened mode) 0 inputs lines s
 stops-before o mode lines inputs more s clear passed split h =
     let none : length inputs ≡ 0 + length inputs = omega arith in
@@ -176,7 +176,7 @@ first-passed : (o : Option ℕ) (inputs : List Input) (bytes : List ℕ) (left :
 first-passed None inputs bytes left first = passed-limits inputs first.0
 first-passed (Some number) inputs bytes left first = passed-generated number 0 inputs
 
-pub script-splits : (o : Option ℕ) (script : List ℕ) (lines : List (List ℕ)) (bytes : List ℕ) (left : Option (List ℕ)) → IsTakenIn o script bytes left → AreScript o lines bytes left
+script-splits : (o : Option ℕ) (script : List ℕ) (lines : List (List ℕ)) (bytes : List ℕ) (left : Option (List ℕ)) → IsTakenIn o script bytes left → AreScript o lines bytes left
     → (more : List (List ℕ)) × (script_of o script ≡ lines ++ more)
 script-splits None script lines bytes left p first = first-lines lines script bytes left (p refl) first
 script-splits (Some number) script lines bytes left p first =
@@ -235,7 +235,7 @@ past-stops mode script fault number inputs bytes left p past =
     subst (λ o. Stops o (opened mode) 0 inputs (script_of o script) (BadScript number fault)) (sym past.read)
     (over-stops mode script fault number inputs bytes left (p past.read) past.ran past.at past.over)
 
-comes-stops : (mode : Mode) (script : List ℕ) (status : Status) (inputs : List Input) (bytes : List ℕ) (source : Drawn) → IsTakenIn mode.generated script bytes source.left
+pub comes-stops : (mode : Mode) (script : List ℕ) (status : Status) (inputs : List Input) (bytes : List ℕ) (source : Drawn) → IsTakenIn mode.generated script bytes source.left
     → (Rose source.faults_before source.faults_after → ⊥) → (status ≡ NoMemory → ⊥) → ComesIn mode status inputs bytes source
     → Stops mode.generated (opened mode) 0 inputs (script_of mode.generated script) status
 comes-stops mode script Done inputs bytes source p read found (ran, all) = done-stops mode.generated mode script inputs bytes source.left p ran all

@@ -88,7 +88,7 @@ failed-one contents before after w (inl a) = inl a
 failed-one contents before after w (inr (inl b)) = inr (inl b.1)
 failed-one contents before after w (inr (inr c)) = inr (inr c.2)
 
-pub has-failed : (given : Given) → FileFailed given → HasFailed given
+has-failed : (given : Given) → FileFailed given → HasFailed given
 has-failed given f = (f.words, f.said, failed-one given.contents given.faults_before given.faults_after f.words f.failed)
 
 -- where no file failed and memory was not wanting, a run that has not begun was refused, and no line was run

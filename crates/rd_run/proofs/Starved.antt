@@ -1,11 +1,9 @@
 -- Which lines it matters for that they found no memory: redisplays alone.
-use Rattle.std.proofs.Common.{◌≡◌, ℕ, Bool, true, false, if◌then◌else◌, List, [], ◌∷◌, ◌++◌, Option, None, Some, is_some, Result, Ok, Err, refl, sym, ap, ◌∙◌}
+use Rattle.std.proofs.Common.{◌≡◌, ℕ, Bool, true, false, if◌then◌else◌, List, ◌∷◌, Option, None, Some, is_some, Result, Ok, Err, refl, ap, ◌∙◌}
 use Rattle.rd_script.specs.Reading.{reading}
 use Rattle.rd_script.specs.declared.fault.OpFault.{OpFault}
 use Rattle.rd_script.specs.declared.op.Op.{Op}
-use Rattle.rd_run.specs.Alike.{AreStarvedAlike}
-use Rattle.rd_run.specs.Ends.{lines_in}
-use Rattle.rd_run.specs.Runs.{Input, Standing, World, after, asked, effect, effect_by, effect_of_reading, is_blank, outcome_at, quiet, run, run_line, input_of}
+use Rattle.rd_run.specs.Runs.{Input, Standing, World, after, asked, effect, effect_by, effect_of_reading, is_blank, outcome_at, quiet, run_line, input_of}
 
 -- ---- one line
 
@@ -47,13 +45,3 @@ head-of x y xs ys e = cc
 
 pub rest-of : (x y : List ℕ) (xs ys : List (List ℕ)) → x ∷ xs ≡ y ∷ ys → xs ≡ ys
 rest-of x y xs ys e = cc
-
--- a run over a whole script goes on behind the first lines of it as the run over these
-pub goes-behind : (w : World) (ts all : List Input) (others : List (List ℕ)) → lines_in all ≡ lines_in ts ++ others → AreStarvedAlike w ts all → (rest : List Input) × (run w all ≡ run (run w ts) rest)
-goes-behind w [] all others e h = (all, refl)
-goes-behind w (t ∷ ts) [] others e h = absurd (let q : [] ≡ t.line ∷ (lines_in ts ++ others) = e in cc)
-goes-behind w (t ∷ ts) (u ∷ us) others e h =
-    let line : u.line ≡ t.line = head-of u.line t.line (lines_in us) (lines_in ts ++ others) e in
-    let same : run_line w t ≡ run_line w u = run_line-alike w t u (sym line) h.0 in
-    let on = goes-behind (run_line w t) ts us others (rest-of u.line t.line (lines_in us) (lines_in ts ++ others) e) h.1 in
-    (on.0, ap (λ v. run v us) (sym same) ∙ on.1)
