@@ -2,7 +2,7 @@
 ghost use Rattle.std.specs.Prelude.{◌≡◌, ◌≢◌, ◌+◌, IfErr, IfOk, Ok, [], ℕ};
 ghost use Rattle.rd_modeline.specs.declared.fault.FormatFault.TheVariants as fault;
 ghost use Rattle.rd_modeline.specs.Formats.{pieces_from, pieces_of, Checks, IsBegun, ReadsOn};
-ghost use Rattle.rd_modeline.specs.declared.reading.Begun.TheVariants.{Text, Percent};
+ghost use Rattle.rd_modeline.specs.declared.reading.Begun.TheVariants.{Text};
 
 use crate::fault::FormatFault;
 use crate::piece::{Piece, piece_of};
@@ -68,42 +68,17 @@ fn read_on(begun: Begun, place: u64, ch: Ch) -> Result<(Begun, Option<Piece>), F
     ensures named { IfErr result (λ f. f ≢ fault.Memory) }
     ensures begun { IfOk result (λ r. IsBegun r.0) }
 {
-    match begun {
-        Begun::Text => Ok(text_read(place, ch)),
-        Begun::Percent(start, digits, width) => code_read(start, digits, width, ch),
-    }
-}
-
-/// The same where no code is begun.
-fn text_read(place: u64, ch: Ch) -> (Begun, Option<Piece>)
-    ensures reads { ReadsOn (Ok result) Text place ch }
-    ensures begun { IsBegun result.0 }
-{
-    if ch.code() == 37 {
-        return (Begun::Percent(place, 0, 0), None);
-    }
-    (Begun::Text, Some(Piece::Literal(ch)))
-}
-
-/// The same behind a percent sign.
-fn code_read(
-    start: u64,
-    digits: u8,
-    width: u32,
-    ch: Ch,
-) -> Result<(Begun, Option<Piece>), FormatFault>
-    requires { IsBegun (Percent start digits width) }
-    ensures reads { (place : ℕ) → ReadsOn result (Percent start digits width) place ch }
-    ensures named { IfErr result (λ f. f ≢ fault.Memory) }
-    ensures begun { IfOk result (λ r. IsBegun r.0) }
-{
     let code = ch.code();
-    if 48 <= code && code <= 57 && digits < 3 {
-        let longer = Begun::Percent(start, digits + 1, 10 * width + (code - 48));
-        return Ok((longer, None));
-    }
-    match piece_of(digits, width, ch) {
-        Some(piece) => Ok((Begun::Text, Some(piece))),
-        None => Err(FormatFault::BadFormat(start)),
+    match begun {
+        Begun::Text if code == 37 => Ok((Begun::Percent(place, 0, 0), None)),
+        Begun::Text => Ok((Begun::Text, Some(Piece::Literal(ch)))),
+        Begun::Percent(start, digits, width) if 48 <= code && code <= 57 && digits < 3 => {
+            let longer = Begun::Percent(start, digits + 1, 10 * width + (code - 48));
+            Ok((longer, None))
+        }
+        Begun::Percent(start, digits, width) => match piece_of(digits, width, ch) {
+            Some(piece) => Ok((Begun::Text, Some(piece))),
+            None => Err(FormatFault::BadFormat(start)),
+        },
     }
 }
