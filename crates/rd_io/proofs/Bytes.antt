@@ -1,5 +1,5 @@
 -- Counts and known bytes of sources, sinks and files.
-use Rattle.std.proofs.Common.{◌≡◌, ℕ, ◌+◌, ◌-◌, ◌<◌, ◌≤◌, inl, inr, List, [], ◌++◌, length, take, drop, Option, None, Some, refl, sym, ap, ◌∙◌, subst, append_assoc, arith, length-append}
+use Rattle.std.proofs.Common.{◌≡◌, ℕ, ◌+◌, ◌-◌, ◌≤◌, inl, inr, List, [], ◌++◌, length, take, drop, Option, None, Some, refl, sym, ap, ◌∙◌, subst, append_assoc, arith, length-append}
 use Rattle.std.specs.Io.KnownBytes.{Appends, Keeps}
 use Rattle.std.proofs.KnownBytes.{Appends-trans, Appends-kept}
 use Rattle.std.specs.Prelude.{slice_range}
@@ -69,10 +69,6 @@ front-grows (Some file) bytes new buffer from n at fetched put front =
 pub fetched-told : (E : Type 0) (told : Option (List ℕ)) (from n : ℕ) (buffer : List ℕ) → Fetches {E = E} told from (Ok n) buffer → IfSome told (λ file. take n buffer ≡ take n (drop from file))
 fetched-told E None from n buffer h = tt
 fetched-told E (Some file) from n buffer h = h.0
-
--- a list with more behind it is longer
-pub length-more : (xs ys zs : List ℕ) (n : ℕ) → zs ≡ xs ++ ys → length ys ≡ n → 0 < n → length xs < length zs
-length-more xs ys zs n e size some = omega (arith, ap length e, length-append xs ys)
 
 -- no byte is a front of each file
 pub front-begins : (told : Option (List ℕ)) (bytes : List ℕ) → bytes ≡ [] → IsFront bytes told

@@ -1,7 +1,6 @@
 //! The reading of whole files.
 ghost use Rattle.std.specs.Prelude.{◌≡◌, ◌≤◌, ◌<◌, ℕ, List, IfOk, IfSome, IsErrOf, length};
 ghost use Rattle.rd_io.specs.Devices.{Rose};
-ghost use Rattle.rd_io.specs.Files.{FetchesMore};
 
 use crate::copy::put_within;
 use crate::traits::Files;
@@ -54,10 +53,20 @@ pub fn read_file<F: Files>(alloc: Global, files: &mut F, name: &str) -> Result<V
     ensures never_falls { (file : List ℕ) → F.faults files.old file ≤ F.faults files.new file }
     ensures failed { IsErrOf result FileFault.Failed → Rose (F.faults files.old name.now) (F.faults files.new name.now) }
 {
-    let mut room = room(alloc)?;
+    let mut held = room(alloc)?;
+    let room = held.as_mut_slice();
     let mut bytes = Vec::new(alloc);
-    while fetch_more(files, name, &mut room, &mut bytes)? {}
-    Ok(bytes)
+    loop {
+        let Ok(n) = files.fetch(name, bytes.len() as u64, room) else {
+            return Err(FileFault::Failed);
+        };
+        if n == 0 {
+            return Ok(bytes);
+        }
+        if !put_within(&mut bytes, room.split_at(n).0, LARGEST)? {
+            return Err(FileFault::TooLarge);
+        }
+    }
 }
 
 /// Room for the bytes of one fetch.
@@ -65,29 +74,4 @@ fn room(alloc: Global) -> Result<Vec<u8>, AllocError>
     ensures { IfOk result (λ room. 0 < length room.items) }
 {
     Vec::from_elem(alloc, 0, ROOM)
-}
-
-/// Fetches the bytes that follow those that were read, and answers whether there were any.
-fn fetch_more<F: Files>(
-    files: &mut F,
-    name: &str,
-    room: &mut [u8],
-    bytes: &mut Vec<u8>,
-) -> Result<bool, FileFault>
-    requires { 0 < length room.old }
-    ensures more { FetchesMore result (F.contents files.old name.now) bytes.old.items bytes.new.items }
-    ensures contents { (file : List ℕ) → F.contents files.new file ≡ F.contents files.old file }
-    ensures never_falls { (file : List ℕ) → F.faults files.old file ≤ F.faults files.new file }
-    ensures failed { IsErrOf result FileFault.Failed → Rose (F.faults files.old name.now) (F.faults files.new name.now) }
-{
-    let Ok(n) = files.fetch(name, bytes.len() as u64, room) else {
-        return Err(FileFault::Failed);
-    };
-    if n == 0 {
-        return Ok(false);
-    }
-    if !put_within(bytes, room.split_at(n).0, LARGEST)? {
-        return Err(FileFault::TooLarge);
-    }
-    Ok(true)
 }

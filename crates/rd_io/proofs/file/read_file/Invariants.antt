@@ -2,17 +2,17 @@ use Rattle.std.proofs.Common.{◌≡◌, ◌<◌, ◌≤◌, ◌-◌, ℕ, List,
 use Rattle.rd_io.specs.Files.{IsFront}
 use Rattle.rd_io.proofs.file.read_file.Given as goal
 
-abbrev pub invariant-loop-bytes : goal.invariant-loop-bytes
-invariant-loop-bytes g l =
+abbrev pub invariant-loop-n : goal.invariant-loop-n
+invariant-loop-n g l =
     let contents = g.F.Files.contents in
     let faults = g.F.Files.faults in
     record {
-      room : 0 < length l.room.items;
+      room : 0 < length l.room;
       small : length l.bytes.items ≤ 8388608;
       front : IsFront l.bytes.items (contents l.fn.files l.name);
       same : (file : List ℕ) → contents l.files file ≡ contents l.fn.files file;
       count : (file : List ℕ) → faults l.fn.files file ≤ faults l.files file;
     }
 
-abbrev pub decreases-loop-bytes : goal.decreases-loop-bytes
-decreases-loop-bytes g l = 8388608 - length l.bytes.items
+abbrev pub decreases-loop-n : goal.decreases-loop-n
+decreases-loop-n g l = 8388608 - length l.bytes.items
