@@ -9,8 +9,9 @@ use Rattle.std.proofs.lemmas.List.Folds.{find_at}
 use Rattle.std.proofs.lemmas.List.Sums.{passes_at_first, sum_by-append, sum_by-cons}
 use Rattle.std.proofs.Math.Seq.{drop-append_seam}
 use Rattle.std.proofs.lemmas.List.Elements.{All-drop, All-cons, All-nil}
-use Rattle.std.proofs.lemmas.Option.{slice_get_within, slice_get_cases, get_or_from_slice_get}
+use Rattle.std.proofs.lemmas.Option.{slice_get-map, slice_get_within, slice_get_cases, get_or_from_slice_get}
 use Rattle.rd_base.specs.Lists.{total}
+use Rattle.rd_base.proofs.Choices.{map-some}
 
 -- what is read at a place heads what is left there
 pub drop-read : {X : Type 0} (xs : List X) (i : ℕ) (x : X) → i < length xs → x ≡ get_or xs i x → drop i xs ≡ x ∷ drop (i + 1) xs
@@ -56,6 +57,10 @@ get-drop zero xs i j e = let s : j ≡ i = omega arith in ap (slice_get xs) s
 get-drop (suc n) [] i j e = refl
 get-drop (suc n) (x ∷ xs) zero j e = absurd (omega arith)
 get-drop (suc n) (x ∷ xs) (suc i) j e = get-drop n xs i j (omega arith)
+
+-- what stands at a place of a mapped list was made of what stands there
+pub get-map : {X Y : Type 0} (f : X → Y) (xs : List X) (i : ℕ) (y : Y) → slice_get (map f xs) i ≡ Some y → (x : X) × (slice_get xs i ≡ Some x) × (f x ≡ y)
+get-map f xs i y h = map-some f (slice_get xs i) y (sym (slice_get-map f xs i) ∙ h)
 
 -- what heads the rest from a place stands there
 pub drop-cons : {X : Type 0} (xs : List X) (a : ℕ) (x : X) (rest : List X) → drop a xs ≡ x ∷ rest → (slice_get xs a ≡ Some x) × (drop (a + 1) xs ≡ rest)

@@ -1,15 +1,16 @@
 -- Blocks with their lines, as a source; and when rows are those of a block.
-use Rattle.std.proofs.Common.{◌≡◌, ℕ, zero, suc, ◌+◌, ◌-◌, ◌<◌, ◌≤◌, ◌&&◌, nat_le, nat_lt, nat_eq, Bool, true, false, IsTrue, List, [], ◌∷◌, ◌++◌, length, get_or, map, All, inl, inr, Option, None, Some, refl, ap, sym, ◌∙◌, subst, arith}
+use Rattle.std.proofs.Common.{◌≡◌, ℕ, zero, suc, ◌+◌, ◌-◌, ◌<◌, ◌≤◌, ◌&&◌, nat_le, nat_lt, nat_eq, Bool, true, false, IsTrue, List, [], ◌∷◌, ◌++◌, length, take, get_or, map, All, inl, inr, Option, None, Some, refl, ap, sym, ◌∙◌, subst, arith}
 use Rattle.std.specs.Prelude.{count_by, slice_get, option_map}
 use Rattle.std.proofs.lemmas.Bool.Decides.{nat_tests}
 use Rattle.std.proofs.lemmas.Bool.{and_parts, cases_lt}
-use Rattle.std.proofs.lemmas.Option.{slice_get-map, slice_get_within, slice_get_read}
-use Rattle.std.proofs.lemmas.List.Elements.{All-cons, All-nil, All-tail, All-append}
+use Rattle.std.proofs.lemmas.Option.{slice_get-map, slice_get_within, slice_get_read, get_or_from_slice_get}
+use Rattle.std.proofs.lemmas.List.{take_all}
+use Rattle.std.proofs.lemmas.List.Elements.{All-cons, All-nil, All-head, All-tail, All-more, All-append}
 use Rattle.std.proofs.lemmas.Simd.{map-map}
 use Rattle.rd_base.specs.Elements.{ends_once}
 use Rattle.rd_base.specs.declared.cell.Glyph.{Glyph}
 use Rattle.rd_base.specs.declared.element.Element.{Element}
-use Rattle.rd_base.proofs.Lists.{all-at, count-cons}
+use Rattle.rd_base.proofs.Lists.{all-at, count-cons, get-map}
 use Rattle.rd_matrix.specs.Blocks.{IsAmong, IsWithin, HoldsPosition, StandFrom, first_start, end_from, block_before}
 use Rattle.rd_matrix.specs.Columns.{covers}
 use Rattle.rd_matrix.specs.Held.{blocks_held, laid_at, laid_from, source_of, in_range, covers_each, are_inside, IsHeld, AreHeld}
@@ -60,16 +61,6 @@ same-place from k j bs a b h i g s = let some = (later-start from k bs a h i).1 
 pub end-any : (x y : ℕ) (bs : List Block) → 0 < length bs → end_from x bs ≡ end_from y bs
 end-any x y [] some = absurd (omega arith)
 end-any x y (b ∷ bs) some = refl
-
-pub record IsBlockHeld (hs : List HeldBlock) (k : ℕ) (b : Block) : Type 0 where
-  pub held : HeldBlock
-  pub there : slice_get hs k ≡ Some held
-  pub block : held.block ≡ b
-
-pub held-at : (hs : List HeldBlock) (k : ℕ) (b : Block) → slice_get (blocks_held hs) k ≡ Some b → IsBlockHeld hs k b
-held-at [] k b h = absurd cc
-held-at (h ∷ hs) zero b i = record { held = h; there = refl; block = cc }
-held-at (h ∷ hs) (suc k) b i = let rest = held-at hs k b i in record { held = rest.held; there = rest.there; block = rest.block }
 
 pub laid-there : (from k : ℕ) (hs : List HeldBlock) (h : HeldBlock) (shape : ShapeValues) → StandFrom from (blocks_held hs) → slice_get hs k ≡ Some h → laid_from shape h.block.start hs ≡ laid_at shape h
 laid-there from k [] h shape stand i = absurd cc
@@ -149,14 +140,14 @@ pub source-right : (hs : List HeldBlock) → AreHeld hs → 0 < length hs
 source-right hs held some last begun leads = record {
   blocks = record { some = some-blocks hs some; stand = held.stand; bases = bases-of hs held.lines };
   rows = λ b shape among good.
-      let found = held-at hs among.0 b among.1 in
-      let h = found.held in
-      let is = all-at IsHeld hs among.0 h held.lines found.there in
+      let found = get-map (λ (h : HeldBlock). h.block) hs among.0 b among.1 in
+      let h = found.0 in
+      let is = all-at IsHeld hs among.0 h held.lines found.1 in
       let lead = leads shape h.block.base h.first h.wrap h.truncation h.continuation good.most is.first is.wrap in
-      let there = laid-there (first_start (blocks_held hs)) among.0 hs h shape held.stand found.there in
+      let there = laid-there (first_start (blocks_held hs)) among.0 hs h shape held.stand found.1 in
       let size : ℕ = h.block.end - h.block.start in
       let some = is.some in
-      subst (λ (x : Block). AreRowsOf x.start x.end (seen_rows (laid_from shape x.start hs))) found.block
+      subst (λ (x : Block). AreRowsOf x.start x.end (seen_rows (laid_from shape x.start hs))) found.2
       (subst (λ (rs : List LaidRow). AreRowsOf h.block.start h.block.end (seen_rows rs)) (sym there)
       (are-rows h.block.start h.block.end size (seen_rows (laid_at shape h)) (ranges_of None h.elements) (omega (arith, some)) (last _ h.elements lead is.end) (begun _ h.elements lead is.end)
       is.inside (λ k. covered-at size k (ranges_of None h.elements) is.covers)));
@@ -203,26 +194,21 @@ before-is bs (suc k) h = let e : suc k - 1 ≡ k = omega arith in rw e refl
 
 -- the search for a position
 
+abbrev pub EndsBy : ℕ → HeldBlock → Type 0
+EndsBy pos h = h.block.end ≤ pos
+
 abbrev pub Passed : List HeldBlock → ℕ → ℕ → Type 0
-Passed hs pos n = (k : ℕ) (h : HeldBlock) → k < n → slice_get hs k ≡ Some h → h.block.end ≤ pos
+Passed hs pos n = All (EndsBy pos) (take n hs)
 
 pub passed-more : (hs : List HeldBlock) (pos n : ℕ) (g : HeldBlock) → Passed hs pos n → slice_get hs n ≡ Some g → g.block.end ≤ pos → Passed hs pos (n + 1)
-passed-more hs pos n g passed at past k h below there =
-    elim (cases_lt k n) as (λ _. h.block.end ≤ pos) [
-      | inl less ↦ passed k h less there
-      | inr last ↦
-          let e : k ≡ n = omega (arith, last, below) in
-          let both : Some g ≡ Some h = sym at ∙ (ap (slice_get hs) (sym e) ∙ there) in
-          let here : g ≡ h = cc in
-          let end_is = ap (λ (x : HeldBlock). x.block.end) here in
-          omega (arith, end_is, past)
-    ]
+passed-more hs pos n g passed at past =
+    All-more (EndsBy pos) hs n g (slice_get_within hs n g at) passed (subst (EndsBy pos) (sym (get_or_from_slice_get hs n g g at)) past)
 
 start-before : (from pos k : ℕ) (hs : List HeldBlock) (h : HeldBlock) → StandFrom from (blocks_held hs) → from ≤ pos → Passed hs pos k → slice_get hs k ≡ Some h → h.block.start ≤ pos
 start-before from pos k [] h stand low passed there = absurd cc
 start-before from pos zero (g ∷ hs) h stand low passed there = let same : g ≡ h = cc in let start = ap (λ (x : HeldBlock). x.block.start) same in let first = stand.0 in omega (arith, start, first, low)
 start-before from pos (suc k) (g ∷ hs) h stand low passed there =
-    start-before g.block.end pos k hs h stand.2 (passed zero g (omega arith) refl) (λ j x below at. passed (suc j) x (omega (arith, below)) at) there
+    start-before g.block.end pos k hs h stand.2 (All-head (EndsBy pos) g (take k hs) passed) (All-tail (EndsBy pos) g (take k hs) passed) there
 
 pub block-there : (hs : List HeldBlock) (n : ℕ) (h : HeldBlock) → slice_get hs n ≡ Some h → slice_get (blocks_held hs) n ≡ Some h.block
 block-there hs n h there = slice_get-map (λ (x : HeldBlock). x.block) hs n ∙ ap (option_map (λ (x : HeldBlock). x.block)) there
@@ -234,13 +220,13 @@ holds-found hs pos n h held within passed there below = record {
   below = below;
 }
 
-end-passed : (from pos : ℕ) (hs : List HeldBlock) → from ≤ pos → ((k : ℕ) (h : HeldBlock) → slice_get hs k ≡ Some h → h.block.end ≤ pos) → end_from from (blocks_held hs) ≤ pos
+end-passed : (from pos : ℕ) (hs : List HeldBlock) → from ≤ pos → All (EndsBy pos) hs → end_from from (blocks_held hs) ≤ pos
 end-passed from pos [] low passed = low
-end-passed from pos (h ∷ hs) low passed = end-passed h.block.end pos hs (passed zero h refl) (λ k x at. passed (suc k) x at)
+end-passed from pos (h ∷ hs) low passed = end-passed h.block.end pos hs (All-head (EndsBy pos) h hs passed) (All-tail (EndsBy pos) h hs passed)
 
 pub passed-all : (hs : List HeldBlock) (pos n : ℕ) → Passed hs pos n → length hs ≤ n → IsWithin pos (blocks_held hs) → ⊥
 passed-all hs pos n passed all within =
-    let end = end-passed 0 pos hs (omega arith) (λ k x at. let below = slice_get_within hs k x at in passed k x (omega (arith, below, all)) at) in
+    let end = end-passed 0 pos hs (omega arith) (rw (take_all n hs all) at passed) in
     let high = within.1 in
     absurd (omega (arith, end, high))
 
@@ -272,7 +258,7 @@ place-found hs n g b held among there holds =
 -- where there is a block
 
 pub among-some : (hs : List HeldBlock) (b : Block) → IsAmong (blocks_held hs) b → 0 < length hs
-among-some hs b among = let found = held-at hs among.0 b among.1 in let below = slice_get_within hs among.0 found.held found.there in omega (arith, below)
+among-some hs b among = let found = get-map (λ (h : HeldBlock). h.block) hs among.0 b among.1 in let below = slice_get_within hs among.0 found.0 found.1 in omega (arith, below)
 
 pub within-some : (hs : List HeldBlock) (pos : ℕ) → IsWithin pos (blocks_held hs) → 0 < length hs
 within-some [] pos within = let high = within.1 in absurd (omega (arith, high))
