@@ -1,7 +1,8 @@
 -- A strip of one block.
-use Rattle.std.proofs.Common.{◌≡◌, ℕ, ◌+◌, ◌-◌, ◌^◌, ◌<◌, ◌≤◌, inl, inr, Bool, true, false, ◌&&◌, leb, ltb, List, [], ◌∷◌, ◌++◌, length, map, refl, sym, ap, subst, ◌∙◌, arith}
-use Rattle.std.proofs.lemmas.List.{append-nil, length-map}
+use Rattle.std.proofs.Common.{◌≡◌, ℕ, ◌+◌, ◌-◌, ◌^◌, ◌<◌, ◌≤◌, inl, inr, Bool, true, false, ◌&&◌, leb, ltb, List, [], ◌∷◌, ◌++◌, length, map, take, drop, refl, sym, ap, subst, ◌∙◌, arith}
+use Rattle.std.proofs.lemmas.List.{append-nil, length-map, take-append-drop}
 use Rattle.std.specs.List.{list_any, position_or_len, range_with_len}
+use Rattle.rd_base.proofs.Lists.{drop-at}
 use Rattle.rd_matrix.proofs.Counting.{all-append, any-range, length-numbered}
 use Rattle.rd_matrix.proofs.Covering.{Fit, whole-fit}
 use Rattle.rd_matrix.proofs.Passing.{first-inside}
@@ -19,7 +20,7 @@ use Rattle.rd_start.specs.declared.strip.Strip.{Strip}
 use Rattle.rd_start.specs.declared.strip.Sweep.{Sweep}
 use Rattle.rd_start.proofs.Blocks.{anchor-skips, any-block, any-fit, fit-back, fit-front, row-below, some-row}
 use Rattle.rd_start.proofs.Costs.{costs-piece}
-use Rattle.rd_start.proofs.Lists.{first-among, first-behind, split}
+use Rattle.rd_start.proofs.Lists.{first-among, first-behind}
 use Rattle.rd_start.proofs.Reaching.{paid-same, strip-same}
 use Rattle.rd_start.proofs.Tests.{above-range, in-range}
 
@@ -35,15 +36,17 @@ pub record Around (m : SourceValues) (sweep : Sweep) (b : Block) : Type 0 where
 around : (m : SourceValues) (sweep : Sweep) (b : Block) → IsSource m → IsShape sweep.shape → HoldsPosition sweep.anchor.pos m.blocks b → Around m sweep b
 around m sweep b source shape holds =
     let rows = λ (x : Block). rows_in m sweep x in
-    let e = split m.blocks holds.among.0 b holds.among.1 in
-    let whole = subst (Fit rows (first_start m.blocks)) e.whole (whole-fit m sweep.shape source shape) in
-    let stand = subst (StandFrom (first_start m.blocks)) e.whole source.blocks.stand in
+    let place = holds.among.0 in
+    let before = take place m.blocks in
+    let after = drop (place + 1) m.blocks in
+    let pieces = sym (take-append-drop place m.blocks) ∙ ap (λ (ys : List Block). before ++ ys) (drop-at m.blocks place b holds.among.1) in
+    let stand = subst (StandFrom (first_start m.blocks)) pieces source.blocks.stand in
     record {
-      before = e.front;
-      after = e.back;
-      pieces = e.whole;
-      fit = whole;
-      home = ap (λ (ys : List Block). anchor_row rows sweep.anchor ys) e.whole ∙ anchor-skips rows sweep.anchor (first_start m.blocks) e.front e.back b stand holds.from holds.below;
+      before = before;
+      after = after;
+      pieces = pieces;
+      fit = subst (Fit rows (first_start m.blocks)) pieces (whole-fit m sweep.shape source shape);
+      home = ap (λ (ys : List Block). anchor_row rows sweep.anchor ys) pieces ∙ anchor-skips rows sweep.anchor (first_start m.blocks) before after b stand holds.from holds.below;
       some = some-row b.start b.end (rows b) (source.rows b sweep.shape holds.among shape);
     }
 

@@ -1,6 +1,6 @@
 -- A strip to which a block is added below, or above.
-use Rattle.std.proofs.Common.{◌≡◌, ℕ, ◌+◌, ◌-◌, ◌^◌, ◌<◌, ◌≤◌, Bool, true, List, [], ◌∷◌, ◌++◌, length, map, None, Some, refl, sym, ap, subst, ◌∙◌, arith}
-use Rattle.std.proofs.lemmas.List.{append-nil, append_assoc, length-append, length-map, map-append}
+use Rattle.std.proofs.Common.{◌≡◌, ℕ, ◌+◌, ◌-◌, ◌^◌, ◌<◌, ◌≤◌, Bool, true, List, [], ◌∷◌, ◌++◌, length, map, take, None, Some, refl, sym, ap, subst, ◌∙◌, arith}
+use Rattle.std.proofs.lemmas.List.{append-nil, append_assoc, length-append, length-map, map-append, take_all}
 use Rattle.std.proofs.lemmas.Option.{slice_get-get_or}
 use Rattle.std.specs.List.{AllByRecursion, slice_get}
 use Rattle.rd_matrix.proofs.Counting.{all-append, any-range, length-numbered}
@@ -16,8 +16,7 @@ use Rattle.rd_start.specs.declared.strip.StripRow.{StripRow}
 use Rattle.rd_start.specs.declared.strip.Sweep.{Sweep}
 use Rattle.rd_start.proofs.Blocks.{some-row}
 use Rattle.rd_start.proofs.Costs.{costs-piece, have-more}
-use Rattle.rd_base.proofs.Lists.{each-append, get-first, get-second, total-append}
-use Rattle.rd_start.proofs.Lists.{Ends, ends}
+use Rattle.rd_base.proofs.Lists.{each-append, get-first, get-second, take-at, total-append}
 
 -- the place of a strip's last block, and the block behind it
 pub record LastPlace (bs after : List Block) (last : Block) : Type 0 where
@@ -28,15 +27,13 @@ pub record LastPlace (bs after : List Block) (last : Block) : Type 0 where
 pub last-place : (all before bs after : List Block) (last : Block) → all ≡ before ++ (bs ++ after) → 0 < length bs → slice_get bs (length bs - 1) ≡ Some last
     → LastPlace all after last
 last-place all before bs after last pieces some at =
-    let e = ends bs last some at in
-    let front = before ++ e.front in
-    let whole : all ≡ front ++ (last ∷ after) =
-    pieces ∙ (ap (λ ys. before ++ (ys ++ after)) e.whole
-    ∙ (ap (λ ys. before ++ ys) (append_assoc e.front (last ∷ []) after) ∙ sym (append_assoc before e.front (last ∷ after)))) in
+    let k = length bs - 1 in
+    let place = length before + k in
     record {
-      place = length front;
-      here = ap (λ ys. slice_get ys (length front)) whole ∙ get-second front (last ∷ after) (length front) 0 (omega arith);
-      next = ap (λ ys. slice_get ys (length front + 1)) whole ∙ get-second front (last ∷ after) (length front + 1) 1 refl;
+      place = place;
+      here = ap (λ ys. slice_get ys place) pieces ∙ (get-second before (bs ++ after) place k refl ∙ (get-first bs after k (omega (arith, some)) ∙ at));
+      next = ap (λ ys. slice_get ys (place + 1)) pieces
+          ∙ (get-second before (bs ++ after) (place + 1) (length bs) (omega (arith, some)) ∙ get-second bs after (length bs) 0 (omega arith));
     }
 
 -- the place of a strip's first block
@@ -53,12 +50,12 @@ before-none (x ∷ before) rest e =
     let some = get-first (x ∷ before) rest (length before) inside ∙ slice_get-get_or (x ∷ before) (length before) x inside in
     absurd cc
 
-pub before-some : (before rest : List Block) (b : Block) → block_before (before ++ rest) (length before) ≡ Some b → Ends before b
+pub before-some : (before rest : List Block) (b : Block) → block_before (before ++ rest) (length before) ≡ Some b → (front : List Block) × (before ≡ front ++ b ∷ [])
 before-some [] rest b e = absurd cc
 before-some (x ∷ before) rest b e =
     let inside : length before < length (x ∷ before) = omega arith in
-    let last : length (x ∷ before) - 1 ≡ length before = omega arith in
-    ends (x ∷ before) b (omega arith) (ap (slice_get (x ∷ before)) last ∙ (sym (get-first (x ∷ before) rest (length before) inside) ∙ e))
+    let there = sym (get-first (x ∷ before) rest (length before) inside) ∙ e in
+    (take (length before) (x ∷ before), sym (take_all (length before + 1) (x ∷ before) (omega arith)) ∙ take-at (x ∷ before) (length before) b there)
 
 -- the list of blocks behind a strip, from its first
 pub head-of : (after : List Block) (b : Block) → slice_get after 0 ≡ Some b → (rest : List Block) × (after ≡ b ∷ rest)

@@ -7,7 +7,6 @@ mod Suits
 mod Tests
 mod Around
 pub mod Blocks
-mod Results
 mod Rows
 mod Choosing
 mod Costs

@@ -3,7 +3,7 @@ use Rattle.std.proofs.Common.{◌≡◌, ℕ, zero, suc, ◌+◌, ◌-◌, ◌<�
 use Rattle.std.proofs.Math.Nat.{add-suc, add-zero}
 use Rattle.std.proofs.Math.Numerals.{add-one}
 use Rattle.std.proofs.lemmas.Bool.{cases_Bool, le-ltb, leb-true, lt-ltb, or_parts}
-use Rattle.std.specs.List.{All, AllByRecursion, find, flat_map, fold, list_any, position, position_or_len, slice_get, count_by}
+use Rattle.std.specs.List.{All, AllByRecursion, find, flat_map, fold, list_any, position, position_or_len, count_by}
 use Rattle.std.proofs.lemmas.List.{append-nil, length-map}
 use Rattle.std.proofs.lemmas.List.Elements.{All-append, All-nil, All-tail}
 use Rattle.std.proofs.lemmas.Bool.Decides.{nat_tests}
@@ -11,33 +11,6 @@ use Rattle.std.proofs.lemmas.List.Folds.{find-append, prefix_len-append}
 use Rattle.std.specs.Option.{option_or}
 use Rattle.rd_matrix.proofs.Passing.{first-inside, none-counted}
 use Rattle.rd_start.specs.Starts.{around, both_at}
-
--- a list round the element at a place
-pub record Split {X : Type 0} (xs : List X) (k : ℕ) (x : X) : Type 0 where
-  pub front : List X
-  pub back : List X
-  pub whole : xs ≡ front ++ (x ∷ back)
-  pub place : length front ≡ k
-
-pub split : {X : Type 0} (xs : List X) (k : ℕ) (x : X) → slice_get xs k ≡ Some x → Split xs k x
-split [] k x e = absurd cc
-split (y ∷ xs) zero x e = let here : y ≡ x = cc in record { front = []; back = xs; whole = ap (λ z. z ∷ xs) here; place = refl }
-split (y ∷ xs) (suc k) x e =
-    let rest = split xs k x e in
-    record { front = y ∷ rest.front; back = rest.back; whole = ap (λ zs. y ∷ zs) rest.whole; place = ap suc rest.place }
-
--- a list that ends with an element
-pub record Ends {X : Type 0} (xs : List X) (x : X) : Type 0 where
-  pub front : List X
-  pub whole : xs ≡ front ++ (x ∷ [])
-
-pub ends : {X : Type 0} (xs : List X) (x : X) → 0 < length xs → slice_get xs (length xs - 1) ≡ Some x → Ends xs x
-ends [] x p e = absurd (omega arith)
-ends (y ∷ []) x p e = let here : y ≡ x = cc in record { front = []; whole = ap (λ z. z ∷ []) here }
-ends (y ∷ z ∷ xs) x p e =
-    let same : length (y ∷ z ∷ xs) - 1 ≡ suc (length (z ∷ xs) - 1) = omega arith in
-    let rest = ends (z ∷ xs) x (omega arith) (sym (ap (slice_get (y ∷ z ∷ xs)) same) ∙ e) in
-    record { front = y ∷ rest.front; whole = ap (λ zs. y ∷ zs) rest.whole }
 
 -- what holds of all that each element gives
 pub all-flat : {X Y : Type 0} (P : Y → Type 0) (f : X → List Y) (xs : List X) → All (λ (x : X). All P (f x)) xs → All P (flat_map f xs)

@@ -1,8 +1,9 @@
 -- The rows of a block, added to a strip one by one.
 use Rattle.std.proofs.Common.{◌≡◌, ℕ, ◌+◌, ◌<◌, ◌≤◌, List, [], ◌∷◌, ◌++◌, length, map, take, drop, get_or, Some, refl, sym, ap, ◌∙◌, arith}
-use Rattle.std.proofs.lemmas.List.{append_assoc, drop_all, drop_more, length-map, map-append, take_all, take_more}
-use Rattle.std.proofs.lemmas.Option.{get_or_from_slice_get, slice_get-map, slice_get_read, slice_get_within}
+use Rattle.std.proofs.lemmas.List.{append_assoc, drop_all, length-map, map-append, take_all}
+use Rattle.std.proofs.lemmas.Option.{slice_get-map, slice_get_read}
 use Rattle.std.specs.Option.{option_map}
+use Rattle.rd_base.proofs.Lists.{drop-at, take-at}
 use Rattle.rd_rows.specs.Copies.{RowValues, shown_rows}
 use Rattle.std.specs.List.{slice_get}
 use Rattle.rd_matrix.proofs.Counting.{length-numbered}
@@ -15,21 +16,8 @@ use Rattle.rd_start.specs.declared.strip.StripRow.{StripRow}
 abbrev entry : ℕ → ℕ → RowMeaning → EntryMeaning
 entry start k r = record { start = start; number = k; row = r }
 
-entry-at : (start k : ℕ) (rows : List RowMeaning) (r : RowMeaning) → slice_get rows k ≡ Some r → get_or (numbered start 0 rows) k (entry start k r) ≡ entry start k r
-entry-at start k rows r e =
-    get_or_from_slice_get (numbered start 0 rows) k (entry start k r) (entry start k r) (numbered-at start 0 k k rows (omega arith) ∙ ap (option_map (entry start k)) e)
-
-take-entries : (start k : ℕ) (rows : List RowMeaning) (r : RowMeaning) → slice_get rows k ≡ Some r → take (k + 1) (numbered start 0 rows) ≡ take k (numbered start 0 rows) ++ entry start k r ∷ []
-take-entries start k rows r e =
-    let size = length-numbered start 0 rows in
-    let low = slice_get_within rows k r e in
-    take_more (numbered start 0 rows) k (entry start k r) (omega arith) ∙ ap (λ x. take k (numbered start 0 rows) ++ x ∷ []) (entry-at start k rows r e)
-
-drop-entries : (start k : ℕ) (rows : List RowMeaning) (r : RowMeaning) → slice_get rows k ≡ Some r → drop k (numbered start 0 rows) ≡ entry start k r ∷ drop (k + 1) (numbered start 0 rows)
-drop-entries start k rows r e =
-    let size = length-numbered start 0 rows in
-    let low = slice_get_within rows k r e in
-    drop_more (numbered start 0 rows) k (entry start k r) (omega arith) ∙ ap (λ x. x ∷ drop (k + 1) (numbered start 0 rows)) (entry-at start k rows r e)
+entry-at : (start k : ℕ) (rows : List RowMeaning) (r : RowMeaning) → slice_get rows k ≡ Some r → slice_get (numbered start 0 rows) k ≡ Some (entry start k r)
+entry-at start k rows r e = numbered-at start 0 k k rows (omega arith) ∙ ap (option_map (entry start k)) e
 
 pub strip_rows-below : (point start k : ℕ) (rows : List RowMeaning) (r : RowMeaning) (old strip_rows new : List StripRow) (strip_row : StripRow) → slice_get rows k ≡ Some r
     → strip_row ≡ strip_row_of point (record { start = start; number = k; row = r }) → strip_rows ≡ old ++ map (strip_row_of point) (take k (numbered start 0 rows)) → new ≡ strip_rows ++ strip_row ∷ []
@@ -39,7 +27,7 @@ strip_rows-below point start k rows r old strip_rows new strip_row at is before 
     let es = numbered start 0 rows in
     now ∙ (ap (λ x. strip_rows ++ x ∷ []) is ∙ (ap (λ ys. ys ++ f (entry start k r) ∷ []) before
     ∙ (append_assoc old (map f (take k es)) (f (entry start k r) ∷ [])
-    ∙ ap (λ ys. old ++ ys) (sym (map-append f (take k es) (entry start k r ∷ [])) ∙ ap (map f) (sym (take-entries start k rows r at))))))
+    ∙ ap (λ ys. old ++ ys) (sym (map-append f (take k es) (entry start k r ∷ [])) ∙ ap (map f) (sym (take-at es k (entry start k r) (entry-at start k rows r at)))))))
 
 pub strip_rows-above : (point start k : ℕ) (rows : List RowMeaning) (r : RowMeaning) (old strip_rows new : List StripRow) (strip_row : StripRow) → slice_get rows k ≡ Some r
     → strip_row ≡ strip_row_of point (record { start = start; number = k; row = r }) → strip_rows ≡ map (strip_row_of point) (drop (k + 1) (numbered start 0 rows)) ++ old → new ≡ strip_row ∷ strip_rows
@@ -48,7 +36,7 @@ strip_rows-above point start k rows r old strip_rows new strip_row at is before 
     let f = strip_row_of point in
     let es = numbered start 0 rows in
     now ∙ (ap (λ x. x ∷ strip_rows) is ∙ (ap (λ ys. f (entry start k r) ∷ ys) before
-    ∙ ap (λ ys. map f ys ++ old) (sym (drop-entries start k rows r at))))
+    ∙ ap (λ ys. map f ys ++ old) (sym (drop-at es k (entry start k r) (entry-at start k rows r at)))))
 
 pub all-below : (point start k : ℕ) (rows : List RowMeaning) (old new : List StripRow) → length rows ≤ k → new ≡ old ++ map (strip_row_of point) (take k (numbered start 0 rows))
     → new ≡ old ++ map (strip_row_of point) (numbered start 0 rows)

@@ -1,6 +1,7 @@
 -- A strip that grows until it reaches far enough.
 use Rattle.std.proofs.Common.{◌≡◌, ℕ, ◌+◌, ◌-◌, ◌<◌, ◌≤◌, Bool, List, [], ◌∷◌, ◌++◌, length, map, Option, None, Some, Result, Ok, Err, refl, sym, ap, subst, ◌∙◌, arith}
 use Rattle.std.proofs.lemmas.List.{append_assoc, length-append, length-map}
+use Rattle.std.proofs.lemmas.Result.{MatchResult-from_err}
 use Rattle.std.specs.List.{slice_get}
 use Rattle.std.specs.Prelude.{IfOk, IsErr, MatchResult}
 use Rattle.rd_base.proofs.Lists.{get-second, none-left}
@@ -19,7 +20,6 @@ use Rattle.rd_start.specs.declared.strip.Strip.{Strip}
 use Rattle.rd_start.specs.declared.strip.Sweep.{Sweep}
 use Rattle.rd_start.proofs.Blocks.{count-append}
 use Rattle.rd_start.proofs.Growth.{affords, affords-pieces, before-none, before-some, first-place, head-of, last-place, length-joined, length-strip_rows, paid-above, paid-below, pieces-above, pieces-below, some-of, strip-joined}
-use Rattle.rd_start.proofs.Results.{of-err}
 use Rattle.rd_start.proofs.Rows.{rows_around}
 
 pub strip-same : (m : SourceValues) (sweep sweep' : Sweep) (bs bs' : List Block) (ls ls' : List StripRow) (at at' : ℕ) → sweep' ≡ sweep → bs' ≡ bs → ls' ≡ ls → at' ≡ at
@@ -101,14 +101,15 @@ prev-of : (m : SourceValues) (s : Strip) (first b : Block) → IsStrip m s → s
 prev-of m s first b h at gives =
     let rows = rows_in m s.sweep in
     let e = before-some h.before (s.blocks.items ++ h.after) b (prev-value m s first (Some b) h at gives) in
-    let whole = h.pieces ∙ ap (λ ys. ys ++ (s.blocks.items ++ h.after)) e.whole in
-    let count = ap (λ ys. length (all_rows rows ys)) e.whole ∙ (count-append rows e.front (b ∷ []) ∙ ap (λ n. length (all_rows rows e.front) + n) (count-cons rows b [])) in
+    let front = e.0 in
+    let whole = h.pieces ∙ ap (λ ys. ys ++ (s.blocks.items ++ h.after)) e.1 in
+    let count = ap (λ ys. length (all_rows rows ys)) e.1 ∙ (count-append rows front (b ∷ []) ∙ ap (λ n. length (all_rows rows front) + n) (count-cons rows b [])) in
     record {
-      before = e.front;
+      before = front;
       after = h.after;
-      pieces = pieces-above m.blocks h.before s.blocks.items h.after e.front b h.pieces e.whole;
+      pieces = pieces-above m.blocks h.before s.blocks.items h.after front b h.pieces e.1;
       home = omega (arith, h.home, count);
-      among = among-middle m.blocks e.front b (s.blocks.items ++ h.after) whole;
+      among = among-middle m.blocks front b (s.blocks.items ++ h.after) whole;
     }
 
 pub prev-beyond : (r : Result (Option Block) Memory) (m : SourceValues) (s : Strip) (first : Block) → IsStrip m s → slice_get s.blocks.items 0 ≡ Some first
@@ -235,7 +236,7 @@ grown-fails edge m old s n steps more count b grown asked low = λ kind base pai
 pub edge-failed : {T E : Type 0} (edge : Edge) (r : Result T E) (m : SourceValues) (old new : Strip) (n steps count : ℕ) → IsErr r → EdgeFails edge m old n steps count
     → (kind : ℕ → Bool) (base : ℕ) → IsPaid kind base m old n → AsksAt edge kind m old count → MatchResult r (λ _. IsPaid kind base m new steps) (λ _. steps ≤ base + all_costs kind m old.sweep)
 edge-failed edge r m old new n steps count err fails = λ kind base paid asks.
-    of-err r (λ _. IsPaid kind base m new steps) (steps ≤ base + all_costs kind m old.sweep) err (fails kind base paid asks)
+    MatchResult-from_err r (λ _. IsPaid kind base m new steps) (λ _. steps ≤ base + all_costs kind m old.sweep) err (λ _. fails kind base paid asks)
 
 -- one block more at an edge, and there were fewer than the source has
 pub grown-smaller : (edge : Edge) (m : SourceValues) (s new : Strip) (b : Block) (rows : List RowMeaning) → StandsBeyond m s edge b → IsPushed edge s new b rows

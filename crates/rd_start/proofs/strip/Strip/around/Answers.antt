@@ -1,4 +1,5 @@
 use Rattle.std.proofs.Common.{ℕ, ◌+◌, ◌-◌, ◌≤◌, Bool, ◌==◌, Result, min, cond, refl, sym, ap, ◌∙◌, arith}
+use Rattle.std.proofs.lemmas.Result.{MatchResult-from_err}
 use Rattle.std.specs.Prelude.{IsErr, MatchResult}
 use Rattle.rd_base.specs.declared.memory.Memory.{Memory}
 use Rattle.rd_rows.specs.Copies.{shown_rows}
@@ -8,7 +9,6 @@ use Rattle.rd_start.specs.declared.strip.Strip.{Strip}
 use Rattle.rd_start.proofs.Around.{Made, fails-around, made-paid, made-point, made-strip, made-sweep}
 use Rattle.rd_start.proofs.Pushing.{count-shown}
 use Rattle.rd_start.proofs.Reaching.{cost-same, rows-same}
-use Rattle.rd_start.proofs.Results.{of-err}
 use Rattle.rd_start.proofs.strip.Strip.around.Given as given
 use Rattle.rd_start.proofs.strip.Strip.around.Goals as goal
 use Rattle.rd_start.proofs.strip.Strip.around.Goals.{After-rows}
@@ -22,8 +22,8 @@ failed g c r err kind asked =
     let n = c.rows.new.steps in
     let shape : IsShape sweep.shape = record { least = omega arith; most = omega arith } in
     let cost = cost-same m (g.B.BlockSource.meaning c.block_of.new.self) sweep c.in_ok-block.block n c.args.steps.now c.block_of.ensures.stays c.rows.ensures.steps in
-    of-err r (λ (s : Strip). IsPaid kind c.args.steps.now m s n) (n ≤ c.args.steps.now + all_costs kind m sweep) err
-    (fails-around kind c.args.steps.now m sweep c.in_ok-block.block n c.block_of.ensures.source shape c.in_ok-block.ensures.found asked cost)
+    MatchResult-from_err r (λ (s : Strip). IsPaid kind c.args.steps.now m s n) (λ _. n ≤ c.args.steps.now + all_costs kind m sweep) err
+    (λ _. fails-around kind c.args.steps.now m sweep c.in_ok-block.block n c.block_of.ensures.source shape c.in_ok-block.ensures.found asked cost)
 
 pub returns-in_err-rows-clause-paid : goal.returns-in_err-rows-clause-paid
 returns-in_err-rows-clause-paid g c =

@@ -1,9 +1,9 @@
 use Rattle.std.proofs.Common.{◌≡◌, ◌<◌, inr, length, None, Some, refl, sym, ap, ◌∙◌, arith}
+use Rattle.std.proofs.lemmas.Result.{IfOk-from_err}
 use Rattle.rd_matrix.specs.Sources.{SourceValues}
 use Rattle.rd_rows.specs.Copies.{shown_rows}
 use Rattle.rd_start.specs.Strips.{IsStrip, GrowsAt, extent}
 use Rattle.rd_start.proofs.Reaching.{EdgeFails, among-same, asked-given, at-source, beyond-given, edge-failed, grown-fails, grown-more, grown-none, grown-pays, grown-smaller, grown-stops, rows-same}
-use Rattle.rd_start.proofs.Results.{nothing-of-err}
 use Rattle.rd_start.proofs.strip.Strip.reach.Given as given
 use Rattle.rd_start.proofs.strip.Strip.reach.Goals as goal
 use Rattle.rd_start.proofs.strip.Strip.reach.Goals.{After-rows}
@@ -61,11 +61,11 @@ returns-in_err-rows-clause-paid g c =
 
 pub returns-in_err-push-clause-sweep : goal.returns-in_err-push-clause-sweep
 returns-in_err-push-clause-sweep g c =
-    nothing-of-err c.from_residual-in_err-push.result (c.push.new.self.sweep ≡ c.args.self.now.sweep) c.from_residual-in_err-push.ensures.0
+    IfOk-from_err c.from_residual-in_err-push.result (λ _. c.push.new.self.sweep ≡ c.args.self.now.sweep) c.from_residual-in_err-push.ensures.0
 
 pub returns-in_err-push-clause-grows : goal.returns-in_err-push-clause-grows
 returns-in_err-push-clause-grows g c =
-    nothing-of-err c.from_residual-in_err-push.result (GrowsAt c.args.edge c.args.self.now c.push.new.self) c.from_residual-in_err-push.ensures.0
+    IfOk-from_err c.from_residual-in_err-push.result (λ _. GrowsAt c.args.edge c.args.self.now c.push.new.self) c.from_residual-in_err-push.ensures.0
 
 pub returns-in_err-push-clause-paid : goal.returns-in_err-push-clause-paid
 returns-in_err-push-clause-paid g c =

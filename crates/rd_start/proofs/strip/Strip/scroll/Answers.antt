@@ -1,10 +1,10 @@
 use Rattle.std.specs.Int.{is_negative}
 use Rattle.std.specs.Prelude.{unsigned_abs}
 use Rattle.std.proofs.lemmas.Int.{to_z-of_z}
+use Rattle.std.proofs.lemmas.Result.{MatchResult-from_err}
 use Rattle.std.proofs.Common.{rules, w64, ◌≡◌, ◌+◌, ◌-◌, ◌≤◌, min, length, refl, sym, ap, ◌∙◌, arith}
 use Rattle.rd_start.specs.Strips.{IsPaid, all_costs, first_row, moved_row}
 use Rattle.rd_start.specs.declared.strip.Sweep.{Sweep}
-use Rattle.rd_start.proofs.Results.{of-err}
 use Rattle.rd_start.proofs.Scrolling.{asks-down, asks-up, placed-down, placed-up}
 use Rattle.rd_start.proofs.strip.Strip.scroll.Goals as goal
 
@@ -14,8 +14,8 @@ returns-in_err-reach-clause-paid g c = λ kind base paid asks.
     let whole = to_z-of_z w64 c.args.wanted.pending (search rules) in
     let s = c.args.self.now in
     let n = c.reach.new.steps in
-    of-err c.from_residual.result (λ _. IsPaid kind base m c.reach.new.self n) (n ≤ base + all_costs kind m s.sweep) c.from_residual.ensures.0
-    (c.in_err-reach.ensures.paid kind base paid (asks-up kind m s c.args.wanted.pending c.unsigned_abs-rows.result c.requires (sym (ap is_negative whole) ∙ (sym c.is_negative.ensures ∙ c.if-is_negative.true)) (c.unsigned_abs-rows.ensures.value ∙ ap unsigned_abs whole) asks))
+    MatchResult-from_err c.from_residual.result (λ _. IsPaid kind base m c.reach.new.self n) (λ _. n ≤ base + all_costs kind m s.sweep) c.from_residual.ensures.0
+    (λ _. c.in_err-reach.ensures.paid kind base paid (asks-up kind m s c.args.wanted.pending c.unsigned_abs-rows.result c.requires (sym (ap is_negative whole) ∙ (sym c.is_negative.ensures ∙ c.if-is_negative.true)) (c.unsigned_abs-rows.ensures.value ∙ ap unsigned_abs whole) asks))
 
 pub returns-then-is_negative-clause-place : goal.returns-then-is_negative-clause-place
 returns-then-is_negative-clause-place g c =
@@ -42,8 +42,8 @@ returns-in_err-reach-2-clause-paid g c = λ kind base paid asks.
     let s = c.args.self.now in
     let n = c.reach-2.new.steps in
     let rows = c.unsigned_abs-rows.result in
-    of-err c.from_residual-in_err-reach-2.result (λ _. IsPaid kind base m c.reach-2.new.self n) (n ≤ base + all_costs kind m s.sweep) c.from_residual-in_err-reach-2.ensures.0
-    (c.in_err-reach-2.ensures.paid kind base paid (asks-down kind m s c.args.wanted.pending rows (s.home + rows) c.requires (sym (ap is_negative whole) ∙ (sym c.is_negative.ensures ∙ c.if-is_negative.false)) (c.unsigned_abs-rows.ensures.value ∙ ap unsigned_abs whole) refl asks))
+    MatchResult-from_err c.from_residual-in_err-reach-2.result (λ _. IsPaid kind base m c.reach-2.new.self n) (λ _. n ≤ base + all_costs kind m s.sweep) c.from_residual-in_err-reach-2.ensures.0
+    (λ _. c.in_err-reach-2.ensures.paid kind base paid (asks-down kind m s c.args.wanted.pending rows (s.home + rows) c.requires (sym (ap is_negative whole) ∙ (sym c.is_negative.ensures ∙ c.if-is_negative.false)) (c.unsigned_abs-rows.ensures.value ∙ ap unsigned_abs whole) refl asks))
 
 pub returns-clause-place : goal.returns-clause-place
 returns-clause-place g c =
