@@ -218,10 +218,6 @@ pub each-append : {X : Type 0} (P : X → Type 0) (xs ys : List X) → AllByRecu
 each-append P [] ys these those = those
 each-append P (x ∷ xs) ys these those = (these.0, each-append P xs ys these.1 those)
 
-pub each-back : {X : Type 0} (P : X → Type 0) (xs ys : List X) → AllByRecursion P (xs ++ ys) → AllByRecursion P ys
-each-back P [] ys all = all
-each-back P (x ∷ xs) ys all = each-back P xs ys all.1
-
 pub each-take : {X : Type 0} (P : X → Type 0) (n : ℕ) (xs : List X) → AllByRecursion P xs → AllByRecursion P (take n xs)
 each-take P zero xs all = tt
 each-take P (suc n) [] all = tt
