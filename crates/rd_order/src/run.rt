@@ -1,6 +1,6 @@
 //! Maximal runs of indexes at a level or above, which rule L2 of UAX 9 reverses.
 ghost use Rattle.std.specs.Prelude.{◌≡◌, ◌+◌, ◌-◌, ◌<◌, ◌≤◌, ◌%◌, ◌==◌, if◌then◌else◌, length, slice_index};
-ghost use Rattle.rd_order.specs.Places.{IsRun, AreHigh, BeginsLow};
+ghost use Rattle.rd_order.specs.Places.{IsRun, AreHigh};
 
 /// A run that L2 reverses: the indexes from `start` to `end - 1`, none of which has a level below `lowest`.
 #[derive(Clone, Copy)]
