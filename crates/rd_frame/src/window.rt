@@ -96,21 +96,13 @@ fn paint_row(
     ensures rows { length screen.new.rows ≡ length screen.old.rows }
 {
     let _width = screen.width();
-    paint_cells(screen, window.rect.y + row, window.rect.x, margin, text);
+    screen.set_cells(window.rect.y + row, window.rect.x, margin);
+    screen.set_cells(
+        window.rect.y + row,
+        window.rect.x + margin.len() as u32,
+        text,
+    );
     paint_border(screen, window, border, row);
-}
-
-/// Puts cells into a row, from a column on, and others behind them.
-fn paint_cells(screen: &mut Screen, row: u32, column: u32, margin: &[Cell], text: &[Cell])
-    requires row { row < length screen.old.rows }
-    requires room { column + (length margin.now + length text.now) ≤ width_of screen.old.rows }
-    ensures painted { screen.new ≡ record screen.old { rows = with_cells screen.old.rows row column (margin.now ++ text.now) } }
-    ensures columns { width_of screen.new.rows ≡ width_of screen.old.rows }
-    ensures rows { length screen.new.rows ≡ length screen.old.rows }
-{
-    let _width = screen.width();
-    screen.set_cells(row, column, margin);
-    screen.set_cells(row, column + margin.len() as u32, text);
 }
 
 /// Puts the border beside a row of a window's text, where the window has one.
