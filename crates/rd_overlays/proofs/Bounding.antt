@@ -10,10 +10,9 @@ use Rattle.std.proofs.lemmas.List.{length-map}
 use Rattle.std.proofs.lemmas.List.Elements.{All-from_get_or}
 use Rattle.std.proofs.lemmas.List.FromFn.{length-range_with_len, get_or-range_with_len}
 use Rattle.std.proofs.lemmas.List.Sorted.{All-permutation}
-use Rattle.std.proofs.lemmas.Option.{slice_get_within, slice_get-get_or, slice_get-map, get_or_from_slice_get}
+use Rattle.std.proofs.lemmas.Option.{slice_get_within, slice_get-get_or, get_or_from_slice_get}
 use Rattle.std.proofs.Math.Nat.{le-min}
-use Rattle.rd_base.proofs.Choices.{map-some}
-use Rattle.rd_base.proofs.Lists.{get-first}
+use Rattle.rd_base.proofs.Lists.{get-first, get-map}
 use Rattle.rd_overlays.specs.declared.overlay.Overlay.{Overlay}
 use Rattle.rd_overlays.specs.declared.overlay.Meeting.{Meeting}
 use Rattle.rd_overlays.specs.declared.overlay.Meeting.TheVariants.{Covers, Starts, Ends}
@@ -95,7 +94,7 @@ moved-bounded f g slots order bounds h none step =
     record {
       room = omega (arith, bounds_size, room);
       holds = λ place number b at d.
-          let old = map-some g (slice_get bounds (place / 256)) b (sym (slice_get-map g bounds (place / 256)) ∙ d) in
+          let old = get-map g bounds (place / 256) b d in
           both-moved f g slots order bounds place number b h none step at old;
     }
 
