@@ -1,10 +1,9 @@
 -- Each position is covered by one item.
 use Rattle.std.proofs.Common.{◌≡◌, ℕ, suc, ◌+◌, ◌^◌, ◌<◌, ◌≤◌, nat_lt, Bool, true, false, cond, if◌then◌else◌, List, [], ◌∷◌, ◌++◌, length, map, All, inr, Option, None, Some, refl, sym, ap, subst, ◌∙◌, arith}
-use Rattle.std.specs.Prelude.{count_by, slice_get, option_map}
+use Rattle.std.specs.Prelude.{count_by, slice_get}
 use Rattle.std.specs.List.{flat_map}
 use Rattle.std.proofs.lemmas.Bool.Decides.{nat_tests}
-use Rattle.std.proofs.lemmas.Option.{slice_get-map}
-use Rattle.rd_base.proofs.Lists.{Follow, count-append, count-cons, each-append, follow-once}
+use Rattle.rd_base.proofs.Lists.{Follow, count-append, count-cons, each-append, follow-once, get-map}
 use Rattle.rd_ucd.specs.Data.{Data}
 use Rattle.rd_objects.specs.Things.{ObjectLists}
 use Rattle.rd_text.specs.Texts.{IsText, IsAccessible}
@@ -123,15 +122,10 @@ module _ (s : BufferValue) (objects : ObjectLists) (files : Data) (are : AreTile
   pub at-most : (pos : ℕ) → count_by (holds pos) (all_ranges s objects files) ≤ 1
   at-most pos = few-by (holds pos (record { from = s.text.begin; to = s.text.end + 1 })) (count_by (holds pos) (all_ranges s objects files)) (all-count pos)
 
-  block-by : (o : Option (ℕ × ℕ)) (b : Block) → option_map (block_in files.classes s) o ≡ Some b → ((c : ℕ × ℕ) → o ≡ Some c → IsBlock s c.0 c.1) → IsBlock s b.start b.end
-  block-by None b h each = absurd cc
-  block-by (Some c) b h each =
-      let same : block_in files.classes s c ≡ b = cc in
-      subst (λ (x : Block). IsBlock s x.start x.end) same (each c refl)
-
   is-block : (b : Block) → IsAmong (blocks_in files.classes s) b → IsBlock s b.start b.end
   is-block b among =
-      block-by (slice_get (blocks_of s) among.0) b (sym (slice_get-map (block_in files.classes s) (blocks_of s) among.0) ∙ among.1) (λ c there. are.listed among.0 c there)
+      let found = get-map (block_in files.classes s) (blocks_of s) among.0 b among.1 in
+      subst (λ (x : Block). IsBlock s x.start x.end) found.2 (are.listed among.0 found.0 found.1)
 
   pub tiled-block : (b : Block) → IsAmong (blocks_in files.classes s) b → IsTiled s objects files b
   tiled-block b among = are.tiled objects files b (is-block b among)
