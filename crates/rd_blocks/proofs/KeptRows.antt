@@ -36,8 +36,8 @@ use Rattle.rd_blocks.specs.Kept.{Follows, AreRowsAt}
 use Rattle.rd_blocks.specs.Rows.{block_cutting}
 use Rattle.rd_blocks.specs.Sources.{rows_in, text_source}
 use Rattle.rd_blocks.proofs.EntryBlocks.{IsRowOf, row-block, same-start}
+use Rattle.rd_blocks.proofs.Listed.{among-block}
 use Rattle.rd_blocks.proofs.SameReading.{AreRead, reads-before, reads-behind}
-use Rattle.rd_blocks.proofs.Sources.{listed-at}
 
 -- ---- rows up to the first that ends the block
 
@@ -228,10 +228,7 @@ module _ (laws : FreshLaws) (old new : BufferValue) (made objects : ObjectLists)
         same-base of.0.base b.base its mine (sym flips)
 
     is-block : IsBlock new b.start b.end
-    is-block =
-        let found = listed-at files.classes new among.0 b among.1 in
-        let block = laws.listed new text.ordered among.0 found.pair found.at in
-        subst (λ (x : Block). IsBlock new x.start x.end) (sym found.is) block
+    is-block = among-block files.classes new (laws.listed new text.ordered) b among
 
     setting : old.settings.invisible ≡ new.settings.invisible
     setting = ap (λ (s : SettingValues). s.invisible) (sym follows.settings)
@@ -261,9 +258,7 @@ module _ (laws : FreshLaws) (old new : BufferValue) (made objects : ObjectLists)
 pub ends-small : ((s : BufferValue) → s.text.begin ≤ s.text.end → (k : ℕ) (b : ℕ × ℕ) → slice_get (blocks_of s) k ≡ Some b → IsBlock s b.0 b.1) → (s : BufferValue) (objects : ObjectLists) (files : Data) → IsText s.text
     → (b : Block) → IsAmong (text_source s objects files).blocks b → b.end < 2 ^ 32
 ends-small listed s objects files text b among =
-    let found = listed-at files.classes s among.0 b among.1 in
-    let block = listed s text.ordered among.0 found.pair found.at in
-    let end : b.end ≡ found.pair.1 = ap (λ (x : Block). x.end) found.is in
+    let block = among-block files.classes s (listed s text.ordered) b among in
     let last = block.last in
     let within = text.last in
     let short = text.short in

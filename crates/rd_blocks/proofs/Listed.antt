@@ -4,6 +4,7 @@ use Rattle.std.specs.Prelude.{slice_get}
 use Rattle.std.specs.Option.{option_map}
 use Rattle.std.proofs.lemmas.Bool.{cases_lt}
 use Rattle.std.proofs.lemmas.Option.{slice_get-map}
+use Rattle.rd_base.proofs.Lists.{get-map}
 use Rattle.rd_text.specs.Texts.{IsText, IsAccessible}
 use Rattle.rd_ucd.specs.declared.spans.Span.{Span}
 use Rattle.rd_props.specs.Buffers.{BufferValue}
@@ -11,7 +12,7 @@ use Rattle.rd_items.specs.Blocks.{blocks_of, Adjoin, StartsBlock, IsBlock, IsBlo
 use Rattle.rd_matrix.specs.Blocks.{IsAmong, IsWithin, HoldsPosition, block_before}
 use Rattle.rd_matrix.specs.declared.block.Block.{Block}
 use Rattle.rd_blocks.specs.Bases.{block_base, block_in, blocks_in}
-use Rattle.rd_blocks.proofs.Sources.{first-is, end-is, listed-at}
+use Rattle.rd_blocks.proofs.Sources.{first-is, end-is}
 
 -- what the layer below says of a buffer's blocks
 pub record AreListed (s : BufferValue) : Type 0 where
@@ -121,48 +122,48 @@ module _ (classes : List Span) (s : BufferValue) where
       }
 
   -- each of the list is a block of the buffer
-  pub among-block : AreListed s → (b : Block) → IsAmong (blocks_in classes s) b → IsBlock s b.start b.end
-  among-block listed b among =
-      let found = listed-at classes s among.0 b among.1 in
-      subst (λ (x : Block). IsBlock s x.start x.end) (sym found.is) (listed.blocks among.0 found.pair found.at)
+  pub among-block : ((k : ℕ) (b : ℕ × ℕ) → slice_get (blocks_of s) k ≡ Some b → IsBlock s b.0 b.1) → (b : Block) → IsAmong (blocks_in classes s) b → IsBlock s b.start b.end
+  among-block blocks b among =
+      let found = get-map (block_in classes s) (blocks_of s) among.0 b among.1 in
+      subst (λ (x : Block). IsBlock s x.start x.end) found.2 (blocks among.0 found.0 found.1)
 
   pub among-base : (b : Block) → IsAmong (blocks_in classes s) b → b.base ≡ block_base classes s b.start
   among-base b among =
-      let found = listed-at classes s among.0 b among.1 in
-      subst (λ (x : Block). x.base ≡ block_base classes s x.start) (sym found.is) refl
+      let found = get-map (block_in classes s) (blocks_of s) among.0 b among.1 in
+      subst (λ (x : Block). x.base ≡ block_base classes s x.start) found.2 refl
 
   -- the block behind one
   pub next-block : AreInOrder s → (b : Block) (end base : ℕ) → IsBlock s b.end end → base ≡ block_base classes s b.end → (k : ℕ) → slice_get (blocks_in classes s) k ≡ Some b
       → Some (let c : Block = record { start = b.end; end = end; base = base } in c) ≡ slice_get (blocks_in classes s) (k + 1)
   next-block ordered b end base block level k at =
-      let found = listed-at classes s k b at in
-      let is : b.end ≡ found.pair.1 = ap (λ (x : Block). x.end) found.is in
-      let next = ordered.next k found.pair.0 found.pair.1 end found.at (subst (λ (n : ℕ). IsBlock s n end) is block) in
-      ap (λ (c : Block). Some c) (block-is b.end end base level ∙ ap (λ (n : ℕ). block_in classes s (n, end)) is) ∙ sym (at-place (k + 1) (found.pair.1, end) next)
+      let found = get-map (block_in classes s) (blocks_of s) k b at in
+      let is : b.end ≡ found.0.1 = ap (λ (x : Block). x.end) (sym found.2) in
+      let next = ordered.next k found.0.0 found.0.1 end found.1 (subst (λ (n : ℕ). IsBlock s n end) is block) in
+      ap (λ (c : Block). Some c) (block-is b.end end base level ∙ ap (λ (n : ℕ). block_in classes s (n, end)) is) ∙ sym (at-place (k + 1) (found.0.1, end) next)
 
   pub next-none : AreListed s → AreInOrder s → (b : Block) → s.text.end < b.end → (k : ℕ) → slice_get (blocks_in classes s) k ≡ Some b → None ≡ slice_get (blocks_in classes s) (k + 1)
   next-none listed ordered b past k at =
-      let found = listed-at classes s k b at in
-      let is : b.end ≡ found.pair.1 = ap (λ (x : Block). x.end) found.is in
-      let block = listed.blocks k found.pair found.at in
+      let found = get-map (block_in classes s) (blocks_of s) k b at in
+      let is : b.end ≡ found.0.1 = ap (λ (x : Block). x.end) (sym found.2) in
+      let block = listed.blocks k found.0 found.1 in
       let last = block.last in
-      let end : found.pair.1 ≡ s.text.end + 1 = omega (arith, is, past, last) in
-      sym (none-at (k + 1) (ordered.last k found.pair.0 (found.at ∙ ap (λ (n : ℕ). Some (found.pair.0, n)) end)))
+      let end : found.0.1 ≡ s.text.end + 1 = omega (arith, is, past, last) in
+      sym (none-at (k + 1) (ordered.last k found.0.0 (found.1 ∙ ap (λ (n : ℕ). Some (found.0.0, n)) end)))
 
   -- the block before one
   pub prev-block : AreInOrder s → (b : Block) (start base : ℕ) → IsBlock s start b.start → base ≡ block_base classes s start → (k : ℕ) → slice_get (blocks_in classes s) k ≡ Some b
       → Some (let c : Block = record { start = start; end = b.start; base = base } in c) ≡ block_before (blocks_in classes s) k
   prev-block ordered b start base block level k at =
-      let found = listed-at classes s k b at in
-      let is : b.start ≡ found.pair.0 = ap (λ (x : Block). x.start) found.is in
-      let before = ordered.prev k start found.pair.0 found.pair.1 found.at (subst (λ (n : ℕ). IsBlock s start n) is block) in
+      let found = get-map (block_in classes s) (blocks_of s) k b at in
+      let is : b.start ≡ found.0.0 = ap (λ (x : Block). x.start) (sym found.2) in
+      let before = ordered.prev k start found.0.0 found.0.1 found.1 (subst (λ (n : ℕ). IsBlock s start n) is block) in
       let one : k ≡ suc before.0 = omega (arith, before.1) in
       ap (λ (c : Block). Some c) (block-is start b.start base level ∙ ap (λ (n : ℕ). block_in classes s (start, n)) is)
-      ∙ (sym (at-place before.0 (start, found.pair.0) before.2) ∙ ap (block_before (blocks_in classes s)) (sym one))
+      ∙ (sym (at-place before.0 (start, found.0.0) before.2) ∙ ap (block_before (blocks_in classes s)) (sym one))
 
   pub prev-none : AreInOrder s → (b : Block) → b.start ≡ s.text.begin → (k : ℕ) → slice_get (blocks_in classes s) k ≡ Some b → None ≡ block_before (blocks_in classes s) k
   prev-none ordered b begins k at =
-      let found = listed-at classes s k b at in
-      let is : b.start ≡ found.pair.0 = ap (λ (x : Block). x.start) found.is in
-      let first : found.pair.0 ≡ s.text.begin = sym is ∙ begins in
-      ap (block_before (blocks_in classes s)) (sym (ordered.first k found.pair.1 (found.at ∙ ap (λ (n : ℕ). Some (n, found.pair.1)) first)))
+      let found = get-map (block_in classes s) (blocks_of s) k b at in
+      let is : b.start ≡ found.0.0 = ap (λ (x : Block). x.start) (sym found.2) in
+      let first : found.0.0 ≡ s.text.begin = sym is ∙ begins in
+      ap (block_before (blocks_in classes s)) (sym (ordered.first k found.0.1 (found.1 ∙ ap (λ (n : ℕ). Some (n, found.0.1)) first)))

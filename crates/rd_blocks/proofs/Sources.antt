@@ -1,10 +1,10 @@
 -- Each buffer is a source of blocks.
-use Rattle.std.proofs.Common.{◌≡◌, ℕ, zero, suc, ◌+◌, ◌<◌, ◌≤◌, true, IsTrue, List, [], ◌∷◌, length, get_or, map, None, Some, refl, sym, subst, arith}
+use Rattle.std.proofs.Common.{◌≡◌, ℕ, ◌+◌, ◌<◌, ◌≤◌, true, IsTrue, List, [], ◌∷◌, length, get_or, map, None, Some, sym, subst, arith}
 use Rattle.std.specs.Prelude.{slice_get}
 use Rattle.std.proofs.lemmas.List.Elements.{All-map}
-use Rattle.std.proofs.lemmas.Option.{same_Some}
 use Rattle.rd_base.specs.Elements.{ends_once}
 use Rattle.rd_base.specs.declared.element.Element.{Element}
+use Rattle.rd_base.proofs.Lists.{get-map}
 use Rattle.rd_text.specs.Texts.{IsText}
 use Rattle.rd_ucd.specs.Data.{Data}
 use Rattle.rd_ucd.specs.declared.spans.Span.{Span}
@@ -72,20 +72,6 @@ some-map : (classes : List Span) (s : BufferValue) (from to : ℕ) (bs : List (�
 some-map classes s from to [] h less = absurd (omega (arith, h, less))
 some-map classes s from to (b ∷ bs) h less = omega arith
 
--- the pair of a block of the list
-pub record IsListed (classes : List Span) (s : BufferValue) (k : ℕ) (b : Block) : Type 0 where
-  pub pair : ℕ × ℕ
-  pub at : slice_get (blocks_of s) k ≡ Some pair
-  pub is : b ≡ block_in classes s pair
-
-pair-at : (classes : List Span) (s : BufferValue) (bs : List (ℕ × ℕ)) (k : ℕ) (b : Block) → slice_get (map (block_in classes s) bs) k ≡ Some b → (p : ℕ × ℕ) × (slice_get bs k ≡ Some p) × (b ≡ block_in classes s p)
-pair-at classes s [] k b h = absurd cc
-pair-at classes s (p ∷ ps) zero b h = (p, refl, sym (same_Some (block_in classes s p) b h))
-pair-at classes s (p ∷ ps) (suc k) b h = pair-at classes s ps k b h
-
-pub listed-at : (classes : List Span) (s : BufferValue) (k : ℕ) (b : Block) → slice_get (blocks_in classes s) k ≡ Some b → IsListed classes s k b
-listed-at classes s k b h = let found = pair-at classes s (blocks_of s) k b h in record { pair = found.0; at = found.1; is = found.2 }
-
 -- the rows of what is read of a block
 rows-right : Lower → (scene : Scene) (base start end : ℕ) (shape : ShapeValues) (es : List Seen) → IsReading scene.parts.settings.invisible es → start + length es ≡ end
     → AreRowsOf start end (seen_rows (block_rows scene base shape es))
@@ -113,11 +99,11 @@ source-right low s objects files right =
         bases = All-map (λ (b : Block). b.base ≤ 1) (block_in classes s) (blocks_of s) (λ k d inside. base-low classes s (get_or (blocks_of s) k d).0);
       };
       rows = λ b shape among good.
-          let found = listed-at classes s among.0 b among.1 in
-          let block = low.listed s order among.0 found.pair found.at in
+          let found = get-map (block_in classes s) (blocks_of s) among.0 b among.1 in
+          let block = low.listed s order among.0 found.0 found.1 in
           let last = block.last in
           let some = block.some in
-          subst (λ (x : Block). AreRowsOf x.start x.end ((text_source s objects files).rows_of x shape)) (sym found.is)
-          (rows-right low (scene_in s.settings objects files) (block_in classes s found.pair).base found.pair.0 found.pair.1 shape (reading s objects found.pair.0)
-          (low.read s objects found.pair.0 (omega (arith, last, some))) (low.size s objects found.pair.0 found.pair.1 block));
+          subst (λ (x : Block). AreRowsOf x.start x.end ((text_source s objects files).rows_of x shape)) found.2
+          (rows-right low (scene_in s.settings objects files) (block_in classes s found.0).base found.0.0 found.0.1 shape (reading s objects found.0.0)
+          (low.read s objects found.0.0 (omega (arith, last, some))) (low.size s objects found.0.0 found.0.1 block));
     }

@@ -5,7 +5,7 @@ use Rattle.rd_items.specs.Blocks.{IsBlock}
 use Rattle.rd_matrix.specs.Blocks.{IsAmong}
 use Rattle.rd_blocks.specs.Sources.{source_of}
 use Rattle.rd_blocks.proofs.Bases.{base-low}
-use Rattle.rd_blocks.proofs.Listed.{are-listed, among-block, among-base}
+use Rattle.rd_blocks.proofs.Listed.{among-block, among-base}
 use Rattle.rd_blocks.proofs.blocks.Blocks.stands.Goals as goal
 
 pub returns-clause-block : goal.returns-clause-block
@@ -15,7 +15,7 @@ returns-clause-block c =
     let s = meaning x.state.now in
     let b = c.args.block.now in
     subst (λ (w : View). IsBlock (meaning w.state.now) b.start b.end) c.self.view_is
-    (among-block x.classes.now s (are-listed law.blocks law.every law.adjoin s c.begin-begin.ensures.right) b (subst (λ (w : View). IsAmong (source_of w).blocks b) (sym c.self.view_is) c.requires))
+    (among-block x.classes.now s (law.blocks s c.begin-begin.ensures.right.ordered) b (subst (λ (w : View). IsAmong (source_of w).blocks b) (sym c.self.view_is) c.requires))
 
 pub returns-clause-base : goal.returns-clause-base
 returns-clause-base c =
