@@ -37,7 +37,7 @@ use Rattle.rd_blocks.specs.Rows.{block_cutting}
 use Rattle.rd_blocks.specs.Sources.{rows_in, text_source}
 use Rattle.rd_blocks.proofs.EntryBlocks.{IsRowOf, row-block, same-start}
 use Rattle.rd_blocks.proofs.Listed.{among-block}
-use Rattle.rd_blocks.proofs.SameReading.{AreRead, reads-before, reads-behind}
+use Rattle.rd_blocks.proofs.SameReading.{reads-before, reads-behind}
 
 -- ---- rows up to the first that ends the block
 
@@ -160,7 +160,6 @@ is-under es c start n e found =
 -- what lower layers promise, and what this one does
 pub record FreshLaws : Type 0 where
   pub listed : (s : BufferValue) → s.text.begin ≤ s.text.end → (k : ℕ) (b : ℕ × ℕ) → slice_get (blocks_of s) k ≡ Some b → IsBlock s b.0 b.1
-  pub read : AreRead
   pub source : (s : BufferValue) (objects : ObjectLists) (files : Data) → IsText s.text → IsSource (text_source s objects files)
   pub local : (old new : BufferValue) (made objects : ObjectLists) (files : Data) (a b : Block) (shape : ShapeValues) → without_flags new.settings ≡ without_flags old.settings → IsClosed made → AreMade old made → Extends made objects
       → a.base ≡ b.base → reading old made a.start ≡ reading new objects b.start → rows_in new objects files b shape ≡ rows_in old made files a shape
@@ -234,11 +233,11 @@ module _ (laws : FreshLaws) (old new : BufferValue) (made objects : ObjectLists)
     setting = ap (λ (s : SettingValues). s.invisible) (sym follows.settings)
 
     reads-from : HasStarted c b.start of.0.start → reading old made of.0.start ≡ reading new objects b.start
-    reads-from (inl later) = reads-behind laws.read old made new objects setting c follows.unchanged b.start b.end is-block of.0.start later.0 later.1
+    reads-from (inl later) = reads-behind old made new objects setting c follows.unchanged b.start b.end is-block of.0.start later.0 later.1
     reads-from (inr here) = by-side (either-side b.end c.head c.tail b.start outside) where
       by-side : (b.end ≤ c.head) ⊎ (c.tail ≤ b.start) → reading old made of.0.start ≡ reading new objects b.start
       by-side (inl below) =
-          ap (λ (p : ℕ). reading old made p) here.1 ∙ reads-before laws.read old made new objects setting c follows.unchanged b.start b.end is-block below
+          ap (λ (p : ℕ). reading old made p) here.1 ∙ reads-before old made new objects setting c follows.unchanged b.start b.end is-block below
       by-side (inr above) = let below = here.0 in absurd (omega arith)
 
     reads : reading old made of.0.start ≡ reading new objects b.start

@@ -1,7 +1,7 @@
 -- Where the same is seen at the positions of a block, the same is read of it.
-use Rattle.std.proofs.Common.{◌≡◌, ◌⊎◌, inl, inr, ℕ, zero, suc, ◌+◌, ◌-◌, ◌<◌, ◌≤◌, Bool, true, false, ◌&&◌, List, [], ◌∷◌, refl, sym, ap, subst, ◌∙◌, arith}
+use Rattle.std.proofs.Common.{◌≡◌, inl, inr, ℕ, zero, suc, ◌+◌, ◌-◌, ◌<◌, ◌≤◌, Bool, true, false, ◌&&◌, List, [], ◌∷◌, refl, sym, ap, subst, ◌∙◌, arith}
 use Rattle.std.specs.Prelude.{pos, ◌-ℤ◌, nat_lt}
-use Rattle.std.proofs.lemmas.Bool.{and_parts, both_ways, cases_lt, cond-false, cond-true}
+use Rattle.std.proofs.lemmas.Bool.{and_parts, cond-true}
 use Rattle.std.proofs.lemmas.Bool.Decides.{nat_tests}
 use Rattle.std.proofs.lemmas.Int.{ints}
 use Rattle.rd_base.specs.declared.settings.Invisible.{Invisible}
@@ -10,42 +10,15 @@ use Rattle.rd_props.specs.Agreement.{IsSame, Unchanged}
 use Rattle.rd_props.specs.Buffers.{BufferValue}
 use Rattle.rd_props.specs.Seen.{Seen, seen_at}
 use Rattle.rd_items.specs.Blocks.{is_shown_newline, EndsBlock, IsBlock}
-use Rattle.rd_items.specs.Readings.{is_ender, ends_block, reading_from, reading, IsReading}
+use Rattle.rd_items.specs.Readings.{is_ender, ends_block, reading_from, reading}
+use Rattle.rd_items.proofs.Readings.{end-ends, reading-more}
 use Rattle.rd_reuse.specs.declared.change.Change.{Change}
-
--- what is known of readings
-abbrev pub AreRead : Type 0
-AreRead = (s : BufferValue) (objects : ObjectLists) (p : ℕ) → p ≤ s.text.end → IsReading s.settings.invisible (reading s objects p)
 
 -- ---- what is read from a position on
 
 reads-one : (s : BufferValue) (o : ObjectLists) (n p : ℕ) → ends_block s p ≡ true → reading_from s o n p ≡ seen_at s o p ∷ []
 reads-one s o zero p e = refl
 reads-one s o (suc n) p e = ap (λ (es : List Seen). seen_at s o p ∷ es) (cond-true (ends_block s p) [] (reading_from s o n (suc p)) e)
-
-reads-more : (s : BufferValue) (o : ObjectLists) (n p : ℕ) → ends_block s p ≡ false → reading_from s o (suc n) p ≡ seen_at s o p ∷ reading_from s o n (suc p)
-reads-more s o n p e = ap (λ (es : List Seen). seen_at s o p ∷ es) (cond-false (ends_block s p) [] (reading_from s o n (suc p)) e)
-
-reading-more : (s : BufferValue) (o : ObjectLists) (p : ℕ) → p < s.text.end → ends_block s p ≡ false → reading s o p ≡ seen_at s o p ∷ reading s o (suc p)
-reading-more s o p less goes =
-    let size : s.text.end - p ≡ suc (s.text.end - suc p) = omega arith in
-    ap (λ (n : ℕ). reading_from s o n p) size ∙ reads-more s o (s.text.end - suc p) p goes
-
--- the end of the accessible text ends a block
-end-ends : AreRead → (s : BufferValue) (o : ObjectLists) → ends_block s s.text.end ≡ true
-end-ends read s o =
-    let none : s.text.end - s.text.end ≡ 0 = omega arith in
-    let whole : IsReading s.settings.invisible (reading_from s o 0 s.text.end) =
-    subst (λ (n : ℕ). IsReading s.settings.invisible (reading_from s o n s.text.end)) none (read s o s.text.end (omega arith)) in
-    whole
-
-before-end : AreRead → (s : BufferValue) (o : ObjectLists) (p : ℕ) → p ≤ s.text.end → ends_block s p ≡ false → p < s.text.end
-before-end read s o p within goes = by-place (cases_lt p s.text.end) where
-  by-place : (p < s.text.end) ⊎ (s.text.end ≤ p) → p < s.text.end
-  by-place (inl less) = less
-  by-place (inr more) =
-      let here : s.text.end ≡ p = omega arith in
-      absurd (both_ways (ends_block s p) goes (sym (ap (ends_block s) here) ∙ end-ends read s o))
 
 -- ---- two readings
 
@@ -55,7 +28,7 @@ pub record SeenAlike (old : BufferValue) (made : ObjectLists) (new : BufferValue
   pub goes : (q : ℕ) → y ≤ q → suc q < to → ends_block new q ≡ false
   pub ends : (q : ℕ) → suc q ≡ to → ends_block new q ≡ true
 
-module _ (read : AreRead) (old : BufferValue) (made : ObjectLists) (new : BufferValue) (objects : ObjectLists) (setting : old.settings.invisible ≡ new.settings.invisible) where
+module _ (old : BufferValue) (made : ObjectLists) (new : BufferValue) (objects : ObjectLists) (setting : old.settings.invisible ≡ new.settings.invisible) where
   same-ends : (x y : ℕ) → IsSame old made x new objects y → ends_block old x ≡ ends_block new y
   same-ends x y same =
       let first : is_ender old.settings.invisible (seen_at old made x) ≡ is_ender old.settings.invisible (seen_at new objects y) = ap (is_ender old.settings.invisible) same.agree in
@@ -77,10 +50,10 @@ module _ (read : AreRead) (old : BufferValue) (made : ObjectLists) (new : Buffer
         goes = λ q a b. alike.goes q (omega arith) b;
         ends = alike.ends;
       }) in
-      reading-more old made x (before-end read old made x here.old_within before) before
+      reading-more old made x here.old_within before
       ∙ ap (λ (e : Seen). e ∷ reading old made (suc x)) here.agree
       ∙ ap (λ (es : List Seen). seen_at new objects y ∷ es) rest
-      ∙ sym (reading-more new objects y (before-end read new objects y here.new_within goes) goes)
+      ∙ sym (reading-more new objects y here.new_within goes)
 
   -- ---- a block outside a change
 
@@ -96,7 +69,7 @@ module _ (read : AreRead) (old : BufferValue) (made : ObjectLists) (new : Buffer
       by-end : EndsBlock new to → ends_block new q ≡ true
       by-end (inl end) =
           let place : q ≡ new.text.end = omega arith in
-          ap (ends_block new) place ∙ end-ends read new objects
+          ap (ends_block new) place ∙ end-ends new objects
       by-end (inr newline) =
           let place : to - 1 ≡ q = omega arith in
           let shown : is_shown_newline new q ≡ true = ap (is_shown_newline new) (sym place) ∙ newline in

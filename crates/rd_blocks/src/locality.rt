@@ -21,8 +21,7 @@ ghost use Rattle.rd_blocks.specs.Sources.{rows_in, text_source};
 
 use crate::laws::buffers_are_sources;
 use rd_items::{
-    blocks_are_listed, blocks_are_read_whole, made_objects_alone_are_read,
-    objects_that_are_made_change_no_item,
+    blocks_are_listed, made_objects_alone_are_read, objects_that_are_made_change_no_item,
 };
 use rd_reuse::all_keeps_no_block;
 use rd_stack::objects_that_are_made_change_no_line;
@@ -55,7 +54,6 @@ pub fn kept_rows_are_fresh()
 {
     all_keeps_no_block();
     blocks_are_listed();
-    blocks_are_read_whole();
     buffers_are_sources();
     rows_are_local();
 }

@@ -1,16 +1,15 @@
 -- How far the reading of a block goes.
-use Rattle.std.proofs.Common.{◌≡◌, ◌⊎◌, inl, inr, ℕ, ◌+◌, ◌-◌, ◌<◌, ◌≤◌, Bool, true, false, List, [], ◌∷◌, length, None, refl, sym, ap, ◌∙◌, arith}
+use Rattle.std.proofs.Common.{◌≡◌, ◌⊎◌, inl, inr, ℕ, ◌+◌, ◌-◌, ◌<◌, ◌≤◌, Bool, true, false, List, [], ◌∷◌, length, refl, sym, ap, ◌∙◌, arith}
 use Rattle.std.specs.Prelude.{zero, suc}
-use Rattle.std.proofs.lemmas.Bool.{and_from, cond-true, cond-false}
-use Rattle.std.proofs.lemmas.Bool.Decides.{nat_tests}
+use Rattle.std.proofs.lemmas.Bool.{cond-true, cond-false}
 use Rattle.rd_props.specs.Buffers.{BufferValue}
 use Rattle.rd_base.specs.declared.settings.Invisible.{Invisible}
 use Rattle.rd_objects.specs.Things.{ObjectLists}
-use Rattle.rd_props.specs.Seen.{Seen, seen_at, accessible_char}
-use Rattle.rd_items.specs.Readings.{showing_at, is_open, ends_line, is_ender, ends_block, reading_from, reading, IsReading}
+use Rattle.rd_props.specs.Seen.{Seen, seen_at}
+use Rattle.rd_items.specs.Readings.{is_ender, ends_block, reading_from, reading, IsReading}
 use Rattle.rd_items.specs.Blocks.{is_shown_newline, IsBlock}
 use Rattle.rd_items.proofs.Newlines.{newline-ends}
-use Rattle.rd_items.proofs.Runs.{end-open}
+use Rattle.rd_items.proofs.Readings.{end-ends}
 
 read-one : (s : BufferValue) (o : ObjectLists) (n p : ℕ) → ends_block s p ≡ true → length (reading_from s o (suc n) p) ≡ 1
 read-one s o n p ender = ap (λ (es : List Seen). suc (length es)) (cond-true (ends_block s p) [] (reading_from s o n (suc p)) ender)
@@ -63,13 +62,6 @@ block-read s o from to block =
 reading-cons : (setting : Invisible) (e : Seen) (es : List Seen) → is_ender setting e ≡ false → IsReading setting es → IsReading setting (e ∷ es)
 reading-cons setting e [] none rest = absurd rest
 reading-cons setting e (f ∷ es) none rest = (none, rest)
-
-end-char : (s : BufferValue) → accessible_char s.text s.text.end ≡ None
-end-char s = grind (arith, nat_tests)
-
--- the end of the accessible text is an ender
-pub end-ends : (s : BufferValue) (o : ObjectLists) → ends_block s s.text.end ≡ true
-end-ends s o = and_from (is_open (showing_at s o s.text.end)) (ends_line (accessible_char s.text s.text.end)) (end-open s o) (ap ends_line (end-char s))
 
 whole-by : (s : BufferValue) (o : ObjectLists) (n p : ℕ) → IsReading s.settings.invisible (reading_from s o n (suc p)) → (ender : Bool) → ends_block s p ≡ ender → IsReading s.settings.invisible (reading_from s o (suc n) p)
 whole-by s o n p rest true e = rw (cond-true (ends_block s p) [] (reading_from s o n (suc p)) e) e

@@ -1,13 +1,15 @@
 -- What is read of a buffer, by what is seen at its positions.
-use Rattle.std.proofs.Common.{ℕ, ◌-◌, if◌then◌else◌, [], All}
+use Rattle.std.proofs.Common.{◌≡◌, ℕ, ◌-◌, ◌<◌, ◌≤◌, true, false, if◌then◌else◌, List, [], ◌∷◌, None, ap, ◌∙◌, arith, All}
 use Rattle.std.specs.Prelude.{zero, suc}
+use Rattle.std.proofs.lemmas.Bool.{and_from, both_ways, cond-false}
+use Rattle.std.proofs.lemmas.Bool.Decides.{nat_tests}
 use Rattle.std.proofs.lemmas.List.Elements.{All-nil, All-cons}
 use Rattle.rd_base.proofs.Choices.{either}
 use Rattle.rd_base.proofs.Lists.{all-one}
 use Rattle.rd_objects.specs.Things.{ObjectLists}
 use Rattle.rd_props.specs.Buffers.{BufferValue}
-use Rattle.rd_props.specs.Seen.{Seen, seen_at}
-use Rattle.rd_items.specs.Readings.{ends_block, reading_from, reading}
+use Rattle.rd_props.specs.Seen.{Seen, seen_at, accessible_char}
+use Rattle.rd_items.specs.Readings.{showing_at, is_open, ends_line, ends_block, reading_from, reading}
 
 -- what holds of what is seen at each position holds of all that is read
 module _ (P : Seen → Type 0) (s : BufferValue) (objects : ObjectLists) (own : (p : ℕ) → P (seen_at s objects p)) where
@@ -20,3 +22,33 @@ module _ (P : Seen → Type 0) (s : BufferValue) (objects : ObjectLists) (own : 
 
   pub reading-each : (p : ℕ) → All P (reading s objects p)
   reading-each p = from-each (s.text.end - p) p
+
+-- ---- where a block ends, and what is read there and before
+
+-- the end is neither replaced nor hidden
+pub end-open : (s : BufferValue) (o : ObjectLists) → is_open (showing_at s o s.text.end) ≡ true
+end-open s o = grind (arith, nat_tests)
+
+end-char : (s : BufferValue) → accessible_char s.text s.text.end ≡ None
+end-char s = grind (arith, nat_tests)
+
+-- the end of the accessible text is an ender
+pub end-ends : (s : BufferValue) (o : ObjectLists) → ends_block s s.text.end ≡ true
+end-ends s o = and_from (is_open (showing_at s o s.text.end)) (ends_line (accessible_char s.text s.text.end)) (end-open s o) (ap ends_line (end-char s))
+
+-- a position that is none stands before it
+pub before-end : (s : BufferValue) (o : ObjectLists) (p : ℕ) → p ≤ s.text.end → ends_block s p ≡ false → p < s.text.end
+before-end s o p within ender =
+    let differs : p ≡ s.text.end → ⊥ = λ e. both_ways (ends_block s p) ender (rw e (end-ends s o)) in
+    grind arith
+
+-- what is read at a position before the end
+pub reading-step : (s : BufferValue) (o : ObjectLists) (p : ℕ) → p < s.text.end → reading s o p ≡ seen_at s o p ∷ (if ends_block s p then [] else reading s o (suc p))
+reading-step s o p before =
+    let n : s.text.end - p ≡ suc (s.text.end - suc p) = omega arith in
+    rw n
+
+-- and at one that is no ender
+pub reading-more : (s : BufferValue) (o : ObjectLists) (p : ℕ) → p ≤ s.text.end → ends_block s p ≡ false → reading s o p ≡ seen_at s o p ∷ reading s o (suc p)
+reading-more s o p within ender =
+    reading-step s o p (before-end s o p within ender) ∙ ap (λ (es : List Seen). seen_at s o p ∷ es) (cond-false (ends_block s p) [] (reading s o (suc p)) ender)

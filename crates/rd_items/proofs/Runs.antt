@@ -1,21 +1,17 @@
 -- Runs of replaced and hidden positions.
 use Rattle.std.proofs.Common.{◌≡◌, ℕ, ◌+◌, ◌-◌, ◌<◌, ◌≤◌, true, false, List, [], ◌∷◌, Option, Some, None, refl, ap, ◌∙◌, arith, add-one}
-use Rattle.std.specs.Prelude.{zero, suc, not, is_some, if◌then◌else◌}
+use Rattle.std.specs.Prelude.{zero, suc, not, is_some}
 use Rattle.std.proofs.lemmas.Bool.{and_parts, and_left, and_right, or_from, not-true, both_ways, cond-false, false_from_ne_true}
-use Rattle.std.proofs.lemmas.Bool.Decides.{nat_tests}
 use Rattle.rd_props.specs.Buffers.{BufferValue}
 use Rattle.rd_items.specs.declared.showing.Showing.{Showing}
 use Rattle.rd_items.specs.declared.alike_range.AlikeRange.{AlikeRange}
 use Rattle.rd_items.specs.AlikeRanges.{IsAlikeRange}
 use Rattle.rd_objects.specs.Things.{ObjectLists}
 use Rattle.rd_base.specs.declared.settings.Invisible.{Invisible}
-use Rattle.rd_props.specs.Seen.{Seen, seen_at, accessible_char}
+use Rattle.rd_props.specs.Seen.{Seen, accessible_char}
 use Rattle.rd_items.specs.Readings.{showing_of, showing_at, is_hidden, is_open, ends_block, ends_line, reading, behind}
 use Rattle.rd_items.specs.Pieces.{same_spec, goes_on, run_length}
-
--- the end is neither replaced nor hidden
-pub end-open : (s : BufferValue) (o : ObjectLists) → is_open (showing_at s o s.text.end) ≡ true
-end-open s o = grind (arith, nat_tests)
+use Rattle.rd_items.proofs.Readings.{end-open, reading-more, reading-step}
 
 spec-stops : (spec other : Option ℕ) → is_some other ≡ false → same_spec spec other ≡ false
 spec-stops None other none = refl
@@ -47,12 +43,6 @@ open-alone setting first (e ∷ es) shown = rw (open-begins first (showing_of se
 pub ender-open : (s : BufferValue) (o : ObjectLists) (p : ℕ) → ends_block s p ≡ true → is_open (showing_at s o p) ≡ true
 ender-open s o p ender = (and_parts (is_open (showing_at s o p)) (ends_line (accessible_char s.text p)) ender).0
 
--- what is read at a position before the end
-pub reading-step : (s : BufferValue) (o : ObjectLists) (p : ℕ) → p < s.text.end → reading s o p ≡ seen_at s o p ∷ (if ends_block s p then [] else reading s o (suc p))
-reading-step s o p before =
-    let n : s.text.end - p ≡ suc (s.text.end - suc p) = omega arith in
-    rw n
-
 -- a replaced or hidden position stands before the end, and what is read behind it is what is read at the next
 pub closed-before : (s : BufferValue) (o : ObjectLists) (p : ℕ) → p ≤ s.text.end → is_open (showing_at s o p) ≡ false → p < s.text.end
 closed-before s o p within closed =
@@ -62,7 +52,7 @@ closed-before s o p within closed =
 pub behind-closed : (s : BufferValue) (o : ObjectLists) (p : ℕ) → p < s.text.end → is_open (showing_at s o p) ≡ false → behind (reading s o p) ≡ reading s o (suc p)
 behind-closed s o p before closed =
     let ender = false_from_ne_true (ends_block s p) (λ e. both_ways (is_open (showing_at s o p)) closed (ender-open s o p e)) in
-    ap behind (reading-step s o p before) ∙ cond-false (ends_block s p) [] (reading s o (suc p)) ender
+    ap behind (reading-more s o p (omega arith) ender)
 
 -- an open position's run ends behind it
 pub open-end : (s : BufferValue) (o : ObjectLists) (p : ℕ) (showing : Showing) → is_open showing ≡ true → p + 1 ≡ suc p + run_length s.settings.invisible showing (behind (reading s o p))

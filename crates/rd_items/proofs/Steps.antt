@@ -14,8 +14,8 @@ use Rattle.rd_items.specs.declared.item.Item.{Item}
 use Rattle.rd_items.specs.Readings.{showing_of, showing_at, is_open, ends_line, ends_block, reading_from, reading, behind}
 use Rattle.rd_items.specs.Pieces.{Scene, scene_in, string_pieces, piece_at, goes_on, run_length, pieces_from}
 use Rattle.rd_items.specs.Walks.{pieces_left}
-use Rattle.rd_items.proofs.Reach.{end-ends}
-use Rattle.rd_items.proofs.Runs.{end-open, open-stops, ender-open, reading-step}
+use Rattle.rd_items.proofs.Readings.{before-end, end-open, reading-more}
+use Rattle.rd_items.proofs.Runs.{open-stops, ender-open}
 
 -- the scene of a buffer, and the pieces of a position at an offset and of those after it
 abbrev scene : BufferValue → ObjectLists → Data → Scene
@@ -88,11 +88,6 @@ behind-ender s o p within ender = by-place (s.text.end - p) where
   by-place zero = refl
   by-place (suc n) = rw ender
 
-pub before-end : (s : BufferValue) (o : ObjectLists) (p : ℕ) → p ≤ s.text.end → ends_block s p ≡ false → p < s.text.end
-before-end s o p within ender =
-    let differs : p ≡ s.text.end → ⊥ = λ e. both_ways (ends_block s p) ender (rw e (end-ends s o)) in
-    grind arith
-
 -- how far the run of a position goes behind it
 abbrev run_behind : BufferValue → ObjectLists → ℕ → ℕ
 run_behind s o p = run_length s.settings.invisible (showing_at s o p) (behind (reading s o p))
@@ -105,7 +100,7 @@ left-parts s o d k p within = ap (pieces_from (scene s o d) 0 k) (reading-behind
 behind-left : (s : BufferValue) (o : ObjectLists) (d : Data) (first : Showing) (k p : ℕ) → p ≤ s.text.end → ends_block s p ≡ false → IsSkipped s o d first (suc k) (suc p) (behind (reading s o p))
 behind-left s o d first k p within ender =
     let before = before-end s o p within ender in
-    let rest = ap behind (reading-step s o p before) ∙ cond-false (ends_block s p) [] (reading s o (suc p)) ender in
+    let rest = ap behind (reading-more s o p within ender) in
     rw rest (skipped s o d first (s.text.end - suc p) (suc k) (suc p) (omega arith))
 
 -- a step from a position at an offset: it puts the strings before it, and then its piece, which ends before another position

@@ -6,7 +6,6 @@ pub returns-clause-changed : goal.returns-clause-changed
 returns-clause-changed c = λ old new made objects files change shape rows right text is follows all.
     rows-fresh (record {
       listed = c.blocks_are_listed.ensures.blocks;
-      read = c.blocks_are_read_whole.ensures.reading;
       source = c.buffers_are_sources.ensures;
       local = c.rows_are_local.ensures;
     }) old new made objects files change shape rows right text is follows all
