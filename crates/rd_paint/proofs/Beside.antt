@@ -1,8 +1,9 @@
 -- The margins beside the rows of a matrix, one after the other.
 use Rattle.std.proofs.Common.{◌≡◌, ℕ, ◌+◌, Some, List, ◌∷◌, [], ◌++◌, map, take, sym, ap, ◌∙◌}
-use Rattle.std.proofs.lemmas.List.{map_push, take_more}
-use Rattle.std.proofs.lemmas.Option.{get_or_from_slice_get, slice_get-map, slice_get_within}
+use Rattle.std.proofs.lemmas.List.{map_push}
+use Rattle.std.proofs.lemmas.Option.{slice_get-map}
 use Rattle.std.specs.Prelude.{option_map, slice_get}
+use Rattle.rd_base.proofs.Lists.{take-at}
 use Rattle.rd_matrix.specs.Entries.{EntryMeaning, shown_entries, shown_entry}
 use Rattle.rd_matrix.specs.declared.matrix.Entry.{Entry}
 
@@ -14,6 +15,5 @@ pub more : {A : Type 0} (f : EntryMeaning → A) (es : List Entry) (k : ℕ) (e 
     → xs ++ x ∷ [] ≡ map f (take (k + 1) (shown_entries es))
 more f es k e xs x at before here =
     let rows = shown_entries es in
-    let there = entry-at es k e at in
-    let one = take_more rows k (shown_entry e) (slice_get_within rows k (shown_entry e) there) ∙ ap (λ y. take k rows ++ y ∷ []) (get_or_from_slice_get rows k (shown_entry e) (shown_entry e) there) in
+    let one = take-at rows k (shown_entry e) (entry-at es k e at) in
     ap (λ ys. ys ++ x ∷ []) before ∙ (ap (λ y. map f (take k rows) ++ y ∷ []) here ∙ sym (ap (map f) one ∙ map_push f (take k rows) (shown_entry e)))

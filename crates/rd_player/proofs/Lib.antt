@@ -1,5 +1,4 @@
 mod Acting
-mod Collecting
 mod Ending
 mod Making
 mod Opening

@@ -1,9 +1,7 @@
 -- What the windows show, one behind the other.
-use Rattle.std.proofs.Common.{◌≡◌, ℕ, zero, suc, ◌+◌, ◌≤◌, Some, List, [], ◌∷◌, ◌++◌, length, take, ap, ◌∙◌, arith}
-use Rattle.std.proofs.lemmas.List.{take_all, take_more}
-use Rattle.std.proofs.lemmas.Option.{get_or_from_slice_get, slice_get_within}
+use Rattle.std.proofs.Common.{◌≡◌, ℕ, zero, suc, ◌≤◌, Some, List, [], ◌∷◌, length, take, arith}
+use Rattle.std.proofs.lemmas.List.{take_all}
 use Rattle.std.specs.Prelude.{slice_get}
-use Rattle.rd_window.specs.Views.{WindowView}
 use Rattle.rd_layout.specs.Sessions.{layout_of}
 use Rattle.rd_layout.proofs.Known.{Last}
 use Rattle.rd_views.specs.Layings.{layout_taken, shown_by, views_taken}
@@ -26,6 +24,3 @@ few-views lasts (x ∷ xs) (e ∷ es) = let rest = few-views lasts xs es in omeg
 
 pub all-views : (lasts : List Last) (xs : List LaidWindow) (es : List Last) (n : ℕ) → length xs ≤ n → take n (views_taken lasts xs es) ≡ views_taken lasts xs es
 all-views lasts xs es n less = let few = few-views lasts xs es in take_all n (views_taken lasts xs es) (omega (arith, few, less))
-
-pub next-view : (vs : List WindowView) (i : ℕ) (v : WindowView) → slice_get vs i ≡ Some v → take (i + 1) vs ≡ take i vs ++ v ∷ []
-next-view vs i v at = take_more vs i v (slice_get_within vs i v at) ∙ ap (λ (u : WindowView). take i vs ++ u ∷ []) (get_or_from_slice_get vs i v v at)

@@ -1,9 +1,8 @@
-use Rattle.std.proofs.Common.{◌≡◌, ◌∙◌, sym, None, Some, slice_get, arith, ◌<◌, length}
+use Rattle.std.proofs.Common.{◌≡◌, ◌∙◌, ◌∷◌, ◌++◌, [], ap, sym, None, Some, slice_get, arith, ◌<◌, length}
 use Rattle.std.proofs.lemmas.List.{take_all}
 use Rattle.std.proofs.lemmas.Option.{slice_get_within}
-use Rattle.rd_base.proofs.Lists.{ended}
+use Rattle.rd_base.proofs.Lists.{ended, take-at}
 use Rattle.rd_layout.specs.Facts.{facts_of}
-use Rattle.rd_player.proofs.Collecting.{taken-next}
 use Rattle.rd_player.proofs.windows.collect.Goals as goal
 
 pub each_window-preserved : goal.each_window-preserved
@@ -12,7 +11,7 @@ each_window-preserved c =
     let at : slice_get facts c.each_window.i ≡ Some c.in-Some.facts = sym c.facts.ensures.facts ∙ c.in-Some.is in
     let within : c.each_window.i < length facts = slice_get_within facts c.each_window.i c.in-Some.facts at in
     record {
-      facts = c.push_reserved.ensures.items ∙ taken-next _ facts c.each_window.list.items c.each_window.i c.in-Some.facts at c.each_window.invariant.facts;
+      facts = c.push_reserved.ensures.items ∙ ap (λ fs. fs ++ c.in-Some.facts ∷ []) c.each_window.invariant.facts ∙ sym (take-at facts c.each_window.i c.in-Some.facts at);
       upto = omega (arith, within);
       room = omega (arith, c.push_reserved.ensures.capacity, c.each_window.invariant.room);
     }
