@@ -197,29 +197,19 @@ put-within b overlays settings number slot within new is =
       | inr here ↦ new p here
     ])
 
-moved-in : (t : TextValue) (from to : ℕ) (slot : Option Overlay) (p : Overlay) → is_range_of_all t from to ≡ true
-    → slot_changed (λ overlay. record overlay { from = from; to = to }) slot ≡ Some p → IsOverlayIn (length t.text) p
-moved-in t from to None p range h = absurd (cc)
-moved-in t from to (Some o) p range h =
-    let same : record o { from = from; to = to } ≡ p = cc in
-    subst (IsOverlayIn (length t.text)) same (in-range t from to (record o { from = from; to = to }) range refl refl)
-
 pub moved-within : (b : props.BufferValue) (overlays : List (Option Overlay)) (settings : SettingValues) (number from to : ℕ) → IsWithin b
     → is_range_of_all b.text from to ≡ true → overlays ≡ moved b.overlays number from to → IsWithin (record b { overlays = overlays; settings = settings })
 moved-within b overlays settings number from to within range is =
-    put-within b overlays settings number (slot_changed (λ overlay. record overlay { from = from; to = to }) (overlay_at b.overlays number)) within
-    (λ p h. moved-in b.text from to (overlay_at b.overlays number) p range h) is
-
-given-in : (size : ℕ) (kind : Kind) (value : Option ℕ) (slot : Option Overlay) (p : Overlay) → ((q : Overlay) → slot ≡ Some q → IsOverlayIn size q)
-    → slot_changed (λ overlay. record overlay { values = set overlay.values (place_of kind) value }) slot ≡ Some p → IsOverlayIn size p
-given-in size kind value None p old h = absurd (cc)
-given-in size kind value (Some q) p old h =
-    let same : record q { values = set q.values (place_of kind) value } ≡ p = cc in
-    let is = old q refl in
-    subst (IsOverlayIn size) same (record { first = is.first; ordered = is.ordered; last = is.last })
+    let size = length b.text.text in
+    let change : Overlay → Overlay = λ overlay. record overlay { from = from; to = to } in
+    put-within b overlays settings number (slot_changed change (overlay_at b.overlays number)) within
+    (λ p h. slot-in size size change (overlay_at b.overlays number) p h (within.overlays number) (λ q in_text. in-range b.text from to (change q) range refl refl)) is
 
 pub given-within : (b : props.BufferValue) (overlays : List (Option Overlay)) (settings : SettingValues) (number : ℕ) (kind : Kind) (value : Option ℕ) → IsWithin b
     → overlays ≡ given b.overlays number kind value → IsWithin (record b { overlays = overlays; settings = settings })
 given-within b overlays settings number kind value within is =
-    put-within b overlays settings number (slot_changed (λ overlay. record overlay { values = set overlay.values (place_of kind) value }) (overlay_at b.overlays number)) within
-    (λ p h. given-in (length b.text.text) kind value (overlay_at b.overlays number) p (within.overlays number) h) is
+    let size = length b.text.text in
+    let change : Overlay → Overlay = λ overlay. record overlay { values = set overlay.values (place_of kind) value } in
+    put-within b overlays settings number (slot_changed change (overlay_at b.overlays number)) within
+    (λ p h. slot-in size size change (overlay_at b.overlays number) p h (within.overlays number)
+    (λ q old. record { first = old.first; ordered = old.ordered; last = old.last })) is
