@@ -230,6 +230,10 @@ under-became f n (e ∷ rest) = elim (cases_eq e.0 n) [
   | inr q ↦ under-there n (became f e) (map (became f) rest) q ∙ (under-became f n rest ∙ sym (ap (option_map (f n)) (under-there n e rest q)))
 ]
 
+pub apart-became : (f : ℕ → WindowState → WindowState) (ws : List NumberedWindow) → AreApart ws → AreApart (map (became f) ws)
+apart-became f [] h = tt
+apart-became f (e ∷ rest) h = (under-became f e.0 rest ∙ ap (option_map (f e.0)) h.0, apart-became f rest h.1)
+
 -- windows that become others under their numbers
 abbrev pub each_by : (WindowState → WindowState) → NumberedWindow → NumberedWindow
 each_by f e = (e.0, f e.1)
@@ -238,8 +242,7 @@ pub window-each : (n : ℕ) (f : WindowState → WindowState) (ws : List Numbere
 window-each n f ws = under-became (λ k. f) n ws
 
 pub apart-each : (f : WindowState → WindowState) (ws : List NumberedWindow) → AreApart ws → AreApart (map (each_by f) ws)
-apart-each f [] h = tt
-apart-each f (e ∷ rest) h = (window-each e.0 f rest ∙ ap (option_map f) h.0, apart-each f rest h.1)
+apart-each f = apart-became (λ k. f)
 
 pub get-each : (f : WindowState → WindowState) (ws : List NumberedWindow) (k : ℕ) (e : NumberedWindow) → slice_get (map (each_by f) ws) k ≡ Some e
     → (old : NumberedWindow) × (slice_get ws k ≡ Some old) × (e ≡ (old.0, f old.1))
