@@ -1,12 +1,13 @@
 -- What the tests of ops mean.
-use Rattle.std.proofs.Common.{◌≡◌, ℕ, ◌+◌, ◌&&◌, Bool, true, false, if◌then◌else◌, nat_le, Result, Ok, Err, length, refl, List, [], ◌∷◌, IsTrue}
+use Rattle.std.proofs.Common.{◌≡◌, ℕ, ◌+◌, ◌&&◌, Bool, true, false, if◌then◌else◌, nat_le, Result, Ok, Err, length, refl, List, IsTrue}
 use Rattle.std.proofs.lemmas.Bool.{and_parts, leb-true, or_left}
-use Rattle.std.proofs.lemmas.List.Elements.{All-nil, All-cons}
+use Rattle.std.proofs.lemmas.List.Elements.{All-weaker}
+use Rattle.std.proofs.lemmas.List.Sums.{AllPass-from_list_all}
 use Rattle.rd_base.specs.Chars.{is_scalar, is_code}
 use Rattle.rd_text.specs.Texts.{TextValue, IsAccessible}
 use Rattle.rd_text.specs.Answers.{IsAccessibleRange, IsRangeOfAll}
 use Rattle.rd_objects.specs.Sound.{AreCodes}
-use Rattle.rd_script.specs.Forms.{each, is_text}
+use Rattle.rd_script.specs.Forms.{is_text}
 use Rattle.rd_state.specs.Edits.{is_accessible, is_accessible_range, is_range_of_all}
 
 -- a test that refuses what fails
@@ -31,10 +32,7 @@ both-ok t u made e f x h =
     (outer.0, inner.0, inner.1)
 
 pub text-codes : (text : List ℕ) → is_text text ≡ true → AreCodes text
-text-codes [] h = All-nil (λ (c : ℕ). IsTrue (is_code c))
-text-codes (c ∷ cs) h =
-    let parts = and_parts (is_scalar c) (each is_scalar cs) h in
-    All-cons (λ (x : ℕ). IsTrue (is_code x)) c cs (or_left (is_scalar c) _ parts.0) (text-codes cs parts.1)
+text-codes text h = All-weaker (λ c. IsTrue (is_scalar c)) (λ c. IsTrue (is_code c)) (λ c yes. or_left (is_scalar c) _ yes) text (AllPass-from_list_all is_scalar text h)
 
 pub is_accessible-means : (t : TextValue) (pos : ℕ) → is_accessible t pos ≡ true → IsAccessible t pos
 is_accessible-means t pos h =
