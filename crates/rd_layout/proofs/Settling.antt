@@ -12,7 +12,7 @@ use Rattle.rd_props.specs.Buffers as props
 use Rattle.rd_rows.specs.Shapes.{IsShape}
 use Rattle.rd_state.specs.States.{BufferValue, ContentValue, StateValue, seen}
 use Rattle.rd_state.specs.Valid.{AreWindows, IsValid, IsWindow}
-use Rattle.rd_state.specs.Windows.{AreApart, content_in, leaf_of, shown_content, window_of}
+use Rattle.rd_state.specs.Windows.{content_in, leaf_of, shown_content, window_of}
 use Rattle.rd_state.specs.declared.window.WindowState.{WindowState}
 use Rattle.rd_text.specs.Texts.{IsAccessible, IsText}
 use Rattle.rd_tree.specs.Calls.{frame_of}
@@ -23,7 +23,7 @@ use Rattle.rd_ucd.specs.declared.spans.Span.{Span}
 use Rattle.rd_layout.specs.Laws.{ViewLaws}
 use Rattle.rd_layout.specs.Screens.{settled_at, settled_by, settled_state}
 use Rattle.rd_layout.specs.Windows.{place_of, view_in, wanted_of, window_shape, window_source}
-use Rattle.rd_state.proofs.ByNumber.{NumberedWindow, under-became}
+use Rattle.rd_state.proofs.ByNumber.{NumberedWindow, apart-became, under-became}
 use Rattle.rd_state.proofs.WithParts.{with_parts}
 use Rattle.rd_layout.proofs.Chosen.{chosen-anchor, chosen-point}
 
@@ -132,19 +132,11 @@ module _ (laws : ViewLaws) (files : Data) (s : StateValue) (valid : IsValid s) w
   same-leaves number None = refl
   same-leaves number (Some w) = ap (λ leaf. Some leaf) (same-leaf w (place_of number s))
 
-  none-stays : (number : ℕ) (o : Option WindowState) → o ≡ None → option_map (settled number) o ≡ None
-  none-stays number None h = refl
-  none-stays number (Some w) h = absurd (cc)
-
-  apart-stays : (ws : List NumberedWindow) → AreApart ws → AreApart (map (settled_at files s) ws)
-  apart-stays [] h = tt
-  apart-stays (e ∷ rest) h = (under-became settled e.0 rest ∙ none-stays e.0 (window_of e.0 rest) h.0, apart-stays rest h.1)
-
   windows-stay : AreWindows s.buffers s.tree (map (settled_at files s) s.windows) s.selected
   windows-stay = record {
     tree = valid.windows.tree;
     leaves = λ n. valid.windows.leaves n ∙ sym (ap (option_map leaf_of) (under-became settled n s.windows) ∙ same-leaves n (window_of n s.windows));
-    apart = apart-stays s.windows valid.windows.apart;
+    apart = apart-became settled s.windows valid.windows.apart;
     each = λ k e at.
         let d = map-some (settled_at files s) (slice_get s.windows k) e (sym (slice_get-map (settled_at files s) s.windows k) ∙ at) in
         subst (λ (x : NumberedWindow). IsWindow s.buffers x.1) d.2 (settled-window d.0.0 d.0.1 (place_of d.0.0 s) refl (valid.windows.each k d.0 d.1));
