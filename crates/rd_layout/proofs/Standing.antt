@@ -1,14 +1,11 @@
 -- What each op leaves of the frame's size, and that the windows that live behind it and were made before it lived before it.
-use Rattle.std.proofs.Common.{◌≡◌, ℕ, ◌+◌, ◌-◌, ◌<◌, ◌≤◌, Bool, true, false, nat_le, pos, Result, Ok, List, length, map, sym, refl, arith, is_some, subst, ◌&&◌}
-use Rattle.std.proofs.lemmas.Result.{IfOk-at_ok}
+use Rattle.std.proofs.Common.{◌≡◌, ℕ, ◌+◌, ◌-◌, ◌<◌, ◌≤◌, Bool, true, false, pos, Result, Ok, List, length, map, sym, refl, arith, is_some, subst}
 use Rattle.std.specs.Prelude.{slice_get, IfOk}
 use Rattle.rd_objects.specs.Things.{ObjectLists}
 use Rattle.rd_script.specs.declared.op.Op.{Op}
 use Rattle.rd_script.specs.declared.op.Op.TheVariants as ops
-use Rattle.rd_tree.specs.Windows.{fits, holds, split_at, is_single, with_mode, with_margins, columns_needed, rows_needed}
-use Rattle.rd_tree.specs.Calls.{Configuration, frame_of, is_full, split_tree, remove_tree, resize_tree, mode_tree, margins_tree}
+use Rattle.rd_tree.specs.Calls.{Configuration, split_tree, remove_tree, resize_tree, mode_tree, margins_tree}
 use Rattle.rd_tree.specs.declared.fault.TreeFault.{TreeFault}
-use Rattle.rd_tree.specs.declared.side.Side.{Side}
 use Rattle.rd_state.specs.Edits.{insertion, deletion, narrowing, widening, property_putting, overlay_making, overlay_moving, overlay_dropping, overlay_putting, margin_putting, setting_putting}
 use Rattle.rd_state.specs.Making.{table_of, string_making, spec_making, face_making, table_making}
 use Rattle.rd_state.specs.Moves.{moved_in}
@@ -21,7 +18,8 @@ use Rattle.rd_state.specs.declared.refused.Refused.{Refused}
 use Rattle.rd_state.specs.declared.window.WindowState.{WindowState}
 use Rattle.rd_layout.specs.Sessions.{is_frame}
 use Rattle.rd_layout.proofs.ByNumber.{Lives, lives-moved, lives-with, lives-without, lives-end}
-use Rattle.rd_state.proofs.StepParts.{found, one-of, unless, objects-if, tree-if, treed-if, making-if, edited-if, edited_moving-if, typing-if, setting-if, placing-if}
+use Rattle.rd_state.proofs.Showing.{margins-means, mode-means, remove-means, resize-means, split-means}
+use Rattle.rd_state.proofs.StepParts.{found, unless, objects-if, tree-if, treed-if, making-if, edited-if, edited_moving-if, typing-if, setting-if, placing-if}
 
 -- a state from which a step led to another one: the frame has the size that it had, unless the op is that of the frame, no count of
 -- windows falls, and no window that was made before comes to live
@@ -62,35 +60,11 @@ objects-leads s r = objects-if (Goes false s) s r (λ o is. same-windows s _ ref
 abbrev Grows : Configuration → Configuration → Type 0
 Grows c d = c.made ≤ d.made
 
-split-grows : (c : Configuration) (window : ℕ) (side : Side) (size : ℕ) → IfOk (split_tree c window side size) (Grows c)
-unfolding split_tree
-split-grows c window side size =
-    one-of (holds window c.windows) _ _ (Grows c)
-    (one-of (fits (split_at window side size c.made c.windows) (frame_of c)) _ _ (Grows c) (one-of (is_full c) _ _ (Grows c) tt (omega arith)) tt) tt
-
-remove-grows : (c : Configuration) (window : ℕ) → IfOk (remove_tree c window) (Grows c)
-unfolding remove_tree
-remove-grows c window = one-of (holds window c.windows) _ _ (Grows c) (one-of (is_single c.windows) _ _ (Grows c) tt (omega arith)) tt
-
-resize-grows : (c : Configuration) (width height : ℕ) → IfOk (resize_tree c width height) (Grows c)
-unfolding resize_tree
-resize-grows c width height = one-of (nat_le (columns_needed c.windows) width && nat_le (rows_needed c.windows) height) _ _ (Grows c) (omega arith) tt
-
-mode-grows : (c : Configuration) (window : ℕ) (shown : Bool) → IfOk (mode_tree c window shown) (Grows c)
-unfolding mode_tree
-mode-grows c window shown =
-    one-of (holds window c.windows) _ _ (Grows c) (one-of (fits (with_mode window shown c.windows) (frame_of c)) _ _ (Grows c) (omega arith) tt) tt
-
-margins-grow : (c : Configuration) (window columns : ℕ) → IfOk (margins_tree c window columns) (Grows c)
-unfolding margins_tree
-margins-grow c window columns =
-    one-of (holds window c.windows) _ _ (Grows c) (one-of (fits (with_margins window columns c.windows) (frame_of c)) _ _ (Grows c) (omega arith) tt) tt
-
 -- a window changed beside the tree
-treed-leads : (s : StateValue) (r : Result Configuration TreeFault) (m : ℕ) (f : WindowState → WindowState) → IfOk r (Grows s.tree)
-    → Leads false s (changing m f (on_tree r (λ tree. record s { tree = tree })))
-treed-leads s r m f h =
-    treed-if (Goes false s) s r m f (λ d is. record { size = λ _. (refl, refl); made = IfOk-at_ok (Grows s.tree) is h; lives = λ n _ l. lives-with m f n s.windows l })
+treed-leads : (s : StateValue) (r : Result Configuration TreeFault) (m : ℕ) (f : WindowState → WindowState)
+    → ((d : Configuration) → r ≡ Ok d → Grows s.tree d) → Leads false s (changing m f (on_tree r (λ tree. record s { tree = tree })))
+treed-leads s r m f grows =
+    treed-if (Goes false s) s r m f (λ d is. record { size = λ _. (refl, refl); made = grows d is; lives = λ n _ l. lives-with m f n s.windows l })
 
 -- ---- all ops
 
@@ -98,7 +72,7 @@ pub goes : (s : StateValue) (op : Op) → IfOk (step s op) (Goes (is_frame op) s
 unfolding step
 goes s (ops.Frame width height) =
     tree-if (Goes true s) (resize_tree s.tree width (height - 1)) _
-    (λ d is. record { size = λ no. absurd (cc); made = IfOk-at_ok (Grows s.tree) is (resize-grows s.tree width (height - 1)); lives = λ n _ l. l })
+    (λ d is. record { size = λ no. absurd (cc); made = subst (Grows s.tree) (resize-means s.tree d width (height - 1) is) (omega arith); lives = λ n _ l. l })
 goes s (ops.Buffer name) = making-if (Goes false s) s name (λ free room. same-windows s _ refl refl refl refl false)
 goes s (ops.Insert name place text) = edited_moving-leads s name (Inserted place (length text)) (insertion place text)
 goes s (ops.InsertRaw name place bytes) = edited_moving-leads s name (Inserted place (length (raw_text bytes))) (insertion place (raw_text bytes))
@@ -128,13 +102,17 @@ goes s (ops.Split window side size) =
     (λ w at. tree-if (Goes false s) (split_tree s.tree window side size) _
     (λ d is. record {
       size = λ _. (refl, refl);
-      made = IfOk-at_ok (Grows s.tree) is (split-grows s.tree window side size);
+      made = subst (Grows s.tree) (split-means s.tree d window side size is).1 (omega arith);
       lives = λ n low l. lives-end n (s.tree.made, record w { forced = false; pending = pos 0 }) s.windows (λ same. omega arith) l;
     }))
 goes s (ops.Remove window) =
     found (Goes false s) _ (window_of window s.windows) _
     (λ w at. tree-if (Goes false s) (remove_tree s.tree window) _
-    (λ d is. record { size = λ _. (refl, refl); made = IfOk-at_ok (Grows s.tree) is (remove-grows s.tree window); lives = λ n _ l. lives-without window n s.windows l }))
+    (λ d is. record {
+      size = λ _. (refl, refl);
+      made = subst (Grows s.tree) (remove-means s.tree d window is).2 (omega arith);
+      lives = λ n _ l. lives-without window n s.windows l;
+    }))
 goes s (ops.Select window) = found (Goes false s) _ (window_of window s.windows) _ (λ w at. same-windows s (record s { selected = window }) refl refl refl refl false)
 goes s (ops.Show window name) =
     found (Goes false s) _ (window_of window s.windows) _
@@ -146,7 +124,9 @@ goes s (ops.Hscroll window columns) = setting-if (Goes false s) s window _ (chan
 goes s (ops.Wrap window mode) = setting-if (Goes false s) s window _ (changing-leads s window _)
 goes s (ops.ModeLine window format) =
     found (Goes false s) _ (window_of window s.windows) _
-    (λ w at. unless (Goes false s) (format_fault format) _ (λ good. treed-leads s (mode_tree s.tree window (is_some format)) window (λ old. record old { format = format }) (mode-grows s.tree window (is_some format))))
+    (λ w at. unless (Goes false s) (format_fault format) _
+    (λ good. treed-leads s (mode_tree s.tree window (is_some format)) window (λ old. record old { format = format })
+    (λ d is. subst (Grows s.tree) (mode-means s.tree d window (is_some format) is) (omega arith))))
 goes s (ops.Scrolling margin conservatively) = same-windows s (record s { margin = margin; conservatively = conservatively }) refl refl refl refl false
 goes s (ops.Echo text) = same-windows s (record s { echo = text }) refl refl refl refl false
 goes s (ops.Redisplay stop) = same-windows s s refl refl refl refl false
@@ -155,5 +135,6 @@ goes s (ops.Go window right) = same-windows s s refl refl refl refl false
 goes s (ops.Hit window row column) = same-windows s s refl refl refl refl false
 goes s (ops.Margin window numbers strings) =
     found (Goes false s) _ (window_of window s.windows) _
-    (λ w at. treed-leads s (margins_tree s.tree window (numbers + strings)) window (λ old. record old { numbers = numbers; strings = strings }) (margins-grow s.tree window (numbers + strings)))
+    (λ w at. treed-leads s (margins_tree s.tree window (numbers + strings)) window (λ old. record old { numbers = numbers; strings = strings })
+    (λ d is. subst (Grows s.tree) (margins-means s.tree d window (numbers + strings) is) (omega arith)))
 goes s (ops.MarginPut name overlay string) = edited-leads s name (margin_putting s.objects overlay string)

@@ -16,7 +16,7 @@ pub mod Options
 mod Outcomes
 mod Reaching
 mod Sharing
-mod Showing
+pub mod Showing
 mod Slots
 mod Small
 pub mod StepParts

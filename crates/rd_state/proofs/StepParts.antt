@@ -1,7 +1,6 @@
 -- What holds of the state to which a step leads, by the parts of the step.
 use Rattle.std.proofs.Common.{◌≡◌, ℕ, ◌+◌, Bool, true, false, if◌then◌else◌, nat_lt, nat_le, Option, None, Some, Result, Ok, Err, List, [], ◌∷◌, ◌++◌, length, map, refl}
 use Rattle.std.specs.Prelude.{slice_get, slice_set, IfOk}
-use Rattle.rd_base.proofs.Choices.{either}
 use Rattle.rd_objects.specs.Things.{ObjectLists}
 use Rattle.rd_tree.specs.Calls.{Configuration}
 use Rattle.rd_tree.specs.declared.fault.TreeFault.{TreeFault}
@@ -15,9 +14,6 @@ use Rattle.rd_state.specs.declared.moves.Move.{Move}
 use Rattle.rd_state.specs.declared.moves.Move.TheVariants.{Inserted}
 use Rattle.rd_state.specs.declared.refused.Refused.{Refused}
 use Rattle.rd_state.specs.declared.window.WindowState.{WindowState}
-
-pub one-of : {T E : Type 0} (t : Bool) (a b : Result T E) (P : T → Type 0) → IfOk a P → IfOk b P → IfOk (if t then a else b) P
-one-of t a b P h g = either (λ r. IfOk r P) t a b h g
 
 -- where a test refuses what fails
 tested : {T E : Type 0} (t : Bool) (r : Result T E) (e : E) (P : T → Type 0) → (t ≡ true → IfOk r P) → IfOk (if t then r else Err e) P
