@@ -1,7 +1,8 @@
 -- Each part of a target screen is whole and coloured.
 use Rattle.std.proofs.Common.{◌≡◌, ℕ, ◌+◌, ◌==◌, ◌&&◌, Bool, true, Option, None, Some, Result, Ok, Err, List, [], ◌∷◌, sym, ap, refl, subst, subst₂, arith, unwrap_or}
 use Rattle.std.proofs.lemmas.Bool.{and_parts, eqb-true, or_left}
-use Rattle.std.proofs.lemmas.List.Elements.{All-cons, All-map, All-nil, recursion_from_All}
+use Rattle.std.proofs.lemmas.List.Elements.{All-map, All-nil, All-weaker, recursion_from_All}
+use Rattle.std.proofs.lemmas.List.Sums.{AllPass-from_list_all}
 use Rattle.std.proofs.lemmas.Option.{get_or_from_slice_get, slice_get_within}
 use Rattle.rd_base.proofs.Lists.{element-at}
 use Rattle.std.specs.List.{All, list_all}
@@ -75,14 +76,10 @@ plain-codes : (text : List ℕ) → IsTrue (is_plain_text text) → AreCodes tex
 plain-codes text h = text-codes text (and_parts (each is_scalar text) _ h).0
 
 -- the characters of a buffer's name
-name-each : (cs : List ℕ) → list_all is_name_character cs ≡ true → AreCodes cs
-name-each [] h = All-nil (λ (c : ℕ). IsTrue (is_code c))
-name-each (c ∷ cs) h =
-    let parts = and_parts (is_name_character c) (list_all is_name_character cs) h in
-    All-cons (λ (x : ℕ). IsTrue (is_code x)) c cs (or_left (is_scalar c) _ (and_parts (is_scalar c) _ parts.0).0) (name-each cs parts.1)
-
 name-codes : (name : List ℕ) → IsTrue (is_buffer_name name) → AreCodes (chars name)
-name-codes name h = name-each (chars name) (and_parts _ (list_all is_name_character (chars name)) h).1
+name-codes name h =
+    All-weaker (λ c. IsTrue (is_name_character c)) (λ c. IsTrue (is_code c)) (λ c yes. or_left (is_scalar c) _ (and_parts (is_scalar c) _ yes).0) (chars name)
+    (AllPass-from_list_all is_name_character (chars name) (and_parts _ (list_all is_name_character (chars name)) h).1)
 
 -- ---- the border
 
