@@ -1,10 +1,11 @@
 -- What an op that tells no change of a window leaves: the window's start, and what is seen of its buffer.
-use Rattle.std.proofs.Common.{◌≡◌, ◌⊎◌, inl, inr, ℕ, zero, suc, ◌+◌, ◌-◌, ◌<◌, ◌==◌, ◌&&◌, ◌||◌, Bool, true, false, if◌then◌else◌, nat_le, min, max, pos, ◌+ℤ◌, is_some, Option, None, Some, Result, Ok, Err, List, [], ◌∷◌, ◌++◌, length, map, set, sym, ap, refl, subst, ◌∙◌, arith, unwrap_or, true≢false}
+use Rattle.std.proofs.Common.{◌≡◌, ◌⊎◌, inl, inr, ℕ, ◌+◌, ◌-◌, ◌<◌, ◌==◌, ◌&&◌, ◌||◌, Bool, true, false, if◌then◌else◌, nat_le, min, max, pos, ◌+ℤ◌, is_some, Option, None, Some, Result, Ok, List, [], ◌∷◌, ◌++◌, length, map, set, sym, ap, refl, subst, ◌∙◌, arith, unwrap_or, true≢false}
 use Rattle.std.proofs.lemmas.Bool.{cases_eq, eqb-true, cond-false, cond-true, eq-eqb, ne_eqb, and_parts}
+use Rattle.std.proofs.lemmas.Option.{slice_get_within}
 use Rattle.std.specs.Option.{option_and_then}
 use Rattle.std.specs.Ordering.{int_eq}
 use Rattle.std.specs.Prelude.{ℤ, ◌-ℤ◌, slice_get, IfOk}
-use Rattle.rd_base.proofs.Lists.{get-set}
+use Rattle.rd_base.proofs.Lists.{get-first, get-set}
 use Rattle.rd_margins.specs.Marks as marks
 use Rattle.rd_objects.specs.Things.{ObjectLists}
 use Rattle.rd_overlays.specs.Overlays.{overlay_at}
@@ -33,7 +34,7 @@ use Rattle.rd_layout.specs.Changes.{change_by, if_shown, restyled}
 use Rattle.rd_state.proofs.StepParts.{found, unless, objects-if, tree-if, treed-if, making-if, edited-if, edited_moving-if, typing-if, setting-if, placing-if}
 use Rattle.rd_state.proofs.ByNumber.{NumberedWindow, Each, each-same, each-with, each-moved, each-end, each-without, window-other}
 use Rattle.rd_state.proofs.Options.{one-value}
-use Rattle.rd_state.proofs.Tests.{if-ok}
+use Rattle.rd_state.proofs.Tests.{both-ok, if-ok}
 
 -- an effect tells no change of a window that shows a buffer
 abbrev pub Quiet : Effect → ℕ → ℕ → Type 0
@@ -109,9 +110,7 @@ contents-same : (effect : Effect) (bs : List BufferValue) → Contents effect bs
 contents-same effect bs number k b c hb hc quiet = same-content b c (one-value (slice_get bs k) b c hb hc)
 
 pushed : (bs : List BufferValue) (x : BufferValue) (k : ℕ) (b : BufferValue) → slice_get bs k ≡ Some b → slice_get (bs ++ x ∷ []) k ≡ Some b
-pushed [] x k b h = absurd (cc)
-pushed (c ∷ cs) x zero b h = h
-pushed (c ∷ cs) x (suc k) b h = pushed cs x k b h
+pushed bs x k b h = get-first bs (x ∷ []) k (slice_get_within bs k b h) ∙ h
 
 contents-pushed : (effect : Effect) (bs : List BufferValue) (x : BufferValue) → Contents effect bs (bs ++ x ∷ [])
 contents-pushed effect bs x number k b c hb hc quiet = same-content b c (one-value (slice_get (bs ++ x ∷ []) k) b c (pushed bs x k b hb) hc)
@@ -230,11 +229,8 @@ moved-loud i from to None h = absurd (cc)
 moved-loud i from to (Some o) h = loud-moved i (o.from, o.to) (from, to)
 
 margins-seen : (objects : ObjectLists) (number : ℕ) (string : Option ℕ) (c d : ContentValue) → margin_putting objects number string c ≡ Ok d → seen d ≡ seen c
-margins-seen objects number string c d h = by (is_some (overlay_at c.overlays number)) (is_made (length objects.strings) string) h where
-  by : (t u : Bool) → (if t then (if u then Ok (record c { marks = marks.marked c.marks number string }) else Err NoObject) else Err NoOverlay) ≡ Ok d → seen d ≡ seen c
-  by true true h = let is : record c { marks = marks.marked c.marks number string } ≡ d = cc h in ap seen (sym is)
-  by true false h = absurd (cc)
-  by false u h = absurd (cc)
+margins-seen objects number string c d h =
+    ap seen (sym (both-ok (is_some (overlay_at c.overlays number)) (is_made (length objects.strings) string) (record c { marks = marks.marked c.marks number string }) NoObject NoOverlay d h).2)
 
 is-all : is_none all ≡ true → ⊥
 is-all h = absurd (true≢false (sym h))
