@@ -5,6 +5,7 @@ use Rattle.std.specs.List.{list_any}
 use Rattle.std.specs.Option.{option_map_or}
 use Rattle.std.specs.Str.{bytes_eq}
 use Rattle.std.proofs.lemmas.List.{map-append, append-nil}
+use Rattle.std.proofs.lemmas.List.Folds.{find-append}
 use Rattle.clap.proofs.WalkLemmas.{find-map, list_any-map}
 use Rattle.clap.specs.Kinds.{or_else}
 use Rattle.clap.specs.Facts.{explicit_source}
@@ -143,23 +144,16 @@ find-more : (p : Row → Bool) (rs : List Row) (r : Row) → p r ≡ false → f
 find-more p [] r e = rw e refl
 find-more p (x ∷ xs) r e = ap (λ (o : Option Row). if p x then Some x else o) (find-more p xs r e)
 
-find-last : (p : Row → Bool) (rs : List Row) (r : Row) → p r ≡ true → list_any p rs ≡ false → find p (rs ++ r ∷ []) ≡ Some r
-find-last p [] r e none = rw e refl
-find-last p (x ∷ xs) r e none = go (p x) none (find-last p xs r e)
+find-none : {X : Type 0} (p : X → Bool) (xs : List X) → list_any p xs ≡ false → find p xs ≡ None
+find-none p [] none = refl
+find-none p (x ∷ xs) none = go (p x) none (find-none p xs)
   where
-    go : (b : Bool) → (b || list_any p xs) ≡ false → (list_any p xs ≡ false → find p (xs ++ r ∷ []) ≡ Some r)
-        → (if b then Some x else find p (xs ++ r ∷ [])) ≡ Some r
+    go : (b : Bool) → (b || list_any p xs) ≡ false → (list_any p xs ≡ false → find p xs ≡ None) → (if b then Some x else find p xs) ≡ None
     go true none rest = cc
     go false none rest = rest none
 
-find-none : (us : List Use) (s : Setting) → is_used s us ≡ false → find (is_of s) us ≡ None
-find-none [] s e = refl
-find-none (u ∷ us) s e = go (is_of s u) e (find-none us s)
-  where
-    go : (b : Bool) → (b || is_used s us) ≡ false → (is_used s us ≡ false → find (is_of s) us ≡ None)
-        → (if b then Some u else find (is_of s) us) ≡ None
-    go true e rest = cc
-    go false e rest = rest e
+find-last : (p : Row → Bool) (rs : List Row) (r : Row) → p r ≡ true → list_any p rs ≡ false → find p (rs ++ r ∷ []) ≡ Some r
+find-last p rs r e none = find-append p rs (r ∷ []) ∙ rw (find-none p rs none, e) refl
 
 -- the row of a setting with a value
 row-is : (us : List Use) (b : Bool) (s : Setting) → has_value s ≡ true → find (λ r. bytes_eq r.id (name_of s)) (rows_by b us) ≡ option_map row (find (is_of s) us)
@@ -192,7 +186,7 @@ flag-is us true e =
     ap is_true (ap (λ (o : Option Row). option_and_then (λ r. slice_get r.values 0) o) (sym (find-map (λ r. bytes_eq r.id (name_of dump)) row us)) ∙ text-is (find (is_of dump) us))
 flag-is us false e =
     ap (λ (o : Option Row). is_true (option_and_then (λ r. slice_get r.values 0) o)) (find-last (λ r. bytes_eq r.id (name_of dump)) (rows us) unused refl (has_row-is us dump ∙ e))
-    ∙ sym (ap (λ (o : Option Use). is_true (option_map (λ u. u.1) o)) (find-none us dump e))
+    ∙ sym (ap (λ (o : Option Use). is_true (option_map (λ u. u.1) o)) (find-none (is_of dump) us e))
 
 values-is : (us : List Use) → values_of_rows (rows_by (is_used dump us) us) ≡ values_in us
 values-is us =
