@@ -9,6 +9,7 @@ use Rattle.std.proofs.lemmas.List.{take_more}
 use Rattle.std.proofs.lemmas.List.Concat.{flat_map-append}
 use Rattle.std.proofs.lemmas.List.Elements.{All-append, All-from_recursion, recursion_from_All}
 use Rattle.std.proofs.lemmas.List.Sums.{suffix_len_is}
+use Rattle.std.proofs.lemmas.Slice.Zip.{length-zip}
 use Rattle.rd_base.proofs.Choices.{none-chosen}
 use Rattle.rd_lanes.specs.Kernels.{differs as words_differ, first_difference as first_word, last_difference as last_word}
 use Rattle.rd_base.specs.Cells.{words_of, IsSmall, AreOnlyOf}
@@ -128,13 +129,9 @@ end-suffix ps = suffix_len_is (λ p. not (words_differ p)) ps (end_of_pairs ps) 
 
 -- ---- the columns
 
-length-words : (xs ys : List Cell) → length xs ≡ length ys → length (zip (row_words xs) (row_words ys)) ≡ 3 * length xs
-length-words [] [] n = omega arith
-length-words [] (y ∷ ys) n = absurd (omega arith)
-length-words (x ∷ xs) [] n = absurd (omega arith)
-length-words (x ∷ xs) (y ∷ ys) n =
-    ap₂ (λ ws vs. length (zip (ws ++ row_words xs) (vs ++ row_words ys))) (three-words x) (three-words y)
-    ∙ omega (arith, length-words xs ys (omega arith))
+length-row : (cells : List Cell) → length (row_words cells) ≡ 3 * length cells
+length-row [] = omega arith
+length-row (x ∷ cells) = ap (λ ws. length (ws ++ row_words cells)) (three-words x) ∙ omega (arith, length-row cells)
 
 some-chosen : (b : Bool) (n k : ℕ) → Some k ≡ (if b then Some n else None) → (k ≡ n) × (b ≡ true)
 some-chosen true n k e = (cc, refl)
@@ -178,15 +175,11 @@ columns-none-first xs ys n p q f =
     let ps = zip (row_words xs) (row_words ys) in
     let none = (none-chosen (nat_lt (position_or_len words_differ ps) (length ps)) (position_or_len words_differ ps) None (sym f)).0 in
     let ge : length (zip (row_words xs) (row_words ys)) ≤ position_or_len words_differ (zip (row_words xs) (row_words ys)) = grind (arith, nat_tests) in
-    let first : length ys ≤ first_difference xs ys = omega (arith, ge, length-words xs ys n, first-words xs ys n p q, n) in
+    let first : length ys ≤ first_difference xs ys = omega (arith, ge, length-zip (row_words xs) (row_words ys), length-row xs, length-row ys, first-words xs ys n p q, n) in
     elim (cases_eq (end_of_differences xs ys) 0) [
       | inl same ↦ none-differ xs ys same
       | inr some ↦ absurd (omega (arith, first, end_within xs ys, first_before xs ys (omega (arith, some))))
     ]
-
-length-row : (cells : List Cell) → length (row_words cells) ≡ 3 * length cells
-length-row [] = omega arith
-length-row (x ∷ cells) = ap (λ ws. length (ws ++ row_words cells)) (three-words x) ∙ omega (arith, length-row cells)
 
 columns-chosen : (xs ys : List Cell) → length xs ≡ length ys → AllByRecursion IsTold xs → AllByRecursion IsSmall ys
     → (first last : Option ℕ) → first ≡ first_word (row_words xs) (row_words ys) → last ≡ last_word (row_words xs) (row_words ys) → columns_from first last ≡ differing_columns xs ys
