@@ -21,7 +21,7 @@ use Rattle.rd_ucd.specs.Data.{Data}
 use Rattle.rd_layout.specs.Screens.{settled_at, settled_by, settled_state}
 use Rattle.rd_layout.specs.Sessions.{SessionValue, layout_of}
 use Rattle.rd_layout.specs.Windows.{place_of, places, view_in, wanted_of, window_shape, window_source}
-use Rattle.rd_state.proofs.ByNumber.{NumberedWindow, under-became, under-here, under-there, window-other, window-same}
+use Rattle.rd_state.proofs.ByNumber.{NumberedWindow, apart-became, under-became, under-here, under-there, window-other, window-same}
 use Rattle.rd_layout.proofs.Known.{Last}
 use Rattle.rd_layout.proofs.Placed.{placed-here, placed-there}
 use Rattle.rd_views.specs.Layings.{AreDesired, AreOnce, CanSettle, IsDesiredBy, all_settled}
@@ -170,13 +170,9 @@ module _ (v : SessionValue) where
       let f = λ (n : ℕ) (w : WindowState). settled_by v.files v.state w (place_of n v.state) in
       sym (same-windows (map (settled_at v.files v.state) v.state.windows) (windows_settled xs es v.state.windows)
       (map-numbers f v.state.windows ∙ sym (settled-numbers xs es v.state.windows))
-      (apart-stays f v.state.windows apart)
+      (apart-became f v.state.windows apart)
       (λ n. under-became f n v.state.windows
       ∙ (sym (both-settle n (place_of n v.state) (chosen_for n xs es) refl (right-chosen n (places v.state) xs es h)) ∙ sym (found-settled n xs es v.state.windows once))))
-    where
-      apart-stays : (f : ℕ → WindowState → WindowState) (ws : List NumberedWindow) → AreApart ws → AreApart (map (λ (e : NumberedWindow). (e.0, f e.0 e.1)) ws)
-      apart-stays f [] h = tt
-      apart-stays f (w ∷ ws) h = (none-by-numbers w.0 ws (map (λ (e : NumberedWindow). (e.0, f e.0 e.1)) ws) (sym (map-numbers f ws)) h.0, apart-stays f ws h.1)
 
   -- the state is the one that a redisplay leaves
   pub state-settled : (xs : List LaidWindow) (es : List Last) → AreApart v.state.windows → AreOnce es → AreDesired v (places v.state) xs es
