@@ -7,7 +7,7 @@ use Rattle.rd_run.specs.Given.{Given}
 use Rattle.rd_run.specs.Runs.{Input, Mode, input_of}
 use Rattle.rd_run.specs.declared.status.Status.TheVariants.{Done}
 
--- a frame, two letters, and a redisplay
+-- a frame, two letters, and a redisplay, which finds memory
 abbrev pub before_redisplay : List Input
 before_redisplay = input_of (codes "{\"op\":\"frame\",\"width\":12,\"height\":2}") false ∷ input_of (codes "{\"op\":\"type\",\"text\":\"ab\"}") false ∷ []
 

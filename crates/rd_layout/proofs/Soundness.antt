@@ -36,7 +36,7 @@ use Rattle.rd_objects.specs.Things.{ObjectLists}
 use Rattle.rd_props.specs.Buffers as props
 use Rattle.rd_rows.specs.Shapes.{ShapeValues}
 use Rattle.rd_rows.specs.Whole.{IsMark}
-use Rattle.rd_script.specs.Forms.{each, is_buffer_name, is_name_character, is_plain_text}
+use Rattle.rd_script.specs.Forms.{is_buffer_name, is_name_character, is_plain_text}
 use Rattle.rd_state.specs.States.{BufferValue, ContentValue, StateValue, new_buffer, seen}
 use Rattle.rd_state.specs.Valid.{IsGoodFormat, IsValid, IsWindow}
 use Rattle.rd_state.specs.Windows.{leaf_of, shown_content}
@@ -73,7 +73,7 @@ pub record SoundLaws : Type 0 where
 -- ---- characters
 
 plain-codes : (text : List ℕ) → IsTrue (is_plain_text text) → AreCodes text
-plain-codes text h = text-codes text (and_parts (each is_scalar text) _ h).0
+plain-codes text h = text-codes text (and_parts (list_all is_scalar text) _ h).0
 
 -- the characters of a buffer's name
 name-codes : (name : List ℕ) → IsTrue (is_buffer_name name) → AreCodes (chars name)

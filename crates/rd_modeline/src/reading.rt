@@ -68,6 +68,7 @@ fn read_on(begun: Begun, place: u64, ch: Ch) -> Result<(Begun, Option<Piece>), F
     ensures named { IfErr result (λ f. f ≢ fault.Memory) }
     ensures begun { IfOk result (λ r. IsBegun r.0) }
 {
+    // 37 is the percent sign, and 48 to 57 are the digits.
     let code = ch.code();
     match begun {
         Begun::Text if code == 37 => Ok((Begun::Percent(place, 0, 0), None)),

@@ -1,5 +1,5 @@
 //! The mode line of a window.
-ghost use Rattle.std.specs.Prelude.{◌≡◌, IfOk, Some};
+ghost use Rattle.std.specs.Prelude.{◌≡◌, IfOk};
 ghost use Rattle.std.specs.Str.{chars};
 ghost use Rattle.rd_layout.specs.Panes.{facts_of, is_whole, mode_line};
 ghost use Rattle.rd_paint.specs.Shown.{IsViewOf, of_classes};

@@ -20,10 +20,6 @@ use Rattle.rd_script.specs.declared.op.Op.TheVariants.{Frame, Buffer, Insert, In
 use Rattle.rd_script.specs.declared.setting.Setting.{Setting}
 use Rattle.rd_script.specs.declared.setting.Setting.TheVariants as settings
 
--- what a test finds of each element
-abbrev pub each : (ℕ → Bool) → List ℕ → Bool
-each f cs = list_all f cs
-
 -- a character that a buffer's name may have: a scalar value, none below 32, none from 127 to 159
 abbrev pub is_name_character : ℕ → Bool
 is_name_character c = is_scalar c && (nat_le 32 c && (nat_lt c 127 || nat_le 160 c))
@@ -38,7 +34,7 @@ is_buffer_name name = is_name_length (length (chars name)) && list_all is_name_c
 
 -- a text of scalar values
 abbrev pub is_text : List ℕ → Bool
-is_text text = each is_scalar text
+is_text text = list_all is_scalar text
 
 -- a whole number of 64 bits, as positions and the numbers of windows are
 abbrev pub IsWhole : ℕ → Type 0

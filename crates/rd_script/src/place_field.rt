@@ -1,4 +1,4 @@
-//! The fields that several ops have: buffers, windows, overlays and ranges.
+//! The fields that several ops have: buffers, windows, overlays, ranges and numbers of a range.
 ghost use Rattle.rd_script.specs.Fields.{within, required, IsTaken};
 ghost use Rattle.rd_script.specs.Table.{buffer_field, range_fields, stretch_fields};
 

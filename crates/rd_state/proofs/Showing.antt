@@ -1,4 +1,4 @@
--- A step leads from a valid state to a valid one: windows and the frame.
+-- What the tree's calls make, and that a step leads from a valid state to a valid one: windows and the frame.
 use Rattle.std.proofs.Common.{◌≡◌, ◌≢◌, ℕ, suc, ◌+◌, ◌-◌, ◌<◌, ◌≤◌, inl, inr, ◌==◌, ◌&&◌, Bool, true, false, is_some, cond, if◌then◌else◌, nat_le, nat_lt, ℤ, pos, negsuc, Option, None, Some, Result, Ok, Err, List, [], ◌∷◌, ◌++◌, length, subst, sym, ap, refl, ◌∙◌, arith, IsTrue}
 use Rattle.std.proofs.lemmas.Bool.{cases_eq, eqb-false, ltb-true, ltb-false, cond-false, cond-true, eq-eqb, ne_eqb}
 use Rattle.std.proofs.lemmas.Bool.Decides.{nat_tests}
