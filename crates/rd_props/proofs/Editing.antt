@@ -3,13 +3,14 @@ use Rattle.std.proofs.Common.{◌≡◌, inl, inr, ℕ, ◌+◌, ◌-◌, ◌<�
 use Rattle.std.proofs.lemmas.Int.{ints}
 use Rattle.rd_text.specs.Texts.{TextValue, IsText, IsAccessible}
 use Rattle.rd_text.specs.Answers.{IsAccessibleRange}
+use Rattle.rd_spans.proofs.Beside.{opened-before, opened-behind, closed-before, closed-behind}
 use Rattle.rd_overlays.specs.declared.overlay.Overlay.{Overlay}
 use Rattle.rd_objects.specs.Things.{ObjectLists}
 use Rattle.rd_props.specs.Buffers.{BufferValue}
 use Rattle.rd_props.specs.Agreement.{IsInReach, IsSame, IsEdited}
 use Rattle.rd_props.specs.Edits.{AreOrdered, IsInsertion, IsDeletion}
 use Rattle.rd_props.proofs.Alike.{AreListings, SeeSame, seen-agrees}
-use Rattle.rd_props.proofs.Texts.{ReadsAlike, inserted-reads-before, inserted-reads-behind, deleted-reads-before, deleted-reads-behind, opened-before, opened-behind, closed-before, closed-behind}
+use Rattle.rd_props.proofs.Texts.{ReadsAlike, inserted-reads-before, inserted-reads-behind, deleted-reads-before, deleted-reads-behind}
 use Rattle.rd_props.proofs.Moves.{grown-before, grown-behind, shrunk-before, shrunk-behind}
 
 -- all that two positions see is the same
@@ -47,13 +48,13 @@ module _ (listings : AreListings) (old new : BufferValue) (objects : ObjectLists
     insertion-before : (x : ℕ) → x < place → StaysSame old x new x
     insertion-before x less =
         stays-by old new x x _ _ edit.text edit.overlays (inserted-reads-before old.text place x chars within at.1 less)
-        (λ kind. opened-before old.properties place (length chars) kind x less ∙ sym (edit.properties kind x))
+        (λ kind. opened-before (old.properties kind) place (length chars) x less ∙ sym (edit.properties kind x))
         (grown-before place (length chars) x old.overlays ordered less)
 
     insertion-behind : (x y : ℕ) → place < x → x + length chars ≡ y → StaysSame old x new y
     insertion-behind x y less is =
         stays-by old new x y _ _ edit.text edit.overlays (inserted-reads-behind old.text place x y chars first within (omega arith) is)
-        (λ kind. opened-behind old.properties place (length chars) kind x y (omega arith) is ∙ sym (edit.properties kind y))
+        (λ kind. opened-behind (old.properties kind) place (length chars) x y (omega arith) is ∙ sym (edit.properties kind y))
         (grown-behind place (length chars) x y old.overlays ordered less is)
 
     pub insertion-edits : IsEdited old objects new objects place 0 (length chars)
@@ -75,13 +76,13 @@ module _ (listings : AreListings) (old new : BufferValue) (objects : ObjectLists
     deletion-before : (x : ℕ) → x < from → StaysSame old x new x
     deletion-before x less =
         stays-by old new x x _ _ edit.text edit.overlays (deleted-reads-before old.text from to x inside at.ordered at.last less)
-        (λ kind. closed-before old.properties from to kind x less ∙ sym (edit.properties kind x))
+        (λ kind. closed-before (old.properties kind) from to x less ∙ sym (edit.properties kind x))
         (shrunk-before from to x old.overlays at.ordered less)
 
     deletion-behind : (x y : ℕ) → from < y → y + (to - from) ≡ x → StaysSame old x new y
     deletion-behind x y less is =
         stays-by old new x y _ _ edit.text edit.overlays (deleted-reads-behind old.text from to x y start at.ordered inside at.last (omega arith) is)
-        (λ kind. closed-behind old.properties from to kind x y (omega arith) is ∙ sym (edit.properties kind y))
+        (λ kind. closed-behind (old.properties kind) from to x y (omega arith) is ∙ sym (edit.properties kind y))
         (shrunk-behind from to x y old.overlays at.ordered less is)
 
     pub deletion-edits : IsEdited old objects new objects from (to - from) 0

@@ -1,14 +1,11 @@
--- Characters and values of properties before and behind an edit.
-use Rattle.std.proofs.Common.{◌≡◌, ℕ, ◌+◌, ◌-◌, ◌<◌, ◌≤◌, Bool, true, false, if◌then◌else◌, List, ◌++◌, length, take, drop, Option, None, refl, sym, ap, ◌∙◌, arith}
+-- Characters before and behind an edit.
+use Rattle.std.proofs.Common.{◌≡◌, ℕ, ◌+◌, ◌-◌, ◌<◌, ◌≤◌, Bool, true, false, if◌then◌else◌, List, ◌++◌, length, take, drop, None, refl, sym, ◌∙◌, arith}
 use Rattle.std.specs.Prelude.{nat_lt, nat_le, slice_get}
 use Rattle.std.proofs.lemmas.Bool.Decides.{nat_tests}
 use Rattle.std.proofs.lemmas.List.{length-take, length-append}
 use Rattle.rd_base.proofs.Lists.{get-first, get-second, get-take, get-drop}
 use Rattle.rd_text.specs.Texts.{TextValue, char_at, inserted, deleted}
-use Rattle.rd_props.specs.Edits.{opened, closed}
 use Rattle.rd_props.specs.Seen.{accessible_char}
-
--- ---- characters
 
 char-by : (xs ys : List ℕ) (x y : ℕ) → (1 ≤ x → 1 ≤ y) → (1 ≤ y → 1 ≤ x) → (1 ≤ x → slice_get xs (x - 1) ≡ slice_get ys (y - 1))
     → (if nat_le 1 x then slice_get xs (x - 1) else None) ≡ (if nat_le 1 y then slice_get ys (y - 1) else None)
@@ -78,27 +75,3 @@ pub deleted-reads-behind : (t : TextValue) (from to x y : ℕ) → 1 ≤ from �
     → ReadsAlike t x (deleted t from to) y
 deleted-reads-behind t from to x y first ordered within last less is =
     reads-by t (deleted t from to) x y (grind (arith, nat_tests)) (deleted-behind t from to x y first ordered within less is) (λ h. omega arith) (λ h. omega arith)
-
--- ---- values
-
-pub opened-before : (values : ℕ → ℕ → Option ℕ) (place n kind x : ℕ) → x < place → values kind x ≡ opened values place n kind x
-opened-before values place n kind x less =
-    let here : nat_lt x place ≡ true = grind (arith, nat_tests) in
-    rw here refl
-
-pub opened-behind : (values : ℕ → ℕ → Option ℕ) (place n kind x y : ℕ) → place ≤ x → x + n ≡ y → values kind x ≡ opened values place n kind y
-opened-behind values place n kind x y less is =
-    let one : nat_lt y place ≡ false = grind (arith, nat_tests) in
-    let two : nat_lt y (place + n) ≡ false = grind (arith, nat_tests) in
-    let back : x ≡ y - n = omega arith in
-    rw (one, two) (ap (values kind) back)
-
-pub closed-before : (values : ℕ → ℕ → Option ℕ) (from to kind x : ℕ) → x < from → values kind x ≡ closed values from to kind x
-closed-before values from to kind x less =
-    let here : nat_lt x from ≡ true = grind (arith, nat_tests) in
-    rw here refl
-
-pub closed-behind : (values : ℕ → ℕ → Option ℕ) (from to kind x y : ℕ) → from ≤ y → y + (to - from) ≡ x → values kind x ≡ closed values from to kind y
-closed-behind values from to kind x y less is =
-    let one : nat_lt y from ≡ false = grind (arith, nat_tests) in
-    rw one (ap (values kind) (sym is))

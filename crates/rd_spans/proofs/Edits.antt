@@ -7,6 +7,7 @@ use Rattle.std.proofs.lemmas.List.{length-replicate, get_or_append_left, get_or-
 use Rattle.rd_spans.specs.declared.run.ValueRun.{ValueRun}
 use Rattle.rd_spans.specs.Values.{value_at, values_put, values_opened, values_closed, CanMove, IsTrimmed}
 use Rattle.rd_spans.specs.Sides.{values_of, Rises, size_of, top, meet, needs, values_of_both, AtGap, IsCut}
+use Rattle.rd_spans.proofs.Beside.{opened-before, opened-behind, closed-before, closed-behind}
 use Rattle.rd_spans.proofs.Sides.{size-values, few-runs, values_of_both-front, values_of_both-back, values_of_both-past, length-values_of_both, nothing-more, one-at-most}
 
 -- where a position stands to an edit
@@ -21,22 +22,9 @@ put-high : (values : List (Option ℕ)) (from to : ℕ) (value : Option ℕ) (p 
 put-high values from to value p l m =
     let t : nat_le from p ≡ true = grind (arith, nat_tests) in let u : nat_lt p to ≡ false = grind (arith, nat_tests) in rw (t, u) refl
 
-open-low : (values : List (Option ℕ)) (pos n p : ℕ) → p < pos → values_opened (value_at values) pos n p ≡ value_at values p
-open-low values pos n p l = let t : nat_lt p pos ≡ true = grind (arith, nat_tests) in rw t refl
-
 open-here : (values : List (Option ℕ)) (pos n p : ℕ) → pos ≤ p → p < pos + n → values_opened (value_at values) pos n p ≡ None
 open-here values pos n p l m =
     let t : nat_lt p pos ≡ false = grind (arith, nat_tests) in let u : nat_lt p (pos + n) ≡ true = grind (arith, nat_tests) in rw (t, u) refl
-
-open-high : (values : List (Option ℕ)) (pos n p : ℕ) → pos + n ≤ p → values_opened (value_at values) pos n p ≡ value_at values (p - n)
-open-high values pos n p l =
-    let t : nat_lt p pos ≡ false = grind (arith, nat_tests) in let u : nat_lt p (pos + n) ≡ false = grind (arith, nat_tests) in rw (t, u) refl
-
-close-low : (values : List (Option ℕ)) (from to p : ℕ) → p < from → values_closed (value_at values) from to p ≡ value_at values p
-close-low values from to p l = let t : nat_lt p from ≡ true = grind (arith, nat_tests) in rw t refl
-
-close-high : (values : List (Option ℕ)) (from to p : ℕ) → from ≤ p → values_closed (value_at values) from to p ≡ value_at values (p + (to - from))
-close-high values from to p l = let t : nat_lt p from ≡ false = grind (arith, nat_tests) in rw t refl
 
 -- a side whose last places were taken away keeps the values of the others
 cut-value : (b c : List ValueRun) (n : ℕ) → IsCut b c n → (i : ℕ) → i < size_of c → value_at (values_of c) i ≡ value_at (values_of b) i
@@ -111,10 +99,10 @@ close-values a b d from to g some k p =
     elim (cases_lt p from) [
       | inl l ↦
           before-gap a d from p (record { front_rises = ha; back_rises = k.rises; gap = omega (arith, g.gap, k.size) }) l
-          ∙ (sym (before-gap a b from p g l) ∙ sym (close-low (values_of_both a b) from to p l))
+          ∙ (sym (before-gap a b from p g l) ∙ closed-before (value_at (values_of_both a b)) from to p l)
       | inr l ↦
           back-same a b a d p (p + (to - from)) ha g.back_rises ha k.rises (cut-value b d (to - from) k) (omega (arith, g.gap)) (omega (arith, g.gap)) (omega (arith, k.size))
-          ∙ sym (close-high (values_of_both a b) from to p l)
+          ∙ closed-behind (value_at (values_of_both a b)) from to (p + (to - from)) p l refl
     ]
 
 -- positions are opened
@@ -127,7 +115,7 @@ open-values a b c pos n g some h long e p =
       | inl l ↦
           values_of_both-front c b p h (omega arith)
           ∙ (ap (λ (vs : List (Option ℕ)). value_at vs p) e
-          ∙ (nothing-more (values_of a) n None p refl ∙ (sym (before-gap a b pos p g l) ∙ sym (open-low (values_of_both a b) pos n p l))))
+          ∙ (nothing-more (values_of a) n None p refl ∙ (sym (before-gap a b pos p g l) ∙ opened-before (value_at (values_of_both a b)) pos n p l)))
       | inr l ↦ elim (cases_lt p (pos + n)) [
         | inl m ↦
             values_of_both-front c b p h (omega arith)
@@ -136,7 +124,7 @@ open-values a b c pos n g some h long e p =
             ∙ (get_or-replicate n (p - size_of a) None None (omega arith) ∙ sym (open-here (values_of_both a b) pos n p l m))))
         | inr m ↦
             back-same a b c b p (p - n) ha g.back_rises h g.back_rises (λ i l. refl) (omega arith) (omega arith) (omega arith)
-            ∙ sym (open-high (values_of_both a b) pos n p m)
+            ∙ opened-behind (value_at (values_of_both a b)) pos n (p - n) p (omega arith) (omega arith)
       ]
     ]
 
@@ -145,12 +133,12 @@ open-nothing a b pos n g none p =
     let ha = g.front_rises in
     let hb = g.back_rises in
     elim (cases_lt p pos) [
-      | inl l ↦ sym (open-low (values_of_both a b) pos n p l)
+      | inl l ↦ opened-before (value_at (values_of_both a b)) pos n p l
       | inr l ↦
           values_of_both-past a b p ha hb (omega (arith, g.gap))
           ∙ (elim (cases_lt p (pos + n)) [
             | inl m ↦ sym (open-here (values_of_both a b) pos n p l m)
-            | inr m ↦ sym (values_of_both-past a b (p - n) ha hb (omega (arith, g.gap))) ∙ sym (open-high (values_of_both a b) pos n p m)
+            | inr m ↦ sym (values_of_both-past a b (p - n) ha hb (omega (arith, g.gap))) ∙ opened-behind (value_at (values_of_both a b)) pos n (p - n) p (omega arith) (omega arith)
           ])
     ]
 
@@ -185,14 +173,14 @@ pub close-trimmed : (a b d : List ValueRun) (from to : ℕ) → AtGap a b from �
 close-trimmed a b d from to g some k more values t p last none =
     let long : length (values_of_both a d) ≡ size_of a + size_of d = length-values_of_both a d g.front_rises k.rises in
     let was : length (values_of_both a b) ≡ size_of a + size_of b = length-values_of_both a b g.front_rises g.back_rises in
-    trimmed-by (values_of_both a d) (values_of_both a b) p (p + (to - from)) t (omega (arith, g.gap, k.size)) (values p ∙ close-high (values_of_both a b) from to p (omega (arith, g.gap, k.size))) none
+    trimmed-by (values_of_both a d) (values_of_both a b) p (p + (to - from)) t (omega (arith, g.gap, k.size)) (values p ∙ sym (closed-behind (value_at (values_of_both a b)) from to (p + (to - from)) p (omega (arith, g.gap, k.size)) refl)) none
 
 pub open-trimmed : (a b c : List ValueRun) (pos n : ℕ) → AtGap a b pos → 0 < size_of b → Rises 0 c → size_of c ≡ size_of a + n
     → ((p : ℕ) → value_at (values_of_both c b) p ≡ values_opened (value_at (values_of_both a b)) pos n p) → IsTrimmed (values_of_both a b) → IsTrimmed (values_of_both c b)
 open-trimmed a b c pos n g more h size values t p last none =
     let long : length (values_of_both c b) ≡ size_of c + size_of b = length-values_of_both c b h g.back_rises in
     let was : length (values_of_both a b) ≡ size_of a + size_of b = length-values_of_both a b g.front_rises g.back_rises in
-    trimmed-by (values_of_both c b) (values_of_both a b) p (p - n) t (omega (arith, g.gap)) (values p ∙ open-high (values_of_both a b) pos n p (omega (arith, g.gap))) none
+    trimmed-by (values_of_both c b) (values_of_both a b) p (p - n) t (omega (arith, g.gap)) (values p ∙ sym (opened-behind (value_at (values_of_both a b)) pos n (p - n) p (omega (arith, g.gap)) (omega (arith, g.gap)))) none
 
 -- the last position has a value, which can move on
 last-moves : (values : List (Option ℕ)) (n last : ℕ) → IsTrimmed values → CanMove values n → last + 1 ≡ length values → last + n < 4294967296

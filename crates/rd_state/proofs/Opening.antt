@@ -6,6 +6,7 @@ use Rattle.std.proofs.lemmas.List.{get_or-set_same, get_or-set_other, get_or_def
 use Rattle.std.specs.Prelude.{is_err, OnOk, OnErr}
 use Rattle.rd_base.proofs.Choices.{either}
 use Rattle.rd_spans.specs.Values.{value_at, values_opened, values_closed}
+use Rattle.rd_spans.proofs.Beside.{opened-before, opened-behind, closed-before, closed-behind}
 use Rattle.rd_props.specs.Buffers.{values_of}
 
 -- ---- kinds
@@ -77,13 +78,10 @@ none-closed from to p = either (λ (v : Option ℕ). v ≡ None) (nat_lt p from)
 -- positions that were opened and are closed again
 closed-opened : (f : ℕ → Option ℕ) (pos n p : ℕ) → values_closed (values_opened f pos n) pos (pos + n) p ≡ f p
 closed-opened f pos n p = elim (cases_lt p pos) [
-  | inl before ↦ cond-true (nat_lt p pos) _ _ (lt-ltb p pos before) ∙ cond-true (nat_lt p pos) _ _ (lt-ltb p pos before)
+  | inl before ↦ sym (opened-before f pos n p before ∙ closed-before (values_opened f pos n) pos (pos + n) p before)
   | inr behind ↦
       let q = p + (pos + n - pos) in
-      let back : q - n ≡ p = omega arith in
-      cond-false (nat_lt p pos) _ _ (le-ltb p pos behind)
-      ∙ (cond-false (nat_lt q pos) _ _ (le-ltb q pos (omega arith))
-      ∙ (cond-false (nat_lt q (pos + n)) _ _ (le-ltb q (pos + n) (omega arith)) ∙ ap f back))
+      sym (opened-behind f pos n p q behind (omega arith) ∙ closed-behind (values_opened f pos n) pos (pos + n) q p behind refl)
 ]
 
 -- the kinds that were opened are closed again
