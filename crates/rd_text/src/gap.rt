@@ -99,7 +99,7 @@ impl GapText {
         self.back += to - from;
     }
 
-    /// Makes sure that so many places are free.
+    /// Makes sure that so many places are free: where they are not, moves the gap to the end and makes it larger there.
     fn make_room(&mut self, wanted: usize) -> Result<(), Memory>
         requires right { IsGapText self.old }
         requires room { length (text_of self.old) + wanted ≤ most_characters }
@@ -110,18 +110,6 @@ impl GapText {
         if wanted <= self.back - self.front {
             return Ok(());
         }
-        self.grow(wanted)
-    }
-
-    /// Moves the gap to the end and makes it larger there.
-    fn grow(&mut self, wanted: usize) -> Result<(), Memory>
-        requires right { IsGapText self.old }
-        requires room { length (text_of self.old) + wanted ≤ most_characters }
-        requires full { self.old.back < self.old.front + wanted }
-        ensures right { IsGapText self.new }
-        ensures text { text_of self.new ≡ text_of self.old }
-        ensures ok { OnOk result (self.new.front + wanted ≤ self.new.back) }
-    {
         let length = self.len();
         self.move_gap(length);
         let places = larger(self.codes.len(), length + wanted);
