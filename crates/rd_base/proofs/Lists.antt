@@ -81,7 +81,7 @@ at-seam (x ∷ xs) y ys = at-seam xs y ys
 pub drop-next : {X : Type 0} (xs whole : List X) (i : ℕ) (x : X) → drop i xs ≡ drop i whole → drop (i + 1) (set xs i x) ≡ drop (i + 1) whole
 drop-next xs whole i x same = drop-set-lt (i + 1) xs i x (omega arith) ∙ sym (drop-drop 1 i xs) ∙ ap (drop 1) same ∙ drop-drop 1 i whole
 
--- what stands at a place of a list after a write, and after one more
+-- what stands at a place of a list after a write
 pub get-set : {X : Type 0} (xs : List X) (i k : ℕ) (c b : X) → slice_get (set xs i c) k ≡ Some b
     → ((k ≡ i) × (b ≡ c)) ⊎ ((k ≢ i) × (slice_get xs k ≡ Some b))
 get-set [] i k c b h = absurd (cc)
@@ -93,14 +93,7 @@ get-set (x ∷ xs) (suc i) (suc k) c b h = elim (get-set xs i k c b h) [
   | inr p ↦ inr (λ e. p.0 (omega arith), p.1)
 ]
 
--- what holds of what is read at a place, and of what is written, holds after the write
-pub read-set : {X : Type 0} (P : X → Type 0) (xs : List X) (i k : ℕ) (x d : X) → P x → P (get_or xs k d) → P (get_or (set xs i x) k d)
-read-set P [] i k x d new old = old
-read-set P (y ∷ xs) zero zero x d new old = new
-read-set P (y ∷ xs) zero (suc k) x d new old = old
-read-set P (y ∷ xs) (suc i) zero x d new old = old
-read-set P (y ∷ xs) (suc i) (suc k) x d new old = read-set P xs i k x d new old
-
+-- and after one more was put at its end
 pub get-end : {X : Type 0} (xs : List X) (y : X) (k : ℕ) (b : X) → slice_get (xs ++ y ∷ []) k ≡ Some b → (slice_get xs k ≡ Some b) ⊎ ((k ≡ length xs) × (b ≡ y))
 get-end [] y zero b h = inr (refl, cc)
 get-end [] y (suc k) b h = absurd (cc)
@@ -109,6 +102,14 @@ get-end (x ∷ xs) y (suc k) b h = elim (get-end xs y k b h) [
   | inl p ↦ inl p
   | inr p ↦ inr (omega (arith, p.0), p.1)
 ]
+
+-- what holds of what is read at a place, and of what is written, holds after the write
+pub read-set : {X : Type 0} (P : X → Type 0) (xs : List X) (i k : ℕ) (x d : X) → P x → P (get_or xs k d) → P (get_or (set xs i x) k d)
+read-set P [] i k x d new old = old
+read-set P (y ∷ xs) zero zero x d new old = new
+read-set P (y ∷ xs) zero (suc k) x d new old = old
+read-set P (y ∷ xs) (suc i) zero x d new old = old
+read-set P (y ∷ xs) (suc i) (suc k) x d new old = read-set P xs i k x d new old
 
 -- an element in place of one of the same list, where those before it became others and those from it on did not
 pub one-becomes : {X : Type 0} (f : X → X) (xs whole : List X) (i : ℕ) (new d : X) → i < length xs → length xs ≡ length whole
@@ -137,13 +138,13 @@ count-cons p x xs = sum_by-cons (λ y. cond (p y) 1 0) x xs
 pub count-append : {X : Type 0} (p : X → Bool) (xs ys : List X) → count_by p (xs ++ ys) ≡ count_by p xs + count_by p ys
 count-append p xs ys = sum_by-append (λ x. cond (p x) 1 0) xs ys
 
--- the sum of a number for each element
+-- the sum over two lists that are joined is that over the one and that over the other
 pub total-append : {X : Type 0} (f : X → ℕ) (xs ys : List X) → total f (xs ++ ys) ≡ total f xs + total f ys
 total-append f [] ys = omega arith
 total-append f (x ∷ xs) ys = omega (arith, total-append f xs ys)
 
 -- whether a place is in the stretch from one up to another, that one not included
-abbrev pub lies : ℕ → ℕ → ℕ → Bool
+abbrev lies : ℕ → ℕ → ℕ → Bool
 lies pos from to = nat_le from pos && nat_lt pos to
 
 lies-empty : (pos from to : ℕ) → from ≡ to → lies pos from to ≡ false
@@ -213,7 +214,7 @@ all-front P xs ys all k d below =
 pub all-back : {X : Type 0} (P : X → Type 0) (xs ys : List X) → All P (xs ++ ys) → All P ys
 all-back P xs ys all = subst (All P) (drop-append_seam xs ys) (All-drop P (length xs) (xs ++ ys) all)
 
--- the same of lists that are gone through from the front
+-- what holds of each element of two lists, gone through from the front, holds of each of both joined, and of each of a part
 pub each-append : {X : Type 0} (P : X → Type 0) (xs ys : List X) → AllByRecursion P xs → AllByRecursion P ys → AllByRecursion P (xs ++ ys)
 each-append P [] ys these those = those
 each-append P (x ∷ xs) ys these those = (these.0, each-append P xs ys these.1 those)

@@ -7,7 +7,6 @@ use Rattle.std.proofs.lemmas.List.{drop-take, drop-drop, length-take, take-appen
 use Rattle.std.proofs.Common.{IfSome, Result, Ok, Err, take-append-drop}
 use Rattle.std.proofs.Math.Seq.{take-append_seam, take-append-add, drop-append_seam}
 use Rattle.rd_io.specs.Devices.{Rose, AppendsFront, Fetches, Writes}
-use Rattle.rd_io.specs.Files.{IsFront}
 
 -- a call that failed after others did so for the whole
 pub rose-after : (a b c : ℕ) → a ≤ b → Rose b c → Rose a c
@@ -52,6 +51,10 @@ front-written a b c bytes front rest back n e is p q =
     let split : bytes ≡ (front ++ take n rest) ++ back =
     e ∙ ap (λ l. front ++ l) (sym (take-append-drop n rest) ∙ ap (λ l. take n rest ++ l) (sym is)) ∙ sym (append_assoc front (take n rest) back) in
     (front ++ take n rest, split, Appends-trans a b c front (take n rest) p q)
+
+-- these bytes are a front of the file, where its bytes are known
+abbrev pub IsFront : List ℕ → Option (List ℕ) → Type 0
+IsFront bytes told = IfSome told (λ file. (rest : List ℕ) × (file ≡ bytes ++ rest))
 
 -- a front of a file grows by what is fetched behind it
 pub front-grows : (told : Option (List ℕ)) (bytes new buffer : List ℕ) (from n : ℕ) → from ≡ length bytes → IfSome told (λ file. take n buffer ≡ take n (drop from file))

@@ -54,16 +54,16 @@ pub fn read_file<F: Files>(alloc: Global, files: &mut F, name: &str) -> Result<V
     ensures failed { IsErrOf result FileFault.Failed → Rose (F.faults files.old name.now) (F.faults files.new name.now) }
 {
     let mut held = room(alloc)?;
-    let room = held.as_mut_slice();
+    let buffer = held.as_mut_slice();
     let mut bytes = Vec::new(alloc);
     loop {
-        let Ok(n) = files.fetch(name, bytes.len() as u64, room) else {
+        let Ok(n) = files.fetch(name, bytes.len() as u64, buffer) else {
             return Err(FileFault::Failed);
         };
         if n == 0 {
             return Ok(bytes);
         }
-        if !put_within(&mut bytes, room.split_at(n).0, LARGEST)? {
+        if !put_within(&mut bytes, buffer.split_at(n).0, LARGEST)? {
             return Err(FileFault::TooLarge);
         }
     }

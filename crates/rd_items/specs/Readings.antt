@@ -62,10 +62,11 @@ IsReading setting [] = ⊥
 IsReading setting (e ∷ []) = is_ender setting e ≡ true
 IsReading setting (e ∷ f ∷ es) = (is_ender setting e ≡ false) × IsReading setting (f ∷ es)
 
--- a character that is read has a code, and each of these has
+-- where a character is seen it has a code
 abbrev pub HasCode : Seen → Type 0
 HasCode e = IfSome e.character (λ c. IsTrue (is_code c))
 
+-- each that is seen has one
 abbrev pub HaveCodes : List Seen → Type 0
 HaveCodes es = All HasCode es
 

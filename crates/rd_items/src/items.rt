@@ -15,6 +15,9 @@ use rd_props::{Appearance, View, appearance_at};
 use std::alloc::Global;
 use std::marker::Model;
 
+/// The most items for which a walk has room before its first step.
+const ROOM: u32 = 1024;
+
 /// The items of a block, fewer than 2^32. Contracts see them as their list.
 #[derive(Debug, Drop)]
 pub struct Items {
@@ -101,6 +104,3 @@ impl Items {
         self.list.get(i as usize)
     }
 }
-
-/// The most items for which a walk has room before its first step.
-const ROOM: u32 = 1024;

@@ -16,10 +16,11 @@ use Rattle.rd_rows.specs.Rows.{RowMeaning}
 use Rattle.rd_rows.specs.Shapes.{IsShape, ShapeValues}
 use Rattle.rd_rows.specs.declared.begin.Begin.{Begin}
 
--- how many items of a row cover a position, and how many of these rows
+-- how many items of a row cover a position
 abbrev pub covering : ℕ → EntryMeaning → ℕ
 covering point e = count_by (covers e.start point) e.row.begins
 
+-- how many items of these rows do
 abbrev pub count_at : ℕ → List EntryMeaning → ℕ
 count_at point es = total (covering point) es
 

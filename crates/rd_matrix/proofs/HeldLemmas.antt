@@ -194,7 +194,7 @@ before-is bs (suc k) h = let e : suc k - 1 ≡ k = omega arith in rw e refl
 
 -- the search for a position
 
-abbrev pub EndsBy : ℕ → HeldBlock → Type 0
+abbrev EndsBy : ℕ → HeldBlock → Type 0
 EndsBy pos h = h.block.end ≤ pos
 
 abbrev pub Passed : List HeldBlock → ℕ → ℕ → Type 0

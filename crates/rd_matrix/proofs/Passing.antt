@@ -41,16 +41,18 @@ none-counted p (x ∷ xs) none =
     let here = both.0 in
     rw here (none-counted p xs both.1)
 
--- with one more in front: as many pass behind it at least, and where no more pass with it than behind it, it doesn't
+-- behind the first element no more pass than with it
 pub fewer : {X : Type 0} (p : X → Bool) (x : X) (xs : List X) (most : ℕ) → count_by p (x ∷ xs) ≤ most → count_by p xs ≤ most
 fewer p x xs most few = let e = count-cons p x xs in omega (arith, e, few)
 
+-- where with the first element no more pass than so many, and as many pass behind it, it does not pass
 pub not-counted : {X : Type 0} (p : X → Bool) (x : X) (xs : List X) (most : ℕ) → count_by p (x ∷ xs) ≤ most → most ≤ count_by p xs → p x ≡ false
 not-counted p x xs most few full = elim (cases_Bool (p x)) [
   | inl here ↦ let e = count-cons p x xs ∙ ap (λ t. cond t 1 0 + count_by p xs) here in absurd (omega (arith, e, few, full))
   | inr other ↦ other
 ]
 
+-- where none pass, neither the first element does nor any behind it
 pub none-here : {X : Type 0} (p : X → Bool) (x : X) (xs : List X) → count_by p (x ∷ xs) ≡ 0 → (p x ≡ false) × (count_by p xs ≡ 0)
 none-here p x xs none =
     let rest = fewer p x xs 0 (omega (arith, none)) in

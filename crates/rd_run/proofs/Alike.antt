@@ -18,7 +18,7 @@ use Rattle.rd_run.specs.declared.status.Status.{Status}
 use Rattle.rd_run.specs.declared.status.Status.TheVariants.{Done, Usage, BadData, BadScript, ReadFault, WriteFault, NoMemory}
 use Rattle.rd_run.proofs.Begun.{flipped, modes-same, not-begun, refused-alike, refuses}
 use Rattle.rd_run.proofs.Scripts.{IsTakenFrom, IsTakenIn, ends-there, first-lines, goes-on, long-line, more-line}
-use Rattle.rd_run.proofs.Starved.{head-of, rest-of, run_line-alike}
+use Rattle.rd_run.proofs.Starved.{run_line-alike}
 use Rattle.rd_run.proofs.Inputs.{lines-length, lines-push, run-push, run-clear}
 use Rattle.rd_run.proofs.Whole.{whole-of}
 
@@ -52,6 +52,12 @@ Stops o w n (t ∷ ts) lines status =
     × (StopsAt (run_line w t) n ts status ⊎ (((run_line w t).fault ≡ None) × Stops o (run_line w t) (n + 1) ts more status))
 
 -- ---- it stops at one place
+
+head-of : (x y : List ℕ) (xs ys : List (List ℕ)) → x ∷ xs ≡ y ∷ ys → x ≡ y
+head-of x y xs ys e = cc
+
+rest-of : (x y : List ℕ) (xs ys : List (List ℕ)) → x ∷ xs ≡ y ∷ ys → xs ≡ ys
+rest-of x y xs ys e = cc
 
 no-line : (lines : List (List ℕ)) (y : List ℕ) (ys : List (List ℕ)) → lines ≡ [] → lines ≡ y ∷ ys → ⊥
 no-line lines y ys p q = let e : [] ≡ y ∷ ys = sym p ∙ q in cc

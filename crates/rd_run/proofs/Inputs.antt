@@ -25,7 +25,7 @@ pub run_line-goes : (w : World) (t : Input) → w.fault ≡ None → run_line w 
 run_line-goes w t e = cond-false (is_some w.fault) w (after w (effect w.now t)) (ap is_some e)
 
 -- a run that has ended stays as it is
-pub run-stays : (w : World) (us : List Input) → is_some w.fault ≡ true → run w us ≡ w
+run-stays : (w : World) (us : List Input) → is_some w.fault ≡ true → run w us ≡ w
 run-stays w [] e = refl
 run-stays w (u ∷ us) e =
     let same : run_line w u ≡ w = cond-true (is_some w.fault) w (after w (effect w.now u)) e in

@@ -5,8 +5,6 @@ use Rattle.rd_script.specs.declared.fault.OpFault.{OpFault}
 use Rattle.rd_script.specs.declared.op.Op.{Op}
 use Rattle.rd_run.specs.Runs.{Input, Standing, World, after, asked, effect, effect_by, effect_of_reading, is_blank, outcome_at, quiet, run_line, input_of}
 
--- ---- one line
-
 -- a redisplay has an outcome, with memory or without
 has-outcome : (starved : Bool) (now : Standing) (op : Op) (stop : Option ℕ) → is_some (effect_by (Some stop) starved now op).outcome ≡ true
 has-outcome true now op stop = refl
@@ -37,11 +35,3 @@ run_line-if false w line s r h = ap (after w) (effect-alike w.now line s r h)
 -- one line is run alike where its redisplay, if it is one, finds memory alike
 pub run_line-alike : (w : World) (t u : Input) → t.line ≡ u.line → (is_some (outcome_at w t) ≡ true → t.starved ≡ u.starved) → run_line w t ≡ run_line w u
 run_line-alike w t u e h = run_line-if (is_some w.fault) w t.line t.starved u.starved h ∙ ap (λ line. run_line w (input_of line u.starved)) e
-
--- ---- lines
-
-pub head-of : (x y : List ℕ) (xs ys : List (List ℕ)) → x ∷ xs ≡ y ∷ ys → x ≡ y
-head-of x y xs ys e = cc
-
-pub rest-of : (x y : List ℕ) (xs ys : List (List ℕ)) → x ∷ xs ≡ y ∷ ys → xs ≡ ys
-rest-of x y xs ys e = cc

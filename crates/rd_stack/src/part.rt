@@ -17,8 +17,8 @@ pub struct Place {
     pub spec: Option<u32>,
 }
 
-/// A part of a row of a string, before the row is put in order. It shows a character, or what a display spec puts for the places of
-/// its run.
+/// A part of a row of a string, before the row is put in order. It shows a character, with the marks that joined it, or what a display
+/// spec puts for the places of its run.
 #[derive(Clone, Copy, Debug, PartialEq, Eq)]
 pub struct Part {
     pub class: Class,

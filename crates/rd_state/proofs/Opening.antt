@@ -23,7 +23,7 @@ by-values : (edit : Edit) (f g : ℕ → Option ℕ) (p : ℕ) → ((q : ℕ) �
 by-values edit f g p e = λ i. edit (λ q. e q i) p
 
 -- the values after an edit of each of the first kinds alone
-abbrev pub edited_first : Edit → (ℕ → ℕ → Option ℕ) → ℕ → ℕ → ℕ → Option ℕ
+abbrev edited_first : Edit → (ℕ → ℕ → Option ℕ) → ℕ → ℕ → ℕ → Option ℕ
 edited_first edit old k kind p = if nat_lt kind k then edit (old kind) p else old kind p
 
 -- the values of a kind that was not edited yet
@@ -48,7 +48,7 @@ one-more edit spans old k was now there made before kind p =
           ∙ (before kind p ∙ ap (λ t. if t then edit (old kind) p else old kind p) (sym (same-less kind k other)))
     ]
 
--- nothing was changed at a place
+-- an edit that left the values of a kind as they were: with these in their place all is as before it
 pub unchanged : (edit : Edit) (spans : List (List (Option ℕ))) (old : ℕ → ℕ → Option ℕ) (k : ℕ) (was now : List (Option ℕ)) → now ≡ get_or spans k was
     → ((kind p : ℕ) → values_of spans kind p ≡ edited_first edit old k kind p) → (kind p : ℕ) → values_of (set spans k now) kind p ≡ edited_first edit old k kind p
 unchanged edit spans old k was now same before kind p = ap (λ s. values_of s kind p) (ap (set spans k) same ∙ set-get_or spans k was) ∙ before kind p

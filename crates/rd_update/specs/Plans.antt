@@ -42,7 +42,7 @@ HaveOneSize (Some current) target = (length current.rows ≡ length target.rows)
 abbrev pub sent_of : Update → Sent
 sent_of u = record { rows = u.rows; done = u.done }
 
--- the bytes of an update were sent, and its answer `sent` is what that update answers; after a failure a front of them was sent
+-- the bytes of an update were sent, and what is answered is `sent_of` it; after a failure a front of the bytes was sent
 pub record Sends {E : Type 0} (old new : Option (List ℕ)) (u : Update) (result : Result Sent E) : Type 0 where
   pub bytes : Writes old new u.bytes result
   pub sent : IfOk result (λ sent. sent ≡ sent_of u)

@@ -1,11 +1,10 @@
 use Rattle.std.proofs.Common.{rules, ◌≡◌, ◌<◌, ◌≤◌, ◌++◌, ◌∙◌, ℕ, List, length, refl, sym, ap, subst, arith}
-use Rattle.rd_io.specs.Files.{IsFront}
-use Rattle.rd_io.proofs.Bytes.{front-begins, none-fits, front-grows, fetched-told}
+use Rattle.rd_io.proofs.Bytes.{IsFront, front-begins, none-fits, front-grows, fetched-told}
 use Rattle.rd_io.proofs.file.read_file.Goals as goal
 
 pub loop-n-init : goal.loop-n-init
 loop-n-init g c = record {
-  room = omega (arith, ap length c.as_mut_slice-room.ensures.value, c.in_ok-held.ensures);
+  room = omega (arith, ap length c.as_mut_slice-buffer.ensures.value, c.in_ok-held.ensures);
   small = none-fits c.new-bytes.result.items c.new-bytes.ensures.items;
   front = front-begins _ c.new-bytes.result.items c.new-bytes.ensures.items;
   same = λ file. refl;

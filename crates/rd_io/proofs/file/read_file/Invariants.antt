@@ -1,5 +1,5 @@
 use Rattle.std.proofs.Common.{◌≡◌, ◌<◌, ◌≤◌, ◌-◌, ℕ, List, length}
-use Rattle.rd_io.specs.Files.{IsFront}
+use Rattle.rd_io.proofs.Bytes.{IsFront}
 use Rattle.rd_io.proofs.file.read_file.Given as goal
 
 abbrev pub invariant-loop-n : goal.invariant-loop-n
@@ -7,7 +7,7 @@ invariant-loop-n g l =
     let contents = g.F.Files.contents in
     let faults = g.F.Files.faults in
     record {
-      room : 0 < length l.room;
+      room : 0 < length l.buffer;
       small : length l.bytes.items ≤ 8388608;
       front : IsFront l.bytes.items (contents l.fn.files l.name);
       same : (file : List ℕ) → contents l.files file ≡ contents l.fn.files file;
