@@ -2,11 +2,10 @@
 ghost use Rattle.std.specs.Prelude.{◌≡◌, Option, ◌≤◌, IsTrue};
 ghost use Rattle.rd_overlays.specs.declared.overlay.Overlay.{Overlay};
 ghost use Rattle.rd_overlays.specs.Overlays.{nearer, slot_edge};
-ghost use Rattle.rd_overlays.specs.declared.way.Way.TheVariants.{Next, Last};
 ghost use Rattle.rd_overlays.specs.Bounds.{SlotHolds, bounds_grown, bounds_shrunk};
 
 use crate::overlay::{Overlay, after_deletion};
-use crate::way::Way;
+use crate::way::{Way, closer, is_on};
 use rd_base::Pos;
 
 /// The least and the greatest place where a start or an end of some overlays can stand.
@@ -62,34 +61,15 @@ pub(crate) fn bounds_shrunk(from: Pos, to: Pos, bounds: Bounds) -> Bounds
 pub(crate) fn has_no_nearer_edge(bounds: Bounds, way: Way, pos: Pos, nearest: Option<Pos>) -> bool
     ensures { IsTrue result → (slot : Option Overlay) → SlotHolds bounds slot → nearer way nearest (slot_edge way pos slot) ≡ nearest }
 {
-    match way {
-        Way::Next => has_no_edge_ahead(bounds, pos, nearest),
-        Way::Last => has_no_edge_back(bounds, pos, nearest),
-    }
-}
-
-/// The same on the way to the next edge.
-fn has_no_edge_ahead(bounds: Bounds, pos: Pos, least: Option<Pos>) -> bool
-    ensures { IsTrue result → (slot : Option Overlay) → SlotHolds bounds slot → nearer Next least (slot_edge Next pos slot) ≡ least }
-{
-    if bounds.high <= pos {
+    let (near, far) = match way {
+        Way::Next => (bounds.low, bounds.high),
+        Way::Last => (bounds.high, bounds.low),
+    };
+    if !is_on(way, pos, far) {
         return true;
     }
-    match least {
+    match nearest {
         None => false,
-        Some(edge) => edge <= bounds.low,
-    }
-}
-
-/// The same on the way back to the last edge.
-fn has_no_edge_back(bounds: Bounds, pos: Pos, greatest: Option<Pos>) -> bool
-    ensures { IsTrue result → (slot : Option Overlay) → SlotHolds bounds slot → nearer Last greatest (slot_edge Last pos slot) ≡ greatest }
-{
-    if pos < bounds.low {
-        return true;
-    }
-    match greatest {
-        None => false,
-        Some(edge) => bounds.high <= edge,
+        Some(edge) => closer(way, edge, near) == edge,
     }
 }

@@ -13,7 +13,7 @@ pub enum Way {
 }
 
 /// The place of two that is met first on the way.
-fn closer(way: Way, x: Pos, y: Pos) -> Pos
+pub(crate) fn closer(way: Way, x: Pos, y: Pos) -> Pos
     ensures { result ≡ closer way x y }
 {
     match way {
@@ -36,7 +36,7 @@ pub(crate) fn nearer(way: Way, a: Option<Pos>, b: Option<Pos>) -> Option<Pos>
 }
 
 /// Whether a place stands on the way from a position.
-fn is_on(way: Way, pos: Pos, place: Pos) -> bool
+pub(crate) fn is_on(way: Way, pos: Pos, place: Pos) -> bool
     ensures { result ≡ is_on way pos place }
 {
     match way {
