@@ -23,7 +23,7 @@ module _ (is : List ℕ) (k i : ℕ) (read : slice_get is k ≡ Some i) where
   levels-read ls l here = rw (drop-at is k i read) (ap (λ t. t ∷ levels_at (drop (k + 1) is) ls) (get_or_from_slice_get ls i l 0 here))
 
   -- a write leaves the types behind it
-  pub types-kept : AllPairs (λ a b. a < b) is → (ts : List Class) (v : Class) → types_at (drop (k + 1) is) (set ts i v) ≡ types_at (drop (k + 1) is) ts
+  types-kept : AllPairs (λ a b. a < b) is → (ts : List Class) (v : Class) → types_at (drop (k + 1) is) (set ts i v) ≡ types_at (drop (k + 1) is) ts
   types-kept ascend ts v = types_apart (drop (k + 1) is) ts i v (λ m h e.
       let here : get_or is k 0 ≡ i = get_or_from_slice_get is k i 0 read in
       let there : get_or (drop (k + 1) is) m 0 ≡ get_or is (k + 1 + m) 0 = get_or-drop (k + 1) is m 0 in
@@ -31,7 +31,7 @@ module _ (is : List ℕ) (k i : ℕ) (read : slice_get is k ≡ Some i) where
       let below : get_or is k 0 < get_or is (k + 1 + m) 0 = ascend k (k + 1 + m) 0 (omega arith) inside in
       omega arith)
 
-  pub put-step : (v : Class) (vs ts : List Class) → put_at (drop k is) (v ∷ vs) ts ≡ put_at (drop (k + 1) is) vs (set ts i v)
+  put-step : (v : Class) (vs ts : List Class) → put_at (drop k is) (v ∷ vs) ts ≡ put_at (drop (k + 1) is) vs (set ts i v)
   put-step v vs ts = rw (drop-at is k i read) refl
 
   -- The types that are left, as the code reads them: the type here, and those at the indexes that it passes on.
