@@ -1,18 +1,20 @@
 -- Cells in which each glyph stands whole, one behind the other, glyphs that have their columns, and the columns of elements.
 use Rattle.std.proofs.Common.{rules, tests, ◌≡◌, ℕ, zero, suc, ◌+◌, ◌-◌, ◌<◌, ◌≤◌, Bool, true, false, IsTrue, List, [], ◌∷◌, ◌++◌, replicate, Some, refl, arith, length, drop, get_or, ap₂, ◌∙◌}
 use Rattle.std.proofs.lemmas.Bool.Decides.{nat_tests}
-use Rattle.std.proofs.lemmas.List.{get_or-drop, get_or-replicate, length-drop}
+use Rattle.std.proofs.lemmas.List.{get_or-drop, get_or-replicate, length-drop, length-replicate}
 use Rattle.unicode_width.specs.Width.{char_width}
 use Rattle.rd_base.proofs.Lists.{total-append}
 use Rattle.rd_base.specs.Cells.{single}
 use Rattle.rd_base.specs.Chars.{is_scalar}
 use Rattle.rd_base.specs.Elements.{width_at_most, columns_at_most}
 use Rattle.rd_base.specs.Faces.{Attributes}
-use Rattle.rd_base.specs.Glyphs.{IsMeasured, IsRowAfter, is_space, blanks, glyph_cells}
+use Rattle.rd_base.specs.Glyphs.{IsMeasured, IsRowAfter, is_space, blanks, glyph_cells, look_cells}
 use Rattle.rd_base.specs.declared.cell.Cell.{Cell}
 use Rattle.rd_base.specs.declared.cell.Cell.TheVariants.{Blank, First, Rest}
 use Rattle.rd_base.specs.declared.cell.Glyph.{Glyph}
 use Rattle.rd_base.specs.declared.element.Element.{Element}
+use Rattle.rd_base.specs.declared.element.Look.{Look}
+use Rattle.rd_base.specs.declared.element.Look.TheVariants as look
 
 -- ---- rows
 
@@ -42,6 +44,18 @@ glyph-by false columns g face h measured same =
 -- the cells of a glyph in its own columns
 pub glyph-whole : (columns : ℕ) (g : Glyph) (face : Attributes) → IsMeasured g → columns ≡ g.width → IsRowAfter 0 (glyph_cells columns g face)
 glyph-whole columns g face measured same = glyph-by (is_space g) columns g face refl measured same
+
+-- a glyph has as many cells as columns
+pub glyph_length : (columns : ℕ) (g : Glyph) (face : Attributes) → 1 ≤ columns → length (glyph_cells columns g face) ≡ columns
+glyph_length columns g face some =
+    let blank = length-replicate columns (Blank face) in
+    let rests = length-replicate (columns - 1) Rest in
+    grind arith
+
+-- so has a look
+pub look_length : (columns : ℕ) (l : Look) (face : Attributes) → 1 ≤ columns → length (look_cells columns l face) ≡ columns
+look_length columns (look.Glyph g) face some = glyph_length columns g face some
+look_length columns other face some = length-replicate columns (Blank face)
 
 -- ---- glyphs
 

@@ -27,6 +27,11 @@ abbrev pub glyph_cells : ℕ → Glyph → Attributes → List Cell
 glyph_cells columns g face =
     if is_space g then blanks columns face else First g face ∷ replicate (columns - 1) Rest
 
+-- the cells of a look in so many columns
+abbrev pub look_cells : ℕ → Look → Attributes → List Cell
+look_cells columns (look.Glyph g) face = glyph_cells columns g face
+look_cells columns other face = blanks columns face
+
 -- a scalar value in the columns that Unicode gives it, 1 to 3, with up to 6 marks that take none
 pub record IsMeasured (g : Glyph) : Type 0 where
   pub scalar : IsTrue (is_scalar g.base)

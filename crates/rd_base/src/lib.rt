@@ -18,7 +18,7 @@ mod settings;
 mod steps;
 
 pub use cell::{Cell, Glyph};
-pub use cells::push_glyph;
+pub use cells::{push_glyph, push_look};
 pub use chars::{Ch, characters, columns_of, encode};
 pub use class::Class;
 pub use element::{Element, Elements, Extent, Look, Origin};

@@ -1,4 +1,3 @@
-mod Columns
 mod Elements
 mod Holding
 pub mod Joined

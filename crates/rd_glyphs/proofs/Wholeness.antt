@@ -1,20 +1,20 @@
 -- The cells of a plain line stand whole, and there are as many as it has columns.
-use Rattle.std.proofs.Common.{◌≡◌, ℕ, ◌+◌, ◌-◌, ◌<◌, ◌≤◌, ◌≢◌, Bool, true, false, IsTrue, List, [], ◌∷◌, ◌++◌, length, length-append, map, get_or, set, replicate, Option, Some, None, IfSome, All, refl, sym, subst, ◌∙◌, arith, length-set, get_or-set_same, get_or-set_other}
+use Rattle.std.proofs.Common.{◌≡◌, ℕ, ◌+◌, ◌-◌, ◌<◌, ◌≤◌, ◌≢◌, Bool, true, false, IsTrue, List, [], ◌∷◌, ◌++◌, length, length-append, map, get_or, set, Option, Some, None, IfSome, All, refl, sym, subst, ◌∙◌, arith, length-set, get_or-set_same, get_or-set_other}
 use Rattle.std.specs.Prelude.{nat_lt, nat_le, if◌then◌else◌}
 use Rattle.std.specs.List.{AllByRecursion}
 use Rattle.std.proofs.lemmas.Bool.Decides.{nat_tests}
 use Rattle.std.proofs.lemmas.List.{length-replicate}
-use Rattle.std.proofs.lemmas.List.Elements.{All-append, All-nil, All-cons, All-replicate, All-from_recursion, recursion_from_All}
+use Rattle.std.proofs.lemmas.List.Elements.{All-append, All-nil, All-from_recursion, recursion_from_All}
 use Rattle.unicode_width.specs.Width.{char_width}
 use Rattle.rd_base.specs.Chars.{is_scalar, is_code}
 use Rattle.rd_base.specs.Cells.{single, HasColours, IsColoured, with_mark, joined_glyph}
 use Rattle.rd_base.specs.Faces.{Attributes}
-use Rattle.rd_base.specs.Glyphs.{is_space, blanks, IsMeasured, IsMeasuredLook, IsRowAfter}
-use Rattle.rd_base.proofs.Colours.{blanks-coloured}
-use Rattle.rd_base.proofs.Rows.{behind-whole, blanks-whole, glyph-whole, printable-measured}
+use Rattle.rd_base.specs.Glyphs.{blanks, IsMeasured, IsMeasuredLook, IsRowAfter}
+use Rattle.rd_base.proofs.Colours.{blanks-coloured, look-coloured}
+use Rattle.rd_base.proofs.Rows.{behind-whole, blanks-whole, glyph-whole, look_length, printable-measured}
 use Rattle.rd_base.specs.declared.cell.Glyph.{Glyph}
 use Rattle.rd_base.specs.declared.cell.Cell.{Cell}
-use Rattle.rd_base.specs.declared.cell.Cell.TheVariants.{Blank, First, Rest}
+use Rattle.rd_base.specs.declared.cell.Cell.TheVariants.{Blank}
 use Rattle.rd_base.specs.declared.element.Look.{Look}
 use Rattle.rd_base.specs.declared.element.Look.TheVariants as look
 use Rattle.rd_ucd.specs.declared.spans.Span.{Span}
@@ -27,7 +27,6 @@ use Rattle.rd_glyphs.specs.Characters.{PartValues, TakesColumns, ShowsColumns, s
 use Rattle.rd_glyphs.specs.MarkRoles.{mark_role_by, mark_role_of, base_of, mark_of, IsMark, IsMeasuredRole}
 use Rattle.rd_glyphs.specs.Marks.{marked_glyph, marks_joined}
 use Rattle.rd_glyphs.specs.Lines.{PlainPart, part_of, plain_part, plain_joins, looks_of_parts, plain_looks, cells_of, fitted, plain_cells}
-use Rattle.rd_glyphs.proofs.Columns.{cell_count}
 use Rattle.rd_glyphs.proofs.Elements.{shown_as-columns, looks-columns}
 use Rattle.rd_glyphs.proofs.Joined.{Grows, marks_joined-all}
 use Rattle.rd_glyphs.proofs.Measures.{ShowsMeasured, on_blank-measured, shown_as-measured, looks-measured, role-measured}
@@ -36,9 +35,7 @@ use Rattle.rd_glyphs.proofs.Measures.{ShowsMeasured, on_blank-measured, shown_as
 
 look-whole : (face : Attributes) (l : Look) → IsMeasuredLook l → IsRowAfter 0 (cells_of face l)
 look-whole face (look.Glyph g) measured = glyph-whole g.width g face measured refl
-look-whole face look.Blank measured = tt
-look-whole face look.RowEnd measured = tt
-look-whole face look.LineEnd measured = tt
+look-whole face other measured = blanks-whole (look_columns other) face
 
 fitted-by : (face : Attributes) (room : ℕ) (l : Look) (cells : List Cell) → IsMeasuredLook l → IsRowAfter 0 cells → (fits : Bool) → IsRowAfter 0 (if fits then cells_of face l ++ cells else blanks room face)
 fitted-by face room l cells measured row true = behind-whole 0 (cells_of face l) cells (look-whole face l measured) row
@@ -203,7 +200,7 @@ fitted-length face room (l ∷ ls) each = by-room (nat_le (look_columns l) room)
   by-room : (fits : Bool) → nat_le (look_columns l) room ≡ fits → length (fitted face (room - look_columns l) ls) ≡ room - look_columns l → length (if fits then cells_of face l ++ fitted face (room - look_columns l) ls else blanks room face) ≡ room
   by-room true e rest =
       let sum = length-append (cells_of face l) (fitted face (room - look_columns l) ls) in
-      let first = cell_count face l each.0 in
+      let first = look_length (look_columns l) l face each.0.0 in
       let fits : look_columns l ≤ room = grind (arith, nat_tests) in
       omega arith
   by-room false e rest = length-replicate room (Blank face)
@@ -214,20 +211,11 @@ plain-length classes face width text = fitted-length face width (plain_looks cla
 
 -- ---- colours
 
-cells-coloured : (face : Attributes) (l : Look) → HasColours face → All IsColoured (cells_of face l)
-cells-coloured face (look.Glyph g) c = by-space (is_space g) where
-  by-space : (space : Bool) → All IsColoured (if space then blanks g.width face else First g face ∷ replicate (g.width - 1) Rest)
-  by-space true = blanks-coloured g.width face c
-  by-space false = All-cons IsColoured (First g face) (replicate (g.width - 1) Rest) c (All-replicate IsColoured (g.width - 1) Rest tt)
-cells-coloured face look.Blank c = blanks-coloured 1 face c
-cells-coloured face look.RowEnd c = All-nil IsColoured
-cells-coloured face look.LineEnd c = All-nil IsColoured
-
 fitted-coloured : (face : Attributes) (room : ℕ) (ls : List Look) → HasColours face → All IsColoured (fitted face room ls)
 fitted-coloured face room [] c = blanks-coloured room face c
 fitted-coloured face room (l ∷ ls) c = by-room (nat_le (look_columns l) room) (fitted-coloured face (room - look_columns l) ls c) where
   by-room : (fits : Bool) → All IsColoured (fitted face (room - look_columns l) ls) → All IsColoured (if fits then cells_of face l ++ fitted face (room - look_columns l) ls else blanks room face)
-  by-room true rest = All-append IsColoured (cells_of face l) (fitted face (room - look_columns l) ls) (cells-coloured face l c) rest
+  by-room true rest = All-append IsColoured (cells_of face l) (fitted face (room - look_columns l) ls) (look-coloured (look_columns l) l face c) rest
   by-room false rest = blanks-coloured room face c
 
 -- the colours of a plain line are those of its face

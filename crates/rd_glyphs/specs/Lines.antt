@@ -1,9 +1,9 @@
 -- A plain line of text, such as a mode line.
-use Rattle.std.specs.Prelude.{ℕ, ◌+◌, ◌-◌, nat_le, true, if◌then◌else◌, List, [], ◌∷◌, ◌++◌, map, None}
+use Rattle.std.specs.Prelude.{ℕ, ◌-◌, nat_le, true, if◌then◌else◌, List, [], ◌∷◌, ◌++◌, map, None}
 use Rattle.std.specs.List.{flat_map}
 use Rattle.rd_base.specs.Faces.{Attributes}
 use Rattle.rd_base.specs.Cells.{single}
-use Rattle.rd_base.specs.Glyphs.{blanks, glyph_cells}
+use Rattle.rd_base.specs.Glyphs.{blanks, look_cells}
 use Rattle.rd_base.specs.Lists.{total}
 use Rattle.rd_base.specs.declared.cell.Cell.{Cell}
 use Rattle.rd_base.specs.declared.element.Look.{Look}
@@ -51,8 +51,7 @@ plain_looks classes text = looks_of_parts (marks_joined plain_joins (map (plain_
 
 -- the cells of a look
 abbrev pub cells_of : Attributes → Look → List Cell
-cells_of face (look.Glyph g) = glyph_cells g.width g face
-cells_of face other = blanks (look_columns other) face
+cells_of face l = look_cells (look_columns l) l face
 
 -- looks in so many columns, while they fit, and blanks in the rest
 abbrev pub fitted : Attributes → ℕ → List Look → List Cell

@@ -5,11 +5,11 @@ ghost use Rattle.rd_base.specs.Cells.{single};
 ghost use Rattle.rd_base.specs.Glyphs.{IsRowAfter};
 ghost use Rattle.rd_glyphs.specs.Characters.{looks_of, look_columns, TakesColumns, ShowsColumns};
 ghost use Rattle.rd_glyphs.specs.Held.{HoldsColumns, has_room, joined_held, joined_to, held_looks, given, held_after};
-ghost use Rattle.rd_glyphs.specs.Lines.{plain_looks, cells_of, fitted, plain_cells};
+ghost use Rattle.rd_glyphs.specs.Lines.{plain_looks, fitted, plain_cells};
 
 use crate::looks::{look_columns, looks_of, on_blank};
 use crate::shown::{Shown, shown_as};
-use rd_base::{Cell, Ch, Face, Glyph, ListOf, Look, Memory, push_glyph};
+use rd_base::{Cell, Ch, Face, Glyph, ListOf, Look, Memory, push_look};
 use rd_ucd::Classes;
 use std::alloc::Global;
 
@@ -144,6 +144,7 @@ fn with_mark(glyph: Glyph, code: u32) -> Glyph
 }
 
 /// Looks in so many columns, while they fit, and blanks in the rest.
+#[tactic(auto, using(rd_base::proofs::Rows::look_length))]
 fn fit(alloc: Global, looks: &[Look], face: Face, width: u32) -> Result<ListOf<Cell>, Memory>
     requires { All TakesColumns looks.now }
     ensures value { IfOk result (λ cells. cells ≡ fitted face width looks.now) }
@@ -157,22 +158,9 @@ fn fit(alloc: Global, looks: &[Look], face: Face, width: u32) -> Result<ListOf<C
             cells.push_copies(room as u64, Cell::Blank(face))?;
             return Ok(cells);
         }
-        put_cells(&mut cells, *look, face)?;
+        push_look(&mut cells, columns as u64, *look, face)?;
         room -= columns;
     }
     cells.push_copies(room as u64, Cell::Blank(face))?;
     Ok(cells)
-}
-
-/// Adds the cells of a look.
-#[tactic(auto, using(crate::proofs::Columns::cell_count))]
-fn put_cells(cells: &mut ListOf<Cell>, look: Look, face: Face) -> Result<(), Memory>
-    requires { TakesColumns look }
-    ensures value { OnOk result (cells.new ≡ cells.old ++ cells_of face look) }
-    ensures count { OnOk result (length cells.new ≡ length cells.old + look_columns look) }
-{
-    match look {
-        Look::Glyph(glyph) => push_glyph(cells, glyph.width as u64, glyph, face),
-        _ => cells.push_copies(look_columns(look) as u64, Cell::Blank(face)),
-    }
 }

@@ -1,22 +1,22 @@
 -- In the rows of elements whose colours are in their range each cell has such colours.
-use Rattle.std.proofs.Common.{ℕ, zero, ◌+◌, ◌-◌, ◌&&◌, min, max, nat_le, nat_lt, Bool, true, false, List, [], ◌∷◌, ◌++◌, length, flat_map, replicate, All, arith, Option, None, Some}
-use Rattle.std.proofs.lemmas.List.Elements.{All-nil, All-cons, All-tail, All-append, All-replicate}
+use Rattle.std.proofs.Common.{ℕ, zero, ◌+◌, ◌-◌, ◌&&◌, min, max, nat_le, nat_lt, Bool, true, false, List, [], ◌∷◌, ◌++◌, length, flat_map, replicate, All, arith}
+use Rattle.std.proofs.lemmas.List.Elements.{All-nil, All-cons, All-tail, All-append}
 use Rattle.std.specs.List.{AllByRecursion}
 use Rattle.rd_base.proofs.Choices.{either}
 use Rattle.rd_base.specs.Cells.{HasColours, IsColoured}
-use Rattle.rd_base.specs.Faces.{Attributes, plain}
-use Rattle.rd_base.specs.Glyphs.{is_space, blanks, glyph_cells}
+use Rattle.rd_base.specs.Faces.{plain}
+use Rattle.rd_base.specs.Glyphs.{blanks}
 use Rattle.rd_base.specs.declared.cell.Cell.{Cell}
 use Rattle.rd_base.specs.declared.cell.Cell.TheVariants.{Blank, First, Rest}
 use Rattle.rd_base.specs.declared.cell.Glyph.{Glyph}
 use Rattle.rd_base.specs.declared.element.Element.{Element}
-use Rattle.rd_base.proofs.Colours.{plain-coloured, blanks-coloured}
+use Rattle.rd_base.proofs.Colours.{plain-coloured, blanks-coloured, with-rests, look-coloured}
 use Rattle.rd_base.proofs.Lists.{all-front, all-back, all-one, each-append}
 use Rattle.rd_rows.specs.declared.cutting.Cutting.{Cutting}
 use Rattle.rd_rows.specs.declared.spot.Placed.{Placed}
 use Rattle.rd_rows.specs.Mirrors.{mirror_image, leading_rests}
-use Rattle.rd_rows.specs.Placing.{glyph_in, next_row, columns_of}
-use Rattle.rd_rows.specs.Rows.{whole_cells, seen, seen_in, mark, front_mark, filled, last_cell, from_edge, row_of, rows_of, cutting_of}
+use Rattle.rd_rows.specs.Placing.{next_row, columns_of}
+use Rattle.rd_rows.specs.Rows.{seen, seen_in, mark, front_mark, filled, last_cell, from_edge, row_of, rows_of, cutting_of}
 use Rattle.rd_rows.specs.Shapes.{ShapeValues, room, truncates}
 use Rattle.rd_rows.proofs.Marks.{mark-coloured}
 use Rattle.rd_rows.proofs.Placings.{fitted-each, placed-each}
@@ -26,22 +26,12 @@ use Rattle.rd_rows.proofs.Splits.{placed_in, over-rows}
 abbrev HaveColours : List Placed → Type 0
 HaveColours ps = AllByRecursion (λ (p : Placed). HasColours p.element.face) ps
 
-with-rests : (cell : Cell) (n : ℕ) → IsColoured cell → All IsColoured (cell ∷ replicate n Rest)
-with-rests cell n h = All-cons IsColoured cell (replicate n Rest) h (All-replicate IsColoured n Rest tt)
-
 -- the cells of an element
-
-glyph-coloured : (columns : ℕ) (g : Glyph) (face : Attributes) → HasColours face → All IsColoured (glyph_cells columns g face)
-glyph-coloured columns g face h = either (All IsColoured) (is_space g) _ _ (blanks-coloured columns face h) (with-rests (First g face) (columns - 1) h)
-
-whole-coloured : (columns : ℕ) (glyph : Option Glyph) (face : Attributes) → HasColours face → All IsColoured (whole_cells columns glyph face)
-whole-coloured columns None face h = blanks-coloured columns face h
-whole-coloured columns (Some g) face h = glyph-coloured columns g face h
 
 seen-coloured : (from to : ℕ) (p : Placed) → HasColours p.element.face → All IsColoured (seen from to p)
 seen-coloured from to p h =
     either (All IsColoured) (nat_le from p.start && nat_le (p.start + p.columns) to) _ _
-    (whole-coloured p.columns (glyph_in p.element.look) p.element.face h)
+    (look-coloured p.columns p.element.look p.element.face h)
     (blanks-coloured (min to (p.start + p.columns) - max from p.start) p.element.face h)
 
 all-coloured : (from to : ℕ) (ps : List Placed) → HaveColours ps → All IsColoured (flat_map (seen from to) ps)

@@ -1,14 +1,13 @@
 -- Elements that stand one behind the other, and how many cells are seen of them.
-use Rattle.std.proofs.Common.{◌≡◌, ℕ, zero, suc, ◌+◌, ◌-◌, ◌≤◌, ◌&&◌, min, max, nat_le, not, Bool, true, false, if◌then◌else◌, List, [], ◌∷◌, ◌++◌, length, flat_map, Some, refl, ap, sym, ◌∙◌, subst, arith, length-append, replicate}
+use Rattle.std.proofs.Common.{◌≡◌, ℕ, zero, suc, ◌+◌, ◌-◌, ◌≤◌, ◌&&◌, min, max, nat_le, not, Bool, true, false, if◌then◌else◌, List, [], ◌∷◌, ◌++◌, length, flat_map, Some, refl, ap, sym, ◌∙◌, subst, arith, length-append}
 use Rattle.std.specs.Prelude.{slice_get}
 use Rattle.std.proofs.lemmas.Bool.Decides.{nat_tests}
 use Rattle.std.proofs.lemmas.List.{length-replicate}
 use Rattle.std.proofs.lemmas.List.Elements.{All-tail}
+use Rattle.rd_base.proofs.Rows.{glyph_length}
 use Rattle.rd_base.specs.Elements.{IsSound, IsSoundLook, AreSound}
 use Rattle.rd_base.specs.Faces.{Attributes}
-use Rattle.rd_base.specs.Glyphs.{is_space, glyph_cells}
-use Rattle.rd_base.specs.declared.cell.Cell.TheVariants.{Rest}
-use Rattle.rd_base.specs.declared.cell.Glyph.{Glyph}
+use Rattle.rd_base.specs.Glyphs.{look_cells}
 use Rattle.rd_base.specs.declared.element.Element.{Element}
 use Rattle.rd_base.specs.declared.element.Extent.{Extent}
 use Rattle.rd_base.specs.declared.element.Extent.TheVariants.{Fixed, Tab, Column}
@@ -16,9 +15,9 @@ use Rattle.rd_base.specs.declared.element.Look.{Look}
 use Rattle.rd_base.specs.declared.element.Look.TheVariants.{Blank, Glyph as Shown, RowEnd, LineEnd}
 use Rattle.rd_rows.specs.declared.spot.Placed.{Placed}
 use Rattle.rd_rows.specs.declared.spot.Spot.{Spot}
-use Rattle.rd_rows.specs.Placing.{width_at, is_blank, glyph_in, columns_in, placed_at, behind, behind_all, place_all, columns_of}
+use Rattle.rd_rows.specs.Placing.{width_at, is_blank, columns_in, placed_at, behind, behind_all, place_all, columns_of}
 use Rattle.rd_rows.specs.Prefixes.{FillsColumns, StandFrom}
-use Rattle.rd_rows.specs.Rows.{seen, seen_in, first_seen, whole_cells}
+use Rattle.rd_rows.specs.Rows.{seen, seen_in, first_seen}
 use Rattle.rd_rows.specs.Shapes.{ShapeValues, room, truncates}
 
 -- one more element
@@ -67,15 +66,9 @@ stand-placed shape spot (x ∷ xs) h =
 
 -- the cells that are seen
 
-glyph-length : (b : Bool) (columns : ℕ) (g : Glyph) (face : Attributes) → is_space g ≡ b → 1 ≤ columns → length (glyph_cells columns g face) ≡ columns
-glyph-length true columns g face h some = rw h (length-replicate columns _)
-glyph-length false columns g face h some = let e = length-replicate (columns - 1) Rest in rw h (let k : suc (length (replicate (columns - 1) Rest)) ≡ columns = omega (arith, e, some) in k)
-
-whole-length : (look : Look) (columns : ℕ) (face : Attributes) → FillsColumns look columns → length (whole_cells columns (glyph_in look) face) ≡ columns
-whole-length Blank columns face h = length-replicate columns _
-whole-length RowEnd columns face h = length-replicate columns _
-whole-length LineEnd columns face h = length-replicate columns _
-whole-length (Shown g) columns face h = glyph-length (is_space g) columns g face refl h.1
+whole-length : (look : Look) (columns : ℕ) (face : Attributes) → FillsColumns look columns → length (look_cells columns look face) ≡ columns
+whole-length (Shown g) columns face h = glyph_length columns g face h.1
+whole-length other columns face h = length-replicate columns _
 
 seen-length : (b : Bool) (from to : ℕ) (p : Placed) → (nat_le from p.start && nat_le (p.start + p.columns) to) ≡ b → FillsColumns p.element.look p.columns
     → length (seen from to p) ≡ min to (p.start + p.columns) - max from p.start

@@ -4,21 +4,21 @@ use Rattle.std.proofs.lemmas.List.{length-replicate}
 use Rattle.rd_base.proofs.Choices.{either}
 use Rattle.rd_base.specs.Elements.{IsSound, AreSound}
 use Rattle.rd_base.specs.Faces.{Attributes, plain}
-use Rattle.rd_base.specs.Glyphs.{blanks, IsMeasuredLook, AreMeasured, IsRowAfter}
+use Rattle.rd_base.specs.Glyphs.{blanks, look_cells, IsMeasuredLook, AreMeasured, IsRowAfter}
 use Rattle.rd_base.specs.declared.cell.Cell.{Cell}
-use Rattle.rd_base.specs.declared.cell.Cell.TheVariants.{Blank as Empty, First, Rest}
+use Rattle.rd_base.specs.declared.cell.Cell.TheVariants.{Blank, First, Rest}
 use Rattle.rd_base.specs.declared.cell.Glyph.{Glyph}
 use Rattle.rd_base.specs.declared.element.Element.{Element}
 use Rattle.rd_base.specs.declared.element.Look.{Look}
-use Rattle.rd_base.specs.declared.element.Look.TheVariants.{Blank, Glyph as Shown, RowEnd, LineEnd}
+use Rattle.rd_base.specs.declared.element.Look.TheVariants.{Glyph as Shown}
 use Rattle.rd_base.proofs.Lists.{all-front, all-back, each-append}
 use Rattle.rd_base.proofs.Rows.{behind-whole, blanks-whole, rests-whole, glyph-whole}
 use Rattle.rd_rows.specs.declared.cutting.Cutting.{Cutting}
 use Rattle.rd_rows.specs.declared.spot.Placed.{Placed}
 use Rattle.rd_rows.specs.Mirrors.{mirror_image, leading_rests}
-use Rattle.rd_rows.specs.Placing.{glyph_in, next_row, columns_of}
+use Rattle.rd_rows.specs.Placing.{next_row, columns_of}
 use Rattle.rd_rows.specs.Prefixes.{FillsColumns, StandFrom}
-use Rattle.rd_rows.specs.Rows.{whole_cells, seen, seen_in, first_seen, front_mark, filled, last_cell, from_edge, row_of, rows_of, cutting_of}
+use Rattle.rd_rows.specs.Rows.{seen, seen_in, first_seen, front_mark, filled, last_cell, from_edge, row_of, rows_of, cutting_of}
 use Rattle.rd_rows.specs.Shapes.{ShapeValues, room, truncates}
 use Rattle.rd_rows.specs.Whole.{IsWhole, AreWhole, IsMark, IsMeasuredPrefix, ArePlacedMeasured, IsMeasuredCutting}
 use Rattle.rd_rows.proofs.Fitting.{cutting-leads}
@@ -28,11 +28,9 @@ use Rattle.rd_rows.proofs.Placings.{fitted-each, placed-each}
 use Rattle.rd_rows.proofs.Splits.{placed_in, over-rows}
 use Rattle.rd_rows.proofs.Stands.{stand-append, stand-placed, room-length}
 
-cells-whole : (look : Look) (columns : ℕ) (face : Attributes) → FillsColumns look columns → IsMeasuredLook look → IsRowAfter 0 (whole_cells columns (glyph_in look) face)
-cells-whole Blank columns face fills measured = blanks-whole columns face
-cells-whole RowEnd columns face fills measured = blanks-whole columns face
-cells-whole LineEnd columns face fills measured = blanks-whole columns face
+cells-whole : (look : Look) (columns : ℕ) (face : Attributes) → FillsColumns look columns → IsMeasuredLook look → IsRowAfter 0 (look_cells columns look face)
 cells-whole (Shown g) columns face fills measured = glyph-whole columns g face measured fills.0
+cells-whole other columns face fills measured = blanks-whole columns face
 
 seen-whole : (b : Bool) (from to : ℕ) (p : Placed) → (nat_le from p.start && nat_le (p.start + p.columns) to) ≡ b → FillsColumns p.element.look p.columns → IsMeasuredLook p.element.look
     → IsRowAfter 0 (seen from to p)
@@ -58,15 +56,15 @@ last-whole c used continued m =
 
 mirror-whole : (due : ℕ) (cells : List Cell) → IsRowAfter due cells → IsRowAfter 0 (mirror_image cells) × (leading_rests cells ≡ due)
 mirror-whole zero [] h = (tt, refl)
-mirror-whole zero (Empty f ∷ cells) h =
+mirror-whole zero (Blank f ∷ cells) h =
     let rest = mirror-whole zero cells h in
-    (behind-whole 0 (mirror_image cells) (Empty f ∷ replicate (leading_rests cells) Rest) rest.0 (rw rest.1 tt), refl)
+    (behind-whole 0 (mirror_image cells) (Blank f ∷ replicate (leading_rests cells) Rest) rest.0 (rw rest.1 tt), refl)
 mirror-whole zero (First g f ∷ cells) h =
     let rest = mirror-whole (g.width - 1) cells h.1 in
     (behind-whole 0 (mirror_image cells) (First g f ∷ replicate (leading_rests cells) Rest) rest.0 (rw rest.1 (h.0, rests-whole (g.width - 1))), refl)
 mirror-whole zero (Rest ∷ cells) h = absurd h
 mirror-whole (suc due) [] h = absurd h
-mirror-whole (suc due) (Empty f ∷ cells) h = absurd h
+mirror-whole (suc due) (Blank f ∷ cells) h = absurd h
 mirror-whole (suc due) (First g f ∷ cells) h = absurd h
 mirror-whole (suc due) (Rest ∷ cells) h = let rest = mirror-whole due cells h in (rest.0, ap suc rest.1)
 
@@ -83,7 +81,7 @@ edge-whole false cells h = (h, refl)
 filled-length : (r : ℕ) (cells : List Cell) → length cells ≤ r → length (filled r cells) ≡ r
 filled-length r cells h =
     let size : length (filled r cells) ≡ length cells + (r - length cells)
-    = length-append cells (blanks (r - length cells) plain) ∙ ap (λ n. length cells + n) (length-replicate (r - length cells) (Empty plain)) in
+    = length-append cells (blanks (r - length cells) plain) ∙ ap (λ n. length cells + n) (length-replicate (r - length cells) (Blank plain)) in
     omega (arith, size, h)
 
 row-whole : (c : Cutting) (used : ℕ) (continued : Bool) (ps : List Placed) → IsMeasuredCutting c → StandFrom 0 ps used → ArePlacedMeasured ps → IsWhole c.shape.width (row_of c used continued ps)

@@ -3,12 +3,11 @@ use Rattle.std.specs.Prelude.{ℕ, ◌+◌, ◌-◌, ◌%◌, ◌==◌, ◌&&◌
 use Rattle.std.specs.List.{list_any}
 use Rattle.rd_base.specs.Elements.{is_line_end}
 use Rattle.rd_base.specs.Lists.{total}
-use Rattle.rd_base.specs.declared.cell.Glyph.{Glyph}
 use Rattle.rd_base.specs.declared.element.Element.{Element}
 use Rattle.rd_base.specs.declared.element.Extent.{Extent}
 use Rattle.rd_base.specs.declared.element.Extent.TheVariants.{Fixed, Tab, Column}
 use Rattle.rd_base.specs.declared.element.Look.{Look}
-use Rattle.rd_base.specs.declared.element.Look.TheVariants.{Blank, Glyph as Shown, RowEnd, LineEnd}
+use Rattle.rd_base.specs.declared.element.Look.TheVariants.{Blank, RowEnd, LineEnd}
 use Rattle.rd_rows.specs.declared.spot.Placed.{Placed}
 use Rattle.rd_rows.specs.declared.spot.Spot.{Spot}
 use Rattle.rd_rows.specs.Shapes.{ShapeValues, room, truncates}
@@ -28,10 +27,6 @@ abbrev pub ends_row : Look → Bool
 ends_row RowEnd = true
 ends_row LineEnd = true
 ends_row look = false
-
-abbrev pub glyph_in : Look → Option Glyph
-glyph_in (Shown g) = Some g
-glyph_in look = None
 
 -- where a line begins
 abbrev pub line_start : Spot

@@ -1,7 +1,7 @@
 -- The rows into which a line is cut, from all of its elements.
-use Rattle.std.specs.Prelude.{ℕ, zero, suc, ◌+◌, ◌-◌, ◌==◌, ◌&&◌, min, max, nat_lt, nat_le, Bool, if◌then◌else◌, List, [], ◌∷◌, ◌++◌, length, drop, flat_map, Option, None, Some}
-use Rattle.rd_base.specs.Faces.{Attributes, plain}
-use Rattle.rd_base.specs.Glyphs.{is_space, blanks, glyph_cells}
+use Rattle.std.specs.Prelude.{ℕ, zero, suc, ◌+◌, ◌-◌, ◌==◌, ◌&&◌, min, max, nat_lt, nat_le, Bool, if◌then◌else◌, List, [], ◌∷◌, ◌++◌, length, drop, flat_map}
+use Rattle.rd_base.specs.Faces.{plain}
+use Rattle.rd_base.specs.Glyphs.{is_space, blanks, look_cells}
 use Rattle.rd_base.specs.Lists.{total}
 use Rattle.rd_base.specs.declared.cell.Cell.{Cell}
 use Rattle.rd_base.specs.declared.cell.Cell.TheVariants.{Blank, First}
@@ -14,7 +14,7 @@ use Rattle.rd_rows.specs.declared.spot.Spot.{Spot}
 use Rattle.rd_rows.specs.Shapes.{ShapeValues, room, truncates}
 use Rattle.rd_rows.specs.Mirrors.{mirror_image}
 use Rattle.rd_rows.specs.Cuts.{cut_row}
-use Rattle.rd_rows.specs.Placing.{glyph_in, line_start, next_row, next_line, place_all, behind_all, has_line_end, columns_of}
+use Rattle.rd_rows.specs.Placing.{line_start, next_row, next_line, place_all, behind_all, has_line_end, columns_of}
 use Rattle.rd_rows.specs.Prefixes.{prefix_of}
 
 -- what is seen of a row, whoever made it
@@ -29,16 +29,11 @@ pub record LaidRow : Type 0 where
   pub row : RowMeaning
   pub weight : ℕ
 
--- the cells of an element that is seen whole
-abbrev pub whole_cells : ℕ → Option Glyph → Attributes → List Cell
-whole_cells columns None face = blanks columns face
-whole_cells columns (Some g) face = glyph_cells columns g face
-
 -- what is seen of an element from one column up to another: all of it, or blanks of its face where only a part lies there
 abbrev pub seen : ℕ → ℕ → Placed → List Cell
 seen from to p =
     if nat_le from p.start && nat_le (p.start + p.columns) to
-    then whole_cells p.columns (glyph_in p.element.look) p.element.face
+    then look_cells p.columns p.element.look p.element.face
     else blanks (min to (p.start + p.columns) - max from p.start) p.element.face
 
 -- the cell of a mark, which stands in the plain face

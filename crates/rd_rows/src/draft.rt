@@ -4,9 +4,9 @@ ghost use Rattle.rd_base.specs.Elements.{width_at_most};
 ghost use Rattle.rd_base.specs.declared.element.Element.{Element};
 ghost use Rattle.rd_rows.specs.declared.spot.Placed.{Placed};
 ghost use Rattle.rd_rows.specs.declared.spot.Spot.{Spot};
-ghost use Rattle.rd_rows.specs.Placing.{placed_at, glyph_in, next_row, columns_of};
+ghost use Rattle.rd_rows.specs.Placing.{placed_at, next_row, columns_of};
 ghost use Rattle.rd_rows.specs.Shapes.{room};
-ghost use Rattle.rd_rows.specs.Rows.{whole_cells, seen_in, first_seen, front_mark, from_edge, mark, last_cell, begin_of, finished_row};
+ghost use Rattle.rd_rows.specs.Rows.{seen_in, first_seen, front_mark, from_edge, mark, last_cell, begin_of, finished_row};
 ghost use Rattle.rd_rows.specs.Makers.{Grows, IsDraft, IsBreak, IsNoted, kept_of};
 
 use crate::begin::Begin;
@@ -17,7 +17,7 @@ use crate::row::Row;
 use crate::shape::Shape;
 use crate::spot::{Placed, Spot};
 use rd_base::limits::PREFIX_COLUMNS;
-use rd_base::{Cell, Element, Face, Glyph, ListOf, Look, Memory, push_glyph};
+use rd_base::{Cell, Element, Face, Glyph, ListOf, Memory, push_look};
 use std::alloc::Global;
 
 /// The cells and the items of the elements that were placed in a row so far, where the next element comes, and how many elements
@@ -50,16 +50,6 @@ pub fn mark_cell(glyph: &Glyph) -> Cell
     Cell::First(*glyph, Face::PLAIN)
 }
 
-/// Adds the cells of an element that is seen whole.
-fn add_whole(cells: &mut ListOf<Cell>, placed: &Placed) -> Result<(), Memory>
-    ensures { OnOk result (cells.new ≡ cells.old ++ whole_cells placed.now.columns (glyph_in placed.now.element.look) placed.now.element.face) }
-{
-    match placed.element.look {
-        Look::Glyph(glyph) => push_glyph(cells, placed.columns, glyph, placed.element.face),
-        _ => cells.push_copies(placed.columns, Cell::Blank(placed.element.face)),
-    }
-}
-
 /// Adds what is seen of an element in the window.
 fn add_seen(cells: &mut ListOf<Cell>, shape: Shape, placed: &Placed) -> Result<(), Memory>
     requires { placed.now.start + placed.now.columns < 2 ^ 64 }
@@ -69,7 +59,12 @@ fn add_seen(cells: &mut ListOf<Cell>, shape: Shape, placed: &Placed) -> Result<(
     let to = shape.hscroll as u64 + shape.room();
     let end = placed.start + placed.columns;
     if from <= placed.start && end <= to {
-        return add_whole(cells, placed);
+        return push_look(
+            cells,
+            placed.columns,
+            placed.element.look,
+            placed.element.face,
+        );
     }
     let columns = end.min(to).saturating_sub(placed.start.max(from));
     cells.push_copies(columns, Cell::Blank(placed.element.face))

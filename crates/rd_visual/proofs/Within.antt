@@ -1,16 +1,18 @@
 -- The items of a row begin in columns of its window.
-use Rattle.std.proofs.Common.{◌≡◌, ℕ, zero, suc, ◌+◌, ◌-◌, ◌<◌, ◌≤◌, ◌&&◌, min, max, nat_le, nat_lt, Bool, true, false, List, [], ◌∷◌, ◌++◌, All, Option, None, Some, refl, subst, arith, length-append}
+use Rattle.std.proofs.Common.{◌≡◌, ℕ, zero, suc, ◌+◌, ◌-◌, ◌<◌, ◌≤◌, ◌&&◌, min, max, nat_le, nat_lt, Bool, true, false, List, [], ◌∷◌, ◌++◌, All, Some, refl, subst, arith, length-append}
 use Rattle.std.specs.Prelude.{flat_map, length, if◌then◌else◌, replicate, slice_get}
 use Rattle.std.proofs.lemmas.List.{length-replicate}
 use Rattle.std.proofs.lemmas.List.Elements.{All-append, All-cons, All-map, All-nil}
 use Rattle.rd_base.proofs.Choices.{either}
 use Rattle.rd_base.proofs.Lists.{all-at, all-back, all-front}
 use Rattle.rd_base.specs.Faces.{Attributes, plain}
-use Rattle.rd_base.specs.Glyphs.{blanks, is_space}
+use Rattle.rd_base.specs.Glyphs.{blanks, is_space, look_cells}
 use Rattle.rd_base.specs.declared.cell.Cell.{Cell}
 use Rattle.rd_base.specs.declared.cell.Cell.TheVariants.{Blank, First, Rest}
 use Rattle.rd_base.specs.declared.cell.Glyph.{Glyph}
 use Rattle.rd_base.specs.declared.element.Element.{Element}
+use Rattle.rd_base.specs.declared.element.Look.{Look}
+use Rattle.rd_base.specs.declared.element.Look.TheVariants as look
 use Rattle.rd_matrix.proofs.EachRow.{rows-each}
 use Rattle.rd_rows.proofs.Mirroring.{mirror-length}
 use Rattle.rd_rows.proofs.Splits.{over-rows, placed_in}
@@ -26,8 +28,7 @@ use Rattle.rd_blocks.specs.Rows.{block_cutting}
 use Rattle.rd_blocks.specs.Sources.{text_source}
 use Rattle.rd_visual.specs.Hits.{AreRowsAt}
 use Rattle.rd_rows.specs.Mirrors.{leading_rests}
-use Rattle.rd_rows.specs.Placing.{glyph_in}
-use Rattle.rd_rows.specs.Rows.{LaidRow, RowMeaning, begin_of, filled, first_seen, from_edge, front_mark, laid, last_cell, mark, row_of, rows_of, seen, seen_in, whole_cells}
+use Rattle.rd_rows.specs.Rows.{LaidRow, RowMeaning, begin_of, filled, first_seen, from_edge, front_mark, laid, last_cell, mark, row_of, rows_of, seen, seen_in}
 use Rattle.rd_rows.specs.Shapes.{IsShape, ShapeValues, room, truncates}
 use Rattle.rd_rows.specs.declared.begin.Begin.{Begin}
 use Rattle.rd_rows.specs.declared.cutting.Cutting.{Cutting}
@@ -71,15 +72,15 @@ leading-blanks (suc n) f = refl
 leading-either : (b : Bool) (xs ys : List Cell) → leading_rests xs ≡ 0 → leading_rests ys ≡ 0 → leading_rests (if b then xs else ys) ≡ 0
 leading-either b xs ys none more = either (λ cells. leading_rests cells ≡ 0) b xs ys none more
 
-leading-whole : (n : ℕ) (g : Option Glyph) (f : Attributes) → leading_rests (whole_cells n g f) ≡ 0
-leading-whole n None f = leading-blanks n f
-leading-whole n (Some g) f = leading-either (is_space g) (blanks n f) (First g f ∷ replicate (n - 1) Rest) (leading-blanks n f) refl
+leading-look : (n : ℕ) (l : Look) (f : Attributes) → leading_rests (look_cells n l f) ≡ 0
+leading-look n (look.Glyph g) f = leading-either (is_space g) (blanks n f) (First g f ∷ replicate (n - 1) Rest) (leading-blanks n f) refl
+leading-look n other f = leading-blanks n f
 
 leading-seen : (from to : ℕ) (p : Placed) → leading_rests (seen from to p) ≡ 0
 leading-seen from to p =
     leading-either (nat_le from p.start && nat_le (p.start + p.columns) to)
-    (whole_cells p.columns (glyph_in p.element.look) p.element.face) (blanks (min to (p.start + p.columns) - max from p.start) p.element.face)
-    (leading-whole p.columns (glyph_in p.element.look) p.element.face) (leading-blanks (min to (p.start + p.columns) - max from p.start) p.element.face)
+    (look_cells p.columns p.element.look p.element.face) (blanks (min to (p.start + p.columns) - max from p.start) p.element.face)
+    (leading-look p.columns p.element.look p.element.face) (leading-blanks (min to (p.start + p.columns) - max from p.start) p.element.face)
 
 leading-all : (shape : ShapeValues) (ps : List Placed) → leading_rests (flat_map (seen_in shape) ps) ≡ 0
 leading-all shape [] = refl
