@@ -13,7 +13,7 @@ use std::mem;
 ///
 /// It keeps the room of two lines: a line is filled beside the one that is shown, and takes its place when all its levels are
 /// known. So want of memory leaves the levels as they were, and a line that is no longer than two before it takes memory for its
-/// isolating run sequences alone.
+/// isolating run sequences and for the brackets in them alone.
 #[derive(Drop)]
 pub struct LevelCache {
     alloc: Global,

@@ -1,5 +1,5 @@
--- What the frames of a walk have still to give, step by step: a step is the elements of one character, space or end, or of nothing
--- where a string is entered.
+-- What the frames of a walk have still to give, step by step: a step is the elements of one character, ellipsis, space or end, or of
+-- nothing where a string is entered.
 use Rattle.std.specs.Prelude.{ℕ, Bool, true, false, List, [], ◌∷◌, ◌++◌, slice_get, Option, None, Some}
 use Rattle.std.specs.List.{flat_map}
 use Rattle.rd_base.specs.Faces.{Attributes}

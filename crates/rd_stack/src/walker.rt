@@ -14,7 +14,7 @@ use std::alloc::Global;
 
 /// The elements of a line, of which some are still to be given. It holds the frames of what is being walked through, the innermost last:
 /// the block, a string in it, and a display string in that one; each has the levels of its line or row and the place reached in visual
-/// order, and borrows its text. Of the elements it holds those of one character at most.
+/// order, and borrows its text. Of the elements it holds those of one character or of one ellipsis at most.
 #[derive(Drop)]
 pub struct Walker<'a> {
     pub(crate) frames: SmallVec<Frame<'a>, 3>,
