@@ -1,17 +1,16 @@
 -- Where the same is seen at the positions of a block, the same is read of it.
-use Rattle.std.proofs.Common.{◌≡◌, inl, inr, ℕ, zero, suc, ◌+◌, ◌-◌, ◌<◌, ◌≤◌, Bool, true, false, ◌&&◌, List, [], ◌∷◌, refl, sym, ap, subst, ◌∙◌, arith}
-use Rattle.std.specs.Prelude.{pos, ◌-ℤ◌, nat_lt}
-use Rattle.std.proofs.lemmas.Bool.{and_parts, cond-true}
-use Rattle.std.proofs.lemmas.Bool.Decides.{nat_tests}
+use Rattle.std.proofs.Common.{◌≡◌, inr, ℕ, zero, suc, ◌+◌, ◌-◌, ◌<◌, ◌≤◌, true, false, List, [], ◌∷◌, refl, sym, ap, subst, ◌∙◌, arith}
+use Rattle.std.specs.Prelude.{pos, ◌-ℤ◌}
+use Rattle.std.proofs.lemmas.Bool.{cond-true}
 use Rattle.std.proofs.lemmas.Int.{ints}
 use Rattle.rd_base.specs.declared.settings.Invisible.{Invisible}
 use Rattle.rd_objects.specs.Things.{ObjectLists}
 use Rattle.rd_props.specs.Agreement.{IsSame, Unchanged}
 use Rattle.rd_props.specs.Buffers.{BufferValue}
 use Rattle.rd_props.specs.Seen.{Seen, seen_at}
-use Rattle.rd_items.specs.Blocks.{is_shown_newline, EndsBlock, IsBlock}
+use Rattle.rd_items.specs.Blocks.{IsBlock}
 use Rattle.rd_items.specs.Readings.{is_ender, ends_block, reading_from, reading}
-use Rattle.rd_items.proofs.Readings.{end-ends, reading-more}
+use Rattle.rd_items.proofs.Readings.{newline-ends, block-ends, reading-more}
 use Rattle.rd_reuse.specs.declared.change.Change.{Change}
 
 -- ---- what is read from a position on
@@ -59,21 +58,10 @@ module _ (old : BufferValue) (made : ObjectLists) (new : BufferValue) (objects :
 
   module _ (c : Change) (unchanged : Unchanged old made new objects c.head c.tail c.added) (from to : ℕ) (block : IsBlock new from to) where
     inside-goes : (q : ℕ) → from ≤ q → suc q < to → ends_block new q ≡ false
-    inside-goes q low less =
-        let last = block.last in
-        let inside : nat_lt q new.text.end ≡ true = grind (arith, nat_tests) in
-        subst (λ (t : Bool). (t && ends_block new q) ≡ false) inside (block.inside q low less)
+    inside-goes q low less = sym (newline-ends new q (let last = block.last in omega arith)) ∙ block.inside q low less
 
     last-ends : (q : ℕ) → suc q ≡ to → ends_block new q ≡ true
-    last-ends q here = by-end block.ends where
-      by-end : EndsBlock new to → ends_block new q ≡ true
-      by-end (inl end) =
-          let place : q ≡ new.text.end = omega arith in
-          ap (ends_block new) place ∙ end-ends new objects
-      by-end (inr newline) =
-          let place : to - 1 ≡ q = omega arith in
-          let shown : is_shown_newline new q ≡ true = ap (is_shown_newline new) (sym place) ∙ newline in
-          (and_parts (nat_lt q new.text.end) (ends_block new q) shown).1
+    last-ends q here = block-ends new objects q to (sym here) block.ends
 
     length-of : suc from ≤ to → to ≡ from + suc (to - suc from)
     length-of some = omega arith

@@ -6,7 +6,8 @@ use Rattle.std.proofs.lemmas.Option.{same_Some}
 use Rattle.rd_props.specs.Buffers.{BufferValue}
 use Rattle.rd_items.specs.Readings.{ends_block}
 use Rattle.rd_items.specs.Blocks.{blocks_from, blocks_of, Adjoin, is_shown_newline, StartsBlock, EndsBlock, IsBlock}
-use Rattle.rd_items.proofs.Newlines.{newline-ends, AreInside, both-inside, one-inside}
+use Rattle.rd_items.proofs.Newlines.{AreInside, both-inside, one-inside}
+use Rattle.rd_items.proofs.Readings.{newline-ends}
 
 -- ---- lists of blocks that adjoin
 

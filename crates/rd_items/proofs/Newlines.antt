@@ -9,16 +9,10 @@ use Rattle.rd_text.proofs.Searches.{next_bound, next_before, next_at, prev_bound
 use Rattle.rd_objects.specs.Things.{ObjectLists}
 use Rattle.rd_props.specs.Buffers.{BufferValue}
 use Rattle.rd_props.specs.Seen.{accessible_char}
-use Rattle.rd_items.specs.Readings.{showing_at, is_open, ends_line, ends_block}
+use Rattle.rd_items.specs.Readings.{showing_at, is_open, ends_line}
 use Rattle.rd_items.specs.Blocks.{is_shown_newline}
 use Rattle.rd_items.specs.AlikeRanges.{IsAlikeRange}
 use Rattle.rd_items.specs.declared.alike_range.AlikeRange.{AlikeRange}
-
--- before the end a shown newline is an ender
-pub newline-ends : (s : BufferValue) (p : ℕ) → p < s.text.end → is_shown_newline s p ≡ ends_block s p
-newline-ends s p before =
-    let inside : nat_lt p s.text.end ≡ true = grind (arith, nat_tests) in
-    rw inside
 
 -- no shown newline from one position up to another
 abbrev pub AreInside : BufferValue → ℕ → ℕ → Type 0

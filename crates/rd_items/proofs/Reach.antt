@@ -7,9 +7,8 @@ use Rattle.rd_base.specs.declared.settings.Invisible.{Invisible}
 use Rattle.rd_objects.specs.Things.{ObjectLists}
 use Rattle.rd_props.specs.Seen.{Seen, seen_at}
 use Rattle.rd_items.specs.Readings.{is_ender, ends_block, reading_from, reading, IsReading}
-use Rattle.rd_items.specs.Blocks.{is_shown_newline, IsBlock}
-use Rattle.rd_items.proofs.Newlines.{newline-ends}
-use Rattle.rd_items.proofs.Readings.{end-ends}
+use Rattle.rd_items.specs.Blocks.{is_shown_newline, EndsBlock, IsBlock}
+use Rattle.rd_items.proofs.Readings.{end-ends, newline-ends, block-ends}
 
 read-one : (s : BufferValue) (o : ObjectLists) (n p : ℕ) → ends_block s p ≡ true → length (reading_from s o (suc n) p) ≡ 1
 read-one s o n p ender = ap (λ (es : List Seen). suc (length es)) (cond-true (ends_block s p) [] (reading_from s o n (suc p)) ender)
@@ -22,17 +21,11 @@ record IsRest (s : BufferValue) (p to : ℕ) : Type 0 where
   some : p < to
   last : to ≤ s.text.end + 1
   inside : (q : ℕ) → p ≤ q → suc q < to → is_shown_newline s q ≡ false
-  ends : (to ≡ s.text.end + 1) ⊎ (is_shown_newline s (to - 1) ≡ true)
-
-ends-here : (s : BufferValue) (p to : ℕ) → p < s.text.end → to ≡ suc p → (to ≡ s.text.end + 1) ⊎ (is_shown_newline s (to - 1) ≡ true) → ends_block s p ≡ true
-ends-here s p to before here (inl end) = absurd (omega arith)
-ends-here s p to before here (inr newline) =
-    let place : to - 1 ≡ p = omega arith in
-    sym (newline-ends s p before) ∙ sym (ap (is_shown_newline s) place) ∙ newline
+  ends : EndsBlock s to
 
 reach-by : (s : BufferValue) (o : ObjectLists) (n p to : ℕ) → p + suc n ≡ s.text.end → IsRest s p to → (IsRest s (suc p) to → suc p + length (reading_from s o n (suc p)) ≡ to) → (to ≡ suc p) ⊎ (suc p < to) → p + length (reading_from s o (suc n) p) ≡ to
 reach-by s o n p to far rest later (inl here) =
-    let one = read-one s o n p (ends-here s p to (omega arith) here rest.ends) in
+    let one = read-one s o n p (block-ends s o p to here rest.ends) in
     omega arith
 reach-by s o n p to far rest later (inr more) =
     let goes : ends_block s p ≡ false = sym (newline-ends s p (omega arith)) ∙ rest.inside p (omega arith) more in

@@ -1,7 +1,7 @@
 -- What is read of a buffer, by what is seen at its positions.
-use Rattle.std.proofs.Common.{◌≡◌, ℕ, ◌-◌, ◌<◌, ◌≤◌, true, false, if◌then◌else◌, List, [], ◌∷◌, None, ap, ◌∙◌, arith, All}
-use Rattle.std.specs.Prelude.{zero, suc}
-use Rattle.std.proofs.lemmas.Bool.{and_from, both_ways, cond-false}
+use Rattle.std.proofs.Common.{◌≡◌, inl, inr, ℕ, ◌-◌, ◌<◌, ◌≤◌, true, false, if◌then◌else◌, List, [], ◌∷◌, None, sym, ap, ◌∙◌, arith, All}
+use Rattle.std.specs.Prelude.{zero, suc, nat_lt}
+use Rattle.std.proofs.lemmas.Bool.{and_from, and_parts, both_ways, cond-false}
 use Rattle.std.proofs.lemmas.Bool.Decides.{nat_tests}
 use Rattle.std.proofs.lemmas.List.Elements.{All-nil, All-cons}
 use Rattle.rd_base.proofs.Choices.{either}
@@ -9,6 +9,7 @@ use Rattle.rd_base.proofs.Lists.{all-one}
 use Rattle.rd_objects.specs.Things.{ObjectLists}
 use Rattle.rd_props.specs.Buffers.{BufferValue}
 use Rattle.rd_props.specs.Seen.{Seen, seen_at, accessible_char}
+use Rattle.rd_items.specs.Blocks.{is_shown_newline, EndsBlock}
 use Rattle.rd_items.specs.Readings.{showing_at, is_open, ends_line, ends_block, reading_from, reading}
 
 -- what holds of what is seen at each position holds of all that is read
@@ -36,7 +37,20 @@ end-char s = grind (arith, nat_tests)
 pub end-ends : (s : BufferValue) (o : ObjectLists) → ends_block s s.text.end ≡ true
 end-ends s o = and_from (is_open (showing_at s o s.text.end)) (ends_line (accessible_char s.text s.text.end)) (end-open s o) (ap ends_line (end-char s))
 
--- a position that is none stands before it
+-- before the end a shown newline is an ender
+pub newline-ends : (s : BufferValue) (p : ℕ) → p < s.text.end → is_shown_newline s p ≡ ends_block s p
+newline-ends s p before =
+    let inside : nat_lt p s.text.end ≡ true = grind (arith, nat_tests) in
+    rw inside
+
+-- the last position of a block is an ender
+pub block-ends : (s : BufferValue) (o : ObjectLists) (p to : ℕ) → to ≡ suc p → EndsBlock s to → ends_block s p ≡ true
+block-ends s o p to here (inl end) = let place : p ≡ s.text.end = omega (arith, here, end) in ap (ends_block s) place ∙ end-ends s o
+block-ends s o p to here (inr newline) =
+    let place : to - 1 ≡ p = omega (arith, here) in
+    (and_parts (nat_lt p s.text.end) (ends_block s p) (ap (is_shown_newline s) (sym place) ∙ newline)).1
+
+-- a position that is no ender stands before the end
 pub before-end : (s : BufferValue) (o : ObjectLists) (p : ℕ) → p ≤ s.text.end → ends_block s p ≡ false → p < s.text.end
 before-end s o p within ender =
     let differs : p ≡ s.text.end → ⊥ = λ e. both_ways (ends_block s p) ender (rw e (end-ends s o)) in
