@@ -54,26 +54,16 @@ both-inside begin next tail later_tail moved_tail d e same first last least = om
 module _ (laws : ChangeLaws) (first second third : BufferValue) (a b c : ObjectLists) (change later : Change) where
   both-lead : Leads first a second b change → Leads second b third c later → LeadsTo first a third c (join change later)
   both-lead one two = by-all (is_all change || is_all later) where
-    by-range : (t : Bool) → LeadsTo first a third c (if t then record { head = min change.head later.head; tail = max (moved later.added change.tail) later.tail; added = change.added +ℤ later.added } else all)
-    by-range false = inl refl
-    by-range true =
-        let least = moved-least later.added change.tail in
-        let last = two.inside in
-        inr (record {
-          follows = record {
-            settings = two.follows.settings ∙ one.follows.settings;
-            closed = one.follows.closed;
-            named = one.follows.named;
-            extends = laws.further a b c one.follows.extends two.follows.extends;
-            unchanged = laws.joins first second third a b c change.head later.head change.tail later.tail (max (moved later.added change.tail) later.tail) change.added later.added one.follows.unchanged two.follows.unchanged last
-                (omega (arith, ints, least)) (omega arith);
-          };
-          inside = both-inside first.text.begin second.text.begin change.tail later.tail (moved later.added change.tail) change.added later.added one.follows.unchanged.begin one.inside last least;
-        })
-
     by-all : (t : Bool) → LeadsTo first a third c (if t then all else change_of (min change.head later.head) (max (moved later.added change.tail) later.tail) (change.added +ℤ later.added))
     by-all true = inl refl
-    by-all false = by-range (nat_le (max (moved later.added change.tail) later.tail) 4294967295 && is_small (change.added +ℤ later.added))
+    by-all false =
+        let least = moved-least later.added change.tail in
+        let last = two.inside in
+        leads-ranged first third a c (min change.head later.head) (max (moved later.added change.tail) later.tail) (change.added +ℤ later.added) one.follows.closed one.follows.named
+        (two.follows.settings ∙ one.follows.settings) (laws.further a b c one.follows.extends two.follows.extends)
+        (laws.joins first second third a b c change.head later.head change.tail later.tail (max (moved later.added change.tail) later.tail) change.added later.added one.follows.unchanged two.follows.unchanged last
+        (omega (arith, ints, least)) (omega arith))
+        (both-inside first.text.begin second.text.begin change.tail later.tail (moved later.added change.tail) change.added later.added one.follows.unchanged.begin one.inside last least)
 
   pub leads-joined : LeadsTo first a second b change → LeadsTo second b third c later → LeadsTo first a third c (join change later)
   leads-joined (inl any) two = inl (ap (λ (x : Change). join x later) any ∙ laws.first_all later)
