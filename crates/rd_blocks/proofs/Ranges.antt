@@ -1,10 +1,9 @@
 -- The ranges of the items of a line are those of its block's items, in another order.
-use Rattle.std.proofs.Common.{◌≡◌, ℕ, zero, suc, ◌+◌, ◌<◌, ◌≤◌, nat_lt, nat_eq, Bool, true, false, cond, not, ◌&&◌, List, [], ◌∷◌, ◌++◌, length, map, All, inl, inr, Option, None, Some, refl, ap, ap₂, sym, ◌∙◌, subst, arith}
+use Rattle.std.proofs.Common.{◌≡◌, ℕ, ◌+◌, ◌<◌, ◌≤◌, nat_lt, nat_eq, Bool, true, false, cond, not, ◌&&◌, List, [], ◌∷◌, ◌++◌, length, map, All, inl, inr, Option, None, Some, refl, ap, sym, ◌∙◌, subst, arith}
 use Rattle.std.specs.Prelude.{if◌then◌else◌, slice_get, count_by}
-use Rattle.std.specs.List.{flat_map, range_with_len, AllByRecursion}
+use Rattle.std.specs.List.{flat_map, AllByRecursion}
 use Rattle.std.proofs.lemmas.Bool.Decides.{nat_tests}
 use Rattle.std.proofs.lemmas.Bool.{and_parts, le-leb, lt-ltb, not-true}
-use Rattle.std.proofs.lemmas.List.{length-map}
 use Rattle.std.proofs.lemmas.List.Elements.{All-cons, All-nil, All-append, All-tail, All-from_recursion}
 use Rattle.rd_base.specs.declared.element.Element.{Element}
 use Rattle.rd_base.specs.declared.element.Origin.{Origin}
@@ -12,7 +11,7 @@ use Rattle.rd_items.specs.Pieces.{Scene}
 use Rattle.rd_items.specs.Items.{kind_gives}
 use Rattle.rd_items.specs.Covers.{Tile, CoverWhereTheyGive}
 use Rattle.rd_items.specs.declared.item.Item.{Item}
-use Rattle.rd_levels.proofs.Turns.{total_in, each-turn}
+use Rattle.rd_levels.proofs.Turns.{total_in, each-turn, each-item}
 use Rattle.rd_levels.specs.declared.turn.Turn.{Turn}
 use Rattle.rd_matrix.specs.Held.{in_range, are_inside}
 use Rattle.rd_order.proofs.Once.{is_place, once-at-most}
@@ -131,26 +130,11 @@ module _ (s : Scene) (base : ℕ) (q : ℕ × ℕ → Bool) where
       (counted items before ts some (once-rest t ts once) (behind-rest before t ts behind))
       (counted items (Some t.index) ts some (once-rest t ts once) (once-behind t ts once))
 
-hit-behind : (q : ℕ × ℕ → Bool) (x : Item) (xs : List Item) (i : ℕ) → hit q (x ∷ xs) (1 + i) ≡ hit q xs (0 + i)
-hit-behind q x xs i =
-    let one : 1 + i ≡ suc i = omega arith in
-    let none : i ≡ 0 + i = omega arith in
-    ap (hit q (x ∷ xs)) one ∙ ap (hit q xs) none
-
 -- counted by items
 
-total-same : (f g : ℕ → ℕ) (from to n : ℕ) → ((i : ℕ) → f (from + i) ≡ g (to + i)) → total f (range_with_len from n) ≡ total g (range_with_len to n)
-total-same f g from to zero h = refl
-total-same f g from to (suc n) h =
-    let here : f from ≡ g to = subst (λ k. f k ≡ g to) (let e : from + 0 ≡ from = omega arith in e) (subst (λ k. f (from + 0) ≡ g k) (let e : to + 0 ≡ to = omega arith in e) (h 0)) in
-    let rest = total-same f g (from + 1) (to + 1) n (λ i. subst (λ k. f k ≡ g (to + 1 + i)) (let e : from + (1 + i) ≡ from + 1 + i = omega arith in e) (subst (λ k. f (from + (1 + i)) ≡ g k) (let e : to + (1 + i) ≡ to + 1 + i = omega arith in e) (h (1 + i)))) in
-    ap₂ (λ (a b : ℕ). a + b) here rest
-
-hits : (q : ℕ × ℕ → Bool) (items : List Item) → total (hit q items) (range_with_len 0 (length items)) ≡ count_by q (map range_of_item items)
+hits : (q : ℕ × ℕ → Bool) (items : List Item) → total (λ x. hit_by q (Some x)) items ≡ count_by q (map range_of_item items)
 hits q [] = refl
-hits q (x ∷ xs) =
-    ap (λ n. cond (q (range_of_item x)) 1 0 + n) (total-same (hit q (x ∷ xs)) (hit q xs) 1 0 (length xs) (λ i. hit-behind q x xs i) ∙ hits q xs)
-    ∙ sym (count-cons q (range_of_item x) (map range_of_item xs))
+hits q (x ∷ xs) = ap (λ n. cond (q (range_of_item x)) 1 0 + n) (hits q xs) ∙ sym (count-cons q (range_of_item x) (map range_of_item xs))
 
 -- items that tile
 
@@ -221,8 +205,7 @@ line-once law s base size k items tile give below =
     let each = each-turn s.brackets s.parts.settings.reorder base classes codes in
     let once : (i : ℕ) → total_in (is_place i) ts ≤ 1 = λ i. let all = each (is_place i) in let most = once-at-most i 0 (length classes) in omega (arith, all, most) in
     counted s base (in_range k) items None ts (λ i x at. item-has law s base k x (all-at (λ (y : Item). nat_lt y.from y.to ≡ (not y.overlay && kind_gives s y.kind)) items i x give at)) once tt
-    ∙ each (hit (in_range k) items)
-    ∙ ap (λ n. total (hit (in_range k) items) (range_with_len 0 n)) (length-map items item_class)
+    ∙ each-item (hit_by (in_range k)) item_class s.brackets s.parts.settings.reorder base items codes
     ∙ hits (in_range k) items
     ∙ tiled-once k 0 size items tile (omega arith) below
 

@@ -1,6 +1,6 @@
 -- The turns of a line go through each of its places once, and are as many.
-use Rattle.std.proofs.Common.{◌≡◌, ℕ, ◌+◌, ◌<◌, nat_eq, Bool, true, false, cond, List, [], ◌∷◌, length, map, refl, ap, ◌∙◌, arith}
-use Rattle.std.specs.Prelude.{◌==◌, count_by}
+use Rattle.std.proofs.Common.{◌≡◌, ℕ, suc, ◌+◌, ◌<◌, nat_eq, Bool, true, false, cond, List, [], ◌∷◌, length, map, Option, Some, refl, ap, ap₂, ◌∙◌, arith}
+use Rattle.std.specs.Prelude.{◌==◌, count_by, slice_get}
 use Rattle.std.specs.List.{range_with_len}
 use Rattle.std.proofs.lemmas.List.{length-map, length-replicate}
 use Rattle.std.proofs.lemmas.List.Sums.{sum_by-cons}
@@ -38,6 +38,22 @@ each-turn entries reorder base classes codes f =
     in-turns f levels (l2_visual_order base levels)
     ∙ total-order f base levels
     ∙ ap (λ n. total f (range_with_len 0 n)) (as-long entries reorder base classes codes)
+
+-- a number for what stands at each place, in order
+total-places : {X : Type 0} (g : Option X → ℕ) (f : ℕ → ℕ) (from : ℕ) (xs : List X) → ((i : ℕ) → f (from + i) ≡ g (slice_get xs i)) → total f (range_with_len from (length xs)) ≡ total (λ x. g (Some x)) xs
+total-places g f from [] same = refl
+total-places g f from (x ∷ xs) same =
+    let here = (let e : from ≡ from + 0 = omega arith in ap f e) ∙ same 0 in
+    ap₂ (λ (a b : ℕ). a + b) here (total-places g f (from + 1) xs (λ i. (let e : from + 1 + i ≡ from + suc i = omega arith in ap f e) ∙ same (suc i)))
+
+-- a number for the item of each turn adds up to that number for each item
+pub each-item : {X : Type 0} (g : Option X → ℕ) (class : X → Class) (entries : List BracketEntry) (reorder : Bool) (base : ℕ) (xs : List X) (codes : List ℕ)
+    → total_in (λ i. g (slice_get xs i)) (turns_of entries reorder base (map class xs) codes) ≡ total (λ x. g (Some x)) xs
+each-item g class entries reorder base xs codes =
+    let f : ℕ → ℕ = λ i. g (slice_get xs i) in
+    each-turn entries reorder base (map class xs) codes f
+    ∙ ap (λ n. total f (range_with_len 0 n)) (length-map xs class)
+    ∙ total-places g f 0 xs (λ i. let e : 0 + i ≡ i = omega arith in ap f e)
 
 count-turns : (k : ℕ) (ts : List Turn) → count_by (λ t. k == t.index) ts ≡ total_in (is_place k) ts
 count-turns k [] = refl

@@ -1,9 +1,7 @@
 -- The ranges of items in order of position, and in visual order.
-use Rattle.std.proofs.Common.{◌≡◌, inl, inr, ℕ, suc, ◌+◌, ◌<◌, nat_lt, Bool, true, false, if◌then◌else◌, List, [], ◌∷◌, ◌++◌, length, map, Option, Some, refl, sym, ap, subst, ◌∙◌, arith, true≢false}
+use Rattle.std.proofs.Common.{◌≡◌, inl, inr, ℕ, ◌+◌, ◌<◌, nat_lt, Bool, true, false, if◌then◌else◌, List, [], ◌∷◌, ◌++◌, map, Option, Some, refl, sym, ap, ◌∙◌, arith, true≢false}
 use Rattle.std.specs.Prelude.{count_by, slice_get}
-use Rattle.std.specs.List.{range_with_len}
 use Rattle.std.proofs.lemmas.Bool.Decides.{nat_tests}
-use Rattle.std.proofs.lemmas.List.{length-map}
 use Rattle.rd_base.proofs.Lists.{count-append}
 use Rattle.rd_base.specs.Lists.{total}
 use Rattle.rd_props.specs.Seen.{Seen}
@@ -12,7 +10,7 @@ use Rattle.rd_items.specs.Items.{items_of}
 use Rattle.rd_items.specs.Pieces.{Scene}
 use Rattle.rd_items.specs.declared.item.Item.{Item}
 use Rattle.rd_levels.specs.declared.turn.Turn.{Turn}
-use Rattle.rd_levels.proofs.Turns.{total_in, each-turn}
+use Rattle.rd_levels.proofs.Turns.{total_in, each-item}
 use Rattle.rd_stack.specs.Lines.{item_class, item_code, item_turns}
 use Rattle.rd_visual.specs.Motion.{range_by, ranges_in_turn, ranges_of}
 use Rattle.rd_visual.specs.Order.{StandBetween, range_of, ranges_in_order}
@@ -47,24 +45,14 @@ in-turns p start items (t ∷ ts) =
     count-append p (range_by start (slice_get items t.index)) (ranges_in_turn start items ts)
     ∙ ap (λ n. counted p start (slice_get items t.index) + n) (in-turns p start items ts)
 
-by-place : (p : Range → Bool) (f : ℕ → ℕ) (start a : ℕ) (items : List Item) → ((i : ℕ) → f (a + i) ≡ counted p start (slice_get items i))
-    → total f (range_with_len a (length items)) ≡ count_by p (ranges_in_order start items)
-by-place p f start a [] same = refl
-by-place p f start a (x ∷ xs) same =
-    let here : f a ≡ counted p start (Some x) = subst (λ k. f k ≡ counted p start (Some x)) (let e : a + 0 ≡ a = omega arith in e) (same 0) in
-    let rest = by-place p f start (a + 1) xs (λ i. subst (λ k. f k ≡ counted p start (slice_get xs i)) (let e : a + suc i ≡ a + 1 + i = omega arith in e) (same (suc i))) in
-    let both = count-append p (range_by start (Some x)) (ranges_in_order start xs) in
-    omega (arith, here, rest, both)
-
-from-none : (f : ℕ → ℕ) (i : ℕ) → f (0 + i) ≡ f i
-from-none f i = let e : 0 + i ≡ i = omega arith in ap f e
+in-order : (p : Range → Bool) (start : ℕ) (items : List Item) → total (λ x. counted p start (Some x)) items ≡ count_by p (ranges_in_order start items)
+in-order p start [] = refl
+in-order p start (x ∷ xs) = ap (λ n. counted p start (Some x) + n) (in-order p start xs) ∙ sym (count-append p (range_by start (Some x)) (ranges_in_order start xs))
 
 pub turns-permute : (p : Range → Bool) (scene : Scene) (start base : ℕ) (es : List Seen)
     → count_by p (ranges_of scene start base es) ≡ count_by p (ranges_in_order start (items_of scene es))
 turns-permute p scene start base es =
     let items = items_of scene es in
-    let f : ℕ → ℕ = λ i. counted p start (slice_get items i) in
     in-turns p start items (item_turns scene base items)
-    ∙ each-turn scene.brackets scene.parts.settings.reorder base (map item_class items) (map item_code items) f
-    ∙ ap (λ n. total f (range_with_len 0 n)) (length-map items item_class)
-    ∙ by-place p f start 0 items (λ i. from-none f i)
+    ∙ each-item (counted p start) item_class scene.brackets scene.parts.settings.reorder base items (map item_code items)
+    ∙ in-order p start items
