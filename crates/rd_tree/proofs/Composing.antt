@@ -16,11 +16,10 @@ use Rattle.rd_tree.specs.declared.side.Side.{Side}
 use Rattle.rd_tree.specs.declared.side.Side.TheVariants.{Below, Right}
 use Rattle.rd_tree.specs.declared.placed.Placed.{Placed}
 use Rattle.rd_tree.specs.Windows.{Windows, Window, Split, HasRoom, first_part, second_part, placed}
-use Rattle.rd_tree.specs.Places.{is_from, lies_in, windows_with, IsWithin}
+use Rattle.rd_tree.specs.Places.{is_from, lies_in, windows_with}
 use Rattle.rd_tree.specs.Compositions.{beside, composed, cell_at, HasSize, FillTheirRectangles, IsHeld}
 use Rattle.rd_tree.proofs.Rooms.{room_within}
-use Rattle.rd_tree.proofs.Listing.{in_one}
-use Rattle.rd_tree.proofs.Standing.{one_window, first_within, second_within}
+use Rattle.rd_tree.proofs.Standing.{in_one, one_window, stands_listed}
 
 -- rows beside rows
 beside-length : {C : Type 0} (lefts rights : List (List C)) → length lefts ≡ length rights → length (beside lefts rights) ≡ length lefts
@@ -96,26 +95,6 @@ row_of_rest rows_of size first second rect row h f p =
     let a = composed-size rows_of first (first_part Below size rect) h.0 (filled_first rows_of Below size first second rect f) in
     get_or-append_right (composed rows_of first (first_part Below size rect)) (composed rows_of second (second_part Below size rect)) size row [] a.0 p
 
--- a window that is listed stands in the rectangle
-listed_within : (windows : Windows) (rect : Rect) (i : ℕ) (window : Placed) → HasRoom windows rect → slice_get (placed windows rect) i ≡ Some window → IsWithin window.rect rect
-listed_within (Window number mode margins) rect zero window h e =
-    let s : record { number = number; mode = mode; margins = margins; rect = rect } ≡ window = cc in
-    rw (← s) (omega arith, omega arith, omega arith, omega arith)
-listed_within (Window number mode margins) rect (suc i) window h e = absurd (cc)
-listed_within (Split side size first second) rect i window h e =
-    let a = first_part side size rect in
-    let b = second_part side size rect in
-    elim (in_one (placed first a) (placed second b) i window e) [
-      | inl p ↦
-          let s = listed_within first a p.0 window h.0 p.1 in
-          let w = first_within side size first second rect h in
-          (omega arith, omega arith, omega arith, omega arith)
-      | inr p ↦
-          let s = listed_within second b p.0 window h.1 p.1 in
-          let w = second_within side size first second rect h in
-          (omega arith, omega arith, omega arith, omega arith)
-    ]
-
 -- where a cell that lies in a rectangle is
 lies_where : (column row : ℕ) (rect : Rect) → lies_in column row rect ≡ true → (rect.x ≤ column) × (column < rect.x + rect.width) × (rect.y ≤ row) × (row < rect.y + rect.height)
 lies_where column row rect e =
@@ -148,13 +127,13 @@ composed-cell {C = C} rows_of (Split Right size first second) rect column row i 
     let both = row_of_both rows_of size first second rect (row - rect.y) h f in
     elim (in_one (placed first a) (placed second b) i window e) [
       | inl p ↦
-          let w = listed_within first a p.0 window h.0 p.1 in
+          let w = (stands_listed first a p.0 window h.0 p.1).0 in
           let wide : length (row_at lefts (row - rect.y)) ≡ size = row_size size rect.height (row - rect.y) lefts sizes (omega arith) in
           ap (λ (r : List C). slice_get r (column - rect.x)) both
           ∙ (get-first (row_at lefts (row - rect.y)) (row_at rights (row - rect.y)) (column - rect.x) (omega arith)
           ∙ composed-cell rows_of first a column row p.0 window h.0 (filled_first rows_of Right size first second rect f) p.1 l)
       | inr p ↦
-          let w = listed_within second b p.0 window h.1 p.1 in
+          let w = (stands_listed second b p.0 window h.1 p.1).0 in
           let wide : length (row_at lefts (row - rect.y)) ≡ size = row_size size rect.height (row - rect.y) lefts sizes (omega arith) in
           ap (λ (r : List C). slice_get r (column - rect.x)) both
           ∙ (get-second (row_at lefts (row - rect.y)) (row_at rights (row - rect.y)) (column - rect.x) (column - (rect.x + size)) (omega arith)
@@ -166,11 +145,11 @@ composed-cell {C = C} rows_of (Split Below size first second) rect column row i 
     let at = lies_where column row window.rect l in
     elim (in_one (placed first a) (placed second b) i window e) [
       | inl p ↦
-          let w = listed_within first a p.0 window h.0 p.1 in
+          let w = (stands_listed first a p.0 window h.0 p.1).0 in
           ap (λ (r : List C). slice_get r (column - rect.x)) (row_of_top rows_of size first second rect (row - rect.y) h f (omega arith))
           ∙ composed-cell rows_of first a column row p.0 window h.0 (filled_first rows_of Below size first second rect f) p.1 l
       | inr p ↦
-          let w = listed_within second b p.0 window h.1 p.1 in
+          let w = (stands_listed second b p.0 window h.1 p.1).0 in
           let same : (row - rect.y) - size ≡ row - (rect.y + size) = omega arith in
           ap (λ (r : List C). slice_get r (column - rect.x)) (row_of_rest rows_of size first second rect (row - rect.y) h f (omega arith))
           ∙ (ap (λ (n : ℕ). cell_at (column - rect.x) n (composed rows_of second b)) same

@@ -45,7 +45,7 @@ found_held w (Split side size first second) rect =
     ∙ (ap (λ (b : Bool). b || is_some (window_at w second (second_part side size rect))) (found_held w first (first_part side size rect))
     ∙ ap (λ (b : Bool). holds w first || b) (found_held w second (second_part side size rect))))
 
-pub found_in : (a b : Option Placed) (window : Placed) → option_or a b ≡ Some window → (a ≡ Some window) ⊎ ((a ≡ None) × (b ≡ Some window))
+found_in : (a b : Option Placed) (window : Placed) → option_or a b ≡ Some window → (a ≡ Some window) ⊎ ((a ≡ None) × (b ≡ Some window))
 found_in None b window e = inr (refl, e)
 found_in (Some first) b window e = inl e
 

@@ -1,5 +1,5 @@
 -- The windows of a tree in order.
-use Rattle.std.proofs.Common.{◌≡◌, ℕ, zero, suc, ◌≤◌, Bool, true, ◌==◌, List, [], ◌∷◌, ◌++◌, Option, None, Some, ◌⊎◌, inl, inr, refl, sym, ap, ◌∙◌, arith}
+use Rattle.std.proofs.Common.{◌≡◌, ℕ, zero, suc, ◌≤◌, Bool, true, ◌==◌, List, Option, None, Some, inl, inr, refl, sym, ap, ◌∙◌, arith}
 use Rattle.std.specs.Prelude.{slice_get}
 use Rattle.std.specs.Option.{option_map, option_or}
 use Rattle.std.proofs.lemmas.Option.{slice_get-map, same_Some}
@@ -7,14 +7,7 @@ use Rattle.std.proofs.lemmas.Bool.{eq-eqb, or_left, or_right}
 use Rattle.rd_tree.specs.declared.rect.Rect.{Rect}
 use Rattle.rd_tree.specs.declared.placed.Placed.{Placed}
 use Rattle.rd_tree.specs.Windows.{Windows, Window, Split, first_part, second_part, leaves, placed, window_at, holds, times}
-use Rattle.rd_tree.proofs.Standing.{listed, not_found, once_in_first, two_lists}
-
--- what stands in two lists stands in one of them
-pub in_one : (xs ys : List Placed) (i : ℕ) (window : Placed) → slice_get (xs ++ ys) i ≡ Some window → ((j : ℕ) × (slice_get xs j ≡ Some window)) ⊎ ((j : ℕ) × (slice_get ys j ≡ Some window))
-in_one [] ys i window e = inr (i, e)
-in_one (x ∷ xs) ys zero window e = inl (0, e)
-in_one (x ∷ xs) ys (suc i) window e =
-    elim (in_one xs ys i window e) [ inl p ↦ inl (suc p.0, p.1) | inr p ↦ inr p ]
+use Rattle.rd_tree.proofs.Standing.{in_one, listed, not_found, once_in_first, two_lists}
 
 number_of_leaf : (number : ℕ) (mode : Bool) (margins : ℕ) (rect : Rect) (window : Placed) → Some (record { number = number; mode = mode; margins = margins; rect = rect }) ≡ Some window → (number == window.number) ≡ true
 number_of_leaf number mode margins rect window e =

@@ -1,6 +1,6 @@
 -- Where windows stand.
-use Rattle.std.proofs.Common.{◌≡◌, ℕ, ◌+◌, ◌-◌, ◌≤◌, Bool, true, false, if◌then◌else◌, ◌==◌, ◌&&◌, List, [], ◌∷◌, ◌++◌, append_assoc, append-nil, map, Option, None, Some, inl, inr, refl, sym, ap, subst, ◌∙◌, arith}
-use Rattle.std.specs.Prelude.{IfSome}
+use Rattle.std.proofs.Common.{◌≡◌, ℕ, zero, suc, ◌+◌, ◌-◌, ◌≤◌, Bool, true, false, if◌then◌else◌, ◌==◌, ◌&&◌, List, [], ◌∷◌, ◌++◌, append_assoc, append-nil, map, Option, None, Some, ◌⊎◌, inl, inr, refl, sym, ap, ◌∙◌, arith}
+use Rattle.std.specs.Prelude.{IfSome, slice_get}
 use Rattle.std.specs.List.{list_any}
 use Rattle.std.proofs.lemmas.Bool.{cases_Bool, or_parts}
 use Rattle.std.proofs.Math.Bool.{or-false, and-true, and-false}
@@ -9,7 +9,7 @@ use Rattle.std.proofs.lemmas.List.{map-append}
 use Rattle.std.proofs.lemmas.List.Folds.{list_any-append}
 use Rattle.std.specs.Option.{option_or}
 use Rattle.rd_base.proofs.Choices.{none-of}
-use Rattle.rd_base.proofs.Lists.{each-append, total-append}
+use Rattle.rd_base.proofs.Lists.{each-append, found-passes, total-append}
 use Rattle.rd_base.specs.Cells.{bit_of}
 use Rattle.rd_tree.specs.declared.rect.Rect.{Rect}
 use Rattle.rd_tree.specs.declared.side.Side.{Side}
@@ -19,7 +19,7 @@ use Rattle.rd_tree.specs.Windows.{Windows, Window, Split, columns_for, rows_for,
 use Rattle.rd_tree.specs.Calls.{Configuration, IsValid, frame_of, rect_of_placed}
 use Rattle.rd_tree.specs.Places.{is_from, lies_in, windows_with, AllHaveRoom, in_place_of, replaced_first, without, is_among, IsWithin, StandsIn, LiesIn}
 use Rattle.rd_tree.proofs.Rooms.{rows_for-some, room_needs, room_within, of_number-append}
-use Rattle.rd_tree.proofs.Keeping.{found_held, found_in, by_way}
+use Rattle.rd_tree.proofs.Keeping.{found_held, by_way}
 
 -- a place in a range that is cut is in one of the two parts
 is_from-cut : (first size whole place : ℕ) → size ≤ whole → bit_of (is_from first size place) + bit_of (is_from (first + size) (whole - size) place) ≡ bit_of (is_from first whole place)
@@ -215,21 +215,31 @@ second_within Below size first second rect h = let w = room_within Below size fi
 stands_further : (window : Placed) (part rect : Rect) → StandsIn window part → IsWithin part rect → StandsIn window rect
 stands_further window part rect s w = ((omega arith, omega arith, omega arith, omega arith), s.1, s.2)
 
-found_one : (b : Bool) (leaf window : Placed) → (if b then Some leaf else None) ≡ Some window → leaf ≡ window
-found_one true leaf window e = cc
-found_one false leaf window e = absurd (cc)
+-- what stands in two lists stands in one of them
+pub in_one : (xs ys : List Placed) (i : ℕ) (window : Placed) → slice_get (xs ++ ys) i ≡ Some window → ((j : ℕ) × (slice_get xs j ≡ Some window)) ⊎ ((j : ℕ) × (slice_get ys j ≡ Some window))
+in_one [] ys i window e = inr (i, e)
+in_one (x ∷ xs) ys zero window e = inl (0, e)
+in_one (x ∷ xs) ys (suc i) window e =
+    elim (in_one xs ys i window e) [ inl p ↦ inl (suc p.0, p.1) | inr p ↦ inr p ]
 
--- each window that is found stands in the rectangle, with the room that it needs
-pub stands_in : (number : ℕ) (windows : Windows) (rect : Rect) (window : Placed) → HasRoom windows rect → window_at number windows rect ≡ Some window → StandsIn window rect
-stands_in number (Window n mode margins) rect window h e =
-    subst (λ (p : Placed). StandsIn p rect) (found_one (n == number) (record { number = n; mode = mode; margins = margins; rect = rect }) window e) ((omega arith, omega arith, omega arith, omega arith), h.0, h.1)
-stands_in number (Split side size first second) rect window h e =
+-- each window that is listed stands in the rectangle, with the room that it needs
+pub stands_listed : (windows : Windows) (rect : Rect) (i : ℕ) (window : Placed) → HasRoom windows rect → slice_get (placed windows rect) i ≡ Some window → StandsIn window rect
+stands_listed (Window number mode margins) rect zero window h e =
+    let s : record { number = number; mode = mode; margins = margins; rect = rect } ≡ window = cc in
+    rw (← s) ((omega arith, omega arith, omega arith, omega arith), h.0, h.1)
+stands_listed (Window number mode margins) rect (suc i) window h e = absurd (cc)
+stands_listed (Split side size first second) rect i window h e =
     let a = first_part side size rect in
     let b = second_part side size rect in
-    elim (found_in (window_at number first a) (window_at number second b) window (sym (two_lists number side size first second rect) ∙ e)) [
-      | inl p ↦ stands_further window a rect (stands_in number first a window h.0 p) (first_within side size first second rect h)
-      | inr q ↦ stands_further window b rect (stands_in number second b window h.1 q.1) (second_within side size first second rect h)
+    elim (in_one (placed first a) (placed second b) i window e) [
+      | inl p ↦ stands_further window a rect (stands_listed first a p.0 window h.0 p.1) (first_within side size first second rect h)
+      | inr p ↦ stands_further window b rect (stands_listed second b p.0 window h.1 p.1) (second_within side size first second rect h)
     ]
+
+-- and each that is found
+pub stands_in : (number : ℕ) (windows : Windows) (rect : Rect) (window : Placed) → HasRoom windows rect → window_at number windows rect ≡ Some window → StandsIn window rect
+stands_in number windows rect window h e =
+    let found = found-passes (λ (p : Placed). p.number == number) (placed windows rect) window e in stands_listed windows rect found.1 window h found.2
 
 -- a rectangle that is answered of a valid tree lies in its frame
 pub lies_in_frame : (c : Configuration) (found : Option Placed) (number : ℕ) → IsValid c → window_at number c.windows (frame_of c) ≡ found → LiesIn (rect_of_placed found) (frame_of c)
