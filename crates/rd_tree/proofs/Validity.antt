@@ -68,14 +68,14 @@ split_valid c window side size valid held fit full =
       known = λ v p. omega (arith, more v, none_above v c.made false 0 (omega (arith, p)), valid.known v (omega (arith, p)));
     }
 
--- other windows that have room, and none of another number or more often
-with_windows : (c : Configuration) (windows : Windows) → IsValid c → HasRoom windows (frame_of c) → count windows ≤ count c.windows
-    → ((v : ℕ) → times v windows ≤ times v c.windows) → IsValid (record c { windows = windows })
+-- other windows that have room in a frame of another size or the same, and none of another number or more often
+with_windows : (c : Configuration) (windows : Windows) (width height : ℕ) → IsValid c → width ≤ 400 → height ≤ 200 → HasRoom windows (frame width height) → count windows ≤ count c.windows
+    → ((v : ℕ) → times v windows ≤ times v c.windows) → IsValid (record c { windows = windows; width = width; height = height })
 unfolding count
-with_windows c windows valid room fewer less = record {
+with_windows c windows width height valid w h room fewer less = record {
   room = room;
-  wide = valid.wide;
-  high = valid.high;
+  wide = w;
+  high = h;
   few = omega (arith, fewer, valid.few);
   made = valid.made;
   once = λ v. omega (arith, less v, valid.once v);
@@ -91,7 +91,7 @@ changed_valid c window mode_of columns_of valid held fit =
     λ v. replaced_more (times v) window 0 other (times-sum v) (λ n mode _ e. rw (eqb-true n window e) (omega arith)) c.windows held in
     let kept : count (replaced window other c.windows) ≡ count c.windows + 0 =
     replaced_more count window 0 other count-sum (λ n mode _ e. refl) c.windows held in
-    with_windows c (replaced window other c.windows) valid (room-fits (replaced window other c.windows) (frame_of c) fit) (omega (arith, kept)) (λ v. omega (arith, same v))
+    with_windows c (replaced window other c.windows) c.width c.height valid valid.wide valid.high (room-fits (replaced window other c.windows) (frame_of c) fit) (omega (arith, kept)) (λ v. omega (arith, same v))
 
 pub mode_valid : (c : Configuration) (window : ℕ) (shown : Bool) → IsValid c → holds window c.windows ≡ true → fits (with_mode window shown c.windows) (frame_of c) ≡ true → IsValid (record c { windows = with_mode window shown c.windows })
 mode_valid c window shown = changed_valid c window (λ _ _. shown) (λ _ margins. margins)
@@ -106,19 +106,11 @@ remove_valid c window valid held more =
     λ v. removed_less (times v) window (times v (Window window false 0)) (times-sum v) (λ n mode _ e. rw (eqb-true n window e) refl) c.windows (frame_of c) held more in
     let fewer : count (removed window c.windows (frame_of c)) + 1 ≡ count c.windows =
     removed_less count window 1 count-sum (λ n mode _ e. refl) c.windows (frame_of c) held more in
-    with_windows c (removed window c.windows (frame_of c)) valid (removed_room window c.windows (frame_of c) valid.room) (omega (arith, fewer)) (λ v. omega (arith, less v))
+    with_windows c (removed window c.windows (frame_of c)) c.width c.height valid valid.wide valid.high (removed_room window c.windows (frame_of c) valid.room) (omega (arith, fewer)) (λ v. omega (arith, less v))
 
 pub resize_valid : (c : Configuration) (width height : ℕ) → IsValid c → width ≤ 400 → height ≤ 200 → NeedsMet c.windows (frame width height) → IsValid (record c { windows = resized c.windows (frame width height); width = width; height = height })
 unfolding count
 resize_valid c width height valid w h needs =
     let rect = frame width height in
-    let kept : count (resized c.windows rect) ≡ count c.windows = resized_same count count-sum c.windows rect in
-    record {
-      room = resized_room c.windows rect (room_first_parts c.windows (frame_of c) valid.room) needs;
-      wide = w;
-      high = h;
-      few = omega (arith, valid.few);
-      made = valid.made;
-      once = λ v. omega (arith, resized_same (times v) (times-sum v) c.windows rect, valid.once v);
-      known = λ v p. omega (arith, resized_same (times v) (times-sum v) c.windows rect, valid.known v p);
-    }
+    with_windows c (resized c.windows rect) width height valid w h (resized_room c.windows rect (room_first_parts c.windows (frame_of c) valid.room) needs)
+    (omega (arith, resized_same count count-sum c.windows rect)) (λ v. omega (arith, resized_same (times v) (times-sum v) c.windows rect))
