@@ -2,10 +2,13 @@
 use Rattle.std.proofs.Common.{◌≡◌, ℕ, ◌+◌, Bool, true, false, if◌then◌else◌, ◌==◌, ◌||◌, nat_le, Option, None, Some, ◌⊎◌, inl, inr, refl, sym, ap, ◌∙◌, arith}
 use Rattle.std.specs.Prelude.{is_some}
 use Rattle.std.proofs.lemmas.Bool.{and_parts, and_from, cases_Bool, false≢true}
-use Rattle.std.proofs.Math.Bool.{and-true}
+use Rattle.std.proofs.Math.Bool.{and-true, or-false}
 use Rattle.std.proofs.lemmas.Bool.Decides.{nat_tests}
 use Rattle.std.specs.Option.{option_or}
+use Rattle.std.specs.List.{list_any}
+use Rattle.std.proofs.lemmas.List.Folds.{list_any-append}
 use Rattle.rd_base.proofs.Choices.{second-holds}
+use Rattle.rd_base.proofs.Lists.{is_some-found}
 use Rattle.std.proofs.lemmas.Option.{cond_some}
 use Rattle.rd_tree.specs.declared.rect.Rect.{Rect}
 use Rattle.rd_tree.specs.declared.side.Side.{Side}
@@ -36,14 +39,16 @@ pub is_some-or : {X : Type 0} (a b : Option X) → is_some (option_or a b) ≡ (
 is_some-or None b = refl
 is_some-or (Some x) b = refl
 
+-- a window is one of those that stand
+pub placed_among : (n : ℕ) (windows : Windows) (rect : Rect) → holds n windows ≡ list_any (λ (window : Placed). window.number == n) (placed windows rect)
+placed_among n (Window number mode margins) rect = sym (or-false (number == n))
+placed_among n (Split side size first second) rect =
+    rw (placed_among n first (first_part side size rect), placed_among n second (second_part side size rect))
+    (sym (list_any-append (λ (window : Placed). window.number == n) (placed first (first_part side size rect)) (placed second (second_part side size rect))))
+
 -- a window is among the windows where it is found
 pub found_held : (w : ℕ) (windows : Windows) (rect : Rect) → is_some (window_at w windows rect) ≡ holds w windows
-found_held w (Window number mode margins) rect = is_some-if (number == w) (record { number = number; mode = mode; margins = margins; rect = rect })
-found_held w (Split side size first second) rect =
-    ap is_some (of_number-append w (placed first (first_part side size rect)) (placed second (second_part side size rect)))
-    ∙ (is_some-or (window_at w first (first_part side size rect)) (window_at w second (second_part side size rect))
-    ∙ (ap (λ (b : Bool). b || is_some (window_at w second (second_part side size rect))) (found_held w first (first_part side size rect))
-    ∙ ap (λ (b : Bool). holds w first || b) (found_held w second (second_part side size rect))))
+found_held w windows rect = is_some-found (λ (window : Placed). window.number == w) (placed windows rect) ∙ sym (placed_among w windows rect)
 
 found_in : (a b : Option Placed) (window : Placed) → option_or a b ≡ Some window → (a ≡ Some window) ⊎ ((a ≡ None) × (b ≡ Some window))
 found_in None b window e = inr (refl, e)

@@ -2,11 +2,13 @@
 use Rattle.std.proofs.Common.{◌≡◌, ℕ, zero, suc, ◌≤◌, Bool, true, ◌==◌, List, Option, None, Some, inl, inr, refl, sym, ap, ◌∙◌, arith}
 use Rattle.std.specs.Prelude.{slice_get}
 use Rattle.std.specs.Option.{option_map, option_or}
-use Rattle.std.proofs.lemmas.Option.{slice_get-map, same_Some}
-use Rattle.std.proofs.lemmas.Bool.{eq-eqb, or_left, or_right}
+use Rattle.std.proofs.lemmas.Option.{get_or_from_slice_get, same_Some, slice_get-map, slice_get_within}
+use Rattle.std.proofs.lemmas.Bool.{eq-eqb}
+use Rattle.std.proofs.lemmas.List.Folds.{list_any_at}
 use Rattle.rd_tree.specs.declared.rect.Rect.{Rect}
 use Rattle.rd_tree.specs.declared.placed.Placed.{Placed}
 use Rattle.rd_tree.specs.Windows.{Windows, Window, Split, first_part, second_part, leaves, placed, window_at, holds, times}
+use Rattle.rd_tree.proofs.Keeping.{placed_among}
 use Rattle.rd_tree.proofs.Standing.{in_one, listed, not_found, once_in_first, two_lists}
 
 number_of_leaf : (number : ℕ) (mode : Bool) (margins : ℕ) (rect : Rect) (window : Placed) → Some (record { number = number; mode = mode; margins = margins; rect = rect }) ≡ Some window → (number == window.number) ≡ true
@@ -14,15 +16,9 @@ number_of_leaf number mode margins rect window e =
     eq-eqb number window.number (ap (λ (p : Placed). p.number) (same_Some (record { number = number; mode = mode; margins = margins; rect = rect }) window e))
 
 listed_held : (windows : Windows) (rect : Rect) (i : ℕ) (window : Placed) → slice_get (placed windows rect) i ≡ Some window → holds window.number windows ≡ true
-listed_held (Window number mode margins) rect zero window e = number_of_leaf number mode margins rect window e
-listed_held (Window number mode margins) rect (suc i) window e = absurd (cc)
-listed_held (Split side size first second) rect i window e =
-    let a = first_part side size rect in
-    let b = second_part side size rect in
-    elim (in_one (placed first a) (placed second b) i window e) [
-      | inl p ↦ or_left (holds window.number first) (holds window.number second) (listed_held first a p.0 window p.1)
-      | inr p ↦ or_right (holds window.number first) (holds window.number second) (listed_held second b p.0 window p.1)
-    ]
+listed_held windows rect i window e =
+    let same = eq-eqb _ window.number (ap (λ (p : Placed). p.number) (get_or_from_slice_get (placed windows rect) i window window e)) in
+    placed_among window.number windows rect ∙ list_any_at (λ (p : Placed). p.number == window.number) (placed windows rect) i window (slice_get_within (placed windows rect) i window e) same
 
 -- where no number stands twice, each window that is listed is found by its number
 pub listed_found : (windows : Windows) (rect : Rect) → ((n : ℕ) → times n windows ≤ 1) → (i : ℕ) (window : Placed) → slice_get (placed windows rect) i ≡ Some window → window_at window.number windows rect ≡ Some window

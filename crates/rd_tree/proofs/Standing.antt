@@ -19,7 +19,7 @@ use Rattle.rd_tree.specs.Windows.{Windows, Window, Split, columns_for, rows_for,
 use Rattle.rd_tree.specs.Calls.{Configuration, IsValid, frame_of, rect_of_placed}
 use Rattle.rd_tree.specs.Places.{is_from, lies_in, windows_with, AllHaveRoom, in_place_of, replaced_first, without, is_among, IsWithin, StandsIn, LiesIn}
 use Rattle.rd_tree.proofs.Rooms.{rows_for-some, room_needs, room_within, of_number-append}
-use Rattle.rd_tree.proofs.Keeping.{found_held, by_way}
+use Rattle.rd_tree.proofs.Keeping.{found_held, placed_among, by_way}
 
 -- a place in a range that is cut is in one of the two parts
 is_from-cut : (first size whole place : ℕ) → size ≤ whole → bit_of (is_from first size place) + bit_of (is_from (first + size) (whole - size) place) ≡ bit_of (is_from first whole place)
@@ -77,13 +77,6 @@ first-back p others [] ys e = refl
 first-back p others (x ∷ xs) ys e =
     let both = or_parts (p x) (list_any p xs) e in
     rw both.0 (ap (λ zs. x ∷ zs) (first-back p others xs ys both.1))
-
--- a window is one of those that stand
-placed_among : (n : ℕ) (windows : Windows) (rect : Rect) → holds n windows ≡ list_any (λ (window : Placed). window.number == n) (placed windows rect)
-placed_among n (Window number mode margins) rect = sym (or-false (number == n))
-placed_among n (Split side size first second) rect =
-    rw (placed_among n first (first_part side size rect), placed_among n second (second_part side size rect))
-    (sym (list_any-append (λ (window : Placed). window.number == n) (placed first (first_part side size rect)) (placed second (second_part side size rect))))
 
 at_place : (b : Bool) (others : Placed → List Placed) (other same : Windows) (rect : Rect) (window : Placed) → placed other rect ≡ others window → placed same rect ≡ window ∷ [] → placed (if b then other else same) rect ≡ (if b then others window ++ [] else window ∷ [])
 at_place true others other same rect window e s = rw e (sym (append-nil (others window)))
