@@ -4,6 +4,7 @@ use Rattle.std.specs.Prelude.{if◌then◌else◌, find, fold, slice_get, option
 use Rattle.std.specs.List.{list_any}
 use Rattle.std.specs.Option.{option_map_or}
 use Rattle.std.specs.Str.{bytes_eq}
+use Rattle.std.proofs.lemmas.Bool.{or_parts}
 use Rattle.std.proofs.lemmas.List.{map-append, append-nil}
 use Rattle.std.proofs.lemmas.List.Folds.{find-append}
 use Rattle.clap.proofs.WalkLemmas.{find-map, list_any-map}
@@ -72,12 +73,8 @@ flag-fits us = rw (has_row-is us dump) (kinds-fit (is_used dump us) true kind.Ar
 
 at_row-absent : (id : Text) (change : Row → List Row) (missing rs : List Row) → has_row id rs ≡ false → at_row id change missing rs ≡ rs ++ missing
 at_row-absent id change missing [] e = refl
-at_row-absent id change missing (r ∷ rs) e = go (bytes_eq r.id id) e (at_row-absent id change missing rs)
-  where
-    go : (b : Bool) → (b || has_row id rs) ≡ false → (has_row id rs ≡ false → at_row id change missing rs ≡ rs ++ missing)
-        → (if b then change r ++ rs else r ∷ at_row id change missing rs) ≡ r ∷ (rs ++ missing)
-    go true e rest = cc
-    go false e rest = ap (λ (l : List Row). r ∷ l) (rest e)
+at_row-absent id change missing (r ∷ rs) e =
+    let both = or_parts (bytes_eq r.id id) (has_row id rs) e in rw both.0 (ap (λ (l : List Row). r ∷ l) (at_row-absent id change missing rs both.1))
 
 -- a first use of an id adds its row
 added : (id : Text) (change : Row → List Row) (new : Row) (rs : List Row) → has_row id rs ≡ false
@@ -146,11 +143,7 @@ find-more p (x ∷ xs) r e = ap (λ (o : Option Row). if p x then Some x else o)
 
 find-none : {X : Type 0} (p : X → Bool) (xs : List X) → list_any p xs ≡ false → find p xs ≡ None
 find-none p [] none = refl
-find-none p (x ∷ xs) none = go (p x) none (find-none p xs)
-  where
-    go : (b : Bool) → (b || list_any p xs) ≡ false → (list_any p xs ≡ false → find p xs ≡ None) → (if b then Some x else find p xs) ≡ None
-    go true none rest = cc
-    go false none rest = rest none
+find-none p (x ∷ xs) none = let both = or_parts (p x) (list_any p xs) none in rw both.0 (find-none p xs both.1)
 
 find-last : (p : Row → Bool) (rs : List Row) (r : Row) → p r ≡ true → list_any p rs ≡ false → find p (rs ++ r ∷ []) ≡ Some r
 find-last p rs r e none = find-append p rs (r ∷ []) ∙ rw (find-none p rs none, e) refl
