@@ -1,6 +1,7 @@
 -- The links from an index on, against the isolating run sequences of the items there (BD13, X10).
 use Rattle.std.proofs.Common.{◌≡◌, ℕ, zero, suc, ◌+◌, ◌-◌, ◌<◌, ◌≤◌, ◌==◌, nat_lt, max, Bool, true, false, ◌&&◌, if◌then◌else◌, List, [], ◌∷◌, length, map, drop, set, get_or, Option, None, Some, All, is_none, refl, ap, ap₂, subst, sym, ◌∙◌, inl, inr, arith}
 use Rattle.std.proofs.lemmas.List.{get_or-drop, drop-set-add, set-get_or, drop-drop, length-drop}
+use Rattle.std.proofs.lemmas.List.Elements.{All-cons, All-nil}
 use Rattle.std.proofs.lemmas.Bool.{cases_Bool, eq-eqb, ne_eqb, ltb-true}
 use Rattle.rd_base.specs.Classes.{direction_of, is_initiator, is_removed}
 use Rattle.rd_base.specs.declared.class.Class.{Class}
@@ -296,24 +297,15 @@ gathered-ascends (c ∷ cs) (l ∷ ls) (k ∷ ks) (true ∷ bs) b i n h (suc j) 
 gathered-ascends (c ∷ cs) (l ∷ ls) (k ∷ ks) (false ∷ bs) b i n h j d within = gathered-ascends cs ls ks bs (if is_removed c then b else l) (i + 1) n (omega arith) j d within
 
 -- the same by places
-pub ascends-below : (i n : ℕ) (xs : List ℕ) → Ascends i n xs → All (λ x. x < n) xs
-ascends-below i n [] a = λ k d h. absurd (omega arith)
-ascends-below i n (x ∷ xs) a = λ k d h. elim k as (λ k. k < suc (length xs) → get_or (x ∷ xs) k d < n) [
-  | zero ↦ λ _. a.1
-  | suc k ↦ λ h. ascends-below (x + 1) n xs a.2 k d (omega arith)
-] h
-
-above : (i n : ℕ) (xs : List ℕ) → Ascends i n xs → All (λ x. i ≤ x) xs
-above i n [] a = λ k d h. absurd (omega arith)
-above i n (x ∷ xs) a = λ k d h. elim k as (λ k. k < suc (length xs) → i ≤ get_or (x ∷ xs) k d) [
-  | zero ↦ λ _. a.0
-  | suc k ↦ λ h. let more : x + 1 ≤ get_or xs k d = above (x + 1) n xs a.2 k d (omega arith) in omega arith
-] h
+pub ascends-within : (i n : ℕ) (xs : List ℕ) → Ascends i n xs → All (λ x. (i ≤ x) × (x < n)) xs
+ascends-within i n [] a = All-nil (λ x. (i ≤ x) × (x < n))
+ascends-within i n (x ∷ xs) a =
+    let rest = ascends-within (x + 1) n xs a.2 in All-cons (λ y. (i ≤ y) × (y < n)) x xs (a.0, a.1) (λ k d h. let y = rest k d h in (omega arith, y.1))
 
 pub ascends-pairs : (i n : ℕ) (xs : List ℕ) → Ascends i n xs → (k j d : ℕ) → k < j → j < length xs → get_or xs k d < get_or xs j d
 ascends-pairs i n [] a k j d h within = absurd (omega arith)
 ascends-pairs i n (x ∷ xs) a zero zero d h within = absurd (omega arith)
 ascends-pairs i n (x ∷ xs) a (suc k) zero d h within = absurd (omega arith)
 ascends-pairs i n (x ∷ xs) a zero (suc j) d h within =
-    let more : x + 1 ≤ get_or xs j d = above (x + 1) n xs a.2 j d (omega arith) in omega arith
+    let more = ascends-within (x + 1) n xs a.2 j d (omega arith) in omega arith
 ascends-pairs i n (x ∷ xs) a (suc k) (suc j) d h within = ascends-pairs (x + 1) n xs a.2 k j d (omega arith) (omega arith)

@@ -6,7 +6,7 @@ use Rattle.rd_base.specs.declared.line.Seq.{Seq}
 use Rattle.rd_explicit.specs.declared.links.Link.{Link}
 use Rattle.rd_explicit.specs.Links.{gathered, seq_at}
 use Rattle.rd_explicit.proofs.Joining.{gathered-next}
-use Rattle.rd_explicit.proofs.Chains.{Ascends, gathered-ascends, ascends-below, ascends-pairs}
+use Rattle.rd_explicit.proofs.Chains.{Ascends, gathered-ascends, ascends-pairs, ascends-within}
 use Rattle.rd_explicit.proofs.runs.sequences.Goals as goal
 
 pub loop-i-preserved : goal.loop-i-preserved
@@ -32,8 +32,8 @@ ascends cs ls ks bs base before i found past fits whole =
     rw done (gathered-ascends cs ls ks bs base 0 (length cs) (omega arith))
 
 pub returns-clause-within : goal.returns-clause-within
-returns-clause-within c = λ k d h. ascends-below 0 _ _ (
-    ascends _ _ _ _ _ _ c.loop-i.i _ (omega (arith, c.loop-i-test.false, c.len-i-end.ensures)) (omega (arith, c.in_ok-links.ensures.links.0)) c.loop-i.invariant k d h)
+returns-clause-within c = λ k d h j e g. (ascends-within 0 _ _ (
+    ascends _ _ _ _ _ _ c.loop-i.i _ (omega (arith, c.loop-i-test.false, c.len-i-end.ensures)) (omega (arith, c.in_ok-links.ensures.links.0)) c.loop-i.invariant k d h) j e g).1
 
 pub returns-clause-ascend : goal.returns-clause-ascend
 returns-clause-ascend c = λ k d h. ascends-pairs 0 _ _ (
