@@ -1,10 +1,11 @@
 -- The visual order of a line goes through each of its places once.
-use Rattle.std.proofs.Common.{◌≡◌, ℕ, zero, suc, ◌+◌, ◌-◌, ◌<◌, ◌≤◌, nat_le, nat_eq, Bool, true, false, cond, List, [], ◌∷◌, ◌++◌, length, refl, ◌∙◌, arith}
+use Rattle.std.proofs.Common.{◌≡◌, ℕ, zero, suc, ◌+◌, ◌-◌, ◌<◌, ◌≤◌, nat_le, nat_eq, true, cond, List, [], ◌∷◌, ◌++◌, length, refl, sym, ap, ◌∙◌, arith}
 use Rattle.std.specs.Prelude.{slice_index}
 use Rattle.std.specs.List.{range_with_len}
 use Rattle.std.proofs.lemmas.Bool.{cond_both}
 use Rattle.std.proofs.lemmas.Bool.Decides.{nat_tests}
-use Rattle.rd_base.proofs.Lists.{total-append}
+use Rattle.rd_base.proofs.Choices.{one-at-most}
+use Rattle.rd_base.proofs.Lists.{lies, lies-apart, lies-empty, total-append}
 use Rattle.rd_base.specs.Lists.{total}
 use Rattle.rd_order.specs.Order.{l2_reversed, l2_reversed_down, highest, l2_visual_order}
 
@@ -32,29 +33,17 @@ total-order f base levels = total-down f levels base (highest levels - base) (ra
 abbrev pub is_place : ℕ → ℕ → ℕ
 is_place k i = cond (nat_eq k i) 1 0
 
-is-not : (k i : ℕ) → k < i → is_place k i ≡ 0
-is-not k i h = let b : nat_eq k i ≡ false = grind (arith, nat_tests) in rw b refl
-
-none-before : (k from n : ℕ) → k < from → total (is_place k) (range_with_len from n) ≡ 0
-none-before k from zero h = refl
-none-before k from (suc n) h = let a = is-not k from h in let b = none-before k (from + 1) n (omega (arith, h)) in omega (arith, a, b)
-
-most-by : (b : Bool) (k from n : ℕ) → nat_eq k from ≡ b → total (is_place k) (range_with_len (from + 1) n) ≤ 1 → cond b 1 0 + total (is_place k) (range_with_len (from + 1) n) ≤ 1
-most-by true k from n h later = let same : k ≡ from = grind (arith, nat_tests) in let none = none-before k (from + 1) n (omega (arith, same)) in omega (arith, none)
-most-by false k from n h later = omega (arith, later)
+-- a place stands once among numbers in a row where it lies within them, and else not
+place-once : (k from n to : ℕ) → to ≡ from + n → total (is_place k) (range_with_len from n) ≡ cond (lies k from to) 1 0
+place-once k from zero to ends = ap (λ b. cond b 1 0) (sym (lies-empty k from to (omega arith)))
+place-once k from (suc n) to ends =
+    let one : is_place k from ≡ cond (lies k from (from + 1)) 1 0 = grind (arith, nat_tests) in
+    omega (arith, one, place-once k (from + 1) n to (omega arith), lies-apart k from (from + 1) to (omega arith) (omega arith))
 
 pub once-at-most : (k from n : ℕ) → total (is_place k) (range_with_len from n) ≤ 1
-once-at-most k from zero = omega arith
-once-at-most k from (suc n) = most-by (nat_eq k from) k from n refl (once-at-most k (from + 1) n)
-
-once-by : (b : Bool) (k from n : ℕ) → nat_eq k from ≡ b → (nat_eq k from ≡ false → 1 ≤ total (is_place k) (range_with_len (from + 1) n)) → 1 ≤ cond b 1 0 + total (is_place k) (range_with_len (from + 1) n)
-once-by true k from n h later = omega arith
-once-by false k from n h later = let l = later h in omega (arith, l)
-
-apart : (k from : ℕ) → nat_eq k from ≡ false → from ≤ k → from + 1 ≤ k
-apart k from h low = grind (arith, nat_tests)
+once-at-most k from n = omega (arith, place-once k from n (from + n) refl, one-at-most (lies k from (from + n)))
 
 pub once-at-least : (k from n : ℕ) → from ≤ k → k < from + n → 1 ≤ total (is_place k) (range_with_len from n)
-once-at-least k from zero low high = absurd (omega (arith, low, high))
-once-at-least k from (suc n) low high =
-    once-by (nat_eq k from) k from n refl (λ other. once-at-least k (from + 1) n (apart k from other low) (omega (arith, high)))
+once-at-least k from n low high =
+    let within : lies k from (from + n) ≡ true = grind (arith, nat_tests) in
+    omega (arith, place-once k from n (from + n) refl, ap (λ b. cond {A = ℕ} b 1 0) within)
