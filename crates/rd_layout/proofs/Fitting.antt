@@ -1,5 +1,5 @@
 -- What each window of a valid state shows has the sizes of its rectangle.
-use Rattle.std.proofs.Common.{◌≡◌, ℕ, suc, ◌-◌, ◌^◌, ◌<◌, ◌≤◌, Bool, true, false, is_some, if◌then◌else◌, cond, Option, None, Some, Result, Ok, Err, List, [], ◌∷◌, length, drop, sym, ap, refl, subst, ◌∙◌, arith, length-take, length-drop}
+use Rattle.std.proofs.Common.{◌≡◌, ℕ, suc, ◌-◌, ◌^◌, ◌<◌, ◌≤◌, Bool, true, false, is_some, if◌then◌else◌, Option, None, Some, Result, Ok, Err, List, [], ◌∷◌, length, drop, sym, ap, refl, subst, ◌∙◌, arith, length-take, length-drop}
 use Rattle.std.proofs.lemmas.List.{length-map}
 use Rattle.std.proofs.lemmas.List.Sums.{count_by-le-length}
 use Rattle.std.proofs.lemmas.List.Elements.{All-from_recursion, All-map, All-take, All-drop, recursion_from_All}
@@ -10,7 +10,7 @@ use Rattle.std.specs.Prelude.{IfSome, IsTrue, option_map, slice_get, slice_index
 use Rattle.rd_base.proofs.Choices.{some-of}
 use Rattle.rd_base.specs.Chars.{is_code}
 use Rattle.rd_base.specs.declared.element.Element.{Element}
-use Rattle.rd_base.proofs.Lists.{element-at}
+use Rattle.rd_base.proofs.Lists.{element-at, found-each}
 use Rattle.rd_blocks.specs.Rows.{block_cutting}
 use Rattle.rd_blocks.specs.Sources.{rows_in, text_source}
 use Rattle.rd_items.specs.Pieces.{scene_in}
@@ -73,13 +73,6 @@ columns-hold law s objects files shape is =
 
 -- ---- the cursor in a view
 
-found-hold : (P : Begin → Type 0) (test : Begin → Bool) (bs : List Begin) → AllByRecursion P bs → IfSome (find test bs) P
-found-hold P test [] h = tt
-found-hold P test (b ∷ bs) h = by (test b) (found-hold P test bs h.1) where
-  by : (t : Bool) → IfSome (find test bs) P → IfSome (cond t (Some b) (find test bs)) P
-  by true rest = h.0
-  by false rest = rest
-
 column-hold : (o : Option Begin) (row : RowMeaning) (width : ℕ) → length row.cells ≡ width → IfSome o (λ b. b.column < width) → IfSome (option_map (shown_column row) (option_map (λ (b : Begin). b.column) o)) (λ c. c < width)
 column-hold None row width wide h = tt
 column-hold (Some b) row width wide h = by row.reversed where
@@ -99,7 +92,7 @@ cursor-hold width point [] wide columns = tt
 cursor-hold width point (e ∷ es) wide columns =
     below-hold (column_shown point e) (cursor_in point es) (length es) width
     (column-hold (find (covers e.start point) e.row.begins) e.row width wide.0
-    (found-hold (λ b. b.column < width) (covers e.start point) e.row.begins (recursion_from_All (λ (b : Begin). b.column < width) e.row.begins columns.0)))
+    (found-each (λ b. b.column < width) (covers e.start point) e.row.begins columns.0))
     (cursor-hold width point es wide.1 columns.1)
 
 -- ---- windows and their leaves

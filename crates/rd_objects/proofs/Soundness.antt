@@ -1,6 +1,6 @@
 -- What holds of all objects where one more is made.
-use Rattle.std.proofs.Common.{◌≡◌, ℕ, ◌<◌, ◌≤◌, true, false, if◌then◌else◌, not, List, [], ◌∷◌, ◌++◌, length, length-append, append_assoc, append-nil, Option, Some, None, refl, sym, arith}
-use Rattle.std.specs.Prelude.{nat_le, nat_lt, slice_get, IfSome, reverse, find, option_map}
+use Rattle.std.proofs.Common.{◌≡◌, ℕ, ◌<◌, ◌≤◌, true, false, not, List, [], ◌∷◌, ◌++◌, length, length-append, append_assoc, append-nil, Option, Some, None, refl, sym, arith}
+use Rattle.std.specs.Prelude.{nat_le, nat_lt, slice_get, IfSome, reverse, option_map}
 use Rattle.std.specs.List.{All, AllByRecursion, list_all}
 use Rattle.std.proofs.lemmas.Bool.{not-false}
 use Rattle.std.proofs.lemmas.Bool.Decides.{nat_tests}
@@ -11,7 +11,7 @@ use Rattle.rd_base.proofs.Choices.{if-else, none-chosen}
 use Rattle.rd_base.specs.Faces.{Attributes, plain}
 use Rattle.rd_base.specs.Cells.{HasColours}
 use Rattle.rd_base.proofs.Colours.{plain-coloured}
-use Rattle.rd_base.proofs.Lists.{all-at, all-read, get-first}
+use Rattle.rd_base.proofs.Lists.{all-at, all-read, found-each, get-first}
 use Rattle.rd_objects.specs.declared.run.Run.{Run}
 use Rattle.rd_objects.specs.declared.run.RunKind.{RunKind}
 use Rattle.rd_objects.specs.declared.run.RunKind.TheVariants.{Face, Display}
@@ -219,13 +219,11 @@ same_tables old new number e p = goes_kept old.tables new.tables number e.tables
 
 -- what holds of all that runs give holds of what the last one over a place gives
 given_at-each : {T : Type 0} (P : T → Type 0) (runs : List (RunOf T)) (i : ℕ) → All (λ run. P run.value) runs → IfSome (given_at runs i) P
-given_at-each {T} P runs i all = found (reverse runs) (recursion_from_All (λ run. P run.value) (reverse runs) (All-permutation (λ run. P run.value) runs (reverse runs) (IsPermutation-reverse runs) all)) where
-  found : (runs : List (RunOf T)) → AllByRecursion (λ run. P run.value) runs → IfSome (option_map (λ run. run.value) (find (λ run. covers run.from run.to i) runs)) P
-  found [] h = tt
-  found (run ∷ runs) h = elim (covers run.from run.to i) as (λ b. IfSome (option_map (λ run. run.value) (if b then Some run else find (λ run. covers run.from run.to i) runs)) P) [
-    | true ↦ h.0
-    | false ↦ found runs h.1
-  ]
+given_at-each {T} P runs i all =
+    mapped _ (found-each (λ run. P run.value) (λ run. covers run.from run.to i) (reverse runs) (All-permutation (λ run. P run.value) runs (reverse runs) (IsPermutation-reverse runs) all)) where
+      mapped : (o : Option (RunOf T)) → IfSome o (λ run. P run.value) → IfSome (option_map (λ run. run.value) o) P
+      mapped None h = h
+      mapped (Some run) h = h
 
 some_made : (specs number : ℕ) (o : Option ℕ) → IfSome o (λ n. n < specs) → o ≡ Some number → number < specs
 some_made specs number (Some n) p e = let s : n ≡ number = cc in omega arith
