@@ -24,6 +24,7 @@ use Rattle.rd_layout.specs.Laws.{ViewLaws}
 use Rattle.rd_layout.specs.Screens.{settled_at, settled_by, settled_state}
 use Rattle.rd_layout.specs.Windows.{place_of, view_in, wanted_of, window_shape, window_source}
 use Rattle.rd_state.proofs.ByNumber.{NumberedWindow, apart-became, under-became}
+use Rattle.rd_state.proofs.Showing.{placed-keeps}
 use Rattle.rd_state.proofs.WithParts.{with_parts}
 use Rattle.rd_layout.proofs.Chosen.{chosen-anchor, chosen-point}
 
@@ -110,16 +111,9 @@ module _ (laws : ViewLaws) (files : Data) (s : StateValue) (valid : IsValid s) w
 
   settled-window : (number : ℕ) (w : WindowState) (place : Option Placed) → place_of number s ≡ place → IsWindow s.buffers w → IsWindow s.buffers (settled_by files s w place)
   settled-window number w None there window = window
-  settled-window number w (Some place) there window = record {
-    made = window.made;
-    point = λ b at. (view-accessible number w place b there at window).1;
-    anchor = λ b at. (view-accessible number w place b there at window).0;
-    pending = refl;
-    hscroll = window.hscroll;
-    format = window.format;
-    numbers = window.numbers;
-    strings = window.strings;
-  }
+  settled-window number w (Some place) there window =
+      let v = view_in files s w place in
+      placed-keeps s.buffers w v.point v.anchor false window (λ b at. (view-accessible number w place b there at window).1) (λ b at. (view-accessible number w place b there at window).0)
 
   abbrev pub settled : ℕ → WindowState → WindowState
   settled number w = settled_by files s w (place_of number s)

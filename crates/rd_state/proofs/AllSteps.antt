@@ -27,7 +27,7 @@ use Rattle.rd_state.specs.Moves.{moved, moved_in}
 use Rattle.rd_state.specs.Steps.{typing, raw_text, held, step, settled}
 use Rattle.rd_state.proofs.Below.{TextLaws, MadeLaws, ObjectLaws, TreeLaws}
 use Rattle.rd_state.proofs.Naming.{setting-keeps, margin-keeps, objects-valid, small-spec, making-valid, new-valid}
-use Rattle.rd_state.proofs.Showing.{set-valid, placing-valid, point-keeps, start-keeps, look-keeps, scroll-keeps, showing-valid, splitting-valid, removing-valid, resizing-valid, selecting-valid, mode_lining-valid, margining-valid}
+use Rattle.rd_state.proofs.Showing.{set-valid, placing-valid, point-keeps, placed-keeps, start-keeps, look-keeps, scroll-keeps, showing-valid, splitting-valid, removing-valid, resizing-valid, selecting-valid, mode_lining-valid, margining-valid}
 use Rattle.rd_state.proofs.Slots.{table-right}
 use Rattle.rd_state.proofs.StepParts.{with_content, setting-if, typing-if}
 use Rattle.rd_state.proofs.Stepping.{raw-codes, edited-valid, edited_moving-valid, moving-valid, insertion-keeps, insertion-means, deletion-keeps, narrowing-keeps, widening-keeps, put-keeps, making-keeps, moving-keeps, dropping-keeps, giving-keeps}
@@ -170,16 +170,7 @@ pub settled-valid : (s : StateValue) (number : ℕ) (anchor : Anchor) (point : �
     → IsValid (settled s number anchor point)
 settled-valid s number anchor point v at =
     set-valid s number (λ old. record old { anchor = anchor; point = point; forced = false; pending = pos 0 }) v (λ w. refl)
-    (λ w found old. record {
-      made = old.made;
-      point = λ b h. (at w b found h).1;
-      anchor = λ b h. (at w b found h).0;
-      pending = refl;
-      hscroll = old.hscroll;
-      format = old.format;
-      numbers = old.numbers;
-      strings = old.strings;
-    })
+    (λ w found old. placed-keeps s.buffers w point anchor false old (λ b h. (at w b found h).1) (λ b h. (at w b found h).0))
 
 -- ---- the opening
 

@@ -8,6 +8,7 @@ use Rattle.std.proofs.lemmas.Option.{slice_get_within}
 use Rattle.std.specs.Option.{option_or}
 use Rattle.std.specs.Prelude.{slice_get, option_map, IsSome, IfOk, IfSome}
 use Rattle.rd_base.proofs.Lists.{get-end}
+use Rattle.rd_base.specs.declared.settings.Anchor.{Anchor}
 use Rattle.rd_base.specs.declared.limits.TheConstants.{PENDING_ROWS}
 use Rattle.rd_text.specs.Texts.{IsAccessible}
 use Rattle.rd_script.specs.Forms.{IsFormat}
@@ -140,12 +141,17 @@ look-keeps bs w x buffer point anchor pending hscroll format numbers strings v =
   strings = strings;
 }
 
+-- another point and start in the same buffer, with no rows to go
+pub placed-keeps : (bs : List BufferValue) (w : WindowState) (point : ℕ) (anchor : Anchor) (forced : Bool) → IsWindow bs w
+    → ((b : BufferValue) → slice_get bs w.buffer ≡ Some b → IsAccessible b.content.text point) → ((b : BufferValue) → slice_get bs w.buffer ≡ Some b → IsAccessible b.content.text anchor.pos)
+    → IsWindow bs (record w { point = point; anchor = anchor; forced = forced; pending = pos 0 })
+placed-keeps bs w point anchor forced v at from =
+    let placed : WindowState = record w { point = point; anchor = anchor } in
+    look-keeps bs placed (record placed { forced = forced; pending = pos 0 }) refl refl refl none-pending v.hscroll v.format v.numbers v.strings (window-placed bs bs w point anchor v v.made at from)
+
 pub start-keeps : (bs : List BufferValue) (place row : ℕ) (w : WindowState) → IsWindow bs w → ((b : BufferValue) → slice_get bs w.buffer ≡ Some b → IsAccessible b.content.text place)
     → IsWindow bs (record w { anchor = record { pos = place; row = row }; forced = true; pending = pos 0 })
-start-keeps bs place row w v at =
-    let moved : WindowState = record w { anchor = record { pos = place; row = row } } in
-    look-keeps bs moved (record moved { forced = true; pending = pos 0 }) refl refl refl none-pending v.hscroll v.format v.numbers v.strings
-    (window-placed bs bs w w.point moved.anchor v v.made v.point at)
+start-keeps bs place row w v at = placed-keeps bs w w.point (record { pos = place; row = row }) true v v.point at
 
 held-above : (t : Bool) (n : ℕ) → nat_lt n 1000000000 ≡ t → IsTrue (is_near_zero (pos 1000000000) (int_max (negsuc 999999999) (cond t (pos n) (pos 1000000000))))
 held-above true n h = let less = ltb-true n 1000000000 h in grind (arith, ints, nat_tests)
