@@ -80,32 +80,21 @@ module _ (laws : ViewLaws) (files : Data) (s : StateValue) (valid : IsValid s) w
   point-within w b at window =
       laws.within (seen (shown_content s w)) s.objects files w.point (subst (λ (c : ContentValue). IsAccessible c.text w.point) (sym (shown-is laws s valid w b at)) (window.point b at))
 
-  view-accessible : (number : ℕ) (w : WindowState) (place : Placed) (b : BufferValue) → place_of number s ≡ Some place → slice_get s.buffers w.buffer ≡ Some b → IsWindow s.buffers w
-      → IsAccessible b.content.text (view_in files s w place).anchor.pos × IsAccessible b.content.text (view_in files s w place).point
-  view-accessible number w place b there at window =
-      let m = window_source files s w in
-      let shape = window_shape s w place in
-      let wanted = wanted_of s w place in
-      let text = shown-text laws s valid w b at in
-      let source = laws.source (seen (shown_content s w)) s.objects files text in
-      let is = is-shape laws s valid number w place there in
-      let point = point-within w b at window in
-      let first = accessible laws files.classes (seen (shown_content s w)) _ text (chosen-anchor m shape source is laws.start wanted point) in
-      let second = accessible laws files.classes (seen (shown_content s w)) _ text (chosen-point m shape source is wanted point) in (
-        subst (λ (c : ContentValue). IsAccessible c.text (view_in files s w place).anchor.pos) (shown-is laws s valid w b at) first,
-        subst (λ (c : ContentValue). IsAccessible c.text (view_in files s w place).point) (shown-is laws s valid w b at) second,
-      )
-
   -- the start and the point are accessible in the buffer that is shown
   pub chosen-accessible : (number : ℕ) (w : WindowState) (place : Placed) → place_of number s ≡ Some place → IsWindow s.buffers w
       → IsAccessible (shown_content s w).text (view_in files s w place).anchor.pos × IsAccessible (shown_content s w).text (view_in files s w place).point
   chosen-accessible number w place there window =
+      let m = window_source files s w in
+      let shape = window_shape s w place in
+      let wanted = wanted_of s w place in
       let b = element-at s.buffers w.buffer window.made in
-      let both = view-accessible number w place b.0 there b.1 window in
-      let same = sym (shown-is laws s valid w b.0 b.1) in (
-        subst (λ (c : ContentValue). IsAccessible c.text (view_in files s w place).anchor.pos) same both.0,
-        subst (λ (c : ContentValue). IsAccessible c.text (view_in files s w place).point) same both.1,
-      )
+      let text = shown-text laws s valid w b.0 b.1 in
+      let source = laws.source (seen (shown_content s w)) s.objects files text in
+      let is = is-shape laws s valid number w place there in
+      let point = point-within w b.0 b.1 window in
+      let first = accessible laws files.classes (seen (shown_content s w)) _ text (chosen-anchor m shape source is laws.start wanted point) in
+      let second = accessible laws files.classes (seen (shown_content s w)) _ text (chosen-point m shape source is wanted point) in
+      (first, second)
 
   -- ---- windows
 
@@ -113,7 +102,9 @@ module _ (laws : ViewLaws) (files : Data) (s : StateValue) (valid : IsValid s) w
   settled-window number w None there window = window
   settled-window number w (Some place) there window =
       let v = view_in files s w place in
-      placed-keeps s.buffers w v.point v.anchor false window (λ b at. (view-accessible number w place b there at window).1) (λ b at. (view-accessible number w place b there at window).0)
+      let both = chosen-accessible number w place there window in
+      placed-keeps s.buffers w v.point v.anchor false window (λ b at. subst (λ (c : ContentValue). IsAccessible c.text v.point) (shown-is laws s valid w b at) both.1)
+      (λ b at. subst (λ (c : ContentValue). IsAccessible c.text v.anchor.pos) (shown-is laws s valid w b at) both.0)
 
   abbrev pub settled : ℕ → WindowState → WindowState
   settled number w = settled_by files s w (place_of number s)
