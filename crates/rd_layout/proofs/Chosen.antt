@@ -1,21 +1,20 @@
 -- The start and the point that are chosen for a window are positions of the blocks that it shows.
-use Rattle.std.proofs.Common.{◌≡◌, ℕ, ◌<◌, ◌≤◌, min, max, nat_lt, Bool, true, false, if◌then◌else◌, Option, Some, List, [], ◌∷◌, take, drop, get_or, sym, ap, ◌∙◌, arith, unwrap_or}
+use Rattle.std.proofs.Common.{ℕ, ◌<◌, ◌≤◌, min, max, nat_lt, Bool, true, false, if◌then◌else◌, List, [], ◌∷◌, take, drop, arith, unwrap_or}
 use Rattle.std.proofs.lemmas.List.Elements.{All-take, All-drop}
-use Rattle.std.proofs.lemmas.Option.{slice_get-get_or}
 use Rattle.std.specs.List.{AllByRecursion, reduce}
-use Rattle.std.specs.Prelude.{slice_get, option_map}
 use Rattle.rd_matrix.proofs.HeldLemmas.{end-behind, later-start}
 use Rattle.rd_matrix.specs.Blocks.{IsAmong, IsWithin, first_start}
 use Rattle.rd_matrix.specs.Entries.{EntryMeaning}
 use Rattle.rd_matrix.specs.Sources.{IsSource, SourceValues, rows_at}
 use Rattle.rd_matrix.specs.declared.block.Block.{Block}
-use Rattle.rd_reuse.specs.Views.{anchor_of}
 use Rattle.rd_rows.specs.Shapes.{IsShape, ShapeValues}
 use Rattle.rd_start.proofs.Lists.{fold-keeps}
 use Rattle.rd_start.proofs.Positions.{OfRow, positions-each, rows-cover}
-use Rattle.rd_start.specs.Chosen.{anchor_at, anchor_from, chosen_of, first_positions, places_of}
+use Rattle.rd_start.specs.Chosen.{chosen_of, first_positions, places_of}
 use Rattle.rd_start.specs.Starts.{is_in_view, start_of}
 use Rattle.rd_start.specs.declared.wanted.Wanted.{Wanted}
+use Rattle.rd_window.proofs.Starting.{start-named}
+use Rattle.rd_window.specs.Views.{start_row}
 use Rattle.rd_layout.specs.Laws.{StartLaws}
 
 -- ---- the blocks of a source
@@ -71,10 +70,4 @@ module _ (m : SourceValues) (shape : ShapeValues) (source : IsSource m) (is : Is
   -- ---- the start
 
   pub chosen-anchor : StartLaws → (w : Wanted) → Inside w.point → Inside (chosen_of m shape w).anchor.pos
-  chosen-anchor laws w at =
-      let rows = rows_at m shape in
-      let start = start_of w (places_of m shape w) in
-      let none : EntryMeaning = record { start = 0; number = 0; row = record { cells = []; begins = []; reversed = false; ends_block = true } } in
-      let there : slice_get rows start ≡ Some (get_or rows start none) = slice_get-get_or rows start none (laws.row m shape w source is at) in
-      laws.anchor m shape (anchor_at rows start) start source
-      (ap (option_map anchor_of) there ∙ ap (λ (o : Option EntryMeaning). Some (anchor_from o)) (sym there))
+  chosen-anchor laws w at = laws.anchor m shape (chosen_of m shape w).anchor (start_row m shape w) source (start-named m shape w (laws.row m shape w source is at))
