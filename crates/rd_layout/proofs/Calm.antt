@@ -42,47 +42,46 @@ Quiet effect number k = is_none (change_by effect number k) ≡ true
 
 -- ---- changes that are never none
 
-no-zero : (tail : ℕ) → 0 < tail → (tail == 0) ≡ true → ⊥
-no-zero tail some h = let is : tail ≡ 0 = eqb-true tail 0 h in absurd (omega (arith, is, some))
+-- a change that has a tail is not none
+pub tail-told : (c : Change) → 0 < c.tail → is_none c ≡ true → ⊥
+tail-told c some h =
+    let parts = and_parts (c.head == 4294967295) (c.tail == 0) (and_parts ((c.head == 4294967295) && (c.tail == 0)) (int_eq c.added (pos 0)) h).0 in
+    let is : c.tail ≡ 0 = eqb-true c.tail 0 parts.1 in
+    absurd (omega (arith, is, some))
 
-ranged-told : (t : Bool) (head tail : ℕ) (added : ℤ) → 0 < tail → is_none (if t then record { head = head; tail = tail; added = added } else all) ≡ true → ⊥
-ranged-told true head tail added some h = no-zero tail some (and_parts (head == 4294967295) (tail == 0) (and_parts ((head == 4294967295) && (tail == 0)) (int_eq added (pos 0)) h).0).1
-ranged-told false head tail added some h = absurd (cc)
+-- a change that has no room in its fields is all, which has a tail
+change-tail : (t : Bool) (head tail : ℕ) (added : ℤ) → 0 < tail → 0 < (if t then record { head = head; tail = tail; added = added } else all).tail
+change-tail true head tail added some = some
+change-tail false head tail added some = omega arith
 
-told : (head tail : ℕ) (added : ℤ) → 0 < tail → is_none (change_of head tail added) ≡ true → ⊥
-told head tail added some h = ranged-told (nat_le tail 4294967295 && is_small added) head tail added some h
+pub edit-tail : (from removed added : ℕ) → 0 < (edit from removed added).tail
+edit-tail from removed added = change-tail (nat_le (from + added + 1) 4294967295 && is_small (pos added -ℤ pos removed)) from (from + added + 1) (pos added -ℤ pos removed) (omega arith)
 
 -- what is joined with a change that has a tail has one
-pub joined-told : (t : Bool) (c later : Change) → 0 < later.tail
-    → is_none (if t then all else change_of (min c.head later.head) (max (moved later.added c.tail) later.tail) (c.added +ℤ later.added)) ≡ true → ⊥
-joined-told true c later some h = absurd (cc)
-joined-told false c later some h = told (min c.head later.head) (max (moved later.added c.tail) later.tail) (c.added +ℤ later.added) (omega arith) h
+pub joined-tail : (x y : Change) → 0 < y.tail → 0 < (join x y).tail
+joined-tail x y some = by (is_all x || is_all y) where
+  by : (t : Bool) → 0 < (if t then all else change_of (min x.head y.head) (max (moved y.added x.tail) y.tail) (x.added +ℤ y.added)).tail
+  by true = omega arith
+  by false = change-tail (nat_le (max (moved y.added x.tail) y.tail) 4294967295 && is_small (x.added +ℤ y.added)) (min x.head y.head) (max (moved y.added x.tail) y.tail) (x.added +ℤ y.added) (omega arith)
 
-pub restyled-tail : (t : Bool) (head tail : ℕ) (added : ℤ) → 0 < tail → 0 < (if t then record { head = head; tail = tail; added = added } else all).tail
-restyled-tail true head tail added some = some
-restyled-tail false head tail added some = omega arith
-
-both-told : (before after : ℕ × ℕ) → is_none (join (restyled before) (restyled after)) ≡ true → ⊥
-both-told before after h =
-    let n = after.1 - after.0 in
-    joined-told (is_all (restyled before) || is_all (restyled after)) (restyled before) (restyled after)
-    (restyled-tail (nat_le (after.0 + n + 1) 4294967295 && is_small (pos n -ℤ pos n)) after.0 (after.0 + n + 1) (pos n -ℤ pos n) (omega arith)) h
+pub moved-tail : (before after : ℕ × ℕ) → 0 < (join (restyled before) (restyled after)).tail
+moved-tail before after = joined-tail (restyled before) (restyled after) (edit-tail after.0 (after.1 - after.0) (after.1 - after.0))
 
 -- an effect tells a change of each window that shows a buffer
 abbrev pub Loud : Effect → ℕ → Type 0
 Loud effect i = (number k : ℕ) → k ≡ i → Quiet effect number k → ⊥
 
-shown-told : (i k : ℕ) (change : Change) → k ≡ i → (is_none change ≡ true → ⊥) → is_none (if_shown i k change) ≡ true → ⊥
-shown-told i k change is never h = never (sym (ap is_none (cond-true (i == k) change none (eq-eqb i k (sym is)))) ∙ h)
+shown-loud : (i : ℕ) (change : Change) → 0 < change.tail → (number k : ℕ) → k ≡ i → is_none (if_shown i k change) ≡ true → ⊥
+shown-loud i change some number k is h = tail-told change some (sym (ap is_none (cond-true (i == k) change none (eq-eqb i k (sym is)))) ∙ h)
 
 loud-edit : (i from removed added : ℕ) → Loud (Edit i from removed added) i
-loud-edit i from removed added number k is h = shown-told i k (edit from removed added) is (told from (from + added + 1) (pos added -ℤ pos removed) (omega arith)) h
+loud-edit i from removed added = shown-loud i (edit from removed added) (edit-tail from removed added)
 
 loud-all : (i : ℕ) → Loud (All i) i
-loud-all i number k is h = shown-told i k all is (λ e. absurd (cc)) h
+loud-all i = shown-loud i all (omega arith)
 
 loud-moved : (i : ℕ) (before after : ℕ × ℕ) → Loud (Moved i before after) i
-loud-moved i before after number k is h = shown-told i k (join (restyled before) (restyled after)) is (both-told before after) h
+loud-moved i before after = shown-loud i (join (restyled before) (restyled after)) (moved-tail before after)
 
 -- ---- what stays
 

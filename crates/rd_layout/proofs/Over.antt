@@ -1,7 +1,6 @@
 -- A last layout stands over a later state in which nothing changed of what its window shows.
-use Rattle.std.proofs.Common.{◌≡◌, ◌⊎◌, inl, inr, ℕ, zero, suc, ◌+◌, ◌-◌, ◌<◌, ◌≤◌, ◌==◌, ◌&&◌, ◌||◌, min, max, nat_le, Bool, true, false, if◌then◌else◌, pos, ◌+ℤ◌, [], ◌∷◌, ap, refl, subst, ◌∙◌, arith}
+use Rattle.std.proofs.Common.{◌≡◌, ◌⊎◌, inl, inr, ℕ, zero, suc, ◌+◌, ◌-◌, ◌<◌, ◌≤◌, ◌==◌, ◌&&◌, ◌||◌, min, max, nat_le, Bool, true, false, if◌then◌else◌, ◌+ℤ◌, [], ◌∷◌, ap, refl, subst, ◌∙◌, arith}
 use Rattle.std.proofs.lemmas.Bool.{leb-true}
-use Rattle.std.specs.Prelude.{◌-ℤ◌}
 use Rattle.rd_base.specs.declared.settings.Anchor.{Anchor}
 use Rattle.rd_base.specs.Settings.{without_flags}
 use Rattle.rd_blocks.specs.Bases.{blocks_in}
@@ -29,7 +28,7 @@ use Rattle.rd_window.specs.Layouts.{Stands}
 use Rattle.rd_window.specs.declared.layout.Layout.{Layout}
 use Rattle.rd_layout.specs.Changes.{change_by, if_shown, restyled}
 use Rattle.rd_layout.specs.Laws.{ViewLaws}
-use Rattle.rd_layout.proofs.Calm.{joined-told, restyled-tail}
+use Rattle.rd_layout.proofs.Calm.{edit-tail, joined-tail, moved-tail, tail-told}
 use Rattle.rd_layout.proofs.Chosen.{block-inside}
 use Rattle.rd_layout.proofs.Settling.{accessible}
 
@@ -43,38 +42,25 @@ pub record OverLaws : Type 0 where
 
 -- ---- changes
 
--- what an effect is for a window is none, or has a tail
 shown-tail : (i k : ℕ) (change : Change) → 0 < change.tail → (if_shown i k change ≡ none) ⊎ (0 < (if_shown i k change).tail)
 shown-tail i k change some = by (i == k) where
   by : (t : Bool) → ((if t then change else none) ≡ none) ⊎ (0 < (if t then change else none).tail)
   by true = inr some
   by false = inl refl
 
-edit-tail : (from removed added : ℕ) → 0 < (edit from removed added).tail
-edit-tail from removed added = restyled-tail (nat_le (from + added + 1) 4294967295 && is_small (pos added -ℤ pos removed)) from (from + added + 1) (pos added -ℤ pos removed) (omega arith)
-
-joined-tail : (x y : Change) → 0 < y.tail → 0 < (join x y).tail
-joined-tail x y some = by (is_all x || is_all y) where
-  by : (t : Bool) → 0 < (if t then all else change_of (min x.head y.head) (max (moved y.added x.tail) y.tail) (x.added +ℤ y.added)).tail
-  by true = omega arith
-  by false = restyled-tail (nat_le (max (moved y.added x.tail) y.tail) 4294967295 && is_small (x.added +ℤ y.added)) (min x.head y.head) (max (moved y.added x.tail) y.tail) (x.added +ℤ y.added) (omega arith)
-
+-- what an effect is for a window is none, or has a tail
 none-or-tail : (effect : Effect) (number k : ℕ) → (change_by effect number k ≡ none) ⊎ (0 < (change_by effect number k).tail)
 none-or-tail Nothing number k = inl refl
 none-or-tail (Edit i from removed added) number k = shown-tail i k (edit from removed added) (edit-tail from removed added)
-none-or-tail (Moved i before after) number k =
-    shown-tail i k (join (restyled before) (restyled after)) (joined-tail (restyled before) (restyled after) (edit-tail after.0 (after.1 - after.0) (after.1 - after.0)))
+none-or-tail (Moved i before after) number k = shown-tail i k (join (restyled before) (restyled after)) (moved-tail before after)
 none-or-tail (All i) number k = shown-tail i k all (omega arith)
-none-or-tail (Window n) number k = by (n == number) where
-  by : (t : Bool) → ((if t then all else none) ≡ none) ⊎ (0 < (if t then all else none).tail)
-  by true = inr (omega arith)
-  by false = inl refl
+none-or-tail (Window n) number k = shown-tail n number all (omega arith)
 
 -- where nothing changed after a change was joined with that of an effect, the effect tells none
 pub joined-none : (x : Change) (effect : Effect) (number k : ℕ) → is_none (join x (change_by effect number k)) ≡ true → change_by effect number k ≡ none
 joined-none x effect number k h = elim (none-or-tail effect number k) [
   | inl is ↦ is
-  | inr some ↦ absurd (joined-told (is_all x || is_all (change_by effect number k)) x (change_by effect number k) some h)
+  | inr some ↦ absurd (tail-told (join x (change_by effect number k)) (joined-tail x (change_by effect number k) some) h)
 ]
 
 all-is-change : IsChange all
