@@ -1,5 +1,5 @@
 -- The last layouts of a session's windows stay known behind each op.
-use Rattle.std.proofs.Common.{◌≡◌, ◌⊎◌, inl, inr, ℕ, ◌<◌, ◌≤◌, ◌==◌, Bool, true, false, if◌then◌else◌, Option, None, Some, Result, Ok, Err, List, length, sym, ap, refl, subst, subst₂, ◌∙◌, unwrap_or, arith}
+use Rattle.std.proofs.Common.{◌≡◌, ◌⊎◌, inl, inr, ℕ, ◌<◌, ◌≤◌, ◌==◌, Bool, true, false, if◌then◌else◌, Option, None, Some, Result, Ok, Err, List, sym, ap, refl, subst, subst₂, ◌∙◌, unwrap_or, arith}
 use Rattle.std.proofs.lemmas.Bool.{cases_eq, cond-true, eq-eqb}
 use Rattle.std.specs.Prelude.{slice_get, option_map}
 use Rattle.rd_base.proofs.Choices.{map-some}
@@ -90,28 +90,24 @@ tells (Moved i before after) number = inr (λ h. absurd (cc))
 tells (All i) number = inr (λ h. absurd (cc))
 
 module _ (laws : StepLaws) (s t : StateValue) (op : Op) (valid : IsValid s) (form : IsInForm op) (is : step s op ≡ Ok t) where
-  same-leads : (k number : ℕ) (w v : WindowState) → w.buffer ≡ k → v.buffer ≡ k → k < length s.buffers → k < length t.buffers
-      → LeadsTo (seen (shown_content s w)) s.objects (seen (shown_content t v)) t.objects (change_by (effect_of s op) number k)
-  same-leads k number w v here there old new =
-      let b = element-at s.buffers k old in
-      let c = element-at t.buffers k new in
-      let content = valid.buffers.contents k b.0 b.1 in
-      let first : shown_content s w ≡ b.0.content = ap (λ j. content_in (slice_get s.buffers j)) here ∙ ap content_in b.1 in
-      let second : shown_content t v ≡ c.0.content = ap (λ j. content_in (slice_get t.buffers j)) there ∙ ap content_in c.1 in
-      let leads = effect-leads laws.last_all b.0.content c.0.content s.objects t.objects valid.closed content.names (laws.objects s t op valid form is) (effect_of s op) number k
-      (has-place s t valid op is k b.0 b.1) (laws.contents s t op k b.0 c.0 valid form is b.1 c.1) in
-      subst (λ (x : ContentValue). LeadsTo (seen x) s.objects (seen (shown_content t v)) t.objects (change_by (effect_of s op) number k)) (sym first)
-      (subst (λ (y : ContentValue). LeadsTo (seen b.0.content) s.objects (seen y) t.objects (change_by (effect_of s op) number k)) (sym second) leads)
+  -- the buffer that a window shows before the op and behind it
+  shown-both : (number : ℕ) (w v : WindowState) → window_of number s.windows ≡ Some w → window_of number t.windows ≡ Some v → v.buffer ≡ w.buffer
+      → (b : BufferValue) × (c : BufferValue) × (slice_get s.buffers v.buffer ≡ Some b) × (slice_get t.buffers v.buffer ≡ Some c) × (b.content ≡ shown_content s w) × (c.content ≡ shown_content t v)
+  shown-both number w v hw hv same =
+      let b = element-at s.buffers w.buffer (laws.found s number w valid hw).made in
+      let c = element-at t.buffers v.buffer (laws.found t number v (laws.valid s t op valid form is) hv).made in
+      (b.0, c.0, ap (slice_get s.buffers) same ∙ b.1, c.1, sym (ap content_in b.1), sym (ap content_in c.1))
 
   window-leads : (number : ℕ) (w v : WindowState) → window_of number s.windows ≡ Some w → window_of number t.windows ≡ Some v
       → LeadsTo (seen (shown_content s w)) s.objects (seen (shown_content t v)) t.objects (change_by (effect_of s op) number v.buffer)
   window-leads number w v hw hv = elim (tells (effect_of s op) number) [
     | inl p ↦ inl (ap (λ (e : Effect). change_by e number v.buffer) p ∙ cond-true (number == number) all none (eq-eqb number number refl))
     | inr q ↦
-        let same = laws.windows s t op number w v valid form is hw hv q in
-        let old = (laws.found s number w valid hw).made in
-        let new = (laws.found t number v (laws.valid s t op valid form is) hv).made in
-        same-leads v.buffer number w v (sym same) refl (subst (λ k. k < length s.buffers) (sym same) old) new
+        let both = shown-both number w v hw hv (laws.windows s t op number w v valid form is hw hv q) in
+        let names = (valid.buffers.contents v.buffer both.0 both.2).names in
+        subst₂ (λ (x : ContentValue) (y : ContentValue). LeadsTo (seen x) s.objects (seen y) t.objects (change_by (effect_of s op) number v.buffer)) both.4 both.5
+        (effect-leads laws.last_all both.0.content both.1.content s.objects t.objects valid.closed names (laws.objects s t op valid form is) (effect_of s op) number v.buffer
+        (has-place s t valid op is v.buffer both.0 both.2) (laws.contents s t op v.buffer both.0 both.1 valid form is both.2 both.3))
   ]
 
   -- an effect that tells of a window itself tells more than none
@@ -128,22 +124,15 @@ module _ (laws : StepLaws) (s t : StateValue) (op : Op) (valid : IsValid s) (for
   stands-by : (files : Data) (number : ℕ) (w v : WindowState) (l : Layout) → window_of number s.windows ≡ Some w → window_of number t.windows ≡ Some v → IsKnown files s w l
       → v.buffer ≡ w.buffer → change_by (effect_of s op) number v.buffer ≡ none → is_none l.change ≡ true → v.forced ≡ false → Stands (window_source files t v) v.anchor l
   stands-by files number w v l hw hv known same nothing before forced =
-      let window = (laws.found s number w valid hw).made in
-      let behind = (laws.found t number v (laws.valid s t op valid form is) hv).made in
-      let b = element-at s.buffers w.buffer window in
-      let c = element-at t.buffers v.buffer behind in
-      let content = valid.buffers.contents w.buffer b.0 b.1 in
+      let both = shown-both number w v hw hv same in
+      let content = valid.buffers.contents v.buffer both.0 both.2 in
       let quiet : Quiet (effect_of s op) number v.buffer = ap is_none nothing in
-      let stay = calm-here.windows number w v hw hv (subst (Quiet (effect_of s op) number) same quiet) in
-      let rest = stay.1 forced in
-      let first : shown_content s w ≡ b.0.content = ap content_in b.1 in
-      let second : shown_content t v ≡ c.0.content = ap content_in c.1 in
-      let there : slice_get t.buffers w.buffer ≡ Some c.0 = ap (slice_get t.buffers) (sym same) ∙ c.1 in
-      let seen-same : seen c.0.content ≡ seen b.0.content = calm-here.contents number w.buffer b.0 c.0 b.1 there (subst (Quiet (effect_of s op) number) same quiet) in
-      let text = subst (λ (x : ContentValue). IsText x.text) (sym first) content.text in
-      let named = subst (λ (x : ContentValue). AreMade (seen x) s.objects) (sym first) content.names in
+      let rest = (calm-here.windows number w v hw hv (subst (Quiet (effect_of s op) number) same quiet)).1 forced in
+      let seen-same : seen both.1.content ≡ seen both.0.content = calm-here.contents number v.buffer both.0 both.1 both.2 both.3 quiet in
+      let text = subst (λ (x : ContentValue). IsText x.text) both.4 content.text in
+      let named = subst (λ (x : ContentValue). AreMade (seen x) s.objects) both.4 content.names in
       let over = objects-over laws.over (seen (shown_content s w)) s.objects t.objects valid.closed named (laws.objects s t op valid form is) text laws.views files w.anchor l known.shape (known.stands before rest.0) in
-      let one-seen : seen (shown_content s w) ≡ seen (shown_content t v) = ap seen first ∙ (sym seen-same ∙ ap seen (sym second)) in
+      let one-seen : seen (shown_content s w) ≡ seen (shown_content t v) = ap seen (sym both.4) ∙ (sym seen-same ∙ ap seen both.5) in
       subst₂ (λ (x : props.BufferValue) (a : Anchor). Stands (text_source x t.objects files) a l) one-seen (sym rest.1) over
 
   stands-behind : (files : Data) (number : ℕ) (w v : WindowState) (l : Layout) → window_of number s.windows ≡ Some w → window_of number t.windows ≡ Some v → IsKnown files s w l
