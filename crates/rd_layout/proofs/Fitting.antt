@@ -5,12 +5,12 @@ use Rattle.std.proofs.lemmas.List.Sums.{count_by-le-length}
 use Rattle.std.proofs.lemmas.List.Elements.{All-from_recursion, All-map, All-take, All-drop, recursion_from_All}
 use Rattle.std.specs.List.{All, AllByRecursion, find}
 use Rattle.std.specs.Option.{option_and_then}
-use Rattle.std.proofs.lemmas.Option.{get_or_from_slice_get, slice_get_within}
+use Rattle.std.proofs.lemmas.Option.{option_and_then_some}
 use Rattle.std.specs.Prelude.{IfSome, IsTrue, option_map, slice_get, slice_index_or}
 use Rattle.rd_base.proofs.Choices.{some-of}
 use Rattle.rd_base.specs.Chars.{is_code}
 use Rattle.rd_base.specs.declared.element.Element.{Element}
-use Rattle.rd_base.proofs.Lists.{element-at, found-each}
+use Rattle.rd_base.proofs.Lists.{all-at, element-at, found-each}
 use Rattle.rd_blocks.specs.Rows.{block_cutting}
 use Rattle.rd_blocks.specs.Sources.{rows_in, text_source}
 use Rattle.rd_items.specs.Pieces.{scene_in}
@@ -144,11 +144,10 @@ module _ (laws : FitLaws) (files : Data) (s : StateValue) (valid : IsValid s) wh
       (laws.whole (seen (shown_content s w)) s.objects files (window_shape s w p) valid.objects content.least_tab content.most_tab content.characters (is-shape laws.views s valid p.number w p at))
 
   pub string-codes : (w : WindowState) (start : ℕ) → AreCodes (margin_text s.objects (shown_content s w) start)
-  string-codes w start = codes-of (option_and_then (λ n. slice_get s.objects.strings n) (margin_string (shown_content s w).marks (shown_content s w).overlays start)) (λ t is. (string-of _ t is).chars)
-    where
-      string-of : (o : Option ℕ) (t : TextValue) → option_and_then (λ n. slice_get s.objects.strings n) o ≡ Some t → IsString t
-      string-of None t h = absurd (cc)
-      string-of (Some n) t h = subst IsString (get_or_from_slice_get s.objects.strings n t t h) (valid.objects.strings n t (slice_get_within s.objects.strings n t h))
+  string-codes w start =
+      let string : ℕ → Option TextValue = λ n. slice_get s.objects.strings n in
+      let number = margin_string (shown_content s w).marks (shown_content s w).overlays start in
+      codes-of (option_and_then string number) (λ t is. option_and_then_some string number t is (λ n there at. (all-at IsString s.objects.strings n t valid.objects.strings at).chars))
 
   pub margin-right : (w : WindowState) (p : Placed) (e : EntryMeaning) → IsWindow s.buffers w → leaf_of w ≡ (p.mode, p.margins)
       → IsMargin p.margins (margin_of files s.objects (shown_content s w) (widths_of w) e)

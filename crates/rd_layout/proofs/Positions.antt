@@ -1,7 +1,7 @@
 -- The items that begin in the rows of a last layout end at positions.
-use Rattle.std.proofs.Common.{◌-◌, ◌^◌, ◌<◌, List, subst, arith}
+use Rattle.std.proofs.Common.{◌-◌, ◌^◌, ◌<◌, List, arith}
 use Rattle.std.proofs.lemmas.List.Elements.{All-map}
-use Rattle.std.proofs.lemmas.Option.{get_or_from_slice_get, slice_get_within}
+use Rattle.rd_base.proofs.Lists.{all-at}
 use Rattle.std.specs.List.{All}
 use Rattle.std.specs.Prelude.{slice_index_or}
 use Rattle.rd_blocks.specs.Kept.{AreRowsAt}
@@ -54,9 +54,8 @@ module _ (views : ViewLaws) (s : props.BufferValue) (objects : ObjectLists) (fil
   entries-fit es at =
       All-map AreInRow shown_entry es
       (λ k d less.
-      let e = shown_entry (slice_index_or es k d) in
       let place = at k d less in
-      subst AreInRow (get_or_from_slice_get (rows_at m shape) place.0 e e place.1) (rows-fit place.0 e (slice_get_within (rows_at m shape) place.0 e place.1)))
+      all-at AreInRow (rows_at m shape) place.0 (shown_entry (slice_index_or es k d)) rows-fit place.1)
 
 pub known-fit : ViewLaws → (files : Data) (s : StateValue) (w : WindowState) (l : Layout) → IsKnown files s w l → AreInPositions (shown_entries l.matrix)
 known-fit views files s w l known = entries-fit views known.old known.made files l.shape known.text known.shape l.matrix known.rows

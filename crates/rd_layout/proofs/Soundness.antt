@@ -3,10 +3,10 @@ use Rattle.std.proofs.Common.{◌≡◌, ℕ, ◌+◌, ◌==◌, ◌&&◌, Bool,
 use Rattle.std.proofs.lemmas.Bool.{and_parts, eqb-true, or_left}
 use Rattle.std.proofs.lemmas.List.Elements.{All-map, All-nil, All-weaker, recursion_from_All}
 use Rattle.std.proofs.lemmas.List.Sums.{AllPass-from_list_all}
-use Rattle.std.proofs.lemmas.Option.{get_or_from_slice_get, slice_get_within}
-use Rattle.rd_base.proofs.Lists.{element-at}
+use Rattle.std.proofs.lemmas.Option.{option_and_then_some}
+use Rattle.rd_base.proofs.Lists.{all-at, element-at}
 use Rattle.std.specs.List.{All, list_all}
-use Rattle.std.specs.Prelude.{IfSome, IsTrue, slice_index_or}
+use Rattle.std.specs.Prelude.{IfSome, IsTrue, slice_get, slice_index_or}
 use Rattle.std.specs.Str.{chars}
 use Rattle.rd_base.specs.Cells.{AreColoured, HasColours, IsColoured}
 use Rattle.rd_base.specs.Chars.{is_code, is_scalar}
@@ -97,10 +97,9 @@ border-whole laws (Some g) h = laws.slot g (slot-mark laws g (h g refl))
 
 module _ (laws : SoundLaws) (files : Data) (s : StateValue) (valid : IsValid s) where
   slot-right : (c : ContentValue) (g : Glyph) → border_slot s.objects c ≡ Some g → IsTrue (is_slot_glyph g)
-  slot-right c g h = by (table_in s.objects c.settings.table) (table-right c.settings.table) h where
-    table-right : (number : Option ℕ) (t : TableValue) → table_in s.objects number ≡ Some t → IsTable t
-    table-right None t h = absurd (cc)
-    table-right (Some n) t h = subst IsTable (get_or_from_slice_get s.objects.tables n t t h) (valid.objects.tables n t (slice_get_within s.objects.tables n t h))
+  slot-right c g h = by (table_in s.objects c.settings.table) right h where
+    right : (t : TableValue) → table_in s.objects c.settings.table ≡ Some t → IsTable t
+    right t is = option_and_then_some (λ n. slice_get s.objects.tables n) c.settings.table t is (λ n there at. all-at IsTable s.objects.tables n t valid.objects.tables at)
 
     by : (o : Option TableValue) → ((t : TableValue) → o ≡ Some t → IsTable t) → border_in o ≡ Some g → IsTrue (is_slot_glyph g)
     by None f h = absurd (cc)
