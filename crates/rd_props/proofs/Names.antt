@@ -13,7 +13,7 @@ use Rattle.rd_overlays.proofs.Bounding.{overlay_at-map}
 use Rattle.rd_overlays.specs.Overlays.{live, overlay_at, place_of, slot_changed, grown, shrunk, moved, dropped, given}
 use Rattle.rd_objects.specs.Things.{ObjectLists}
 use Rattle.rd_objects.specs.Sound.{GoesOn, Extends}
-use Rattle.rd_props.specs.Buffers.{BufferValue}
+use Rattle.rd_props.specs.Buffers.{BufferValue, property}
 use Rattle.rd_props.specs.Values.{value_of}
 use Rattle.rd_props.specs.Edits.{IsInsertion, IsDeletion, IsPut, HasOverlays}
 use Rattle.rd_props.specs.Made.{IsMade, SettingsMade, AreMade}
@@ -148,41 +148,31 @@ moved-made objects slots number from to made =
 -- ---- buffers
 
 module _ (old new : BufferValue) (objects : ObjectLists) (made : AreMade old objects) (settings : SettingsMade objects new.settings) where
+  -- values that were made, and overlays whose values were
+  becomes-made : (slots : List (Option Overlay)) → ((kind : Kind) (p v : ℕ) → property new kind p ≡ Some v → IsMade objects kind v)
+      → new.overlays ≡ slots → AreOverlaysMade objects slots → AreMade new objects
+  becomes-made slots properties is all = record { properties = properties; overlays = subst (AreOverlaysMade objects) (sym is) all; settings = settings }
+
   pub made-inserted : (place : ℕ) (chars : List ℕ) → IsInsertion old new place chars → AreMade new objects
-  made-inserted place chars edit = record {
-    properties = λ kind p v h.
-        let found = opened-by (nat_lt p place) (nat_lt p (place + length chars)) old.properties (place_of kind) (length chars) p v (sym (edit.properties (place_of kind) p) ∙ h) in
-        made.properties kind found.0 v found.1;
-    overlays = let P : List (Option Overlay) → Type 0 = AreOverlaysMade objects in
-        subst P (sym edit.overlays) (changed-made objects (grown place (length chars)) (λ o. refl) old.overlays made.overlays);
-    settings = settings;
-  }
+  made-inserted place chars edit =
+      becomes-made _ (λ kind p v h.
+      let found = opened-by (nat_lt p place) (nat_lt p (place + length chars)) old.properties (place_of kind) (length chars) p v (sym (edit.properties (place_of kind) p) ∙ h) in
+      made.properties kind found.0 v found.1) edit.overlays (changed-made objects (grown place (length chars)) (λ o. refl) old.overlays made.overlays)
 
   pub made-deleted : (from to : ℕ) → IsDeletion old new from to → AreMade new objects
-  made-deleted from to edit = record {
-    properties = λ kind p v h.
-        let found = closed-by (nat_lt p from) old.properties (place_of kind) (to - from) p v (sym (edit.properties (place_of kind) p) ∙ h) in
-        made.properties kind found.0 v found.1;
-    overlays = let P : List (Option Overlay) → Type 0 = AreOverlaysMade objects in
-        subst P (sym edit.overlays) (changed-made objects (shrunk from to) (λ o. refl) old.overlays made.overlays);
-    settings = settings;
-  }
+  made-deleted from to edit =
+      becomes-made _ (λ kind p v h.
+      let found = closed-by (nat_lt p from) old.properties (place_of kind) (to - from) p v (sym (edit.properties (place_of kind) p) ∙ h) in
+      made.properties kind found.0 v found.1) edit.overlays (changed-made objects (shrunk from to) (λ o. refl) old.overlays made.overlays)
 
   pub made-put : (kind : Kind) (from to : ℕ) (value : Option ℕ) → ((v : ℕ) → value ≡ Some v → IsMade objects kind v) → IsPut old new kind from to value → AreMade new objects
-  made-put kind from to value new_made edit = record {
-    properties = λ k p v h.
-        put-by objects k kind (place_of k == place_of kind) (nat_le from p && nat_lt p to) value (old.properties (place_of k) p) v refl new_made (made.properties k p v)
-        (sym (edit.properties (place_of k) p) ∙ h);
-    overlays = let P : List (Option Overlay) → Type 0 = AreOverlaysMade objects in subst P (sym edit.overlays) made.overlays;
-    settings = settings;
-  }
+  made-put kind from to value new_made edit =
+      becomes-made old.overlays (λ k p v h.
+      put-by objects k kind (place_of k == place_of kind) (nat_le from p && nat_lt p to) value (old.properties (place_of k) p) v refl new_made (made.properties k p v)
+      (sym (edit.properties (place_of k) p) ∙ h)) edit.overlays made.overlays
 
   made-overlays : (slots : List (Option Overlay)) → AreOverlaysMade objects slots → HasOverlays old new slots → AreMade new objects
-  made-overlays slots all edit = record {
-    properties = λ kind p v h. made.properties kind p v (sym (edit.properties (place_of kind) p) ∙ h);
-    overlays = let P : List (Option Overlay) → Type 0 = AreOverlaysMade objects in subst P (sym edit.overlays) all;
-    settings = settings;
-  }
+  made-overlays slots all edit = becomes-made slots (λ kind p v h. made.properties kind p v (sym (edit.properties (place_of kind) p) ∙ h)) edit.overlays all
 
   pub made-making : (o : Overlay) → ((kind : Kind) (v : ℕ) → value_of kind (Some o) ≡ Some v → IsMade objects kind v) → HasOverlays old new (old.overlays ++ Some o ∷ []) → AreMade new objects
   made-making o all edit = made-overlays (old.overlays ++ Some o ∷ []) (end-made objects old.overlays o made.overlays all) edit
