@@ -1,5 +1,5 @@
--- An op that a line says is in form.
-use Rattle.std.proofs.Common.{◌≡◌, ℕ, suc, ◌≤◌, ◌<◌, ◌-◌, ◌&&◌, Bool, true, false, ℤ, pos, List, [], ◌∷◌, length, Option, None, Some, Result, Ok, Err, IsTrue, refl, sym, ap, subst, ◌∙◌, arith, unwrap_or, option_and_then, option_map, nat_le, chars, codes}
+-- An op that a line says is in form, and no field of one is refused for want of memory.
+use Rattle.std.proofs.Common.{◌≡◌, ◌≢◌, ℕ, suc, ◌≤◌, ◌<◌, ◌-◌, ◌&&◌, Bool, true, false, ℤ, pos, List, [], ◌∷◌, length, Option, None, Some, Result, Ok, Err, IsTrue, refl, sym, ap, subst, ◌∙◌, arith, unwrap_or, option_and_then, option_map, nat_le, chars, codes, ok_or}
 use Rattle.std.proofs.lemmas.Bool.Decides.{nat_tests}
 use Rattle.std.proofs.lemmas.List.Elements.{All-nil, All-cons}
 use Rattle.std.proofs.lemmas.Option.{none-some, cond_some}
@@ -17,6 +17,7 @@ use Rattle.rd_script.specs.declared.object.SpecName.TheVariants as spec_names
 use Rattle.rd_script.specs.declared.setting.SettingName.{SettingName}
 use Rattle.rd_script.specs.declared.setting.SettingName.TheVariants as setting_names
 use Rattle.rd_script.specs.declared.fault.OpFault.{OpFault}
+use Rattle.rd_script.specs.declared.fault.OpFault.TheVariants.{BadField, Memory}
 use Rattle.rd_script.specs.declared.op.Op.{Op}
 use Rattle.rd_script.specs.declared.name.Name.{Name}
 use Rattle.rd_script.specs.declared.name.Name.TheVariants as names
@@ -41,9 +42,14 @@ use Rattle.rd_script.specs.Properties.{overlay_kind, text_kind, greatest_value, 
 use Rattle.rd_script.specs.Reading.{reading, reading_name, reading_row, reading_members, object_of, closed, extra_key, unless_extra}
 use Rattle.rd_script.specs.Table.{row, text_row, property_row, object_row, window_row, screen_row, stretch_fields, overlay_manner, split_sides, ways, wrap_modes}
 
--- what fields give has this
-record Gives {T : Type 0} (fields : Fields T) (P : T → Type 0) : Type 0 where
+-- what is said is no want of memory
+abbrev pub IsFree : {T : Type 0} → Result T OpFault → Type 0
+IsFree r = r ≢ Err Memory
+
+-- what fields give has this, and none of them is refused for want of memory
+pub record Gives {T : Type 0} (fields : Fields T) (P : T → Type 0) : Type 0 where
   pub given : (ms : Members) (x : T) → fields.taken ms ≡ Ok x → P x
+  pub free : (ms : Members) → IsFree (fields.taken ms)
 
 -- what a kind of value gives has this
 record Finds {T : Type 0} (kind : Data → Option T) (P : T → Type 0) : Type 0 where
@@ -51,6 +57,30 @@ record Finds {T : Type 0} (kind : Data → Option T) (P : T → Type 0) : Type 0
 
 ok-same : {T : Type 0} (x y : T) → ◌≡◌ {A = Result T OpFault} (Ok x) (Ok y) → x ≡ y
 ok-same x y e = cc
+
+-- ---- what is free of want of memory
+
+pub and_then-free : {A B : Type 0} (f : A → Result B OpFault) (r : Result A OpFault) → ((a : A) → r ≡ Ok a → IsFree (f a)) → IsFree r → IsFree (and_then f r)
+and_then-free f (Ok a) h g = h a refl
+and_then-free f (Err fault) h g = λ e. g (cc)
+
+pub ok-free : {T : Type 0} (x : T) → IsFree (Ok x)
+ok-free x = λ e. cc
+
+pub ok_or-free : {T : Type 0} (fault : OpFault) (o : Option T) → (fault ≡ Memory → ⊥) → IsFree (ok_or o fault)
+ok_or-free fault None h = λ e. h (cc)
+ok_or-free fault (Some x) h = ok-free x
+
+or_bad-free : {T : Type 0} (key : List ℕ) (o : Option T) → IsFree (or_bad key o)
+or_bad-free key o = ok_or-free (BadField (chars key)) o (λ e. cc)
+
+pub required_of-free : {T : Type 0} (key : List ℕ) (kind : Data → Option T) (o : Option Data) → IsFree (required_of key kind o)
+required_of-free key kind None = λ e. cc
+required_of-free key kind (Some d) = or_bad-free key (kind d)
+
+optional_of-free : {T : Type 0} (key : List ℕ) (kind : Data → Option T) (o : Option Data) → IsFree (optional_of key kind o)
+optional_of-free key kind None = λ e. cc
+optional_of-free key kind (Some d) = or_bad-free key _
 
 -- ---- kinds of values
 
@@ -85,7 +115,10 @@ required-ok key kind P finds None x e = absurd (cc)
 required-ok key kind P finds (Some d) x e = finds.found d x (or_bad-ok key (kind d) x e)
 
 required-gives : {T : Type 0} (key : List ℕ) (kind : Data → Option T) (P : T → Type 0) → Finds kind P → Gives (required key kind) P
-required-gives key kind P finds = record { given = λ ms x e. required-ok key kind P finds (get_member key ms) x e }
+required-gives key kind P finds = record {
+  given = λ ms x e. required-ok key kind P finds (get_member key ms) x e;
+  free = λ ms. required_of-free key kind (get_member key ms);
+}
 
 and_then-ok : {A B : Type 0} (f : A → Result B OpFault) (r : Result A OpFault) (b : B) → and_then f r ≡ Ok b → (a : A) × (r ≡ Ok a) × (f a ≡ Ok b)
 and_then-ok f (Ok a) b e = (a, refl, e)
@@ -98,6 +131,8 @@ both-gives f g P Q hf hg = record {
       let second = and_then-ok (λ b. Ok (first.0, b)) (g.taken ms) x first.2 in
       let same = ok-same (first.0, second.0) x second.2 in
       subst (λ y. P y.0 × Q y.1) same (hf.given ms first.0 first.1, hg.given ms second.0 second.1);
+  free = λ ms. and_then-free (λ a. and_then (λ b. Ok (a, b)) (g.taken ms)) (f.taken ms)
+      (λ a e. and_then-free (λ b. Ok (a, b)) (g.taken ms) (λ b e. ok-free (a, b)) (hg.free ms)) (hf.free ms);
 }
 
 made-as : {A B : Type 0} (f : A → B) (fields : Fields A) (P : A → Type 0) (Q : B → Type 0) → Gives fields P → ((a : A) → P a → Q (f a)) → Gives (made f fields) Q
@@ -105,6 +140,7 @@ made-as f fields P Q h so = record {
   given = λ ms x e.
       let of = and_then-ok (λ a. Ok (f a)) (fields.taken ms) x e in
       subst Q (ok-same (f of.0) x of.2) (so of.0 (h.given ms of.0 of.1));
+  free = λ ms. and_then-free (λ a. Ok (f a)) (fields.taken ms) (λ a e. ok-free (f a)) (h.free ms);
 }
 
 made-gives : {A : Type 0} (f : A → Op) (fields : Fields A) (P : A → Type 0) → Gives fields P → ((a : A) → P a → IsInForm (f a)) → Gives (made f fields) IsInForm
@@ -122,19 +158,23 @@ optional-ok key kind P Q finds none some (Some d) x e = some_found kind P Q find
 
 optional-gives : {T : Type 0} (key : List ℕ) (kind : Data → Option T) (P : T → Type 0) (Q : Option T → Type 0) → Finds kind P → Q None → ((y : T) → P y → Q (Some y))
     → Gives (optional key kind) Q
-optional-gives key kind P Q finds none some = record { given = λ ms x e. optional-ok key kind P Q finds none some (present (get_member key ms)) x e }
+optional-gives key kind P Q finds none some = record {
+  given = λ ms x e. optional-ok key kind P Q finds none some (present (get_member key ms)) x e;
+  free = λ ms. optional_of-free key kind (present (get_member key ms));
+}
 
 defaulted-gives : {T : Type 0} (default : T) (key : List ℕ) (kind : Data → Option T) (P : T → Type 0) → Finds kind P → P default → Gives (defaulted default key kind) P
 defaulted-gives default key kind P finds h =
     made-as (λ o. unwrap_or o default) (optional key kind) (λ o. P (unwrap_or o default)) P
     (optional-gives key kind P (λ o. P (unwrap_or o default)) finds h (λ y p. p)) (λ o p. p)
 
-then_by-gives : {A B : Type 0} (first : Fields A) (keys : List (List ℕ)) (second : A → Fields B) (Q : B → Type 0)
-    → ((a : A) → Gives (second a) Q) → Gives (then_by first keys second) Q
-then_by-gives first keys second Q h = record {
+then_by-gives : {A B : Type 0} (first : Fields A) (keys : List (List ℕ)) (second : A → Fields B) (P : A → Type 0) (Q : B → Type 0)
+    → Gives first P → ((a : A) → P a → Gives (second a) Q) → Gives (then_by first keys second) Q
+then_by-gives first keys second P Q h so = record {
   given = λ ms x e.
       let of = and_then-ok (λ a. (second a).taken ms) (first.taken ms) x e in
-      (h of.0).given ms x of.2;
+      (so of.0 (h.given ms of.0 of.1)).given ms x of.2;
+  free = λ ms. and_then-free (λ a. (second a).taken ms) (first.taken ms) (λ a e. (so a (h.given ms a e)).free ms) (h.free ms);
 }
 
 any-finds : {T : Type 0} (kind : Data → Option T) → Finds kind (λ x. Unit {0})
@@ -322,14 +362,8 @@ value-at_most most = optional-gives (codes "value") (within 0 most) (λ n. n ≤
 
 -- a kind and its value
 property-gives : (of : Data → Option Kind) (P : Kind → Type 0) → Finds of P → Gives (property of) (λ x. P x.0 × IsPropertyValue x.0 x.1)
-property-gives of P finds = record {
-  given = λ ms x e.
-      let first = and_then-ok (λ kind. (property_value kind).taken ms) ((required (codes "kind") of).taken ms) x e in
-      let kind = (required-gives (codes "kind") of P finds).given ms first.0 first.1 in
-      let value = (made-as (λ value. (first.0, value)) (optional (codes "value") (within 0 (greatest_value first.0))) (AtMost (greatest_value first.0))
-      (λ y. P y.0 × IsPropertyValue y.0 y.1) (value-at_most (greatest_value first.0)) (λ v h. (kind, property_value-form first.0 v h))) in
-      value.given ms x first.2;
-}
+property-gives of P finds = then_by-gives _ _ property_value P (λ x. P x.0 × IsPropertyValue x.0 x.1) (required-gives (codes "kind") of P finds)
+    (λ kind h. made-as _ _ (AtMost (greatest_value kind)) _ (value-at_most (greatest_value kind)) (λ value most. (h, property_value-form kind value most)))
 
 text_kind-finds : Finds text_kind (λ kind. IsTrue (is_text_kind kind))
 text_kind-finds = record { found = λ d kind e. kept_if-found is_text_kind (overlay_kind d) kind e }
@@ -365,14 +399,14 @@ properties-give properties.OverlayPut = made-gives _ _ _
 properties-give properties.MarginPut = made-gives _ _ _
     (both-gives _ _ _ _ (name_field (codes "buffer")) (both-gives _ _ _ _ (whole_field (codes "overlay")) (number-gives (codes "string")))) (λ x h. (h.0, h.1.0, h.1.1))
 properties-give properties.Setting = made-gives _ _ _
-    (both-gives _ _ _ _ (name_field (codes "buffer")) (then_by-gives (required (codes "name") (word setting_words)) (codes "value" ∷ []) value_of_setting IsSettingInForm value-gives))
+    (both-gives _ _ _ _ (name_field (codes "buffer")) (then_by-gives _ _ value_of_setting _ IsSettingInForm (any-gives (codes "name") (word setting_words)) (λ n any. value-gives n)))
     (λ x h. (h.0, h.1))
 
 object-gives : (op : ObjectOp) → Gives (object_row op) IsInForm
 object-gives objects.String = made-gives _ _ _
     (both-gives _ _ _ _ (text_field (codes "text")) (defaulted-gives [] (codes "runs") (list_of STRING_RUNS run) _ (list-finds STRING_RUNS run IsRunInForm run-finds) (omega arith, All-nil _)))
     (λ x h. (h.0, h.1.0, h.1.1))
-object-gives objects.Spec = made-gives _ _ _ (then_by-gives (required (codes "kind") (word spec_words)) (codes "value" ∷ []) spec_value IsSpecInForm spec-gives) (λ x h. h)
+object-gives objects.Spec = made-gives _ _ _ (then_by-gives _ _ spec_value _ IsSpecInForm (any-gives (codes "kind") (word spec_words)) (λ n any. spec-gives n)) (λ x h. h)
 object-gives objects.Face = made-gives _ _ _
     (made-as face_of _ _ (λ f. (f.fg ≤ 8) × (f.bg ≤ 8)) (both-gives _ _ _ _ (colour-gives (codes "fg")) (both-gives _ _ _ _ (colour-gives (codes "bg"))
     (both-gives _ _ _ _ (flag-gives (codes "bold")) (both-gives _ _ _ _ (flag-gives (codes "underline")) (flag-gives (codes "inverse"))))))
@@ -411,7 +445,7 @@ screen-gives screens.Echo = made-gives _ _ _ (required-gives (codes "text") plai
 screen-gives screens.Redisplay = made-gives _ _ IsStop (optional-gives (codes "stop") (within 0 FRAME_ROWS) _ IsStop (within-finds 0 FRAME_ROWS) tt (λ y h. h.1)) (λ x h. h)
 screen-gives screens.Shift = made-gives _ _ _ (any-gives (codes "on") as_bool) (λ x h. h)
 
-row-gives : (n : Name) → Gives (row n) IsInForm
+pub row-gives : (n : Name) → Gives (row n) IsInForm
 row-gives (names.Text op) = text-gives op
 row-gives (names.Property op) = properties-give op
 row-gives (names.Object op) = object-gives op
