@@ -1,24 +1,23 @@
 -- In the rows of elements whose colours are in their range each cell has such colours.
-use Rattle.std.proofs.Common.{ℕ, zero, ◌+◌, ◌-◌, ◌&&◌, min, max, nat_le, nat_lt, Bool, true, false, List, [], ◌∷◌, ◌++◌, length, flat_map, replicate, All, arith}
+use Rattle.std.proofs.Common.{ℕ, zero, ◌+◌, ◌-◌, ◌&&◌, min, max, nat_le, Bool, true, false, List, [], ◌∷◌, ◌++◌, replicate, All, arith}
 use Rattle.std.proofs.lemmas.List.Elements.{All-nil, All-cons, All-tail, All-append}
 use Rattle.std.specs.List.{AllByRecursion}
 use Rattle.rd_base.proofs.Choices.{either}
 use Rattle.rd_base.specs.Cells.{HasColours, IsColoured}
 use Rattle.rd_base.specs.Faces.{plain}
-use Rattle.rd_base.specs.Glyphs.{blanks}
 use Rattle.rd_base.specs.declared.cell.Cell.{Cell}
 use Rattle.rd_base.specs.declared.cell.Cell.TheVariants.{Blank, First, Rest}
 use Rattle.rd_base.specs.declared.cell.Glyph.{Glyph}
 use Rattle.rd_base.specs.declared.element.Element.{Element}
 use Rattle.rd_base.proofs.Colours.{plain-coloured, blanks-coloured, with-rests, look-coloured}
-use Rattle.rd_base.proofs.Lists.{all-front, all-back, all-one, each-append}
+use Rattle.rd_base.proofs.Lists.{all-front, all-back, all-one, each-append, each-weaker}
 use Rattle.rd_rows.specs.declared.cutting.Cutting.{Cutting}
 use Rattle.rd_rows.specs.declared.spot.Placed.{Placed}
 use Rattle.rd_rows.specs.Mirrors.{mirror_image, leading_rests}
 use Rattle.rd_rows.specs.Placing.{next_row, columns_of}
-use Rattle.rd_rows.specs.Rows.{seen, seen_in, mark, front_mark, filled, last_cell, from_edge, row_of, rows_of, cutting_of}
-use Rattle.rd_rows.specs.Shapes.{ShapeValues, room, truncates}
-use Rattle.rd_rows.proofs.Marks.{mark-coloured}
+use Rattle.rd_rows.specs.Rows.{seen, from_edge, row_of, rows_of, cutting_of}
+use Rattle.rd_rows.specs.Shapes.{ShapeValues}
+use Rattle.rd_rows.proofs.Marks.{mark-coloured, row-has}
 use Rattle.rd_rows.proofs.Placings.{fitted-each, placed-each}
 use Rattle.rd_rows.proofs.Splits.{placed_in, over-rows}
 
@@ -34,22 +33,7 @@ seen-coloured from to p h =
     (look-coloured p.columns p.element.look p.element.face h)
     (blanks-coloured (min to (p.start + p.columns) - max from p.start) p.element.face h)
 
-all-coloured : (from to : ℕ) (ps : List Placed) → HaveColours ps → All IsColoured (flat_map (seen from to) ps)
-all-coloured from to [] h = All-nil IsColoured
-all-coloured from to (p ∷ ps) h =
-    All-append IsColoured (seen from to p) (flat_map (seen from to) ps) (seen-coloured from to p h.0) (all-coloured from to ps h.1)
-
 -- the cells of a row
-
-front-coloured : (c : Cutting) (used : ℕ) → All IsColoured (front_mark c used)
-front-coloured c used =
-    either (All IsColoured) (nat_lt 0 c.shape.hscroll && nat_lt 0 used) _ _ (all-one IsColoured (mark c.truncation) (mark-coloured c.truncation)) (All-nil IsColoured)
-
-last-coloured : (c : Cutting) (used : ℕ) (continued : Bool) → IsColoured (last_cell c used continued)
-last-coloured c used continued =
-    either IsColoured (truncates c.shape) _ _
-    (either IsColoured (nat_lt (c.shape.hscroll + room c.shape) used) _ _ (mark-coloured c.truncation) plain-coloured)
-    (either IsColoured continued _ _ (mark-coloured c.continuation) plain-coloured)
 
 mirror-coloured : (cells : List Cell) → All IsColoured cells → All IsColoured (mirror_image cells)
 mirror-coloured [] h = h
@@ -67,13 +51,10 @@ edge-coloured false cells h = h
 
 row-coloured : (c : Cutting) (used : ℕ) (continued : Bool) (ps : List Placed) → HaveColours ps → All IsColoured (row_of c used continued ps).cells
 row-coloured c used continued ps h =
-    let body : List Cell = front_mark c used ++ flat_map (seen_in c.shape) ps in
-    let last : List Cell = last_cell c used continued ∷ [] in
-    let cells = All-append IsColoured (front_mark c used) (flat_map (seen_in c.shape) ps) (front-coloured c used) (all-coloured _ _ ps h) in
-    let rest = blanks-coloured (room c.shape - length body) plain plain-coloured in
-    edge-coloured c.reversed (filled (room c.shape) body ++ last)
-    (All-append IsColoured (filled (room c.shape) body) last
-    (All-append IsColoured body (blanks (room c.shape - length body) plain) cells rest) (all-one IsColoured _ (last-coloured c used continued)))
+    edge-coloured c.reversed _
+    (row-has (All IsColoured) (All-append IsColoured) (All-nil IsColoured) (λ n. blanks-coloured n plain plain-coloured) c
+    (all-one IsColoured _ (mark-coloured c.truncation)) (all-one IsColoured _ (mark-coloured c.continuation)) used continued ps
+    (each-weaker _ _ (seen-coloured _ _) ps h))
 
 -- the rows of a line
 

@@ -1,7 +1,7 @@
 -- In the rows of measured elements each glyph stands whole.
-use Rattle.std.proofs.Common.{◌≡◌, ℕ, zero, suc, ◌+◌, ◌-◌, ◌≤◌, ◌&&◌, min, max, nat_le, nat_lt, Bool, true, false, List, [], ◌∷◌, ◌++◌, length, flat_map, refl, ap, ◌∙◌, arith, length-append, replicate}
+use Rattle.std.proofs.Common.{◌≡◌, ℕ, zero, suc, ◌+◌, ◌-◌, ◌≤◌, ◌&&◌, min, max, nat_le, Bool, true, false, List, [], ◌∷◌, ◌++◌, length, flat_map, refl, ap, ◌∙◌, arith, length-append, replicate}
+use Rattle.std.specs.List.{AllByRecursion}
 use Rattle.std.proofs.lemmas.List.{length-replicate}
-use Rattle.rd_base.proofs.Choices.{either}
 use Rattle.rd_base.specs.Elements.{IsSound, AreSound}
 use Rattle.rd_base.specs.Faces.{Attributes, plain}
 use Rattle.rd_base.specs.Glyphs.{blanks, look_cells, IsMeasuredLook, AreMeasured, IsRowAfter}
@@ -19,10 +19,10 @@ use Rattle.rd_rows.specs.Mirrors.{mirror_image, leading_rests}
 use Rattle.rd_rows.specs.Placing.{next_row, columns_of}
 use Rattle.rd_rows.specs.Prefixes.{FillsColumns, StandFrom}
 use Rattle.rd_rows.specs.Rows.{seen, seen_in, first_seen, front_mark, filled, last_cell, from_edge, row_of, rows_of, cutting_of}
-use Rattle.rd_rows.specs.Shapes.{ShapeValues, room, truncates}
+use Rattle.rd_rows.specs.Shapes.{ShapeValues, room}
 use Rattle.rd_rows.specs.Whole.{IsWhole, AreWhole, IsMark, IsMeasuredPrefix, ArePlacedMeasured, IsMeasuredCutting}
 use Rattle.rd_rows.proofs.Fitting.{cutting-leads}
-use Rattle.rd_rows.proofs.Marks.{mark-whole}
+use Rattle.rd_rows.proofs.Marks.{mark-whole, row-has}
 use Rattle.rd_rows.proofs.Mirroring.{mirror-length, front-length}
 use Rattle.rd_rows.proofs.Placings.{fitted-each, placed-each}
 use Rattle.rd_rows.proofs.Splits.{placed_in, over-rows}
@@ -37,20 +37,9 @@ seen-whole : (b : Bool) (from to : ℕ) (p : Placed) → (nat_le from p.start &&
 seen-whole true from to p h fills measured = rw h (cells-whole p.element.look p.columns p.element.face fills measured)
 seen-whole false from to p h fills measured = rw h (blanks-whole (min to (p.start + p.columns) - max from p.start) p.element.face)
 
-all-whole : (from to a b : ℕ) (ps : List Placed) → StandFrom a ps b → ArePlacedMeasured ps → IsRowAfter 0 (flat_map (seen from to) ps)
-all-whole from to a b [] stand measured = tt
-all-whole from to a b (p ∷ ps) stand measured =
-    behind-whole 0 (seen from to p) (flat_map (seen from to) ps) (seen-whole _ from to p refl stand.1 measured.0) (all-whole from to (a + p.columns) b ps stand.2 measured.1)
-
--- a cell that is a glyph of one column, or blank
-abbrev StandsAlone : Cell → Type 0
-StandsAlone x = IsRowAfter 0 (x ∷ [])
-
-last-whole : (c : Cutting) (used : ℕ) (continued : Bool) → IsMeasuredCutting c → IsRowAfter 0 (last_cell c used continued ∷ [])
-last-whole c used continued m =
-    either StandsAlone (truncates c.shape) _ _
-    (either StandsAlone (nat_lt (c.shape.hscroll + room c.shape) used) _ _ (mark-whole c.truncation m.truncation) tt)
-    (either StandsAlone continued _ _ (mark-whole c.continuation m.continuation) tt)
+each-whole : (from to a b : ℕ) (ps : List Placed) → StandFrom a ps b → ArePlacedMeasured ps → AllByRecursion (λ p. IsRowAfter 0 (seen from to p)) ps
+each-whole from to a b [] stand measured = tt
+each-whole from to a b (p ∷ ps) stand measured = (seen-whole _ from to p refl stand.1 measured.0, each-whole from to (a + p.columns) b ps stand.2 measured.1)
 
 -- the mirror image
 
@@ -91,11 +80,8 @@ row-whole c used continued ps m stand measured =
     let some : 1 ≤ r = omega (arith, columns) in
     let body : List Cell = front_mark c used ++ flat_map (seen_in c.shape) ps in
     let last : List Cell = last_cell c used continued ∷ [] in
-    let front : IsRowAfter 0 (front_mark c used) = either (IsRowAfter 0) (nat_lt 0 c.shape.hscroll && nat_lt 0 used) _ _ (mark-whole c.truncation m.truncation) tt in
-    let cells : IsRowAfter 0 body
-    = behind-whole 0 (front_mark c used) (flat_map (seen_in c.shape) ps) front (all-whole (first_seen c.shape) (c.shape.hscroll + r) 0 used ps stand measured) in
-    let all : IsRowAfter 0 (filled r body ++ last)
-    = behind-whole 0 (filled r body) last (behind-whole 0 body (blanks (r - length body) plain) cells (blanks-whole (r - length body) plain)) (last-whole c used continued m) in
+    let all = row-has (IsRowAfter 0) (behind-whole 0) tt (λ n. blanks-whole n plain) c (mark-whole c.truncation m.truncation) (mark-whole c.continuation m.continuation)
+    used continued ps (each-whole (first_seen c.shape) (c.shape.hscroll + r) 0 used ps stand measured) in
     let edge = edge-whole c.reversed (filled r body ++ last) all in
     let short = front-length c used (flat_map (seen_in c.shape) ps) some (room-length c.shape used ps stand) in
     let size = filled-length r body short in

@@ -1,8 +1,8 @@
 -- The items of a row begin in columns of its window.
-use Rattle.std.proofs.Common.{◌≡◌, ℕ, zero, suc, ◌+◌, ◌-◌, ◌<◌, ◌≤◌, ◌&&◌, min, max, nat_le, nat_lt, Bool, true, false, List, [], ◌∷◌, ◌++◌, All, Some, refl, subst, arith, length-append}
+use Rattle.std.proofs.Common.{◌≡◌, ℕ, zero, suc, ◌+◌, ◌-◌, ◌<◌, ◌≤◌, ◌&&◌, min, max, nat_le, Bool, true, false, List, [], ◌∷◌, ◌++◌, All, get_or, Some, refl, subst, arith, length-append}
 use Rattle.std.specs.Prelude.{flat_map, length, if◌then◌else◌, replicate, slice_get}
 use Rattle.std.proofs.lemmas.List.{length-replicate}
-use Rattle.std.proofs.lemmas.List.Elements.{All-append, All-cons, All-map, All-nil}
+use Rattle.std.proofs.lemmas.List.Elements.{All-append, All-cons, All-map, All-nil, recursion_from_All}
 use Rattle.rd_base.proofs.Choices.{either}
 use Rattle.rd_base.proofs.Lists.{all-at, all-back, all-front}
 use Rattle.rd_base.specs.Faces.{Attributes, plain}
@@ -14,6 +14,7 @@ use Rattle.rd_base.specs.declared.element.Element.{Element}
 use Rattle.rd_base.specs.declared.element.Look.{Look}
 use Rattle.rd_base.specs.declared.element.Look.TheVariants as look
 use Rattle.rd_matrix.proofs.EachRow.{rows-each}
+use Rattle.rd_rows.proofs.Marks.{row-has}
 use Rattle.rd_rows.proofs.Mirroring.{mirror-length}
 use Rattle.rd_rows.proofs.Splits.{over-rows, placed_in}
 use Rattle.rd_ucd.specs.Data.{Data}
@@ -29,7 +30,7 @@ use Rattle.rd_blocks.specs.Sources.{text_source}
 use Rattle.rd_visual.specs.Hits.{AreRowsAt}
 use Rattle.rd_rows.specs.Mirrors.{leading_rests}
 use Rattle.rd_rows.specs.Rows.{LaidRow, RowMeaning, begin_of, filled, first_seen, from_edge, front_mark, laid, last_cell, mark, row_of, rows_of, seen, seen_in}
-use Rattle.rd_rows.specs.Shapes.{IsShape, ShapeValues, room, truncates}
+use Rattle.rd_rows.specs.Shapes.{IsShape, ShapeValues, room}
 use Rattle.rd_rows.specs.declared.begin.Begin.{Begin}
 use Rattle.rd_rows.specs.declared.cutting.Cutting.{Cutting}
 use Rattle.rd_rows.specs.declared.spot.Placed.{Placed}
@@ -82,27 +83,8 @@ leading-seen from to p =
     (look_cells p.columns p.element.look p.element.face) (blanks (min to (p.start + p.columns) - max from p.start) p.element.face)
     (leading-look p.columns p.element.look p.element.face) (leading-blanks (min to (p.start + p.columns) - max from p.start) p.element.face)
 
-leading-all : (shape : ShapeValues) (ps : List Placed) → leading_rests (flat_map (seen_in shape) ps) ≡ 0
-leading-all shape [] = refl
-leading-all shape (p ∷ ps) = leading-append (seen_in shape p) (flat_map (seen_in shape) ps) (leading-seen (first_seen shape) (shape.hscroll + room shape) p) (leading-all shape ps)
-
-leading-cell : (b : Bool) (g : Glyph) (xs : List Cell) → leading_rests ((if b then Blank plain else First g plain) ∷ xs) ≡ 0
-leading-cell true g xs = refl
-leading-cell false g xs = refl
-
-leading-mark : (g : Glyph) (xs : List Cell) → leading_rests (mark g ∷ xs) ≡ 0
-leading-mark g xs = leading-cell (is_space g) g xs
-
-leading-front : (c : Cutting) (used : ℕ) → leading_rests (front_mark c used) ≡ 0
-leading-front c used = leading-either (nat_lt 0 c.shape.hscroll && nat_lt 0 used) (mark c.truncation ∷ []) [] (leading-mark c.truncation []) refl
-
-leading-end-by : (b : Bool) (g : Glyph) → leading_rests ((if b then mark g else Blank plain) ∷ []) ≡ 0
-leading-end-by true g = leading-mark g []
-leading-end-by false g = refl
-
-leading-end : (t : Bool) (c : Cutting) (used : ℕ) (continued : Bool) → truncates c.shape ≡ t → leading_rests (last_cell c used continued ∷ []) ≡ 0
-leading-end true c used continued e = rw e (leading-end-by (nat_lt (c.shape.hscroll + room c.shape) used) c.truncation)
-leading-end false c used continued e = rw e (leading-end-by continued c.continuation)
+leading-mark : (g : Glyph) → leading_rests (mark g ∷ []) ≡ 0
+leading-mark g = either (λ x. leading_rests (x ∷ []) ≡ 0) (is_space g) (Blank plain) (First g plain) refl refl
 
 edge-size : (b : Bool) (cells : List Cell) → leading_rests cells ≡ 0 → length (from_edge b cells) ≡ length cells
 edge-size true cells none = let e = mirror-length cells in omega (arith, e, none)
@@ -113,9 +95,9 @@ row-wide c used continued ps =
     let cells = front_mark c used ++ flat_map (seen_in c.shape) ps in
     let fill = blanks (room c.shape - length cells) plain in
     let end = last_cell c used continued ∷ [] in
-    let leads = leading-append (front_mark c used) (flat_map (seen_in c.shape) ps) (leading-front c used) (leading-all c.shape ps) in
-    let filled-leads = leading-append cells fill leads (leading-blanks (room c.shape - length cells) plain) in
-    let size = edge-size c.reversed (filled (room c.shape) cells ++ end) (leading-append (filled (room c.shape) cells) end filled-leads (leading-end (truncates c.shape) c used continued refl)) in
+    let leads = row-has (λ xs. leading_rests xs ≡ 0) leading-append refl (λ n. leading-blanks n plain) c (leading-mark c.truncation) (leading-mark c.continuation)
+    used continued ps (recursion_from_All _ ps (λ k d here. leading-seen (first_seen c.shape) (c.shape.hscroll + room c.shape) (get_or ps k d))) in
+    let size = edge-size c.reversed (filled (room c.shape) cells ++ end) leads in
     let whole = length-append (filled (room c.shape) cells) end in
     let two = length-append cells fill in
     let blank = length-replicate (room c.shape - length cells) (Blank plain) in
