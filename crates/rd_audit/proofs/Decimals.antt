@@ -1,9 +1,11 @@
 -- Numbers below 1,000, read back.
-use Rattle.std.proofs.Common.{◌≡◌, ◌==◌, ℕ, ◌+◌, ◌-◌, ◌*◌, ◌/◌, ◌%◌, ◌<◌, ◌≤◌, nat_le, true, false, Option, Some, decimal, [], ◌∷◌, ◌++◌, inl, inr, refl, ap, ap₂, ◌∙◌, arith}
+use Rattle.std.proofs.Common.{◌≡◌, ◌==◌, ℕ, ◌+◌, ◌-◌, ◌*◌, ◌/◌, ◌%◌, ◌<◌, ◌≤◌, nat_le, true, false, Option, Some, option_and_then, decimal, List, [], ◌∷◌, ◌++◌, inl, inr, refl, ap, ap₂, ◌∙◌, arith}
 use Rattle.std.proofs.lemmas.Bool.{cases_lt}
 use Rattle.std.proofs.lemmas.Bool.Decides.{nat_tests}
 use Rattle.std.proofs.lemmas.Fmt.{decimal_digit, decimal_step}
-use Rattle.rd_audit.specs.Numbers.{digit, lead, longer, number_of}
+use Rattle.std.specs.Option.{option_zip}
+use Rattle.rd_audit.specs.Numbers.{digit, lead, longer, number_of, pair_of}
+use Rattle.rd_audit.proofs.Lacking.{cut-seam, is_no_digit, lacks-decimal}
 
 digit-read : (d : ℕ) → d < 10 → digit (48 + d) ≡ Some d
 digit-read d less =
@@ -45,3 +47,9 @@ number-read n small = elim (cases_lt n 10) [
         ∙ ap Some sum
   ]
 ]
+
+-- two numbers with a byte between them
+pub pair-read : (byte m n : ℕ) → is_no_digit byte ≡ true → m < 1000 → n < 1000 → pair_of byte (decimal m ++ byte ∷ decimal n) ≡ Some (m, n)
+pair-read byte m n apart p q =
+    ap (option_and_then (λ (parts : List ℕ × List ℕ). option_zip (number_of parts.0) (number_of parts.1))) (cut-seam byte (decimal m) (decimal n) (lacks-decimal byte m apart))
+    ∙ ap₂ option_zip (number-read m p) (number-read n q)

@@ -1,6 +1,5 @@
 -- The numbers of a face, and the run that they stand in, read back.
 use Rattle.std.proofs.Common.{◌≡◌, ◌==◌, ℕ, ◌+◌, ◌-◌, ◌<◌, ◌≤◌, ◌&&◌, not, nat_lt, nat_le, Bool, true, false, if◌then◌else◌, Option, None, Some, option_and_then, decimal, List, [], ◌∷◌, ◌++◌, inl, inr, refl, sym, ap, ap₂, subst, ◌∙◌, arith, append-nil, true≢false}
-use Rattle.std.specs.Option.{option_zip}
 use Rattle.std.proofs.lemmas.Bool.{and_from, and_parts, cases_eq}
 use Rattle.std.proofs.lemmas.Bool.Decides.{nat_tests}
 use Rattle.rd_base.specs.Cells.{HasColours}
@@ -9,9 +8,9 @@ use Rattle.rd_base.specs.Faces.{Attributes, plain}
 use Rattle.rd_term.specs.Pens.{dressed, flag_number, colour_number, numbers_of_face}
 use Rattle.rd_dump.specs.Dumps.{numbers_behind, numbers_text}
 use Rattle.rd_audit.specs.Cuts.{pieces}
-use Rattle.rd_audit.specs.Numbers.{number_of}
-use Rattle.rd_audit.specs.Runs.{place_of, comes_behind, face_from, face_of, span_of, run_by, run_of}
-use Rattle.rd_audit.proofs.Decimals.{number-read}
+use Rattle.rd_audit.specs.Numbers.{pair_of}
+use Rattle.rd_audit.specs.Runs.{place_of, comes_behind, face_from, face_of, run_by, run_of}
+use Rattle.rd_audit.proofs.Decimals.{number-read, pair-read}
 use Rattle.rd_audit.proofs.Lacking.{lacks, lacks-append, lacks-decimal, is_no_digit, cut-seam, pieces-seam, pieces-one}
 
 -- ---- numbers between semicolons
@@ -175,11 +174,6 @@ span_text first last = decimal first ++ 45 ∷ decimal last
 abbrev pub run_piece : ℕ → ℕ → Attributes → List ℕ
 run_piece first last face = span_text first last ++ numbers_text face
 
-span-read : (first last : ℕ) → first < 1000 → last < 1000 → span_of (span_text first last) ≡ Some (first, last)
-span-read first last p q =
-    ap (option_and_then (λ (parts : List ℕ × List ℕ). option_zip (number_of parts.0) (number_of parts.1))) (cut-seam 45 (decimal first) (decimal last) (lacks-decimal 45 first refl))
-    ∙ ap₂ option_zip (number-read first p) (number-read last q)
-
 -- a byte that is in no run
 abbrev pub is_apart : ℕ → Bool
 is_apart byte = is_no_digit byte && (not (45 == byte) && (not (58 == byte) && not (59 == byte)))
@@ -202,5 +196,5 @@ pub run-read : (first last : ℕ) (face : Attributes) → first < 1000 → last 
 run-read first last face p q range other =
     let h = numbers-read face range other in
     ap (λ l. run_of (span_text first last ++ l)) h.1
-    ∙ ap (option_and_then (λ (parts : List ℕ × List ℕ). run_by (span_of parts.0) (face_of parts.1))) (cut-seam 58 (span_text first last) h.0 (span-lacks 58 first last refl refl))
-    ∙ ap₂ run_by (span-read first last p q) h.2
+    ∙ ap (option_and_then (λ (parts : List ℕ × List ℕ). run_by (pair_of 45 parts.0) (face_of parts.1))) (cut-seam 58 (span_text first last) h.0 (span-lacks 58 first last refl refl))
+    ∙ ap₂ run_by (pair-read 45 first last refl p q) h.2

@@ -4,7 +4,7 @@ use Rattle.std.specs.Prelude.{All}
 use Rattle.std.proofs.lemmas.Bool.Decides.{nat_tests, Decides-eqb}
 use Rattle.std.proofs.lemmas.List.Elements.{All-head, All-tail}
 use Rattle.std.specs.List.{onto_first}
-use Rattle.std.specs.Option.{option_or, option_zip}
+use Rattle.std.specs.Option.{option_or}
 use Rattle.rd_base.specs.Cells.{IsColoured, AreColoured}
 use Rattle.rd_base.specs.Glyphs.{IsRowAfter}
 use Rattle.rd_base.specs.declared.cell.Cell.{Cell}
@@ -15,16 +15,15 @@ use Rattle.rd_dump.specs.declared.dump.WindowFacts.{WindowFacts}
 use Rattle.rd_base.proofs.Choices.{either}
 use Rattle.rd_audit.specs.Cuts.{stripped, cut_last}
 use Rattle.rd_audit.specs.Dumps.{last_group, ended_by, picture_from, picture_of, dump_in}
-use Rattle.rd_audit.specs.Numbers.{number_of}
 use Rattle.rd_audit.specs.Printed.{HasDump, HasNoCursor}
 use Rattle.rd_audit.specs.Rows.{is_row, is_cursor, row_text, row_cells, is_as_wide, next_row, place_in, cursor_place}
 use Rattle.rd_audit.specs.Runs.{runs_over}
 use Rattle.rd_audit.specs.Texts.{text_cells}
 use Rattle.rd_audit.proofs.Covering.{runs-lack, runs-read}
 use Rattle.rd_audit.proofs.Cutting.{stripped-behind}
-use Rattle.rd_audit.proofs.Decimals.{number-read}
+use Rattle.rd_audit.proofs.Decimals.{pair-read}
 use Rattle.rd_audit.proofs.Faces.{piece-lacks}
-use Rattle.rd_audit.proofs.Lacking.{cut-seam, last-seam, lacks-decimal}
+use Rattle.rd_audit.proofs.Lacking.{last-seam}
 use Rattle.rd_audit.proofs.Lines.{row_body, row_bodies, cursor_body, window_body, AreWhole, line-first, cursor-line, rows-lines, windows-lines}
 use Rattle.rd_audit.proofs.Spelling.{text-read}
 
@@ -88,11 +87,6 @@ rows-read width (cells ∷ rows) done number last whole h colours grid few narro
     (All-tail (λ r. length r ≡ width) cells rows grid) (omega (arith, few, length-append done (cells ∷ []))) narrow (more-wide width done cells wide size)
     (λ n. ap (λ r. picture_from n r last) (append_assoc done (cells ∷ []) rows) ∙ end n)
 
-place-read : (picture : Picture) → picture.row < 1000 → picture.column < 1000 → place_in (cursor_body picture) ≡ Some (picture.row, picture.column)
-place-read picture p q =
-    ap (option_and_then (λ (parts : List ℕ × List ℕ). option_zip (number_of parts.0) (number_of parts.1))) (cut-seam 44 (decimal picture.row) (decimal picture.column) (lacks-decimal 44 picture.row refl))
-    ∙ ap₂ option_zip (number-read picture.row p) (number-read picture.column q)
-
 cursor-read : (picture : Picture) → HasDump picture → cursor_place picture.rows (cursor_body picture) ≡ Some (picture.row, picture.column)
 cursor-read picture h =
     let rows = picture.rows in
@@ -103,7 +97,7 @@ cursor-read picture h =
     let b : nat_lt picture.column (width_of rows) ≡ true = grind (arith, nat_tests) in
     ap (λ t. if t then option_and_then (λ (place : ℕ × ℕ). if nat_lt place.0 (length rows) && nat_lt place.1 (width_of rows) then Some place else None) (place_in (cursor_body picture)) else None) two
     ∙ ap (option_and_then (λ (place : ℕ × ℕ). if nat_lt place.0 (length rows) && nat_lt place.1 (width_of rows) then Some place else None))
-    (place-read picture (omega (arith, row, h.screen.tall)) (omega (arith, column, h.screen.wide)))
+    (pair-read 44 picture.row picture.column refl (omega (arith, row, h.screen.tall)) (omega (arith, column, h.screen.wide)))
     ∙ ap (λ t. if t then Some (picture.row, picture.column) else None) (ap₂ (λ x y. x && y) a b)
 
 -- the lines of a group

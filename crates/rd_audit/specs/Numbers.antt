@@ -1,5 +1,7 @@
 -- Numbers in decimal.
-use Rattle.std.specs.Prelude.{ℕ, ◌+◌, ◌-◌, ◌*◌, ◌==◌, nat_le, ◌&&◌, if◌then◌else◌, List, [], ◌∷◌, Option, None, Some}
+use Rattle.std.specs.Prelude.{ℕ, ◌+◌, ◌-◌, ◌*◌, ◌==◌, nat_le, ◌&&◌, if◌then◌else◌, List, [], ◌∷◌, Option, None, Some, option_and_then}
+use Rattle.std.specs.Option.{option_zip}
+use Rattle.rd_audit.specs.Cuts.{cut}
 
 -- the number of a digit
 abbrev pub digit : ℕ → Option ℕ
@@ -21,3 +23,7 @@ number_of (a ∷ []) = digit a
 number_of (a ∷ b ∷ []) = longer (lead a) (digit b)
 number_of (a ∷ b ∷ c ∷ []) = longer (longer (lead a) (digit b)) (digit c)
 number_of bytes = None
+
+-- the numbers before and behind the first of a byte
+abbrev pub pair_of : ℕ → List ℕ → Option (ℕ × ℕ)
+pair_of byte bytes = option_and_then (λ parts. option_zip (number_of parts.0) (number_of parts.1)) (cut byte bytes)

@@ -1,11 +1,10 @@
 -- The lines of a dump.
 use Rattle.std.specs.Prelude.{ℕ, ◌==◌, nat_lt, nat_le, Bool, if◌then◌else◌, ◌&&◌, List, [], ◌∷◌, length, Option, None, Some, option_and_then, decimal, codes}
-use Rattle.std.specs.Option.{option_zip}
 use Rattle.rd_base.specs.declared.cell.Cell.{Cell}
 use Rattle.rd_base.specs.declared.limits.TheConstants.{FRAME_COLUMNS, FRAME_ROWS, LEAST_FRAME_COLUMNS}
 use Rattle.rd_term.specs.Pictures.{width_of}
-use Rattle.rd_audit.specs.Cuts.{stripped, begins_with, cut, cut_last}
-use Rattle.rd_audit.specs.Numbers.{number_of}
+use Rattle.rd_audit.specs.Cuts.{stripped, begins_with, cut_last}
+use Rattle.rd_audit.specs.Numbers.{pair_of}
 use Rattle.rd_audit.specs.Runs.{runs_over}
 use Rattle.rd_audit.specs.Texts.{text_cells}
 
@@ -38,7 +37,7 @@ next_row rows line =
 
 -- `cursor R,C`
 abbrev pub place_in : List ℕ → Option (ℕ × ℕ)
-place_in line = option_and_then (λ parts. option_zip (number_of parts.0) (number_of parts.1)) (option_and_then (cut 44) (stripped (codes "cursor ") line))
+place_in line = option_and_then (pair_of 44) (stripped (codes "cursor ") line)
 
 -- the place of the cursor's line, which is on the screen, and not too early
 abbrev pub cursor_place : List (List Cell) → List ℕ → Option (ℕ × ℕ)

@@ -1,6 +1,5 @@
 -- The runs of faces of a row.
 use Rattle.std.specs.Prelude.{ℕ, zero, suc, ◌+◌, ◌-◌, ◌==◌, nat_lt, nat_le, Bool, not, if◌then◌else◌, ◌&&◌, List, [], ◌∷◌, ◌++◌, length, take, drop, Option, None, Some, option_and_then, slice_index_or}
-use Rattle.std.specs.Option.{option_zip}
 use Rattle.rd_base.specs.Faces.{Attributes, plain}
 use Rattle.rd_base.specs.declared.cell.Cell.{Cell}
 use Rattle.rd_base.specs.declared.cell.Cell.TheVariants.{Blank, First, Rest}
@@ -8,7 +7,7 @@ use Rattle.rd_term.specs.Pens.{is_rendition, dressed}
 use Rattle.rd_term.specs.Pictures.{blank}
 use Rattle.rd_update.specs.Updates.{is_rest}
 use Rattle.rd_audit.specs.Cuts.{cut, pieces}
-use Rattle.rd_audit.specs.Numbers.{number_of}
+use Rattle.rd_audit.specs.Numbers.{number_of, pair_of}
 use Rattle.rd_audit.specs.declared.run.SaidFaceRun.{SaidFaceRun}
 
 -- the place of a face's number among the others: bold, underline, inverse, the colour of the character, the colour behind it
@@ -32,17 +31,13 @@ face_from place face (text ∷ texts) = option_and_then (λ next. face_from next
 abbrev pub face_of : List ℕ → Option Attributes
 face_of bytes = face_from 0 plain (pieces 59 bytes)
 
--- `A-B`, the first and the last column
-abbrev pub span_of : List ℕ → Option (ℕ × ℕ)
-span_of bytes = option_and_then (λ parts. option_zip (number_of parts.0) (number_of parts.1)) (cut 45 bytes)
-
 abbrev pub run_by : Option (ℕ × ℕ) → Option Attributes → Option SaidFaceRun
 run_by (Some span) (Some face) = Some (record { first = span.0; last = span.1; face = face })
 run_by span face = None
 
--- `A-B:CODES`
+-- `A-B:CODES`, where `A` is the first column and `B` the last
 abbrev pub run_of : List ℕ → Option SaidFaceRun
-run_of bytes = option_and_then (λ parts. run_by (span_of parts.0) (face_of parts.1)) (cut 58 bytes)
+run_of bytes = option_and_then (λ parts. run_by (pair_of 45 parts.0) (face_of parts.1)) (cut 58 bytes)
 
 -- whether no character goes on in a column from the one before
 abbrev pub is_edge : List Cell → ℕ → Bool

@@ -1,6 +1,17 @@
 //! Numbers in decimal.
 ghost use Rattle.std.specs.Prelude.{◌≡◌, ◌<◌, IfSome};
-ghost use Rattle.rd_audit.specs.Numbers.{digit, lead, longer, number_of};
+ghost use Rattle.rd_audit.specs.Numbers.{digit, lead, longer, number_of, pair_of};
+
+use crate::cuts::cut;
+
+/// The numbers before and behind the first of a byte.
+pub fn pair_of(byte: u8, bytes: &[u8]) -> Option<(u32, u32)>
+    ensures value { result ≡ pair_of byte bytes.now }
+    ensures bound { IfSome result (λ pair. pair.1 < 1000) }
+{
+    let (first, last) = cut(byte, bytes)?;
+    number_of(first).zip(number_of(last))
+}
 
 /// The number that bytes say in decimal, without leading zeros; None also for one of more than three digits.
 pub fn number_of(bytes: &[u8]) -> Option<u32>

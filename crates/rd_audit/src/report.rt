@@ -3,7 +3,7 @@ ghost use Rattle.rd_dump.specs.Prints.{Prints};
 ghost use Rattle.rd_audit.specs.Verdicts.{line_of, difference_line, cell_line, bad_line};
 
 use crate::verdict::{Difference, Verdict};
-use rd_dump::{Token, print_bytes, print_tokens};
+use rd_dump::{Token, print_between, print_bytes, print_tokens};
 use rd_io::{Failed, Sink};
 
 /// Writes the line of a verdict.
@@ -53,12 +53,5 @@ fn tell_cell<R: Sink>(report: &mut R, row: u32, column: u32) -> Result<(), Faile
 fn tell_bad<R: Sink>(report: &mut R, number: u32) -> Result<(), Failed>
     ensures { Prints (R.written report.old) (R.written report.new) (R.faults report.old) (R.faults report.new) (bad_line number) result }
 {
-    print_tokens(
-        report,
-        &[
-            Token::Text("dump:"),
-            Token::Number(number as u64),
-            Token::Text("\n"),
-        ],
-    )
+    print_between(report, "dump:", number as u64, "\n")
 }

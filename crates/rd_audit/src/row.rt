@@ -2,8 +2,8 @@
 ghost use Rattle.std.specs.Prelude.{◌≡◌, ◌≤◌, IfOk, IfSome, length, option_map};
 ghost use Rattle.rd_audit.specs.Rows.{is_row, is_cursor, row_text, row_cells, is_as_wide, next_row, place_in, cursor_place};
 
-use crate::cuts::{begins_with, cut, cut_last, stripped};
-use crate::number::number_of;
+use crate::cuts::{begins_with, cut_last, stripped};
+use crate::number::pair_of;
 use crate::run::runs_over;
 use crate::text::text_cells;
 use itoa::Buffer;
@@ -100,7 +100,5 @@ pub fn cursor_place(rows: &[ListOf<Cell>], line: &[u8]) -> Option<(u32, u32)>
 fn place_in(line: &[u8]) -> Option<(u32, u32)>
     ensures { result ≡ place_in line.now }
 {
-    let place = stripped(b"cursor ", line)?;
-    let (row, column) = cut(b',', place)?;
-    number_of(row).zip(number_of(column))
+    pair_of(b',', stripped(b"cursor ", line)?)
 }

@@ -2,10 +2,10 @@
 ghost use Rattle.std.specs.Prelude.{◌≡◌, ◌<◌, ◌≤◌, IfSome, option_map, true, length};
 ghost use Rattle.rd_term.specs.Pens.{is_rendition};
 ghost use Rattle.rd_audit.specs.Cuts.{pieces};
-ghost use Rattle.rd_audit.specs.Runs.{painted, place_of, comes_behind, with_number, face_of, span_of, run_of, is_edge, fits, with_face, painted_by, with_run, runs_over};
+ghost use Rattle.rd_audit.specs.Runs.{painted, place_of, comes_behind, with_number, face_of, run_of, is_edge, fits, with_face, painted_by, with_run, runs_over};
 
 use crate::cuts::cut;
-use crate::number::number_of;
+use crate::number::{number_of, pair_of};
 use rd_base::{Cell, Face, ListOf};
 use rd_term::{dressed, is_rendition};
 
@@ -62,18 +62,9 @@ fn run_of(text: &[u8]) -> Option<SaidFaceRun>
     ensures bound { IfSome result (λ run. run.last < 1000) }
 {
     let (span, codes) = cut(b':', text)?;
-    let (first, last) = span_of(span)?;
+    let (first, last) = pair_of(b'-', span)?;
     let face = face_of(codes)?;
     Some(SaidFaceRun { first, last, face })
-}
-
-/// The first and the last column.
-fn span_of(text: &[u8]) -> Option<(u32, u32)>
-    ensures value { result ≡ span_of text.now }
-    ensures bound { IfSome result (λ span. span.1 < 1000) }
-{
-    let (first, last) = cut(b'-', text)?;
-    number_of(first).zip(number_of(last))
 }
 
 /// The face of its numbers between semicolons.

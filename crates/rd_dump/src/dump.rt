@@ -6,7 +6,7 @@ ghost use Rattle.rd_dump.specs.Dumps.{dump_text, windows_text, window_line, plac
 ghost use Rattle.rd_dump.specs.Prints.{Prints};
 
 use crate::at_once::{Printed, print_at_once};
-use crate::print::{Token, print_character, print_each, print_tokens};
+use crate::print::{Token, print_between, print_character, print_each, print_tokens};
 use crate::runs::print_runs;
 use rd_base::{Anchor, Cell, Glyph, Pos};
 use rd_io::{Failed, Sink};
@@ -144,14 +144,7 @@ fn print_rows<K: Sink>(sink: &mut K, screen: &Screen) -> Result<(), Failed>
 fn print_row_tokens<K: Sink>(sink: &mut K, row: u32, cells: &[Cell]) -> Result<(), Failed>
     ensures { Prints (K.written sink.old) (K.written sink.new) (K.faults sink.old) (K.faults sink.new) (row_line row cells.now) result }
 {
-    print_tokens(
-        sink,
-        &[
-            Token::Text("row "),
-            Token::Number(row as u64),
-            Token::Text(" |"),
-        ],
-    )?;
+    print_between(sink, "row ", row as u64, " |")?;
     print_cells(sink, cells)?;
     print_tokens(sink, &[Token::Text("|")])?;
     print_runs(sink, cells)?;

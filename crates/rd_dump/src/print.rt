@@ -1,5 +1,5 @@
 //! Writing texts and numbers to a sink, without taking memory.
-ghost use Rattle.std.specs.Prelude.{ℕ, List};
+ghost use Rattle.std.specs.Prelude.{ℕ, List, [], ◌∷◌};
 ghost use Rattle.std.specs.List.{flat_map};
 ghost use Rattle.rd_base.specs.Chars.{encoded};
 ghost use Rattle.rd_dump.specs.Dumps.{token_text, tokens_text};
@@ -35,6 +35,23 @@ pub fn print_tokens<K: Sink>(sink: &mut K, tokens: &[Token]) -> Result<(), Faile
     ensures { Prints (K.written sink.old) (K.written sink.new) (K.faults sink.old) (K.faults sink.new) (tokens_text tokens.now) result }
 {
     print_each(sink, tokens, print_token)
+}
+
+/// Writes a number between two texts.
+pub fn print_between<'a, K: Sink>(
+    sink: &mut K,
+    before: &'a str,
+    number: u64,
+    behind: &'a str,
+) -> Result<(), Failed>
+    ensures { Prints (K.written sink.old) (K.written sink.new) (K.faults sink.old) (K.faults sink.new) (tokens_text (Token.Text before.entry ∷ Token.Number number ∷ Token.Text behind.entry ∷ [])) result }
+{
+    let tokens = [
+        Token::Text(before),
+        Token::Number(number),
+        Token::Text(behind),
+    ];
+    print_tokens(sink, &tokens)
 }
 
 /// Writes a token.

@@ -6,7 +6,9 @@ ghost use Rattle.rd_run.specs.Reports.{key_part, last_line, located, part_of, re
 
 use crate::names::{data_kind, file_word, kind_of, op_key};
 use rd_base::Ch;
-use rd_dump::{Printed, Token, print_bytes, print_character, print_each, print_tokens};
+use rd_dump::{
+    Printed, Token, print_between, print_bytes, print_character, print_each, print_tokens,
+};
 use rd_files::{DataFile, DataKind};
 use rd_io::{Failed, Sink};
 use rd_run::{ScriptFault, Status};
@@ -42,14 +44,7 @@ impl Printed for LastLine<'_> {
 fn print_done<K: Sink>(sink: &mut K, lines: u32) -> Result<(), Failed>
     ensures { Prints (K.written sink.old) (K.written sink.new) (K.faults sink.old) (K.faults sink.new) (last_line Status.Done lines) result }
 {
-    print_tokens(
-        sink,
-        &[
-            Token::Text("done "),
-            Token::Number(lines as u64),
-            Token::Text(" lines\n"),
-        ],
-    )
+    print_between(sink, "done ", lines as u64, " lines\n")
 }
 
 /// Writes that a data file is bad.
