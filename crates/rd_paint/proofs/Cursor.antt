@@ -1,14 +1,14 @@
 -- The cursor of the window with a number.
-use Rattle.std.proofs.Common.{◌≡◌, ◌≢◌, inl, inr, ℕ, suc, ◌<◌, ◌==◌, Option, None, Some, List, [], ◌∷◌, length, sym, ap, refl, ◌∙◌, unwrap_or, arith}
-use Rattle.std.proofs.lemmas.Bool.{cases_eq, cond-false, cond-true, eq-eqb, ne_eqb}
+use Rattle.std.proofs.Common.{◌≡◌, ◌≢◌, ℕ, ◌<◌, ◌==◌, Option, None, Some, List, length, sym, ap, refl, ◌∙◌, unwrap_or}
+use Rattle.std.proofs.lemmas.Option.{slice_get_within}
 use Rattle.std.specs.Prelude.{slice_get}
+use Rattle.rd_base.proofs.Lists.{found-passes}
 use Rattle.rd_ucd.specs.Data.{Data}
 use Rattle.rd_state.specs.States.{BufferValue, StateValue}
 use Rattle.rd_state.specs.Valid.{IsValid}
 use Rattle.rd_state.specs.Windows.{window_of}
 use Rattle.rd_state.specs.declared.window.WindowState.{WindowState}
 use Rattle.rd_tree.proofs.Rooms.{found_number}
-use Rattle.rd_tree.specs.Windows.{of_number}
 use Rattle.rd_tree.specs.declared.placed.Placed.{Placed}
 use Rattle.rd_window.specs.Views.{WindowView}
 use Rattle.rd_layout.specs.Screens.{cursor_at, cursor_by, cursor_of}
@@ -16,14 +16,6 @@ use Rattle.rd_layout.specs.Windows.{place_of, places, view_in, views_in}
 use Rattle.rd_paint.specs.Laws.{LeafLaws}
 use Rattle.rd_paint.specs.Shown.{IsLeaf}
 use Rattle.rd_paint.proofs.Leaves.{view-at}
-
--- a window that is found stands somewhere in the list
-found-at : (n : ℕ) (ps : List Placed) (p : Placed) → of_number n ps ≡ Some p → (k : ℕ) × (slice_get ps k ≡ Some p) × (k < length ps)
-found-at n [] p h = absurd (cc)
-found-at n (q ∷ qs) p h = elim (cases_eq q.number n) [
-  | inl e ↦ (0, sym (cond-true (q.number == n) (Some q) (of_number n qs) (eq-eqb q.number n e)) ∙ h, omega arith)
-  | inr e ↦ let rest = found-at n qs p (sym (cond-false (q.number == n) (Some q) (of_number n qs) (ne_eqb q.number n e)) ∙ h) in let less = rest.2 in (suc rest.0, rest.1, omega arith)
-]
 
 none-by : (files : Data) (s : StateValue) (o : Option WindowState) → cursor_by files s o None ≡ None
 none-by files s None = refl
@@ -34,7 +26,9 @@ pub no-cursor : (files : Data) (s : StateValue) (number : ℕ) → ((k : ℕ) (p
 no-cursor files s number none = by (place_of number s) refl where
   by : (o : Option Placed) → place_of number s ≡ o → None ≡ cursor_by files s (window_of number s.windows) o
   by None is = sym (none-by files s (window_of number s.windows))
-  by (Some p) is = let found = found-at number (places s) p is in absurd (none found.0 p found.2 found.1 (found_number number (places s) p is))
+  by (Some p) is =
+      let found = found-passes (λ (q : Placed). q.number == number) (places s) p is in
+      absurd (none found.1 p (slice_get_within (places s) found.1 p found.2) found.2 (found_number number (places s) p is))
 
 -- the window at a place of the leaf order has the number
 pub cursor-here : LeafLaws → (files : Data) (s : StateValue) → IsValid s → (views : List WindowView) → views ≡ views_in files s → (i number : ℕ) (place : Placed) (w : WindowState) (content : BufferValue)
