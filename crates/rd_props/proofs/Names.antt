@@ -1,5 +1,5 @@
 -- Edits name no object that was not made.
-use Rattle.std.proofs.Common.{◌≡◌, ◌⊎◌, inl, inr, ℕ, zero, suc, ◌+◌, ◌-◌, ◌<◌, Bool, true, false, ◌&&◌, if◌then◌else◌, List, [], ◌∷◌, ◌++◌, length, map, set, get_or, Option, None, Some, refl, sym, ap, subst, ◌∙◌, arith}
+use Rattle.std.proofs.Common.{◌≡◌, ◌⊎◌, inl, inr, ℕ, zero, suc, ◌+◌, ◌-◌, ◌<◌, Bool, true, false, ◌&&◌, if◌then◌else◌, List, [], ◌∷◌, ◌++◌, length, map, set, Option, None, Some, refl, sym, ap, subst, ◌∙◌, arith}
 use Rattle.std.specs.Prelude.{nat_lt, nat_le, ◌==◌, IfSome, slice_get}
 use Rattle.std.specs.Option.{unwrap_or}
 use Rattle.std.proofs.lemmas.Bool.Decides.{nat_tests}
@@ -64,23 +64,24 @@ put-by objects k chosen false u value other v same given old h = old h
 
 -- ---- values of overlays
 
+-- a value of an overlay names an object that was made
+abbrev NamesMade : ObjectLists → Kind → ℕ → Overlay → Type 0
+NamesMade objects kind value overlay = value_of kind (Some overlay) ≡ Some value → IsMade objects kind value
+
 abbrev AreOverlaysMade : ObjectLists → List (Option Overlay) → Type 0
 AreOverlaysMade objects slots =
-    (number value : ℕ) (kind : Kind) (overlay : Overlay) → overlay_at slots number ≡ Some overlay → value_of kind (Some overlay) ≡ Some value → IsMade objects kind value
+    (number value : ℕ) (kind : Kind) (overlay : Overlay) → overlay_at slots number ≡ Some overlay → NamesMade objects kind value overlay
 
-kept-by : (change : Overlay → Overlay) → ((o : Overlay) → (change o).values ≡ o.values) → (slot : Option Overlay) (p : Overlay) (kind : Kind) (v : ℕ) → slot_changed change slot ≡ Some p
-    → value_of kind (Some p) ≡ Some v → (o : Overlay) × (slot ≡ Some o) × (value_of kind (Some o) ≡ Some v)
-kept-by change keeps None p kind v is h = absurd (cc)
-kept-by change keeps (Some o) p kind v is h =
-    let same : change o ≡ p = cc in
-    let values : o.values ≡ p.values = sym (keeps o) ∙ ap (λ (q : Overlay). q.values) same in
-    (o, refl, ap (λ (xs : List (Option ℕ)). get_or xs (place_of kind) None) values ∙ h)
+-- what holds of what becomes of an overlay that may be there, holds of what is there then
+pub slot-each : (Q : Overlay → Type 0) (change : Overlay → Overlay) (slot : Option Overlay) → ((o : Overlay) → slot ≡ Some o → Q (change o))
+    → (p : Overlay) → slot_changed change slot ≡ Some p → Q p
+slot-each Q change None becomes p h = absurd (cc)
+slot-each Q change (Some o) becomes p h = subst Q (same_Some (change o) p h) (becomes o refl)
 
-changed-made : (objects : ObjectLists) (change : Overlay → Overlay) → ((o : Overlay) → (change o).values ≡ o.values) → (slots : List (Option Overlay)) → AreOverlaysMade objects slots
-    → AreOverlaysMade objects (map (slot_changed change) slots)
-changed-made objects change keeps slots made number v kind p is h =
-    let found = kept-by change keeps (overlay_at slots number) p kind v (sym (overlay_at-map (slot_changed change) slots number refl) ∙ is) h in
-    made number v kind found.0 found.1 found.2
+-- the same of the overlays of a list
+pub changed-each : (Q : Overlay → Type 0) (change : Overlay → Overlay) (slots : List (Option Overlay)) → ((n : ℕ) (o : Overlay) → overlay_at slots n ≡ Some o → Q (change o))
+    → (n : ℕ) (p : Overlay) → overlay_at (map (slot_changed change) slots) n ≡ Some p → Q p
+changed-each Q change slots becomes n p h = slot-each Q change (overlay_at slots n) (becomes n) p (sym (overlay_at-map (slot_changed change) slots n refl) ∙ h)
 
 -- what lives stands at its number
 living : (slot : Option (Option Overlay)) (p : Overlay) → live slot ≡ Some p → slot ≡ Some (Some p)
@@ -101,7 +102,7 @@ after-end slots o number p h =
     ]
 
 set-made : (objects : ObjectLists) (slots : List (Option Overlay)) (i : ℕ) (slot : Option Overlay) → AreOverlaysMade objects slots
-    → ((p : Overlay) (kind : Kind) (v : ℕ) → slot ≡ Some p → value_of kind (Some p) ≡ Some v → IsMade objects kind v) → AreOverlaysMade objects (set slots i slot)
+    → ((p : Overlay) (kind : Kind) (v : ℕ) → slot ≡ Some p → NamesMade objects kind v p) → AreOverlaysMade objects (set slots i slot)
 set-made objects slots i slot made new number v kind p is h =
     elim (after-set slots i slot number p is) [ inl old ↦ made number v kind p old h | inr here ↦ new p kind v here h ]
 
@@ -121,29 +122,23 @@ stands (Some value) v h = ap Some h
 given-made : (objects : ObjectLists) (slots : List (Option Overlay)) (number : ℕ) (chosen : Kind) (value : Option ℕ) → AreOverlaysMade objects slots
     → ((w : ℕ) → value ≡ Some w → IsMade objects chosen w) → AreOverlaysMade objects (given slots number chosen value)
 given-made objects slots number chosen value made new =
-    set-made objects slots number (slot_changed change (overlay_at slots number)) made (λ p kind v is h. by (overlay_at slots number) refl p kind v is h)
+    set-made objects slots number (slot_changed change (overlay_at slots number)) made (λ p kind v. slot-each (NamesMade objects kind v) change (overlay_at slots number) (by kind v) p)
   where
     change : Overlay → Overlay
     change overlay = record overlay { values = set overlay.values (place_of chosen) value }
 
-    by : (slot : Option Overlay) → overlay_at slots number ≡ slot → (p : Overlay) (kind : Kind) (v : ℕ) → slot_changed (λ overlay. record overlay { values = set overlay.values (place_of chosen) value }) slot ≡ Some p
-        → value_of kind (Some p) ≡ Some v → IsMade objects kind v
-    by None lives p kind v is h = absurd (cc)
-    by (Some o) lives p kind v is h =
-        let same : record o { values = set o.values (place_of chosen) value } ≡ p = cc in
-        let values : set o.values (place_of chosen) value ≡ p.values = ap (λ (q : Overlay). q.values) same in
-        let now = set o.values (place_of chosen) value in
-        let has : get_or now (place_of kind) None ≡ Some v = ap (λ (xs : List (Option ℕ)). get_or xs (place_of kind) None) values ∙ h in
-        elim (get-set o.values (place_of chosen) (place_of kind) value (Some v) (stands (slice_get now (place_of kind)) v (unwrap_or-slice_get now (place_of kind) None ∙ has))) [
+    by : (kind : Kind) (v : ℕ) (o : Overlay) → overlay_at slots number ≡ Some o → NamesMade objects kind v (record o { values = set o.values (place_of chosen) value })
+    by kind v o lives h =
+        let changed = set o.values (place_of chosen) value in
+        elim (get-set o.values (place_of chosen) (place_of kind) value (Some v) (stands (slice_get changed (place_of kind)) v (unwrap_or-slice_get changed (place_of kind) None ∙ h))) [
           | inl both ↦ let P : Kind → Type 0 = λ l. IsMade objects l v in subst P (sym (same-kind kind chosen both.0)) (new v (sym both.1))
           | inr old ↦ made number v kind o lives (get_or_from_slice_get o.values (place_of kind) (Some v) None old.1)
         ]
 
 moved-made : (objects : ObjectLists) (slots : List (Option Overlay)) (number from to : ℕ) → AreOverlaysMade objects slots → AreOverlaysMade objects (moved slots number from to)
 moved-made objects slots number from to made =
-    set-made objects slots number (slot_changed (λ overlay. record overlay { from = from; to = to }) (overlay_at slots number)) made (λ p kind v is h.
-    let found = kept-by (λ overlay. record overlay { from = from; to = to }) (λ o. refl) (overlay_at slots number) p kind v is h in
-    made number v kind found.0 found.1 found.2)
+    set-made objects slots number (slot_changed (λ overlay. record overlay { from = from; to = to }) (overlay_at slots number)) made
+    (λ p kind v. slot-each (NamesMade objects kind v) (λ overlay. record overlay { from = from; to = to }) (overlay_at slots number) (made number v kind) p)
 
 -- ---- buffers
 
@@ -157,13 +152,15 @@ module _ (old new : BufferValue) (objects : ObjectLists) (made : AreMade old obj
   made-inserted place chars edit =
       becomes-made _ (λ kind p v h.
       let found = opened-by (nat_lt p place) (nat_lt p (place + length chars)) old.properties (place_of kind) (length chars) p v (sym (edit.properties (place_of kind) p) ∙ h) in
-      made.properties kind found.0 v found.1) edit.overlays (changed-made objects (grown place (length chars)) (λ o. refl) old.overlays made.overlays)
+      made.properties kind found.0 v found.1) edit.overlays
+      (λ m v kind. changed-each (NamesMade objects kind v) (grown place (length chars)) old.overlays (λ n. made.overlays n v kind) m)
 
   pub made-deleted : (from to : ℕ) → IsDeletion old new from to → AreMade new objects
   made-deleted from to edit =
       becomes-made _ (λ kind p v h.
       let found = closed-by (nat_lt p from) old.properties (place_of kind) (to - from) p v (sym (edit.properties (place_of kind) p) ∙ h) in
-      made.properties kind found.0 v found.1) edit.overlays (changed-made objects (shrunk from to) (λ o. refl) old.overlays made.overlays)
+      made.properties kind found.0 v found.1) edit.overlays
+      (λ m v kind. changed-each (NamesMade objects kind v) (shrunk from to) old.overlays (λ n. made.overlays n v kind) m)
 
   pub made-put : (kind : Kind) (from to : ℕ) (value : Option ℕ) → ((v : ℕ) → value ≡ Some v → IsMade objects kind v) → IsPut old new kind from to value → AreMade new objects
   made-put kind from to value new_made edit =

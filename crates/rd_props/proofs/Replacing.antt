@@ -141,15 +141,6 @@ set-differs slots number low high o slot is lies next = λ f none n.
 end-differs : (slots : List (Option Overlay)) (low high : ℕ) (o : Overlay) → (low ≤ o.from) × (o.from ≤ o.to) × (o.to ≤ high) → DifferIn low high slots (slots ++ Some o ∷ [])
 end-differs slots low high o lies = λ f none n. found-end f slots n (Some o) (unmet f (Some o) (λ p h. none p (same-lies low high (Some o) o p refl lies h)))
 
-changed-lies : (change : Overlay → Overlay) (low high : ℕ) (slot : Option Overlay) (o p : Overlay) → slot ≡ Some o → (low ≤ (change o).from) × ((change o).from ≤ (change o).to) × ((change o).to ≤ high)
-    → slot_changed change slot ≡ Some p → (low ≤ p.from) × (p.from ≤ p.to) × (p.to ≤ high)
-changed-lies change low high None o p is lies h = absurd (cc)
-changed-lies change low high (Some q) o p is lies h =
-    let one : q ≡ o = cc in
-    let same : change o ≡ p = ap change (sym one) ∙ cc in
-    let P : Overlay → Type 0 = λ r. (low ≤ r.from) × (r.from ≤ r.to) × (r.to ≤ high) in
-    subst P same lies
-
 module _ (listings : AreListings) (old new : BufferValue) (objects : ObjectLists) where
   one-edits : (slots : List (Option Overlay)) (from to : ℕ) → HasOverlays old new slots → DifferIn from (from + (to - from)) old.overlays slots
       → IsEdited old objects new objects from (to - from) (to - from)
@@ -173,14 +164,14 @@ module _ (listings : AreListings) (old new : BufferValue) (objects : ObjectLists
         let change : Overlay → Overlay = λ overlay. record overlay { values = set overlay.values (place_of kind) value } in
         one-edits (given old.overlays number kind value) o.from o.to edit
         (set-differs old.overlays number o.from (o.from + (o.to - o.from)) o (slot_changed change (overlay_at old.overlays number)) is (omega arith, ordered, omega arith)
-        (λ p h. changed-lies change o.from (o.from + (o.to - o.from)) (overlay_at old.overlays number) o p is (omega arith, ordered, omega arith) h))
+        (λ p h. same-lies o.from (o.from + (o.to - o.from)) _ (change o) p (ap (slot_changed change) is) (omega arith, ordered, omega arith) h))
 
     pub moving-edits : (from to : ℕ) → from ≤ to → HasOverlays old new (moved old.overlays number from to)
         → Unchanged old objects new objects (min o.from from) (max o.to to + 1) (pos 0)
     moving-edits from to less edit =
         let change : Overlay → Overlay = λ overlay. record overlay { from = from; to = to } in
         let differ = set-differs old.overlays number (min o.from from) (max o.to to) o (slot_changed change (overlay_at old.overlays number)) is (omega arith, ordered, omega arith)
-        (λ p h. changed-lies change (min o.from from) (max o.to to) (overlay_at old.overlays number) o p is (omega arith, less, omega arith) h) in
+        (λ p h. same-lies (min o.from from) (max o.to to) _ (change o) p (ap (slot_changed change) is) (omega arith, less, omega arith) h) in
         unmoved listings old new objects (ap (λ (t : TextValue). t.begin) edit.text) (min o.from from) (max o.to to) (pos 0) refl
         (λ x away. overlays-stay old new (moved old.overlays number from to) (min o.from from) (max o.to to) x edit differ away)
 

@@ -6,13 +6,13 @@ use Rattle.std.proofs.lemmas.List.{length-map, length-set}
 use Rattle.rd_text.specs.Texts.{TextValue, IsText, IsAccessible, inserted, deleted}
 use Rattle.rd_text.specs.Answers.{IsAccessibleRange}
 use Rattle.rd_text.proofs.Keeping.{length-grown, length-shrunk}
-use Rattle.rd_overlays.proofs.Bounding.{deletion-rises, deletion-within, overlay_at-map}
+use Rattle.rd_overlays.proofs.Bounding.{deletion-rises, deletion-within}
 use Rattle.rd_overlays.specs.declared.overlay.Kind.{Kind}
 use Rattle.rd_overlays.specs.declared.overlay.Overlay.{Overlay}
 use Rattle.rd_overlays.specs.Overlays.{live, overlay_at, make_fault, moved, given, place_of, slot_changed, slot_grown, slot_shrunk, grown, shrunk, AllFit, SlotFits}
 use Rattle.rd_base.specs.Settings.{SettingValues}
 use Rattle.rd_overlays.specs.declared.fault.OverlayFault.TheVariants.{OutOfRange, TooMany}
-use Rattle.rd_props.proofs.Names.{after-end, after-set}
+use Rattle.rd_props.proofs.Names.{after-end, after-set, slot-each, changed-each}
 use Rattle.rd_props.specs.Buffers as props
 use Rattle.rd_state.specs.Edits.{is_range_of_all}
 use Rattle.rd_state.specs.Valid.{IsOverlayIn, IsWithin}
@@ -34,17 +34,6 @@ slot-fits size pos n (Some o) room h =
 
 pub all-fit : (slots : List (Option Overlay)) (size pos n : ℕ) → size + 1 + n < 4294967296 → AreIn size slots → AllFit pos n slots
 all-fit slots size pos n room h number slot at = slot-fits size pos n slot room (λ o is. h number o (ap live at ∙ is))
-
-slot-in : (size to : ℕ) (change : Overlay → Overlay) (slot : Option Overlay) (o : Overlay) → slot_changed change slot ≡ Some o
-    → ((p : Overlay) → slot ≡ Some p → IsOverlayIn size p) → ((p : Overlay) → IsOverlayIn size p → IsOverlayIn to (change p)) → IsOverlayIn to o
-slot-in size to change None o is old new = absurd (cc)
-slot-in size to change (Some p) o is old new = let same : change p ≡ o = cc in subst (IsOverlayIn to) same (new p (old p refl))
-
--- overlays that are changed each in its text
-changed-in : (size to : ℕ) (change : Overlay → Overlay) (slots : List (Option Overlay)) → AreIn size slots
-    → ((p : Overlay) → IsOverlayIn size p → IsOverlayIn to (change p)) → AreIn to (map (slot_changed change) slots)
-changed-in size to change slots old new number o is =
-    slot-in size to change (overlay_at slots number) o (sym (overlay_at-map (slot_changed change) slots number refl) ∙ is) (old number) new
 
 moved_by : (t : Bool) (p n : ℕ) → (p ≤ (if t then p + n else p)) × ((if t then p + n else p) ≤ p + n)
 moved_by true p n = (omega arith, omega arith)
@@ -113,7 +102,7 @@ grown-within b c pos new text within at same values overlays =
           omega (arith, from.3, most, size);
       few = subst (λ xs. length xs ≤ 65536) (sym overlays) (rw length-map within.few);
       overlays = subst (λ s. AreIn s c.overlays) (sym size) (subst (AreIn (length b.text.text + n)) (sym overlays)
-          (changed-in (length b.text.text) (length b.text.text + n) (grown pos n) b.overlays within.overlays (grown-in (length b.text.text) pos n)));
+          (changed-each (IsOverlayIn (length b.text.text + n)) (grown pos n) b.overlays (λ k o at. grown-in (length b.text.text) pos n o (within.overlays k o at))));
     }
 
 -- a buffer with a range taken away
@@ -139,8 +128,8 @@ shrunk-within b c from to text within at same values overlays =
           omega (arith, least, size);
       few = subst (λ xs. length xs ≤ 65536) (sym overlays) (rw length-map within.few);
       overlays = subst (λ s. AreIn s c.overlays) (sym size) (subst (AreIn (length b.text.text - (to - from))) (sym overlays)
-          (changed-in (length b.text.text) (length b.text.text - (to - from)) (shrunk from to) b.overlays within.overlays
-          (λ o. shrunk-in (length b.text.text) from to o one ordered most)));
+          (changed-each (IsOverlayIn (length b.text.text - (to - from))) (shrunk from to) b.overlays
+          (λ k o at. shrunk-in (length b.text.text) from to o one ordered most (within.overlays k o at))));
     }
 
 -- a buffer whose characters, values and overlays are the same
@@ -200,16 +189,14 @@ put-within b overlays settings number slot within new is =
 pub moved-within : (b : props.BufferValue) (overlays : List (Option Overlay)) (settings : SettingValues) (number from to : ℕ) → IsWithin b
     → is_range_of_all b.text from to ≡ true → overlays ≡ moved b.overlays number from to → IsWithin (record b { overlays = overlays; settings = settings })
 moved-within b overlays settings number from to within range is =
-    let size = length b.text.text in
     let change : Overlay → Overlay = λ overlay. record overlay { from = from; to = to } in
     put-within b overlays settings number (slot_changed change (overlay_at b.overlays number)) within
-    (λ p h. slot-in size size change (overlay_at b.overlays number) p h (within.overlays number) (λ q in_text. in-range b.text from to (change q) range refl refl)) is
+    (slot-each (IsOverlayIn (length b.text.text)) change (overlay_at b.overlays number) (λ q at. in-range b.text from to (change q) range refl refl)) is
 
 pub given-within : (b : props.BufferValue) (overlays : List (Option Overlay)) (settings : SettingValues) (number : ℕ) (kind : Kind) (value : Option ℕ) → IsWithin b
     → overlays ≡ given b.overlays number kind value → IsWithin (record b { overlays = overlays; settings = settings })
 given-within b overlays settings number kind value within is =
-    let size = length b.text.text in
     let change : Overlay → Overlay = λ overlay. record overlay { values = set overlay.values (place_of kind) value } in
     put-within b overlays settings number (slot_changed change (overlay_at b.overlays number)) within
-    (λ p h. slot-in size size change (overlay_at b.overlays number) p h (within.overlays number)
-    (λ q old. record { first = old.first; ordered = old.ordered; last = old.last })) is
+    (slot-each (IsOverlayIn (length b.text.text)) change (overlay_at b.overlays number)
+    (λ q at. let old = within.overlays number q at in record { first = old.first; ordered = old.ordered; last = old.last })) is
