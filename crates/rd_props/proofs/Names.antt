@@ -1,11 +1,14 @@
--- Edits name no object that was not made.
-use Rattle.std.proofs.Common.{◌≡◌, ◌⊎◌, inl, inr, ℕ, zero, suc, ◌+◌, ◌-◌, ◌<◌, Bool, true, false, ◌&&◌, if◌then◌else◌, List, [], ◌∷◌, ◌++◌, length, map, set, Option, None, Some, refl, sym, ap, subst, ◌∙◌, arith}
+-- Where the values and the overlays of an edited buffer come from, and that edits name no object that was not made.
+use Rattle.std.proofs.Common.{◌≡◌, ◌⊎◌, inl, inr, ℕ, zero, suc, ◌+◌, ◌-◌, ◌<◌, ◌≤◌, Bool, true, false, ◌&&◌, if◌then◌else◌, List, [], ◌∷◌, ◌++◌, length, map, set, Option, None, Some, refl, sym, ap, subst, ◌∙◌, arith}
 use Rattle.std.specs.Prelude.{nat_lt, nat_le, ◌==◌, IfSome, slice_get}
 use Rattle.std.specs.Option.{unwrap_or}
+use Rattle.std.proofs.lemmas.Bool.{cases_lt}
 use Rattle.std.proofs.lemmas.Bool.Decides.{nat_tests}
 use Rattle.std.proofs.lemmas.List.{length-append}
 use Rattle.std.proofs.lemmas.Option.{same_Some, unwrap_or-slice_get, get_or_from_slice_get}
 use Rattle.rd_base.proofs.Lists.{get-end, get-set}
+use Rattle.rd_spans.specs.Values.{values_opened, values_closed}
+use Rattle.rd_spans.proofs.Beside.{closed-before, closed-behind}
 use Rattle.rd_overlays.specs.declared.overlay.Overlay.{Overlay}
 use Rattle.rd_overlays.specs.declared.overlay.Kind.{Kind}
 use Rattle.rd_overlays.specs.declared.overlay.Kind.TheVariants.{Face, Display, Invisible, LinePrefix, WrapPrefix, Before, After}
@@ -20,15 +23,21 @@ use Rattle.rd_props.specs.Made.{IsMade, SettingsMade, AreMade}
 
 -- ---- values of properties
 
-opened-by : (t u : Bool) (values : ℕ → ℕ → Option ℕ) (k n p v : ℕ) → (if t then values k p else (if u then None else values k (p - n))) ≡ Some v
-    → (q : ℕ) × (values k q ≡ Some v)
-opened-by true u values k n p v h = (p, h)
-opened-by false true values k n p v h = absurd (cc)
-opened-by false false values k n p v h = (p - n, h)
+-- where a value stood before positions were opened, and before some were taken away
+pub opened-from : (values : ℕ → Option ℕ) (pos n p v : ℕ) → values_opened values pos n p ≡ Some v → (q : ℕ) × (values q ≡ Some v) × (q ≤ p) × (p ≤ q + n)
+opened-from values pos n p v h = by (nat_lt p pos) (nat_lt p (pos + n)) refl refl h
+  where
+    by : (t u : Bool) → nat_lt p pos ≡ t → nat_lt p (pos + n) ≡ u → (if t then values p else if u then None else values (p - n)) ≡ Some v → (q : ℕ) × (values q ≡ Some v) × (q ≤ p) × (p ≤ q + n)
+    by true u ht hu h = (p, h, omega arith, omega arith)
+    by false true ht hu h = absurd (cc)
+    by false false ht hu h = (p - n, h, omega arith, omega arith)
 
-closed-by : (t : Bool) (values : ℕ → ℕ → Option ℕ) (k n p v : ℕ) → (if t then values k p else values k (p + n)) ≡ Some v → (q : ℕ) × (values k q ≡ Some v)
-closed-by true values k n p v h = (p, h)
-closed-by false values k n p v h = (p + n, h)
+pub closed-from : (values : ℕ → Option ℕ) (from to p v : ℕ) → values_closed values from to p ≡ Some v
+    → (q : ℕ) × (values q ≡ Some v) × (((q ≡ p) × (p < from)) ⊎ ((q ≡ p + (to - from)) × (from ≤ p)))
+closed-from values from to p v h = elim (cases_lt p from) [
+  | inl less ↦ (p, closed-before values from to p less ∙ h, inl (refl, less))
+  | inr more ↦ (p + (to - from), closed-behind values from to (p + (to - from)) p more refl ∙ h, inr (refl, more))
+]
 
 -- the kind of a place
 kind_at : ℕ → Kind
@@ -151,14 +160,14 @@ module _ (old new : BufferValue) (objects : ObjectLists) (made : AreMade old obj
   pub made-inserted : (place : ℕ) (chars : List ℕ) → IsInsertion old new place chars → AreMade new objects
   made-inserted place chars edit =
       becomes-made _ (λ kind p v h.
-      let found = opened-by (nat_lt p place) (nat_lt p (place + length chars)) old.properties (place_of kind) (length chars) p v (sym (edit.properties (place_of kind) p) ∙ h) in
+      let found = opened-from (old.properties (place_of kind)) place (length chars) p v (sym (edit.properties (place_of kind) p) ∙ h) in
       made.properties kind found.0 v found.1) edit.overlays
       (λ m v kind. changed-each (NamesMade objects kind v) (grown place (length chars)) old.overlays (λ n. made.overlays n v kind) m)
 
   pub made-deleted : (from to : ℕ) → IsDeletion old new from to → AreMade new objects
   made-deleted from to edit =
       becomes-made _ (λ kind p v h.
-      let found = closed-by (nat_lt p from) old.properties (place_of kind) (to - from) p v (sym (edit.properties (place_of kind) p) ∙ h) in
+      let found = closed-from (old.properties (place_of kind)) from to p v (sym (edit.properties (place_of kind) p) ∙ h) in
       made.properties kind found.0 v found.1) edit.overlays
       (λ m v kind. changed-each (NamesMade objects kind v) (shrunk from to) old.overlays (λ n. made.overlays n v kind) m)
 

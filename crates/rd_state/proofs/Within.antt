@@ -1,6 +1,6 @@
 -- Overlays and values of properties that lie in a text, and still do after an edit of it.
-use Rattle.std.proofs.Common.{◌≡◌, ℕ, ◌+◌, ◌-◌, ◌<◌, ◌≤◌, ◌++◌, inl, inr, ◌==◌, ◌&&◌, ◌||◌, Bool, true, false, if◌then◌else◌, nat_lt, nat_le, Option, None, Some, List, [], ◌∷◌, length, map, set, sym, ap, subst, refl, ◌∙◌, arith, length-append}
-use Rattle.std.proofs.lemmas.Bool.{ltb-true, ltb-false, leb-false}
+use Rattle.std.proofs.Common.{◌≡◌, ◌⊎◌, ℕ, ◌+◌, ◌-◌, ◌<◌, ◌≤◌, ◌++◌, inl, inr, ◌==◌, ◌&&◌, ◌||◌, Bool, true, false, if◌then◌else◌, nat_lt, nat_le, Option, None, Some, List, [], ◌∷◌, length, map, set, sym, ap, subst, refl, ◌∙◌, arith, length-append}
+use Rattle.std.proofs.lemmas.Bool.{leb-false}
 use Rattle.std.proofs.lemmas.Bool.Decides.{nat_tests}
 use Rattle.std.proofs.lemmas.List.{length-map, length-set}
 use Rattle.rd_text.specs.Texts.{TextValue, IsText, IsAccessible, inserted, deleted}
@@ -12,7 +12,7 @@ use Rattle.rd_overlays.specs.declared.overlay.Overlay.{Overlay}
 use Rattle.rd_overlays.specs.Overlays.{live, overlay_at, make_fault, moved, given, place_of, slot_changed, slot_grown, slot_shrunk, grown, shrunk, AllFit, SlotFits}
 use Rattle.rd_base.specs.Settings.{SettingValues}
 use Rattle.rd_overlays.specs.declared.fault.OverlayFault.TheVariants.{OutOfRange, TooMany}
-use Rattle.rd_props.proofs.Names.{after-end, after-set, slot-each, changed-each}
+use Rattle.rd_props.proofs.Names.{opened-from, closed-from, after-end, after-set, slot-each, changed-each}
 use Rattle.rd_props.specs.Buffers as props
 use Rattle.rd_state.specs.Edits.{is_range_of_all}
 use Rattle.rd_state.specs.Valid.{IsOverlayIn, IsWithin}
@@ -54,30 +54,6 @@ shrunk-in size from to o one h within is =
     let end = deletion-within 1 (size + 1) from to o.to one h within (omega (arith, is.first, is.ordered)) is.last in
     record { first = start.0; ordered = deletion-rises from to o.from o.to h is.ordered; last = omega (arith, end.1, one, within) }
 
--- ---- values
-
--- where a position with a value stood before
-came_from : (t u : Bool) (f : ℕ → ℕ → Option ℕ) (pos n kind p value : ℕ) → nat_lt p pos ≡ t → nat_lt p (pos + n) ≡ u
-    → (if t then f kind p else (if u then None else f kind (p - n))) ≡ Some value → (q : ℕ) × (f kind q ≡ Some value) × (q ≤ p) × (p ≤ q + n)
-came_from true u f pos n kind p value ht hu h = (p, h, omega arith, omega arith)
-came_from false true f pos n kind p value ht hu h = absurd (cc)
-came_from false false f pos n kind p value ht hu h = (p - n, h, omega arith, omega arith)
-
-closed-kind : (t : Bool) (f : ℕ → ℕ → Option ℕ) (from to kind p value : ℕ) → ((k q v : ℕ) → f k q ≡ Some v → k < 5)
-    → (if t then f kind p else f kind (p + (to - from))) ≡ Some value → kind < 5
-closed-kind true f from to kind p value old h = old kind p value h
-closed-kind false f from to kind p value old h = old kind (p + (to - from)) value h
-
-closed-first : (t : Bool) (f : ℕ → ℕ → Option ℕ) (from to kind p value : ℕ) → nat_lt p from ≡ t → 1 ≤ from → ((q v : ℕ) → f kind q ≡ Some v → 1 ≤ q)
-    → (if t then f kind p else f kind (p + (to - from))) ≡ Some value → 1 ≤ p
-closed-first true f from to kind p value ht one old h = old p value h
-closed-first false f from to kind p value ht one old h = let behind = ltb-false p from ht in omega arith
-
-closed-last : (t : Bool) (f : ℕ → ℕ → Option ℕ) (size from to kind p value : ℕ) → nat_lt p from ≡ t → from ≤ to → to ≤ size + 1 → ((q v : ℕ) → f kind q ≡ Some v → q ≤ size)
-    → (if t then f kind p else f kind (p + (to - from))) ≡ Some value → p ≤ size - (to - from)
-closed-last true f size from to kind p value ht less within old h = let before = ltb-true p from ht in omega arith
-closed-last false f size from to kind p value ht less within old h = let last = old (p + (to - from)) value h in omega arith
-
 -- ---- buffers
 
 -- a buffer with characters put in
@@ -89,7 +65,7 @@ grown-within b c pos new text within at same values overlays =
     let last = text.last in
     let size : length c.text.text ≡ length b.text.text + n = ap (λ t. length t.text) same ∙ length-grown b.text.text new (pos - 1) (omega (arith, at.1)) in
     let came : (kind p value : ℕ) → c.properties kind p ≡ Some value → (q : ℕ) × (b.properties kind q ≡ Some value) × (q ≤ p) × (p ≤ q + n)
-    = λ kind p value h. came_from (nat_lt p pos) (nat_lt p (pos + n)) b.properties pos n kind p value refl refl (sym (values kind p) ∙ h) in
+    = λ kind p value h. opened-from (b.properties kind) pos n p value (sym (values kind p) ∙ h) in
     record {
       kinds = λ kind p value h. within.kinds kind (came kind p value h).0 value (came kind p value h).1;
       first = λ kind p value h.
@@ -120,12 +96,18 @@ shrunk-within b c from to text within at same values overlays =
     let cut : length c.text.text ≡ length b.text.text - (to - 1 - (from - 1))
     = ap (λ t. length t.text) same ∙ length-shrunk b.text.text (from - 1) (to - 1) (omega arith) (omega arith) in
     let size : length c.text.text ≡ length b.text.text - (to - from) = omega (arith, cut) in
+    let came : (kind p value : ℕ) → c.properties kind p ≡ Some value → (q : ℕ) × (b.properties kind q ≡ Some value) × (((q ≡ p) × (p < from)) ⊎ ((q ≡ p + (to - from)) × (from ≤ p)))
+    = λ kind p value h. closed-from (b.properties kind) from to p value (sym (values kind p) ∙ h) in
     record {
-      kinds = λ kind p value h. closed-kind (nat_lt p from) b.properties from to kind p value within.kinds (sym (values kind p) ∙ h);
-      first = λ kind p value h. closed-first (nat_lt p from) b.properties from to kind p value refl one (within.first kind) (sym (values kind p) ∙ h);
+      kinds = λ kind p value h. let was = came kind p value h in within.kinds kind was.0 value was.1;
+      first = λ kind p value h.
+          let was = came kind p value h in
+          let least = within.first kind was.0 value was.1 in
+          elim was.2 [ inl before ↦ omega (arith, before.0, least) | inr behind ↦ omega (arith, behind.1, one) ];
       last = λ kind p value h.
-          let least = closed-last (nat_lt p from) b.properties (length b.text.text) from to kind p value refl ordered most (within.last kind) (sym (values kind p) ∙ h) in
-          omega (arith, least, size);
+          let was = came kind p value h in
+          let last = within.last kind was.0 value was.1 in
+          elim was.2 [ inl before ↦ omega (arith, before.1, ordered, most, size) | inr behind ↦ omega (arith, behind.0, last, size) ];
       few = subst (λ xs. length xs ≤ 65536) (sym overlays) (rw length-map within.few);
       overlays = subst (λ s. AreIn s c.overlays) (sym size) (subst (AreIn (length b.text.text - (to - from))) (sym overlays)
           (changed-each (IsOverlayIn (length b.text.text - (to - from))) (shrunk from to) b.overlays
