@@ -5,7 +5,8 @@ use Rattle.std.proofs.lemmas.Bool.Decides.{nat_tests}
 use Rattle.std.proofs.lemmas.List.{length-map, length-set}
 use Rattle.rd_text.specs.Texts.{TextValue, IsText, IsAccessible, inserted, deleted}
 use Rattle.rd_text.specs.Answers.{IsAccessibleRange}
-use Rattle.rd_text.proofs.Keeping.{length-grown, length-shrunk}
+use Rattle.rd_text.proofs.Keeping.{length-grown}
+use Rattle.rd_text.proofs.Ranges.{length-gap}
 use Rattle.rd_overlays.proofs.Bounding.{deletion-rises, deletion-within}
 use Rattle.rd_overlays.specs.declared.overlay.Kind.{Kind}
 use Rattle.rd_overlays.specs.declared.overlay.Overlay.{Overlay}
@@ -93,9 +94,8 @@ shrunk-within b c from to text within at same values overlays =
     let high = at.last in
     let one : 1 ≤ from = omega arith in
     let most : to ≤ length b.text.text + 1 = omega arith in
-    let cut : length c.text.text ≡ length b.text.text - (to - 1 - (from - 1))
-    = ap (λ t. length t.text) same ∙ length-shrunk b.text.text (from - 1) (to - 1) (omega arith) (omega arith) in
-    let size : length c.text.text ≡ length b.text.text - (to - from) = omega (arith, cut) in
+    let cut = length-gap b.text.text (from - 1) (to - 1) (omega arith) (omega arith) in
+    let size : length c.text.text ≡ length b.text.text - (to - from) = ap (λ t. length t.text) same ∙ omega (arith, cut) in
     let came : (kind p value : ℕ) → c.properties kind p ≡ Some value → (q : ℕ) × (b.properties kind q ≡ Some value) × (((q ≡ p) × (p < from)) ⊎ ((q ≡ p + (to - from)) × (from ≤ p)))
     = λ kind p value h. closed-from (b.properties kind) from to p value (sym (values kind p) ∙ h) in
     record {

@@ -3,8 +3,9 @@ use Rattle.std.proofs.Common.{◌≡◌, ℕ, ◌+◌, ◌-◌, ◌≤◌, List,
 use Rattle.std.proofs.lemmas.List.{length-take}
 use Rattle.rd_text.specs.Texts.{TextValue, IsText, most_characters, IsAccessible, inserted, deleted, narrowed, widened}
 use Rattle.rd_text.specs.Answers.{IsAccessibleRange, IsRangeOfAll}
+use Rattle.rd_text.proofs.Ranges.{length-gap}
 
--- the length of a list with others put in, and of one without a part
+-- the length of a list with others put in
 pub length-grown : (xs new : List ℕ) (i : ℕ) → i ≤ length xs → length (take i xs ++ new ++ drop i xs) ≡ length xs + length new
 length-grown xs new i h =
     let outer = length-append (take i xs ++ new) (drop i xs) in
@@ -12,13 +13,6 @@ length-grown xs new i h =
     let front = length-take i xs in
     let back = length-drop i xs in
     omega (arith, outer, inner, front, back)
-
-pub length-shrunk : (xs : List ℕ) (i j : ℕ) → i ≤ j → j ≤ length xs → length (take i xs ++ drop j xs) ≡ length xs - (j - i)
-length-shrunk xs i j p q =
-    let outer = length-append (take i xs) (drop j xs) in
-    let front = length-take i xs in
-    let back = length-drop j xs in
-    omega (arith, outer, front, back)
 
 pub inserted-is_text : (t : TextValue) (pos : ℕ) (new : List ℕ) → IsText t → IsAccessible t pos → length t.text + length new ≤ most_characters → IsText (inserted t pos new)
 inserted-is_text t pos new s a room =
@@ -28,7 +22,7 @@ inserted-is_text t pos new s a room =
 pub deleted-is_text : (t : TextValue) (from to : ℕ) → IsText t → IsAccessibleRange t from to → IsText (deleted t from to)
 deleted-is_text t from to s a =
     let high : to ≤ length t.text + 1 = omega (arith, a.last, s.last) in
-    let len = length-shrunk t.text (from - 1) (to - 1) (omega (arith, a.ordered)) (omega arith) in
+    let len = length-gap t.text (from - 1) (to - 1) (omega (arith, a.ordered)) (omega arith) in
     record { first = s.first; ordered = omega (arith, a.first, a.last); last = omega (arith, s.first, s.last, a.first, a.ordered, len); short = omega (arith, s.short, len) }
 
 pub narrowed-is_text : (t : TextValue) (from to : ℕ) → IsText t → IsRangeOfAll t from to → IsText (narrowed t from to)

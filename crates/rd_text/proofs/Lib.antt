@@ -4,6 +4,6 @@ pub mod Keeping
 mod Moves
 mod Openings
 mod Paragraphs
-mod Ranges
+pub mod Ranges
 pub mod Searches
 mod Summaries
