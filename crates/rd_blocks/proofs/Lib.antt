@@ -5,7 +5,7 @@ mod Bases
 mod Quiet
 mod Sources
 mod Steps
-mod Listed
+pub mod Listed
 mod Prefixes
 mod Made
 mod Local

@@ -9,30 +9,17 @@ use Rattle.rd_text.specs.Texts.{IsText, IsAccessible}
 use Rattle.rd_ucd.specs.declared.spans.Span.{Span}
 use Rattle.rd_props.specs.Buffers.{BufferValue}
 use Rattle.rd_items.specs.Blocks.{blocks_of, Adjoin, StartsBlock, IsBlock, IsBlockAt, is_shown_newline}
-use Rattle.rd_matrix.specs.Blocks.{IsAmong, IsWithin, HoldsPosition, block_before}
+use Rattle.rd_matrix.specs.Blocks.{IsAmong, IsWithin, HoldsPosition, block_before, end_from, first_start}
 use Rattle.rd_matrix.specs.declared.block.Block.{Block}
 use Rattle.rd_blocks.specs.Bases.{block_base, block_in, blocks_in}
 use Rattle.rd_blocks.proofs.Sources.{first-is, end-is}
 
--- what the layer below says of a buffer's blocks
-pub record AreListed (s : BufferValue) : Type 0 where
-  pub order : s.text.begin ≤ s.text.end
-  pub blocks : (k : ℕ) (b : ℕ × ℕ) → slice_get (blocks_of s) k ≡ Some b → IsBlock s b.0 b.1
-  pub every : (from to : ℕ) → IsBlock s from to → (k : ℕ) × (slice_get (blocks_of s) k ≡ Some (from, to))
-  pub adjoin : Adjoin s.text.begin (s.text.end + 1) (blocks_of s)
-
--- and of their order
+-- what the layer below says of the order of a buffer's blocks
 pub record AreInOrder (s : BufferValue) : Type 0 where
   pub next : (k a b c : ℕ) → slice_get (blocks_of s) k ≡ Some (a, b) → IsBlock s b c → slice_get (blocks_of s) (k + 1) ≡ Some (b, c)
   pub last : (k a : ℕ) → slice_get (blocks_of s) k ≡ Some (a, s.text.end + 1) → slice_get (blocks_of s) (k + 1) ≡ None
   pub prev : (k a b c : ℕ) → slice_get (blocks_of s) k ≡ Some (b, c) → IsBlock s a b → (j : ℕ) × (k ≡ j + 1) × (slice_get (blocks_of s) j ≡ Some (a, b))
   pub first : (k c : ℕ) → slice_get (blocks_of s) k ≡ Some (s.text.begin, c) → k ≡ 0
-
-pub are-listed : ((s : BufferValue) → s.text.begin ≤ s.text.end → (k : ℕ) (b : ℕ × ℕ) → slice_get (blocks_of s) k ≡ Some b → IsBlock s b.0 b.1)
-    → ((s : BufferValue) (from to : ℕ) → IsBlock s from to → (k : ℕ) × (slice_get (blocks_of s) k ≡ Some (from, to)))
-    → ((s : BufferValue) → s.text.begin ≤ s.text.end → Adjoin s.text.begin (s.text.end + 1) (blocks_of s))
-    → (s : BufferValue) → IsText s.text → AreListed s
-are-listed blocks every adjoin s right = record { order = right.ordered; blocks = blocks s right.ordered; every = every s; adjoin = adjoin s right.ordered }
 
 pub are-in-order : ((s : BufferValue) (k a b c : ℕ) → slice_get (blocks_of s) k ≡ Some (a, b) → IsBlock s b c → slice_get (blocks_of s) (k + 1) ≡ Some (b, c))
     → ((s : BufferValue) (k a : ℕ) → s.text.begin ≤ s.text.end → slice_get (blocks_of s) k ≡ Some (a, s.text.end + 1) → slice_get (blocks_of s) (k + 1) ≡ None)
@@ -90,31 +77,26 @@ module _ (classes : List Span) (s : BufferValue) where
   none-at : (k : ℕ) → slice_get (blocks_of s) k ≡ None → slice_get (blocks_in classes s) k ≡ None
   none-at k h = slice_get-map (block_in classes s) (blocks_of s) k ∙ ap (option_map (block_in classes s)) h
 
-  -- a position of the blocks is accessible, or the end
-  pub within-accessible : AreListed s → (pos : ℕ) → IsWithin pos (blocks_in classes s) → IsAccessible s.text pos
-  within-accessible listed pos within =
-      let order = listed.order in
+  -- the blocks start and end where the accessible text does, whose end counts as a position
+  ends-of : s.text.begin ≤ s.text.end → Adjoin s.text.begin (s.text.end + 1) (blocks_of s)
+      → (first_start (blocks_in classes s) ≡ s.text.begin) × (end_from 0 (blocks_in classes s) ≡ s.text.end + 1)
+  ends-of order adjoin =
       let less : s.text.begin < s.text.end + 1 = omega (arith, order) in
-      let first = first-is classes s s.text.begin (s.text.end + 1) (blocks_of s) listed.adjoin less in
-      let last = end-is classes s s.text.begin (s.text.end + 1) 0 (blocks_of s) listed.adjoin less in
-      let low = within.0 in
-      let high = within.1 in
-      (omega (arith, first, low), omega (arith, last, high))
+      (first-is classes s s.text.begin (s.text.end + 1) (blocks_of s) adjoin less, end-is classes s s.text.begin (s.text.end + 1) 0 (blocks_of s) adjoin less)
+
+  -- so their positions are the accessible ones
+  pub within-accessible : s.text.begin ≤ s.text.end → Adjoin s.text.begin (s.text.end + 1) (blocks_of s) → (pos : ℕ) → IsWithin pos (blocks_in classes s) → IsAccessible s.text pos
+  within-accessible order adjoin pos within = let is = ends-of order adjoin in (omega (arith, is.0, within.0), omega (arith, is.1, within.1))
 
   pub accessible-within : Adjoin s.text.begin (s.text.end + 1) (blocks_of s) → (pos : ℕ) → IsAccessible s.text pos → IsWithin pos (blocks_in classes s)
-  accessible-within adjoin pos at =
-      let low = at.0 in
-      let high = at.1 in
-      let less : s.text.begin < s.text.end + 1 = omega (arith, low, high) in
-      let first = first-is classes s s.text.begin (s.text.end + 1) (blocks_of s) adjoin less in
-      let last = end-is classes s s.text.begin (s.text.end + 1) 0 (blocks_of s) adjoin less in
-      (omega (arith, first, low), omega (arith, last, high))
+  accessible-within adjoin pos at = let is = ends-of (omega (arith, at.0, at.1)) adjoin in (omega (arith, is.0, at.0), omega (arith, is.1, at.1))
 
   -- the block at a position is the one of the list that holds it
-  pub holds-position : AreListed s → (pos start end base : ℕ) → IsBlockAt s pos start end → base ≡ block_base classes s start
+  pub holds-position : ((from to : ℕ) → IsBlock s from to → (k : ℕ) × (slice_get (blocks_of s) k ≡ Some (from, to)))
+      → (pos start end base : ℕ) → IsBlockAt s pos start end → base ≡ block_base classes s start
       → HoldsPosition pos (blocks_in classes s) (record { start = start; end = end; base = base })
-  holds-position listed pos start end base at level =
-      let found = listed.every start end at.block in
+  holds-position every pos start end base at level =
+      let found = every start end at.block in
       record {
         among = (found.0, at-place found.0 (start, end) found.1 ∙ ap (λ (b : Block). Some b) (sym (block-is start end base level)));
         from = at.before;
@@ -141,11 +123,12 @@ module _ (classes : List Span) (s : BufferValue) where
       let next = ordered.next k found.0.0 found.0.1 end found.1 (subst (λ (n : ℕ). IsBlock s n end) is block) in
       ap (λ (c : Block). Some c) (block-is b.end end base level ∙ ap (λ (n : ℕ). block_in classes s (n, end)) is) ∙ sym (at-place (k + 1) (found.0.1, end) next)
 
-  pub next-none : AreListed s → AreInOrder s → (b : Block) → s.text.end < b.end → (k : ℕ) → slice_get (blocks_in classes s) k ≡ Some b → None ≡ slice_get (blocks_in classes s) (k + 1)
-  next-none listed ordered b past k at =
+  pub next-none : ((k : ℕ) (b : ℕ × ℕ) → slice_get (blocks_of s) k ≡ Some b → IsBlock s b.0 b.1)
+      → AreInOrder s → (b : Block) → s.text.end < b.end → (k : ℕ) → slice_get (blocks_in classes s) k ≡ Some b → None ≡ slice_get (blocks_in classes s) (k + 1)
+  next-none blocks ordered b past k at =
       let found = get-map (block_in classes s) (blocks_of s) k b at in
       let is : b.end ≡ found.0.1 = ap (λ (x : Block). x.end) (sym found.2) in
-      let block = listed.blocks k found.0 found.1 in
+      let block = blocks k found.0 found.1 in
       let last = block.last in
       let end : found.0.1 ≡ s.text.end + 1 = omega (arith, is, past, last) in
       sym (none-at (k + 1) (ordered.last k found.0.0 (found.1 ∙ ap (λ (n : ℕ). Some (found.0.0, n)) end)))

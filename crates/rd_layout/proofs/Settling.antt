@@ -1,13 +1,13 @@
 -- A redisplay leaves a valid state valid: the starts and the points that it chooses are accessible.
-use Rattle.std.proofs.Common.{◌≡◌, ℕ, ◌+◌, ◌-◌, ◌<◌, ◌≤◌, Bool, true, false, if◌then◌else◌, Option, None, Some, List, [], ◌∷◌, map, sym, ap, refl, subst, ◌∙◌, arith}
+use Rattle.std.proofs.Common.{◌≡◌, ℕ, ◌+◌, ◌-◌, ◌≤◌, Bool, true, false, if◌then◌else◌, Option, None, Some, List, map, sym, ap, refl, subst, ◌∙◌, arith}
 use Rattle.std.proofs.lemmas.Option.{slice_get-map}
 use Rattle.rd_base.proofs.Lists.{element-at}
 use Rattle.std.specs.Prelude.{IsSome, slice_get, option_map}
 use Rattle.rd_base.proofs.Choices.{map-some, is_some-map}
-use Rattle.rd_blocks.specs.Bases.{block_in, blocks_in}
+use Rattle.rd_blocks.proofs.Listed.{within-accessible}
+use Rattle.rd_blocks.specs.Bases.{blocks_in}
 use Rattle.rd_frame.specs.Panes.{has_border}
-use Rattle.rd_items.specs.Blocks.{Adjoin, blocks_of}
-use Rattle.rd_matrix.specs.Blocks.{IsWithin, end_from}
+use Rattle.rd_matrix.specs.Blocks.{IsWithin}
 use Rattle.rd_props.specs.Buffers as props
 use Rattle.rd_rows.specs.Shapes.{IsShape}
 use Rattle.rd_state.specs.States.{BufferValue, ContentValue, StateValue, seen}
@@ -30,26 +30,8 @@ use Rattle.rd_layout.proofs.Chosen.{chosen-anchor, chosen-point}
 
 -- ---- positions of the blocks are accessible
 
-ends-at : (classes : List Span) (s : props.BufferValue) (from to : ℕ) (bs : List (ℕ × ℕ)) → Adjoin from to bs → end_from from (map (block_in classes s) bs) ≡ to
-ends-at classes s from to [] h = h
-ends-at classes s from to (b ∷ bs) h = ends-at classes s b.1 to bs h.2
-
-accessible-by : (classes : List Span) (s : props.BufferValue) (from to p : ℕ) (bs : List (ℕ × ℕ)) → from < to → Adjoin from to bs → IsWithin p (map (block_in classes s) bs) → (from ≤ p) × (p < to)
-accessible-by classes s from to p [] less h at = absurd (omega (arith, h))
-accessible-by classes s from to p (b ∷ bs) less h at =
-    let start = h.0 in
-    let end = ends-at classes s b.1 to bs h.2 in
-    let low = at.0 in
-    let high = at.1 in
-    (omega arith, omega arith)
-
 pub accessible : ViewLaws → (classes : List Span) (s : props.BufferValue) (p : ℕ) → IsText s.text → IsWithin p (blocks_in classes s) → IsAccessible s.text p
-accessible laws classes s p text at =
-    let ordered = text.ordered in
-    let both = accessible-by classes s s.text.begin (s.text.end + 1) p (blocks_of s) (omega arith) (laws.adjoin s text.ordered) at in
-    let low = both.0 in
-    let high = both.1 in
-    (low, omega arith)
+accessible laws classes s p text at = within-accessible classes s text.ordered (laws.adjoin s text.ordered) p at
 
 -- ---- shapes
 

@@ -6,13 +6,12 @@ use Rattle.rd_props.specs.declared.state.View.{View}
 use Rattle.rd_items.specs.Blocks.{IsBlock, StartsBlock}
 use Rattle.rd_matrix.specs.declared.block.Block.{Block}
 use Rattle.rd_blocks.specs.Sources.{source_of}
-use Rattle.rd_blocks.proofs.Listed.{are-listed, are-in-order, starts-behind, next-block, next-none}
+use Rattle.rd_blocks.proofs.Listed.{are-in-order, starts-behind, next-block, next-none}
 use Rattle.rd_blocks.proofs.blocks.Blocks.behind.Goals as goal
 
 pub returns-then-end-start-clause-next : goal.returns-then-end-start-clause-next
 returns-then-end-start-clause-next c =
     let x = c.self.inside.view in
-    let law = c.blocks_are_listed.ensures in
     let order = c.blocks_are_in_order.ensures in
     let s = meaning x.state.now in
     let b = c.args.block.now in
@@ -20,7 +19,7 @@ returns-then-end-start-clause-next c =
     let value = c.end.ensures.value in
     let past = c.if-end-start.true in
     subst (λ (w : View). (k : ℕ) → slice_get (source_of w).blocks k ≡ Some b → None ≡ slice_get (source_of w).blocks (k + 1)) c.self.view_is
-    (next-none x.classes.now s (are-listed law.blocks law.every law.adjoin s right) (are-in-order order.next order.last order.prev order.first s right) b (omega (arith, value, past)))
+    (next-none x.classes.now s (c.blocks_are_listed.ensures.blocks s right.ordered) (are-in-order order.next order.last order.prev order.first s right) b (omega (arith, value, past)))
 
 -- the block ends before the end of the text, so that another starts there
 starts : (c : goal.Else-end-start) → let s = meaning c.self.inside.view.state.now in IsAccessible s.text c.args.block.now.end × StartsBlock s c.args.block.now.end
