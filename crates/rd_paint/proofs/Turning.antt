@@ -76,7 +76,7 @@ module _ (laws : TurnLaws) (s : StateValue) (valid : IsValid s) (classes : List 
       let c = ap content_in b.1 in
       let text : IsText (shown_content s w).text = subst (λ x. IsText x.text) (sym c) (valid.buffers.contents w.buffer b.0 b.1).text in
       let both = laws.chosen files s place.number w place valid leaf.window leaf.placed in
-      let there = is-view laws.adjoin files s w place text both.0 both.1 in
+      let there = is-view laws.listed files s w place text both.0 both.1 in
       let same : (shown_content s w).text ≡ content.content.text = ap (λ x. x.text) c ∙ ap (λ (x : BufferValue). x.content.text) (sym b.2) in
       subst (λ (x : TextValue). IsViewOf x v) same (subst (IsViewOf (shown_content s w).text) (sym (view-is files shown)) there)
 

@@ -5,7 +5,7 @@ use Rattle.rd_ucd.specs.Data.{Data}
 use Rattle.rd_frame.specs.Fits.{FitsFrame}
 use Rattle.rd_frame.specs.Frames.{FrameValues}
 use Rattle.rd_frame.specs.Turns.{IsTurn}
-use Rattle.rd_items.specs.Blocks.{Adjoin, blocks_of}
+use Rattle.rd_items.specs.Blocks.{IsBlock, blocks_of}
 use Rattle.rd_props.specs.Buffers as props
 use Rattle.rd_state.specs.States.{StateValue}
 use Rattle.rd_state.specs.Valid.{IsValid, IsWindow}
@@ -25,14 +25,14 @@ pub record LeafLaws : Type 0 where
   pub places : PlaceLaws
   pub found : (s : StateValue) (number : ℕ) (w : WindowState) → IsValid s → window_of number s.windows ≡ Some w → IsWindow s.buffers w
 
--- where the blocks of an accessible text are listed
-abbrev pub AdjoinLaw : Type 0
-AdjoinLaw = (s : props.BufferValue) → s.text.begin ≤ s.text.end → Adjoin s.text.begin (s.text.end + 1) (blocks_of s)
+-- those that are listed of an accessible text are its blocks
+abbrev pub ListedLaw : Type 0
+ListedLaw = (s : props.BufferValue) → s.text.begin ≤ s.text.end → (k : ℕ) (b : ℕ × ℕ) → slice_get (blocks_of s) k ≡ Some b → IsBlock s b.0 b.1
 
 -- of a window that is painted in its turn
 pub record TurnLaws : Type 0 where
   pub leaves : LeafLaws
-  pub adjoin : AdjoinLaw
+  pub listed : ListedLaw
   pub fits : (files : Data) (s : StateValue) → IsValid s → FitsFrame (frame_in files s)
   pub turn : (f : FrameValues) (i number : ℕ) (window : Placed) (rows : List (List Cell)) → FitsFrame f → HasSize f.tree.width (f.tree.height + 1) rows → window_at number f.tree.windows (frame_of f.tree) ≡ Some window
       → slice_get (placed f.tree.windows (frame_of f.tree)) i ≡ Some window → IsTurn f i window rows

@@ -3,7 +3,7 @@ use Rattle.std.proofs.Common.{◌≡◌, ℕ, suc, ◌+◌, ◌^◌, ◌<◌, �
 use Rattle.std.specs.Prelude.{count_by, slice_get}
 use Rattle.std.specs.List.{flat_map}
 use Rattle.std.proofs.lemmas.Bool.Decides.{nat_tests}
-use Rattle.rd_base.proofs.Lists.{Follow, count-append, count-cons, each-append, follow-once, get-map}
+use Rattle.rd_base.proofs.Lists.{Follow, count-append, count-cons, each-append, follow-once}
 use Rattle.rd_ucd.specs.Data.{Data}
 use Rattle.rd_objects.specs.Things.{ObjectLists}
 use Rattle.rd_text.specs.Texts.{IsText, IsAccessible}
@@ -17,6 +17,7 @@ use Rattle.rd_levels.specs.declared.turn.Turn.{Turn}
 use Rattle.rd_matrix.specs.Blocks.{IsAmong}
 use Rattle.rd_matrix.specs.declared.block.Block.{Block}
 use Rattle.rd_stack.specs.Lines.{item_turns}
+use Rattle.rd_blocks.proofs.Listed.{among-block}
 use Rattle.rd_blocks.specs.Bases.{block_in, blocks_in}
 use Rattle.rd_visual.specs.Motion.{all_ranges, block_ranges, holds, range_by, ranges_in_turn}
 use Rattle.rd_visual.specs.Order.{StandBetween, block_items, ordered_ranges}
@@ -122,13 +123,8 @@ module _ (s : BufferValue) (objects : ObjectLists) (files : Data) (are : AreTile
   pub at-most : (pos : ℕ) → count_by (holds pos) (all_ranges s objects files) ≤ 1
   at-most pos = few-by (holds pos (record { from = s.text.begin; to = s.text.end + 1 })) (count_by (holds pos) (all_ranges s objects files)) (all-count pos)
 
-  is-block : (b : Block) → IsAmong (blocks_in files.classes s) b → IsBlock s b.start b.end
-  is-block b among =
-      let found = get-map (block_in files.classes s) (blocks_of s) among.0 b among.1 in
-      subst (λ (x : Block). IsBlock s x.start x.end) found.2 (are.listed among.0 found.0 found.1)
-
   pub tiled-block : (b : Block) → IsAmong (blocks_in files.classes s) b → IsTiled s objects files b
-  tiled-block b among = are.tiled objects files b (is-block b among)
+  tiled-block b among = are.tiled objects files b (among-block files.classes s are.listed b among)
 
   pub block : (b : Block) (pos : ℕ) → IsAmong (blocks_in files.classes s) b → b.start ≤ pos → pos < b.end → count_by (holds pos) (block_ranges s objects files b) ≡ 1
   block b pos among low high =
@@ -138,14 +134,14 @@ module _ (s : BufferValue) (objects : ObjectLists) (files : Data) (are : AreTile
 
   pub start-in : (b : Block) → IsAmong (blocks_in files.classes s) b → IsAccessible s.text b.start
   start-in b among =
-      let is = is-block b among in
+      let is = among-block files.classes s are.listed b among in
       let some = is.some in
       let last = is.last in
       (is.first, omega (arith, some, last))
 
   pub items-fit : IsText s.text → (b : Block) → IsAmong (blocks_in files.classes s) b → All (λ (x : Item). x.from < x.to → b.start + x.to < 2 ^ 32) (block_items s objects files b)
   items-fit text b among =
-      let is = is-block b among in
+      let is = among-block files.classes s are.listed b among in
       let tiles = are.tiled objects files b is in
       let size = tiles.size in
       let last = is.last in
