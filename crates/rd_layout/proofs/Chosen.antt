@@ -2,8 +2,8 @@
 use Rattle.std.proofs.Common.{ℕ, ◌<◌, ◌≤◌, min, max, nat_lt, Bool, true, false, if◌then◌else◌, List, [], ◌∷◌, take, drop, arith, unwrap_or}
 use Rattle.std.proofs.lemmas.List.Elements.{All-take, All-drop}
 use Rattle.std.specs.List.{AllByRecursion, reduce}
-use Rattle.rd_matrix.proofs.HeldLemmas.{end-behind, later-start}
-use Rattle.rd_matrix.specs.Blocks.{IsAmong, IsWithin, first_start}
+use Rattle.rd_matrix.proofs.HeldLemmas.{among-within}
+use Rattle.rd_matrix.specs.Blocks.{IsAmong, IsWithin}
 use Rattle.rd_matrix.specs.Entries.{EntryMeaning}
 use Rattle.rd_matrix.specs.Sources.{IsSource, SourceValues, rows_at}
 use Rattle.rd_matrix.specs.declared.block.Block.{Block}
@@ -24,10 +24,7 @@ module _ (m : SourceValues) (shape : ShapeValues) (source : IsSource m) (is : Is
   Inside p = IsWithin p m.blocks
 
   pub block-inside : (b : Block) → IsAmong m.blocks b → (p : ℕ) → b.start ≤ p → p < b.end → Inside p
-  block-inside b at p low high =
-      let first = (later-start (first_start m.blocks) at.0 m.blocks b source.blocks.stand at.1).0 in
-      let last = end-behind (first_start m.blocks) 0 at.0 m.blocks b source.blocks.stand at.1 in
-      (omega (arith, first, low), omega (arith, last, high))
+  block-inside b at p low high = among-within m.blocks b p source.blocks.stand at low high
 
   view-inside : (height start : ℕ) → AllByRecursion Inside (first_positions (take height (drop start (rows_at m shape))))
   view-inside height start =

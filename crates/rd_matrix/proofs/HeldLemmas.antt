@@ -241,15 +241,15 @@ end-behind from last k [] b h i = absurd cc
 end-behind from last zero (a ∷ bs) b h i = let same : a ≡ b = cc in subst (λ (x : Block). x.end ≤ end_from a.end bs) same (end-least a.end bs h.2)
 end-behind from last (suc k) (a ∷ bs) b h i = end-behind a.end a.end k bs b h.2 i
 
-pub start-within : (hs : List HeldBlock) (b : Block) → AreHeld hs → IsAmong (blocks_held hs) b → IsWithin b.start (blocks_held hs)
-start-within [] b held among = absurd cc
-start-within (h ∷ hs) b held among =
-    let bs = blocks_held (h ∷ hs) in
-    let stands = later-start (first_start bs) among.0 bs b held.stand among.1 in
-    let low = stands.0 in
-    let some = stands.1 in
-    let end = end-behind (first_start bs) 0 among.0 bs b held.stand among.1 in
-    (low, omega (arith, some, end))
+-- a position of a block is one of the blocks
+pub among-within : (bs : List Block) (b : Block) (p : ℕ) → StandFrom (first_start bs) bs → IsAmong bs b → b.start ≤ p → p < b.end → IsWithin p bs
+among-within bs b p stand among low high =
+    let first = (later-start (first_start bs) among.0 bs b stand among.1).0 in
+    let last = end-behind (first_start bs) 0 among.0 bs b stand among.1 in
+    (omega (arith, first, low), omega (arith, last, high))
+
+pub start-within : (bs : List Block) (b : Block) → StandFrom (first_start bs) bs → IsAmong bs b → IsWithin b.start bs
+start-within bs b stand among = among-within bs b b.start stand among (omega arith) (later-start (first_start bs) among.0 bs b stand among.1).1
 
 pub place-found : (hs : List HeldBlock) (n : ℕ) (g b : Block) → AreHeld hs → IsAmong (blocks_held hs) b → slice_get (blocks_held hs) n ≡ Some g → HoldsPosition b.start (blocks_held hs) g → slice_get (blocks_held hs) n ≡ Some b
 place-found hs n g b held among there holds =

@@ -7,10 +7,10 @@ use Rattle.std.specs.List.{slice_get}
 use Rattle.rd_base.proofs.Choices.{map-some}
 use Rattle.rd_base.proofs.Lists.{get-first, get-second, at-seam}
 use Rattle.rd_base.specs.declared.settings.Anchor.{Anchor}
-use Rattle.rd_matrix.proofs.HeldLemmas.{end-behind, later-start, same-holder}
+use Rattle.rd_matrix.proofs.HeldLemmas.{same-holder, start-within}
 use Rattle.rd_matrix.proofs.Counting.{all-append, count-cons, length-numbered}
 use Rattle.rd_matrix.proofs.EachRow.{numbered-at}
-use Rattle.rd_matrix.specs.Blocks.{IsWithin, StandFrom, first_start}
+use Rattle.rd_matrix.specs.Blocks.{IsAmong, IsWithin, StandFrom}
 use Rattle.rd_matrix.specs.Entries.{EntryMeaning, all_rows, entries_of, numbered}
 use Rattle.rd_matrix.specs.Sources.{SourceValues, IsSource, rows_at}
 use Rattle.rd_matrix.specs.declared.block.Block.{Block}
@@ -96,12 +96,6 @@ holding from place before after b d j stand starts at low high =
 pub within : (m : SourceValues) (shape : ShapeValues) (anchor : Anchor) (k : ℕ) → IsSource m → Names anchor (rows_at m shape) k → IsWithin anchor.pos m.blocks
 within m shape anchor k source is =
     let found = anchor-found (λ b. m.rows_of b shape) m.blocks k anchor is in
-    let stand = source.blocks.stand in
-    let at : slice_get m.blocks (length found.before) ≡ Some found.block =
-    ap (λ bs. slice_get bs (length found.before)) found.pieces ∙ at-seam found.before found.block found.after in
-    let low = later-start (first_start m.blocks) (length found.before) m.blocks found.block stand at in
-    let first = low.0 in
-    let some = low.1 in
-    let high = end-behind (first_start m.blocks) 0 (length found.before) m.blocks found.block stand at in
-    let starts = found.starts in
-    (omega (arith, first, starts), omega (arith, some, starts, high))
+    let among : IsAmong m.blocks found.block =
+    (length found.before, ap (λ bs. slice_get bs (length found.before)) found.pieces ∙ at-seam found.before found.block found.after) in
+    subst (λ (p : ℕ). IsWithin p m.blocks) found.starts (start-within m.blocks found.block source.blocks.stand among)
