@@ -1,11 +1,11 @@
 -- Cells in place of others: the columns of characters that are cut, and rows that are filled part by part.
 use Rattle.std.proofs.Common.{◌≡◌, if◌then◌else◌, ℕ, zero, suc, ◌+◌, ◌-◌, ◌<◌, ◌≤◌, Bool, true, false, List, [], ◌∷◌, ◌++◌, length, get_or, set, take, drop, map, replicate, Option, None, Some, refl, sym, ap, ◌∙◌, arith, append_assoc, drop_of_length-le}
 use Rattle.std.proofs.lemmas.List.{take_at, drop_at, set_at, drop_more, drop-drop, take-append-drop, length-append, length-take-le, length-replicate, length-drop, length-map}
+use Rattle.rd_base.proofs.Rows.{glyph_length}
 use Rattle.rd_base.specs.Faces.{Attributes}
-use Rattle.rd_base.specs.Glyphs.{is_space, blanks, glyph_cells}
+use Rattle.rd_base.specs.Glyphs.{glyph_cells}
 use Rattle.rd_base.specs.declared.cell.Glyph.{Glyph}
 use Rattle.rd_base.specs.declared.cell.Cell.{Cell}
-use Rattle.rd_base.specs.declared.cell.Cell.TheVariants.{Blank, First, Rest}
 use Rattle.rd_term.specs.Overwriting.{is_later, first_column, later_columns, overwritten}
 use Rattle.rd_term.specs.Walks.{passing}
 use Rattle.rd_term.proofs.Walks.{back-le}
@@ -136,12 +136,8 @@ later-within [] = omega arith
 later-within (cell ∷ row) = later-chosen (is_later cell) (later_columns row) (length row) (later-within row)
 
 -- a glyph's cells keep a row's length
-length-chosen : (space : Bool) (n : ℕ) (g : Glyph) (face : Attributes) → 1 ≤ n → length (if space then blanks n face else First g face ∷ replicate (n - 1) Rest) ≡ n
-length-chosen true n g face some = length-replicate n (Blank face)
-length-chosen false n g face some = omega (arith, length-replicate (n - 1) Rest)
-
 pub length-glyph : (n : ℕ) (g : Glyph) (face : Attributes) → 1 ≤ n → length (map Some (glyph_cells n g face)) ≡ n
-length-glyph n g face some = length-map (glyph_cells n g face) Some ∙ length-chosen (is_space g) n g face some
+length-glyph n g face some = length-map (glyph_cells n g face) Some ∙ glyph_length n g face some
 
 pub length-put : (row : Row) (column n : ℕ) (g : Glyph) (face : Attributes) → 1 ≤ n → column + n ≤ length row → length (overwritten column (map Some (glyph_cells n g face)) row) ≡ length row
 length-put row column n g face some room =
