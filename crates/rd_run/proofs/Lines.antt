@@ -1,5 +1,5 @@
 -- A session stands behind each line of a run, and the terminal shows its screen where that is known.
-use Rattle.std.proofs.Common.{◌≡◌, ℕ, Bool, true, false, List, [], ◌∷◌, length, map, Option, None, Some, Ok, is_some, if◌then◌else◌, refl, sym, ap, ◌∙◌, subst, true≢false}
+use Rattle.std.proofs.Common.{◌≡◌, ℕ, Bool, true, false, List, [], ◌∷◌, length, map, Option, None, Some, Ok, is_some, if◌then◌else◌, refl, sym, ap, ◌∙◌, subst, subst₂, true≢false}
 use Rattle.std.proofs.Common.{replicate}
 use Rattle.std.proofs.lemmas.List.{length-replicate, length-map}
 use Rattle.std.proofs.lemmas.List.Elements.{All-replicate}
@@ -48,38 +48,46 @@ pub record RunLaws : Type 0 where
 
 -- ---- where a run stands, with its terminal
 
-pub record IsAt (v : SessionValue) (t : Tty) : Type 0 where
-  pub session : IsSession v
+-- how a terminal stands where a frame has this size, and where this is known of its screen
+pub record AtFrame (width height : ℕ) (current : Option Picture) (t : Tty) : Type 0 where
   pub sure : t.confused ≡ false
   pub between : t.reading ≡ Between
-  pub rows : length t.rows ≡ v.state.height
-  pub each : IsGrid v.state.width t.rows
-  pub now : IsCurrent v.state.width v.state.height v.current t
+  pub rows : length t.rows ≡ height
+  pub each : IsGrid width t.rows
+  pub now : IsCurrent width height current t
+
+pub record IsAt (v : SessionValue) (t : Tty) : Type 0 where
+  pub session : IsSession v
+  pub there : AtFrame v.state.width v.state.height v.current t
+
+-- it stands so behind a session whose frame keeps its size
+frame-at : (v next : SessionValue) (c : Option Picture) (t : Tty) → IsSession next → AreOfOneSize v.state next.state → next.current ≡ c → AtFrame v.state.width v.state.height c t → IsAt next t
+frame-at v next c t session same now there = record {
+  session = session;
+  there = subst (λ d. AtFrame next.state.width next.state.height d t) (sym now) (subst₂ (λ (w : ℕ) (n : ℕ). AtFrame w n c t) (sym same.0) (sym same.1) there);
+}
 
 -- a new terminal
 fresh-at : (v : SessionValue) → IsSession v → v.current ≡ None → IsAt v (unknown v.state.width v.state.height)
 fresh-at v session none =
     let n = v.state.height in
     let w = v.state.width in
-    let blank : List (Option Cell) = replicate w None in record {
-      session = session;
+    let blank : List (Option Cell) = replicate w None in
+    frame-at v v None (unknown w n) session (refl, refl) none (record {
       sure = refl;
       between = refl;
       rows = length-replicate n blank;
       each = All-replicate (λ row. length row ≡ w) n blank (length-replicate w None);
-      now = subst (λ c. IsCurrent w n c (unknown w n)) (sym none) tt;
-    }
+      now = tt;
+    })
 
 -- a session whose screen is unknown
 forgotten-at : (v : SessionValue) (t : Tty) → IsAt v t → IsAt (record v { current = None }) t
 forgotten-at v t h =
-    let s = h.session in record {
+    let s = h.session in
+    let there = h.there in record {
       session = record { state = s.state; screen = tt; made = s.made; layouts = s.layouts };
-      sure = h.sure;
-      between = h.between;
-      rows = h.rows;
-      each = h.each;
-      now = tt;
+      there = record { sure = there.sure; between = there.between; rows = there.rows; each = there.each; now = tt };
     }
 
 -- ---- a redisplay
@@ -93,7 +101,8 @@ ready : (laws : RunLaws) (v : SessionValue) (t : Tty) → IsAt v t → IsReady v
 ready laws v t h =
     let target = laws.targets v.files v.state h.session.state in
     let frame = h.session.state.frame in
-    is-ready v.state.width v.state.height v.current (laid_out v.files v.state).picture t h.sure h.between h.rows h.each h.now frame.narrow frame.low target.0 target.1
+    let there = h.there in
+    is-ready v.state.width v.state.height v.current (laid_out v.files v.state).picture t there.sure there.between there.rows there.each there.now frame.narrow frame.low target.0 target.1
 
 -- behind the bytes of an update
 updated-at : (v next : SessionValue) (u : Update) (target : Picture) (t : Tty) → IsSession next → AreOfOneSize v.state next.state → next.current ≡ Some u.screen
@@ -101,17 +110,7 @@ updated-at : (v next : SessionValue) (u : Update) (target : Picture) (t : Tty) �
 updated-at v next u target t session same now h =
     let rows : length t.rows ≡ v.state.height = ap length h.cells ∙ length-map u.screen.rows (map Some) ∙ h.size.rows in
     let each : IsGrid v.state.width t.rows = subst (IsGrid v.state.width) (sym h.cells) (grid-known v.state.width u.screen.rows h.size.each) in
-    let Current : ℕ → ℕ → Option Picture → Type 0 = λ w n c. IsCurrent w n c t in
-    let current : Current v.state.width v.state.height (Some u.screen) = (h.size, h.cells, h.pen) in
-    record {
-      session = session;
-      sure = h.sure;
-      between = h.between;
-      rows = rows ∙ sym same.1;
-      each = subst (λ w. IsGrid w t.rows) (sym same.0) each;
-      now = subst (λ c. Current next.state.width next.state.height c) (sym now)
-          (subst (λ w. Current w next.state.height (Some u.screen)) (sym same.0) (subst (λ n. Current v.state.width n (Some u.screen)) (sym same.1) current));
-    }
+    frame-at v next (Some u.screen) t session same now (record { sure = h.sure; between = h.between; rows = rows; each = each; now = (h.size, h.cells, h.pen) })
 
 -- an update that is done leads to its target
 reached-from : (laws : RunLaws) (s : StateValue) (current : Option Picture) (target : Picture) (stop : Option ℕ) → IsValid s → FitsFrame current s → IsOfSize s.width s.height target
@@ -172,19 +171,9 @@ accepted-at place t op s true e h session size =
 accepted-at place t op s false e h session size =
     let next = behind place.session op s in
     let v = place.session in
-    let same = size e in
     let current : next.current ≡ v.current = ap (λ b. if b then None else v.current) e in
     let terminal : terminal_after t (stepped place op (Ok s)) ≡ t = ap (λ b. if b then unknown s.width s.height else t) e in
-    let Current : ℕ → ℕ → Option Picture → Type 0 = λ w n c. IsCurrent w n c t in
-    let here : IsAt next t = record {
-      session = session;
-      sure = h.sure;
-      between = h.between;
-      rows = h.rows ∙ sym same.1;
-      each = subst (λ w. IsGrid w t.rows) (sym same.0) h.each;
-      now = subst (λ c. Current s.width s.height c) (sym current) (subst (λ w. Current w s.height v.current) (sym same.0) (subst (λ n. Current v.state.width n v.current) (sym same.1) h.now));
-    } in
-    subst (IsAt next) (sym terminal) here
+    subst (IsAt next) (sym terminal) (frame-at v next v.current t session (size e) current h.there)
 
 redisplayed-goes : (laws : RunLaws) (place : Standing) (t : Tty) (stop : Option ℕ) → IsAt place.session t → Goes place t (redisplayed place stop)
 redisplayed-goes laws place t stop h =
