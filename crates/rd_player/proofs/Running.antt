@@ -1,16 +1,14 @@
 -- A run, one line after another, against what was read and written.
-use Rattle.std.proofs.Common.{◌≡◌, ℕ, ◌+◌, ◌≤◌, inl, Bool, true, false, List, [], ◌∷◌, ◌++◌, length, take, Option, None, Some, is_some, if◌then◌else◌, Result, Ok, Err, refl, sym, ap, ◌∙◌, subst, append-nil, arith}
+use Rattle.std.proofs.Common.{◌≡◌, ℕ, ◌+◌, ◌≤◌, inl, Bool, true, false, List, [], ◌∷◌, ◌++◌, length, take, Option, None, Some, is_some, if◌then◌else◌, Ok, Err, refl, sym, ap, ◌∙◌, subst, append-nil, arith}
 use Rattle.std.specs.Io.KnownBytes.{Appends}
 use Rattle.std.proofs.KnownBytes.{Appends-nil, Appends-trans}
 use Rattle.std.proofs.lemmas.List.{length_push}
-use Rattle.rd_script.specs.Reading.{reading}
-use Rattle.rd_script.specs.declared.fault.OpFault.{OpFault}
-use Rattle.rd_script.specs.declared.op.Op.{Op}
+use Rattle.rd_base.proofs.Choices.{either}
 use Rattle.rd_io.proofs.Bytes.{rose-after}
 use Rattle.rd_run.specs.Ends.{Drawn, drawn, Sunk, sunk, Took, Broke, AreScript, IsTaken, allowed_in, lines_in, IsBad, IsInHand}
 use Rattle.rd_run.specs.Given.{Given, IsMode}
-use Rattle.rd_run.specs.Runs.{Mode, Input, Standing, Effect, World, opened, run, after, effect, effect_of_reading, effect_by, asked, is_blank, is_sent, input_of}
-use Rattle.rd_run.proofs.Effects.{effect-is}
+use Rattle.rd_run.specs.Runs.{Mode, Input, Standing, Effect, World, opened, run, after, effect, is_sent, redisplayed, unshown, input_of}
+use Rattle.rd_run.proofs.Effects.{effect-is, effects-pair}
 use Rattle.rd_run.proofs.Inputs.{lines-push, run-push, run_line-goes}
 use Rattle.rd_player.specs.Acts.{Acts, ComesTo, IsToldOf, Places, SpentBy, halted_by}
 use Rattle.rd_player.specs.declared.halt.Halt.{Halt}
@@ -40,22 +38,9 @@ effect-goes place t = effect-is place t (λ e. (e.now.lines ≡ place.lines + 1)
 })
 
 -- a redisplay may place as many elements whether it finds memory or not
-by-allows : (o : Option (Option ℕ)) (starved : Bool) (place : Standing) (op : Op) → (effect_by o starved place op).allowed ≡ (effect_by o false place op).allowed
-by-allows None starved place op = refl
-by-allows (Some stop) true place op = refl
-by-allows (Some stop) false place op = refl
-
-reading-allows : (r : Result Op OpFault) (starved : Bool) (place : Standing) → (effect_of_reading starved place r).allowed ≡ (effect_of_reading false place r).allowed
-reading-allows (Err e) starved place = refl
-reading-allows (Ok op) starved place = by-allows (asked op) starved place op
-
-allowed-if : (b : Bool) (d e f : Effect) → e.allowed ≡ f.allowed → (if b then d else e).allowed ≡ (if b then d else f).allowed
-allowed-if true d e f p = refl
-allowed-if false d e f p = p
-
 effect-allows : (place : Standing) (line : List ℕ) (starved : Bool) → (effect place (input_of line starved)).allowed ≡ (effect place (input_of line false)).allowed
-unfolding effect
-effect-allows place line starved = allowed-if (is_blank line) _ _ _ (reading-allows (reading line) starved place)
+effect-allows place line starved = effects-pair place line starved false (λ e f. e.allowed ≡ f.allowed) (λ e. refl)
+    (λ op stop. either (λ (e : Effect). e.allowed ≡ (redisplayed place stop).allowed) starved (unshown place) (redisplayed place stop) refl refl)
 
 -- ---- what a run has written
 

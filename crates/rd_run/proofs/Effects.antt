@@ -1,5 +1,5 @@
 -- What the effect of a line can be, by the kind of the line.
-use Rattle.std.proofs.Common.{◌≡◌, Bool, true, false, if◌then◌else◌, ℕ, Option, None, Some, Result, Ok, Err, refl}
+use Rattle.std.proofs.Common.{◌≡◌, Bool, true, false, if◌then◌else◌, ℕ, List, Option, None, Some, Result, Ok, Err, refl}
 use Rattle.rd_base.proofs.Choices.{either}
 use Rattle.rd_script.proofs.InForm.{reading-in_form}
 use Rattle.rd_script.specs.Forms.{IsInForm}
@@ -10,7 +10,7 @@ use Rattle.rd_state.specs.States.{StateValue}
 use Rattle.rd_state.specs.declared.refused.Refused.{Refused}
 use Rattle.rd_layout.specs.Sessions.{IsStep, session_step}
 use Rattle.rd_layout.specs.declared.outcome.Outcome.TheVariants.{Shown, Stopped}
-use Rattle.rd_run.specs.Runs.{Effect, Input, Standing, asked, effect, effect_by, effect_of_reading, is_blank, is_shown, quiet, redisplayed, refused, stepped, unshown}
+use Rattle.rd_run.specs.Runs.{Effect, Input, Standing, asked, effect, effect_by, effect_of_reading, input_of, is_blank, is_shown, quiet, redisplayed, refused, stepped, unshown}
 use Rattle.rd_run.specs.declared.status.ScriptFault.TheVariants as faults
 use Rattle.rd_run.proofs.Ops.{step-of}
 
@@ -42,6 +42,21 @@ pub effect-is : (place : Standing) (t : Input) (P : Effect → Type 0) → OfKin
 unfolding effect
 effect-is place t P h =
     either P (is_blank t.line) (quiet place) (effect_of_reading t.starved place (reading t.line)) h.blank (reading-is place t P h (reading t.line) refl)
+
+-- The effects of one line, which finds memory or doesn't: what holds of each effect and itself, and of the effects of each redisplay, holds
+-- of these.
+pub effects-pair : (place : Standing) (line : List ℕ) (s r : Bool) (P : Effect → Effect → Type 0) → ((e : Effect) → P e e)
+    → ((op : Op) (stop : Option ℕ) → P (effect_by (Some stop) s place op) (effect_by (Some stop) r place op)) → P (effect place (input_of line s)) (effect place (input_of line r))
+unfolding effect
+effects-pair place line s r P same shown = by (is_blank line) (reading line) where
+  asks : (o : Option (Option ℕ)) (op : Op) → P (effect_by o s place op) (effect_by o r place op)
+  asks None op = same _
+  asks (Some stop) op = shown op stop
+
+  by : (blank : Bool) (x : Result Op OpFault) → P (if blank then quiet place else effect_of_reading s place x) (if blank then quiet place else effect_of_reading r place x)
+  by true x = same _
+  by false (Err fault) = same _
+  by false (Ok op) = asks (asked op) op
 
 -- the update of a redisplay that is shown is done
 pub shown-done : (done : Bool) (rows : ℕ) → is_shown (Some (if done then Shown rows else Stopped rows)) ≡ true → done ≡ true

@@ -1,31 +1,17 @@
 -- Which lines it matters for that they found no memory: redisplays alone.
-use Rattle.std.proofs.Common.{◌≡◌, ℕ, Bool, true, false, if◌then◌else◌, List, ◌∷◌, Option, None, Some, is_some, Result, Ok, Err, refl, ap, ◌∙◌}
-use Rattle.rd_script.specs.Reading.{reading}
-use Rattle.rd_script.specs.declared.fault.OpFault.{OpFault}
+use Rattle.std.proofs.Common.{◌≡◌, ℕ, Bool, true, false, if◌then◌else◌, List, ◌∷◌, Option, None, Some, is_some, refl, ap, ◌∙◌}
 use Rattle.rd_script.specs.declared.op.Op.{Op}
-use Rattle.rd_run.specs.Runs.{Input, Standing, World, after, asked, effect, effect_by, effect_of_reading, is_blank, outcome_at, quiet, run_line, input_of}
+use Rattle.rd_run.proofs.Effects.{effects-pair}
+use Rattle.rd_run.specs.Runs.{Input, Standing, World, after, effect, effect_by, outcome_at, run_line, input_of}
 
 -- a redisplay has an outcome, with memory or without
 has-outcome : (starved : Bool) (now : Standing) (op : Op) (stop : Option ℕ) → is_some (effect_by (Some stop) starved now op).outcome ≡ true
 has-outcome true now op stop = refl
 has-outcome false now op stop = refl
 
-op-alike : (o : Option (Option ℕ)) (now : Standing) (op : Op) (s r : Bool) → (is_some (effect_by o s now op).outcome ≡ true → s ≡ r) → effect_by o s now op ≡ effect_by o r now op
-op-alike None now op s r h = refl
-op-alike (Some stop) now op s r h = ap (λ b. effect_by (Some stop) b now op) (h (has-outcome s now op stop))
-
-reading-alike : (x : Result Op OpFault) (now : Standing) (s r : Bool) → (is_some (effect_of_reading s now x).outcome ≡ true → s ≡ r) → effect_of_reading s now x ≡ effect_of_reading r now x
-reading-alike (Err fault) now s r h = refl
-reading-alike (Ok op) now s r h = op-alike (asked op) now op s r h
-
-line-alike : (blank : Bool) (x : Result Op OpFault) (now : Standing) (s r : Bool) → (is_some (if blank then quiet now else effect_of_reading s now x).outcome ≡ true → s ≡ r)
-    → (if blank then quiet now else effect_of_reading s now x) ≡ (if blank then quiet now else effect_of_reading r now x)
-line-alike true x now s r h = refl
-line-alike false x now s r h = reading-alike x now s r h
-
 effect-alike : (now : Standing) (line : List ℕ) (s r : Bool) → (is_some (effect now (input_of line s)).outcome ≡ true → s ≡ r) → effect now (input_of line s) ≡ effect now (input_of line r)
-unfolding effect
-effect-alike now line s r h = line-alike (is_blank line) (reading line) now s r h
+effect-alike now line s r = effects-pair now line s r (λ e f. (is_some e.outcome ≡ true → s ≡ r) → e ≡ f) (λ e h. refl)
+    (λ op stop h. ap (λ b. effect_by (Some stop) b now op) (h (has-outcome s now op stop)))
 
 run_line-if : (over : Bool) (w : World) (line : List ℕ) (s r : Bool) → (is_some (if over then None else (effect w.now (input_of line s)).outcome) ≡ true → s ≡ r)
     → (if over then w else after w (effect w.now (input_of line s))) ≡ (if over then w else after w (effect w.now (input_of line r)))
