@@ -2,7 +2,6 @@
 use Rattle.std.proofs.Common.{◌≡◌, ℕ, ◌+◌, ◌<◌, ◌≤◌, Bool, true, false, if◌then◌else◌, is_some, inl, inr, Option, None, Some, unwrap_or, Ok, decimal, codes, List, [], ◌∷◌, ◌++◌, length, refl, sym, ap, ◌∙◌, subst, arith, append_assoc, length-append, true≢false}
 use Rattle.std.specs.Prelude.{IsSome}
 use Rattle.std.specs.Io.KnownBytes.{Appends}
-use Rattle.std.specs.List.{AllByRecursion, flat_map}
 use Rattle.std.proofs.lemmas.List.Elements.{All-nil}
 use Rattle.rd_dump.specs.Dumps.{dump_text}
 use Rattle.rd_dump.specs.declared.dump.WindowFacts.{WindowFacts}
@@ -14,9 +13,9 @@ use Rattle.rd_layout.specs.Redisplays.{update_of}
 use Rattle.rd_layout.specs.Screens.{laid_out}
 use Rattle.rd_layout.specs.Sessions.{SessionValue}
 use Rattle.rd_layout.specs.Since.{FitsFrame, IsSession}
-use Rattle.rd_layout.specs.Windows.{of_place, of_window, places}
+use Rattle.rd_layout.specs.Windows.{places}
+use Rattle.rd_layout.proofs.Placed.{shown-count}
 use Rattle.rd_run.proofs.Effects.{effect-is, shown-done}
-use Rattle.rd_run.proofs.Leading.{Lives, all-live}
 use Rattle.rd_update.proofs.Sizes.{is-screen, width-is}
 use Rattle.rd_run.proofs.Inputs.{run-append, run-clear, run-push}
 use Rattle.rd_run.specs.Alike.{End}
@@ -28,13 +27,10 @@ use Rattle.rd_run.specs.declared.status.Status.{Status}
 use Rattle.rd_run.specs.declared.status.Status.TheVariants.{Done, WriteFault}
 use Rattle.rd_state.specs.States.{StateValue}
 use Rattle.rd_state.specs.Valid.{IsValid}
-use Rattle.rd_state.specs.Windows.{window_of}
-use Rattle.rd_state.specs.declared.window.WindowState.{WindowState}
 use Rattle.rd_term.specs.Pictures.{Picture, width_of}
 use Rattle.rd_term.specs.Terminals.{Shows, feed_bytes, unknown}
 use Rattle.rd_tree.specs.Calls.{frame_of}
 use Rattle.rd_tree.specs.Windows.{Split, Window, Windows, first_part, placed, second_part}
-use Rattle.rd_tree.specs.declared.placed.Placed.{Placed}
 use Rattle.rd_tree.specs.declared.rect.Rect.{Rect}
 use Rattle.rd_update.specs.Updates.{Update}
 use Rattle.rd_audit.proofs.Lacking.{lacks-append, lacks-decimal}
@@ -68,27 +64,18 @@ has-dump s p valid h =
       tall = subst (λ (x : ℕ). 2 ≤ x) (sym h.0.rows) frame.high;
     }
 
--- it has the line of a window
-told-of : (v : SessionValue) (p : Placed) → Lives v.state p → 0 < length (of_place (fact_of v) v.state p)
-told-of v p (w, lives) = by (window_of p.number v.state.windows) lives where
-  by : (o : Option WindowState) → o ≡ Some w → 0 < length (of_window (fact_of v) p o)
-  by None h = absurd (let k : None ≡ Some w = h in cc)
-  by (Some x) h = omega arith
-
+-- a frame has a window
 some-placed : (windows : Windows) (rect : Rect) → 0 < length (placed windows rect)
 some-placed (Window number mode margins) rect = omega arith
 some-placed (Split side size first second) rect =
     let one = some-placed first (first_part side size rect) in
     omega (arith, one, length-append (placed first (first_part side size rect)) (placed second (second_part side size rect)))
 
-some-facts : (v : SessionValue) (ps : List Placed) → 0 < length ps → AllByRecursion (Lives v.state) ps → 0 < length (flat_map (of_place (fact_of v) v.state) ps)
-some-facts v [] some h = absurd (omega arith)
-some-facts v (p ∷ ps) some h =
-    let one = told-of v p h.0 in
-    omega (arith, one, length-append (of_place (fact_of v) v.state p) (flat_map (of_place (fact_of v) v.state) ps))
-
+-- so a dump has the line of one
 windows-told : (laws : PlaceLaws) (v : SessionValue) → IsValid v.state → 0 < length (facts_of v)
-windows-told laws v valid = some-facts v (places v.state) (some-placed v.state.tree.windows (frame_of v.state.tree)) (all-live laws v.state valid)
+windows-told laws v valid =
+    let some = some-placed v.state.tree.windows (frame_of v.state.tree) in
+    omega (arith, shown-count laws v.state valid (fact_of v), some)
 
 -- ---- what a redisplay tells that is shown
 

@@ -53,10 +53,10 @@ bare-session : (v : SessionValue) → IsSession v → IsSession (bare v)
 bare-session v h = record { state = h.state; screen = h.screen; made = λ number l at. absurd (cc); layouts = λ number w l lives at. absurd (cc) }
 
 -- a window that lives
-abbrev pub Lives : StateValue → Placed → Type 0
+abbrev Lives : StateValue → Placed → Type 0
 Lives s p = (w : WindowState) × (window_of p.number s.windows ≡ Some w)
 
-pub all-live : (laws : PlaceLaws) (s : StateValue) → IsValid s → AllByRecursion (Lives s) (places s)
+all-live : (laws : PlaceLaws) (s : StateValue) → IsValid s → AllByRecursion (Lives s) (places s)
 all-live laws s valid = recursion_from_All (Lives s) (places s) (all-places laws s valid (Lives s) lives) where
   lives : (p : Placed) → place_of p.number s ≡ Some p → Lives s p
   lives p at =

@@ -7,7 +7,7 @@ mod FreeFiles
 mod FreeSteps
 mod Headline
 pub mod Inputs
-pub mod Leading
+mod Leading
 mod Lines
 pub mod OnRuns
 mod Ops
