@@ -13,9 +13,9 @@ use Rattle.rd_run.specs.Reports.{last_line}
 use Rattle.rd_run.specs.Runs.{Input, Mode, World, opened, run, run_line}
 use Rattle.rd_run.specs.Validity.{script_of}
 use Rattle.rd_run.specs.declared.status.ScriptFault.{ScriptFault}
-use Rattle.rd_run.specs.declared.status.ScriptFault.TheVariants.{TooLong, TooMany, Op, Refused}
+use Rattle.rd_run.specs.declared.status.ScriptFault.TheVariants.{TooLong, TooMany}
 use Rattle.rd_run.specs.declared.status.Status.{Status}
-use Rattle.rd_run.specs.declared.status.Status.TheVariants.{Done, Usage, BadData, BadScript, ReadFault, WriteFault, NoMemory}
+use Rattle.rd_run.specs.declared.status.Status.TheVariants.{Done, BadScript, ReadFault, NoMemory}
 use Rattle.rd_run.proofs.Begun.{flipped, modes-same, not-begun, refused-alike, refuses}
 use Rattle.rd_run.proofs.Scripts.{IsTakenFrom, IsTakenIn, ends-there, first-lines, goes-on, long-line, more-line}
 use Rattle.rd_run.proofs.Starved.{run_line-alike}
@@ -232,8 +232,7 @@ over-stops mode script TooMany number inputs bytes left p ran at over =
     let many : 1000000 ≤ length inputs = let k = over.2 in omega arith in
     stops-before None mode (lines_of script) inputs (lines_of (over.0 ++ on.0)) (BadScript number TooMany) ran (passed-limits inputs over.1.0) on.1
     (inr (first.line, first.others, first.split, inr (many, ap (λ k. BadScript k TooMany) at)))
-over-stops mode script (Op fault) number inputs bytes left p ran at over = absurd over
-over-stops mode script (Refused refused) number inputs bytes left p ran at over = absurd over
+over-stops mode script fault number inputs bytes left p ran at over = absurd over
 
 past-stops : (mode : Mode) (script : List ℕ) (fault : ScriptFault) (number : ℕ) (inputs : List Input) (bytes : List ℕ) (left : Option (List ℕ)) → IsTakenIn mode.generated script bytes left
     → IsPast mode fault number inputs bytes → Stops mode.generated (opened mode) 0 inputs (script_of mode.generated script) (BadScript number fault)
@@ -245,13 +244,11 @@ pub comes-stops : (mode : Mode) (script : List ℕ) (status : Status) (inputs : 
     → (Rose source.faults_before source.faults_after → ⊥) → (status ≡ NoMemory → ⊥) → ComesIn mode status inputs bytes source
     → Stops mode.generated (opened mode) 0 inputs (script_of mode.generated script) status
 comes-stops mode script Done inputs bytes source p read found (ran, all) = done-stops mode.generated mode script inputs bytes source.left p ran all
-comes-stops mode script Usage inputs bytes source p read found c = absurd c
-comes-stops mode script (BadData file number kind) inputs bytes source p read found c = absurd c
 comes-stops mode script (BadScript number fault) inputs bytes source p read found (inl bad) = bad-stops mode script fault number inputs bytes source.left p bad
 comes-stops mode script (BadScript number fault) inputs bytes source p read found (inr past) = past-stops mode script fault number inputs bytes source.left p past
 comes-stops mode script ReadFault inputs bytes source p read found c = absurd (read c.2)
-comes-stops mode script WriteFault inputs bytes source p read found c = absurd c
 comes-stops mode script NoMemory inputs bytes source p read found c = absurd (found refl)
+comes-stops mode script status inputs bytes source p read found c = absurd c
 
 -- ---- the law
 
@@ -323,12 +320,7 @@ told-alike (Some mode) ts us h = ap (λ (w : World). w.told) h.same
 last-alike : (mode : Option Mode) (s : Status) (ts us : List Input) → HaveRunAlike mode ts us → last_in mode s ts ≡ last_in mode s us
 last-alike None s ts us h = ap (λ x. last_in None s x) h
 last-alike (Some mode) Done ts us h = ap (λ (w : World). done_of mode.generated w.now) h.same
-last-alike (Some mode) Usage ts us h = ap (last_line Usage) h.count
-last-alike (Some mode) (BadData file number kind) ts us h = ap (last_line (BadData file number kind)) h.count
-last-alike (Some mode) (BadScript number fault) ts us h = ap (last_line (BadScript number fault)) h.count
-last-alike (Some mode) ReadFault ts us h = ap (last_line ReadFault) h.count
-last-alike (Some mode) WriteFault ts us h = ap (last_line WriteFault) h.count
-last-alike (Some mode) NoMemory ts us h = ap (last_line NoMemory) h.count
+last-alike (Some mode) s ts us h = ap (last_line s) h.count
 
 abbrev pub all_told : Option Mode → Status → List Input → List ℕ
 all_told mode status inputs = told_in mode inputs ++ last_in mode status inputs

@@ -11,7 +11,7 @@ use Rattle.rd_run.specs.Ends.{Comes, Drawn}
 use Rattle.rd_run.specs.Given.{Given, AreTold, FileFailed, HasFailed, IsBadData, IsMode, names_of}
 use Rattle.rd_run.specs.Runs.{Input, Mode}
 use Rattle.rd_run.specs.declared.status.Status.{Status}
-use Rattle.rd_run.specs.declared.status.Status.TheVariants.{Done, Usage, BadData, BadScript, ReadFault, WriteFault, NoMemory}
+use Rattle.rd_run.specs.declared.status.Status.TheVariants.{Done, Usage, BadData, ReadFault, NoMemory}
 
 pub itself : (given : Given) → AreGivenAlike given given
 itself given = (refl, λ w e. (refl, refl, refl))
@@ -94,29 +94,23 @@ has-failed given f = (f.words, f.said, failed-one given.contents given.faults_be
 -- where no file failed and memory was not wanting, a run that has not begun was refused, and no line was run
 pub refuses : (given : Given) (status : Status) (inputs : List Input) (bytes : List ℕ) (source : Drawn) → (HasFailed given → ⊥) → (status ≡ NoMemory → ⊥) → Comes given None status inputs bytes source
     → Refuses given status × (inputs ≡ [])
-refuses given Done inputs bytes source failed found c = absurd c
 refuses given Usage inputs bytes source failed found (words, nothing) = (words, nothing.0)
 refuses given (BadData file number kind) inputs bytes source failed found (bad, nothing) = (bad, nothing.0)
-refuses given (BadScript number fault) inputs bytes source failed found c = absurd c
 refuses given ReadFault inputs bytes source failed found (file, nothing) = absurd (failed (has-failed given file))
-refuses given WriteFault inputs bytes source failed found c = absurd c
 refuses given NoMemory inputs bytes source failed found c = absurd (found refl)
+refuses given status inputs bytes source failed found c = absurd c
 
 not-known : (a b : Given) (w : WordValues) → AreGivenAlike a b → a.words ≡ None → b.words ≡ Some w → ⊥
 not-known a b w h p q = let k : None ≡ Some w = sym p ∙ h.0 ∙ q in cc
 
 -- what is refused doesn't begin
 pub not-begun : (a b : Given) (status : Status) (mode : Mode) → AreGivenAlike a b → AreTold a → Refuses a status → IsMode b mode → ⊥
-not-begun a b Done mode h told r m = r
 not-begun a b Usage mode h told r m = not-known a b m.words h r m.said
 not-begun a b (BadData file number kind) mode h told r m =
     let both = answers-same a b r.words m.words (Err (record { file = file; line = number; kind = kind })) (Ok mode.files) h told r.said m.said r.files m.files in
     let k : false ≡ true = ap is_ok both.1 in
     cc
-not-begun a b (BadScript number fault) mode h told r m = r
-not-begun a b ReadFault mode h told r m = r
-not-begun a b WriteFault mode h told r m = r
-not-begun a b NoMemory mode h told r m = r
+not-begun a b status mode h told r m = r
 
 abbrev pub status_of : Result Data BadFile → Status
 status_of (Ok files) = Done
@@ -134,18 +128,6 @@ refused-alike a b Usage Usage h told p q = refl
 refused-alike a b Usage (BadData file n kind) h told p q = absurd (not-known a b q.words h p q.said)
 refused-alike a b (BadData file n kind) Usage h told p q = absurd (not-known b a p.words (flipped a b h) q p.said)
 refused-alike a b (BadData file m kind) (BadData other n reason) h told p q = bad-same a b file other m n kind reason h told p q
-refused-alike a b Done r h told p q = absurd p
-refused-alike a b (BadScript n fault) r h told p q = absurd p
-refused-alike a b ReadFault r h told p q = absurd p
-refused-alike a b WriteFault r h told p q = absurd p
-refused-alike a b NoMemory r h told p q = absurd p
-refused-alike a b Usage Done h told p q = absurd q
-refused-alike a b Usage (BadScript n fault) h told p q = absurd q
-refused-alike a b Usage ReadFault h told p q = absurd q
-refused-alike a b Usage WriteFault h told p q = absurd q
-refused-alike a b Usage NoMemory h told p q = absurd q
-refused-alike a b (BadData file m kind) Done h told p q = absurd q
-refused-alike a b (BadData file m kind) (BadScript n fault) h told p q = absurd q
-refused-alike a b (BadData file m kind) ReadFault h told p q = absurd q
-refused-alike a b (BadData file m kind) WriteFault h told p q = absurd q
-refused-alike a b (BadData file m kind) NoMemory h told p q = absurd q
+refused-alike a b Usage r h told p q = absurd q
+refused-alike a b (BadData file n kind) r h told p q = absurd q
+refused-alike a b s r h told p q = absurd p

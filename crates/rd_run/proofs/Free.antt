@@ -20,8 +20,7 @@ use Rattle.rd_run.specs.Statuses.{TellsNoMemory}
 use Rattle.rd_run.specs.declared.status.ScriptFault.{ScriptFault}
 use Rattle.rd_run.specs.declared.status.ScriptFault.TheVariants.{Op as NoOp, Refused, TooLong, TooMany}
 use Rattle.rd_run.specs.declared.status.Status.{Status}
-use Rattle.rd_run.specs.declared.status.Status.TheVariants.{BadData, BadScript, Done, NoMemory, ReadFault, Usage, WriteFault}
-use Rattle.rd_run.proofs.Faults.{none-lacks}
+use Rattle.rd_run.specs.declared.status.Status.TheVariants.{BadData, BadScript}
 use Rattle.rd_run.proofs.FreeFiles.{data-free}
 use Rattle.rd_run.proofs.FreeSteps.{AnswersFree, session-free}
 use Rattle.rd_run.proofs.Effects.{effect-is}
@@ -37,7 +36,7 @@ abbrev pub IsFreeFault : Option ScriptFault → Type 0
 IsFreeFault fault = (fault ≢ Some (NoOp op_faults.Memory)) × (fault ≢ Some (Refused refusals.Memory))
 
 none-free : IsFreeFault None
-none-free = (none-lacks (NoOp op_faults.Memory), none-lacks (Refused refusals.Memory))
+none-free = (λ e. cc, λ e. cc)
 
 unread-free : (r : Result Op OpFault) (fault : OpFault) → r ≡ Err fault → r ≢ Err op_faults.Memory → IsFreeFault (Some (NoOp fault))
 unread-free r fault is h = (λ e. h (cc), λ e. cc)
@@ -73,27 +72,18 @@ bad-free given file number kind bad e =
 over-free : (fault : ScriptFault) (inputs : List Input) (bytes : List ℕ) → IsOver fault inputs bytes → (fault ≢ NoOp op_faults.Memory) × (fault ≢ Refused refusals.Memory)
 over-free TooLong inputs bytes over = (λ e. cc, λ e. cc)
 over-free TooMany inputs bytes over = (λ e. cc, λ e. cc)
-over-free (NoOp fault) inputs bytes over = absurd over
-over-free (Refused refusal) inputs bytes over = absurd over
+over-free fault inputs bytes over = absurd over
 
 in-free : LineLaw → (mode : Mode) (status : Status) (inputs : List Input) (bytes : List ℕ) (source : Drawn) → ComesIn mode status inputs bytes source → TellsNoMemory status
-in-free law mode Done inputs bytes source c = tt
-in-free law mode Usage inputs bytes source c = tt
 in-free law mode (BadData file number kind) inputs bytes source c = absurd c
 in-free law mode (BadScript number fault) inputs bytes source (inl bad) =
     let free = run-free law (opened mode) inputs none-free in
     (λ e. free.0 (bad.ended ∙ ap (λ f. Some f) e), λ e. free.1 (bad.ended ∙ ap (λ f. Some f) e))
 in-free law mode (BadScript number fault) inputs bytes source (inr past) = over-free fault inputs bytes past.over
-in-free law mode ReadFault inputs bytes source c = tt
-in-free law mode WriteFault inputs bytes source c = tt
-in-free law mode NoMemory inputs bytes source c = tt
+in-free law mode status inputs bytes source c = tt
 
 pub comes-free : LineLaw → (given : Given) (mode : Option Mode) (status : Status) (inputs : List Input) (bytes : List ℕ) (source : Drawn) → Comes given mode status inputs bytes source → TellsNoMemory status
-comes-free law given None Done inputs bytes source c = tt
-comes-free law given None Usage inputs bytes source c = tt
 comes-free law given None (BadData file number kind) inputs bytes source c = bad-free given file number kind c.0
 comes-free law given None (BadScript number fault) inputs bytes source c = absurd c
-comes-free law given None ReadFault inputs bytes source c = tt
-comes-free law given None WriteFault inputs bytes source c = tt
-comes-free law given None NoMemory inputs bytes source c = tt
+comes-free law given None status inputs bytes source c = tt
 comes-free law given (Some mode) status inputs bytes source c = in-free law mode status inputs bytes source c.1

@@ -4,6 +4,7 @@ use Rattle.std.specs.Prelude.{ℤ, pos}
 use Rattle.rd_layout.specs.Pointing.{hitting_by, stepped_to}
 use Rattle.rd_layout.specs.Sessions.{SessionValue, layout_of, session_step}
 use Rattle.rd_layout.specs.Windows.{place_of}
+use Rattle.rd_base.proofs.Choices.{either}
 use Rattle.rd_base.specs.declared.limits.TheConstants.{FACES, SPECS, STRINGS, TABLES}
 use Rattle.rd_objects.specs.Things.{ObjectLists, full_fault, spec_fault, string_fault}
 use Rattle.rd_objects.specs.declared.run.Run.{Run}
@@ -29,20 +30,19 @@ use Rattle.rd_tree.specs.declared.fault.TreeFault.{TreeFault}
 use Rattle.rd_tree.specs.declared.fault.TreeFault.TheVariants as trees
 use Rattle.rd_tree.specs.declared.placed.Placed.{Placed}
 use Rattle.rd_window.specs.declared.layout.Layout.{Layout}
-use Rattle.rd_run.proofs.Faults.{choice-lacks, either-lacks, none-lacks, ok-lacks, other-lacks, some-lacks}
 
 -- what is answered is no want of memory
 abbrev pub AnswersFree : {T : Type 0} → Result T Refused → Type 0
 AnswersFree r = r ≢ Err Memory
 
 ok-free : {T : Type 0} (x : T) → AnswersFree (Ok x)
-ok-free x = ok-lacks Memory x
+ok-free x = λ e. cc
 
 no-free : {T : Type 0} (refusal : Refused) → refusal ≢ Memory → AnswersFree {T = T} (Err refusal)
-no-free refusal h = other-lacks Memory refusal h
+no-free refusal h = λ e. h (cc)
 
 either-free : {T : Type 0} (b : Bool) (r s : Result T Refused) → AnswersFree r → AnswersFree s → AnswersFree (if b then r else s)
-either-free b r s p q = either-lacks Memory b r s p q
+either-free b r s p q = either AnswersFree b r s p q
 
 found-free : {A B : Type 0} (refusal : Refused) (o : Option A) (f : A → Result B Refused) → refusal ≢ Memory → ((a : A) → AnswersFree (f a)) → AnswersFree (with_found refusal o f)
 found-free refusal None f p h = λ e. p (cc)
@@ -124,25 +124,27 @@ typing-free s new =
 -- ---- objects
 
 object-free : (fault : ObjectFault) → fault ≢ faults.Memory → refused_object fault ≢ Memory
-object-free faults.TooMany h = λ e. cc
-object-free faults.TooLong h = λ e. cc
-object-free faults.NoObject h = λ e. cc
-object-free faults.OutOfRange h = λ e. cc
 object-free faults.Memory h = λ e. h refl
+object-free fault h = λ e. cc
 
 made-free : (s : StateValue) (o : Option ObjectFault) (made : ObjectLists) → o ≢ Some faults.Memory → AnswersFree (with_objects s (unless_fault o made))
 made-free s None made h = ok-free _
 made-free s (Some fault) made h = no-free (refused_object fault) (object-free fault (λ e. h (ap (λ f. Some f) e)))
 
+-- what is no want of memory, in two cases
+choice-free : (b : Bool) (o p : Option ObjectFault) → o ≢ Some faults.Memory → p ≢ Some faults.Memory → (if b then o else p) ≢ Some faults.Memory
+choice-free b o p h k = either (λ (x : Option ObjectFault). x ≢ Some faults.Memory) b o p h k
+
 full-free : (most made : ℕ) → full_fault most made ≢ Some faults.Memory
-full-free most made = choice-lacks faults.Memory (nat_le most made) (Some faults.TooMany) None (some-lacks faults.Memory faults.TooMany (λ e. cc)) (none-lacks faults.Memory)
+full-free most made = choice-free (nat_le most made) (Some faults.TooMany) None (λ e. cc) (λ e. cc)
 
 string-free : (o : ObjectLists) (text : List ℕ) (runs : List Run) → string_fault o text runs ≢ Some faults.Memory
-string-free o text runs = choice-lacks faults.Memory _ _ _ (some-lacks faults.Memory faults.NoObject (λ e. cc)) (choice-lacks faults.Memory _ _ _ (some-lacks faults.Memory faults.OutOfRange (λ e. cc))
-    (choice-lacks faults.Memory _ _ _ (some-lacks faults.Memory faults.TooLong (λ e. cc)) (full-free STRINGS (length o.strings))))
+string-free o text runs =
+    choice-free _ (Some faults.NoObject) _ (λ e. cc) (choice-free _ (Some faults.OutOfRange) _ (λ e. cc)
+    (choice-free _ (Some faults.TooLong) _ (λ e. cc) (full-free STRINGS (length o.strings))))
 
 spec-free : (o : ObjectLists) (spec : Spec) → spec_fault o spec ≢ Some faults.Memory
-spec-free o spec = choice-lacks faults.Memory _ _ _ (some-lacks faults.Memory faults.NoObject (λ e. cc)) (full-free SPECS (length o.specs))
+spec-free o spec = choice-free _ (Some faults.NoObject) _ (λ e. cc) (full-free SPECS (length o.specs))
 
 -- ---- windows
 

@@ -1,7 +1,6 @@
 mod Alike
 mod Begun
 pub mod Effects
-mod Faults
 mod Free
 mod FreeFiles
 mod FreeSteps
