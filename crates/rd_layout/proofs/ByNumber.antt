@@ -1,10 +1,10 @@
 -- A window that lives behind a change lived before it.
-use Rattle.std.proofs.Common.{◌≡◌, ◌≢◌, ◌==◌, ℕ, zero, suc, inl, inr, if◌then◌else◌, Some, List, [], ◌∷◌, ◌++◌, map, sym, ap, ◌∙◌, subst}
+use Rattle.std.proofs.Common.{◌≡◌, ◌≢◌, ℕ, zero, suc, inl, inr, Some, List, [], ◌∷◌, ◌++◌, map, sym, ap, ◌∙◌, subst}
 use Rattle.std.proofs.lemmas.Bool.{cases_eq}
 use Rattle.std.specs.Prelude.{slice_get, option_map}
 use Rattle.rd_base.proofs.Lists.{get-end}
 use Rattle.rd_base.proofs.Choices.{map-some}
-use Rattle.rd_state.specs.Moves.{moved, moved_in}
+use Rattle.rd_state.specs.Moves.{moved_by, moved_in}
 use Rattle.rd_state.specs.Windows.{window_of, with_window, without_window}
 use Rattle.rd_state.proofs.ByNumber.{NumberedWindow, get-window, get-without, under-here, under-there, window-each, window-other, window-same}
 use Rattle.rd_state.specs.declared.moves.Move.{Move}
@@ -28,9 +28,7 @@ lives-mapped : (f : WindowState → WindowState) (n : ℕ) (ws us : List Numbere
 lives-mapped f n ws us is l = let old = map-some f (window_of n ws) l.0 (sym is ∙ l.1) in (old.0, old.1)
 
 pub lives-moved : (i : ℕ) (how : Move) (n : ℕ) (ws : List NumberedWindow) → Lives n (map (moved_in i how) ws) → Lives n ws
-lives-moved i how n ws l =
-    let f : WindowState → WindowState = λ w. if w.buffer == i then moved how w else w in
-    lives-mapped f n ws (map (moved_in i how) ws) (window-each n f ws) l
+lives-moved i how n ws l = lives-mapped (moved_by i how) n ws (map (moved_in i how) ws) (window-each n (moved_by i how) ws) l
 
 pub lives-with : (m : ℕ) (f : WindowState → WindowState) (n : ℕ) (ws : List NumberedWindow) → Lives n (with_window m f ws) → Lives n ws
 lives-with m f n ws l = elim (cases_eq n m) [

@@ -17,7 +17,7 @@ use Rattle.rd_script.specs.declared.op.Op.TheVariants as ops
 use Rattle.rd_state.specs.Edits.{insertion, deletion, narrowing, widening, property_putting, overlay_making, overlay_moving, overlay_dropping, overlay_putting, margin_putting, setting_putting, is_made}
 use Rattle.rd_state.specs.Effects.{covered_effect, effect_of, moved_effect, overlay_in}
 use Rattle.rd_state.specs.Making.{table_of, string_making, spec_making, face_making, table_making}
-use Rattle.rd_state.specs.Moves.{moved as moved_window, moved_in}
+use Rattle.rd_state.specs.Moves.{moved as moved_window, moved_by, moved_in}
 use Rattle.rd_state.specs.States.{BufferValue, ContentValue, StateValue, new_buffer, number_of, opening_window, seen}
 use Rattle.rd_state.specs.Steps.{edited, edited_moving, changing, with_objects, on_tree, setting, placing, format_fault, held, raw_text, step}
 use Rattle.rd_state.specs.Windows.{AreApart, selected_window, window_of, with_window, without_window}
@@ -149,14 +149,10 @@ windows-with : (effect : Effect) (ws : List NumberedWindow) (n : ℕ) (f : Windo
     → Windows effect ws (with_window n f ws)
 windows-with effect ws n f good = each-with (IsCalm effect) (itself effect) n f ws good
 
--- a window that moves with the text of a buffer
-abbrev pub moved-by : ℕ → Move → WindowState → WindowState
-moved-by i how w = if w.buffer == i then moved_window how w else w
-
 windows-moved : (effect : Effect) (ws : List NumberedWindow) (i : ℕ) (how : Move) → Loud effect i → Windows effect ws (map (moved_in i how) ws)
-windows-moved effect ws i how loud = each-moved (IsCalm effect) (moved-by i how) ws (λ number old quiet. elim (cases_eq old.buffer i) [
+windows-moved effect ws i how loud = each-moved (IsCalm effect) (moved_by i how) ws (λ number old quiet. elim (cases_eq old.buffer i) [
   | inl p ↦ absurd (loud number old.buffer p quiet)
-  | inr q ↦ same old (moved-by i how old) (sym (cond-false (old.buffer == i) (moved_window how old) old (ne_eqb old.buffer i q)))
+  | inr q ↦ same old (moved_by i how old) (sym (cond-false (old.buffer == i) (moved_window how old) old (ne_eqb old.buffer i q)))
 ])
 
 windows-typed : (effect : Effect) (ws : List NumberedWindow) (i : ℕ) (how : Move) (n : ℕ) (f : WindowState → WindowState) (w : WindowState) → Loud effect i → window_of n ws ≡ Some w → w.buffer ≡ i

@@ -2,6 +2,7 @@
 use Rattle.std.proofs.Common.{◌≡◌, ℕ, zero, suc, ◌+◌, ◌≤◌, inl, inr, ◌==◌, Bool, true, false, if◌then◌else◌, pos, ◌+ℤ◌, map, IsTrue, None, Some, Result, Ok, Err, List, [], ◌∷◌, length, subst, sym, ap, refl, ◌∙◌, arith}
 use Rattle.std.specs.Prelude.{slice_get, IfOk, option_map}
 use Rattle.std.specs.Str.{chars}
+use Rattle.rd_base.proofs.Choices.{either}
 use Rattle.rd_base.proofs.Lists.{get-set}
 use Rattle.rd_base.specs.declared.limits.TheConstants.{SCROLL_CONSERVATIVELY, SCROLL_MARGIN}
 use Rattle.rd_base.specs.declared.settings.Anchor.{Anchor}
@@ -19,11 +20,11 @@ use Rattle.rd_state.specs.declared.window.WindowState.{WindowState}
 use Rattle.rd_state.specs.States.{BufferValue, ContentValue, StateValue, opening, main_name, opening_window, new_buffer}
 use Rattle.rd_state.specs.Windows.{window_of, with_window, leaf_of}
 use Rattle.rd_state.proofs.ByNumber.{window-each}
-use Rattle.rd_state.proofs.Keeping.{holding, moved_by}
+use Rattle.rd_state.proofs.Keeping.{holding}
 use Rattle.rd_state.specs.Valid.{IsContent, IsWindow, IsValid}
 use Rattle.rd_state.specs.Edits.{insertion, deletion, narrowing, widening, property_putting, overlay_making, overlay_moving, overlay_dropping, overlay_putting, margin_putting, setting_putting}
 use Rattle.rd_state.specs.Making.{run_of, spec_of, table_of}
-use Rattle.rd_state.specs.Moves.{moved, moved_in}
+use Rattle.rd_state.specs.Moves.{moved, moved_by, moved_in}
 use Rattle.rd_state.specs.Steps.{typing, raw_text, held, step, settled}
 use Rattle.rd_state.proofs.Below.{TextLaws, MadeLaws, ObjectLaws, TreeLaws}
 use Rattle.rd_state.proofs.Naming.{setting-keeps, margin-keeps, objects-valid, small-spec, making-valid, new-valid}
@@ -54,9 +55,8 @@ typed-place : (t : TextValue) (p n : ℕ) → IsAccessible t p → (t.begin ≤ 
 typed-place t p n at = let low = at.0 in let high = at.1 in (omega arith, omega arith)
 
 -- a window that was moved shows what it showed
-pub moved-buffer : (t : Bool) (f : WindowState → WindowState) (w : WindowState) → ((x : WindowState) → (f x).buffer ≡ x.buffer) → (if t then f w else w).buffer ≡ w.buffer
-moved-buffer true f w h = h w
-moved-buffer false f w h = refl
+pub moved-buffer : (i : ℕ) (how : Move) (w : WindowState) → (moved_by i how w).buffer ≡ w.buffer
+moved-buffer i how w = either (λ (x : WindowState). x.buffer ≡ w.buffer) (w.buffer == i) (moved how w) w refl refl
 
 typing-valid : (laws : Laws) (s : StateValue) (new : List ℕ) → IsValid s → AreCodes new → IfOk (typing s new) IsValid
 typing-valid laws s new v codes =
@@ -73,7 +73,7 @@ typing-valid laws s new v codes =
     (λ x c there hc.
     let was : option_map (moved_by i how) (window_of s.selected s.windows) ≡ Some x = sym (window-each s.selected (moved_by i how) s.windows) ∙ there in
     let is_x : moved_by i how w ≡ x = cc (sym (ap (option_map (moved_by i how)) lives) ∙ was) in
-    let shows : x.buffer ≡ i = sym (ap (λ (y : WindowState). y.buffer) is_x) ∙ moved-buffer (w.buffer == i) (moved how) w (λ y. refl) in
+    let shows : x.buffer ≡ i = sym (ap (λ (y : WindowState). y.buffer) is_x) ∙ moved-buffer i how w in
     elim (get-set s.buffers i x.buffer (holding b d) c hc) [
       | inl q ↦ subst (λ (z : BufferValue). IsAccessible z.content.text place) (sym q.1) end
       | inr q ↦ absurd (q.0 shows)

@@ -10,11 +10,8 @@ use Rattle.rd_state.specs.declared.refused.Refused.TheVariants.{Memory}
 use Rattle.rd_state.specs.Steps.{refused_tree}
 
 pub refused-free : (fault : TreeFault) → fault ≢ tree_faults.Memory → refused_tree fault ≢ Memory
-refused-free tree_faults.NoWindow h = λ e. cc
-refused-free tree_faults.TooSmall h = λ e. cc
-refused-free tree_faults.TooMany h = λ e. cc
-refused-free tree_faults.LastWindow h = λ e. cc
 refused-free tree_faults.Memory h = λ e. h refl
+refused-free fault h = λ e. cc
 
 pub tree-free : (r : Result Effect Refused) (said : Result Configuration TreeFault) (fault : TreeFault) → IsErrAnd r (λ x. x ≡ refused_tree fault) → said ≡ Err fault
     → said ≢ Err tree_faults.Memory → r ≢ Err Memory

@@ -6,7 +6,7 @@ use Rattle.std.proofs.lemmas.List.Sums.{fails_before_first}
 use Rattle.std.proofs.lemmas.Option.{slice_get_within, get_or_from_slice_get}
 use Rattle.std.proofs.lemmas.Slice.Eq.{bytes_eq-Decides}
 use Rattle.rd_base.proofs.Lists.{get-set, get-end}
-use Rattle.rd_base.proofs.Choices.{is_some-map}
+use Rattle.rd_base.proofs.Choices.{either, is_some-map}
 use Rattle.std.specs.Prelude.{slice_get, slice_set, option_map, IsTrue, IsSome}
 use Rattle.std.specs.Str.{bytes_eq}
 use Rattle.rd_base.specs.declared.settings.Anchor.{Anchor}
@@ -19,7 +19,7 @@ use Rattle.rd_state.specs.declared.window.WindowState.{WindowState}
 use Rattle.rd_state.specs.States.{BufferValue, ContentValue, new_buffer, new_content, number_of}
 use Rattle.rd_state.specs.Windows.{window_of, with_window, leaf_at, leaf_of}
 use Rattle.rd_state.specs.Valid.{most_buffers, AreToldByName, AreBuffers, IsContent, IsWindow, AreWindows}
-use Rattle.rd_state.specs.Moves.{place_after, moved, moved_in}
+use Rattle.rd_state.specs.Moves.{place_after, moved, moved_by, moved_in}
 use Rattle.rd_state.proofs.ByNumber.{NumberedWindow, window-each, apart-each, get-each, window-same, window-other, apart-with, get-with, window-at}
 use Rattle.rd_state.proofs.Options.{map-map}
 
@@ -163,13 +163,8 @@ moved-window bs i b d how w false e at keep v =
     window-over bs (slice_set bs i (holding b d)) w (rw length-set (omega arith))
     (λ x h. elim (get-set bs i w.buffer (holding b d) x h) [ inl p ↦ absurd (other p.0) | inr p ↦ (x, p.1, λ q a. a) ]) v
 
--- a window after a move in a buffer
-abbrev pub moved_by : ℕ → Move → WindowState → WindowState
-moved_by i how w = if w.buffer == i then moved how w else w
-
-leaf-moved : (t : Bool) (how : Move) (w : WindowState) → leaf_of (if t then moved how w else w) ≡ leaf_of w
-leaf-moved true how w = refl
-leaf-moved false how w = refl
+leaf-moved : (i : ℕ) (how : Move) (w : WindowState) → leaf_of (moved_by i how w) ≡ leaf_of w
+leaf-moved i how w = either (λ (x : WindowState). leaf_of x ≡ leaf_of w) (w.buffer == i) (moved how w) w refl refl
 
 pub windows-moved : (bs : List BufferValue) (i : ℕ) (b : BufferValue) (d : ContentValue) (how : Move) (c : tree.Configuration) (ws : List NumberedWindow) (n : ℕ) → slice_get bs i ≡ Some b
     → ((p : ℕ) → IsAccessible b.content.text p → IsAccessible d.text (place_after how p)) → AreWindows bs c ws n
@@ -178,7 +173,7 @@ windows-moved bs i b d how c ws n at keep v =
     let f = moved_by i how in
     record {
       tree = v.tree;
-      leaves = λ k. v.leaves k ∙ sym (ap (option_map leaf_of) (window-each k f ws) ∙ map-map f leaf_of leaf_of (window_of k ws) (λ w. leaf-moved (w.buffer == i) how w));
+      leaves = λ k. v.leaves k ∙ sym (ap (option_map leaf_of) (window-each k f ws) ∙ map-map f leaf_of leaf_of (window_of k ws) (leaf-moved i how));
       apart = apart-each f ws v.apart;
       each = λ k e h.
           let came = get-each f ws k e h in

@@ -1,5 +1,5 @@
 -- What each op leaves: of buffers what its effect tells, objects that go on, and windows that show what they showed.
-use Rattle.std.proofs.Common.{◌≡◌, ℕ, ◌+◌, ◌-◌, ◌≤◌, inl, inr, ◌==◌, false, is_some, min, max, pos, Option, None, Some, Result, Ok, List, [], ◌∷◌, length, map, subst, sym, ap, refl, ◌∙◌, arith, length-append, unwrap_or}
+use Rattle.std.proofs.Common.{◌≡◌, ℕ, ◌+◌, ◌-◌, ◌≤◌, inl, inr, false, is_some, min, max, pos, Option, None, Some, Result, Ok, List, [], ◌∷◌, length, map, subst, sym, ap, refl, ◌∙◌, arith, length-append, unwrap_or}
 use Rattle.std.proofs.lemmas.Bool.{cases_eq}
 use Rattle.std.proofs.lemmas.List.{length-set}
 use Rattle.std.proofs.lemmas.Option.{slice_get_within}
@@ -30,12 +30,11 @@ use Rattle.rd_state.specs.Changes.{Stays, StaysWhole, Leaves}
 use Rattle.rd_state.specs.Edits.{insertion, deletion, narrowing, widening, property_putting, overlay_making, overlay_moving, overlay_dropping, overlay_putting, margin_putting, setting_putting}
 use Rattle.rd_state.specs.Effects.{overlay_in, inserted_effect, covered_effect, moved_effect, effect_of}
 use Rattle.rd_state.specs.Making.{unless_fault, run_of, spec_of, table_of}
-use Rattle.rd_state.specs.Moves.{moved, moved_in}
+use Rattle.rd_state.specs.Moves.{moved_by, moved_in}
 use Rattle.rd_state.specs.Steps.{with_objects, changing, inserting, typing, on_tree, edited, edited_moving, format_fault, making, raw_text, step}
 use Rattle.rd_state.proofs.AllSteps.{moved-buffer}
 use Rattle.rd_state.proofs.Below.{LeaveLaws, GrowLaws}
 use Rattle.rd_state.proofs.ByNumber.{NumberedWindow, Each, window-each, each-same, each-with, each-moved, each-end, each-without}
-use Rattle.rd_state.proofs.Keeping.{moved_by}
 use Rattle.rd_state.proofs.Leaving.{whole, whole-objects, stays-inserted, stays-deleted, StaysAround, stays-put, stays-made, AroundOverlay, stays-dropped, stays-given, stays-moved, stays-margin, others-whole, part-stays}
 use Rattle.rd_state.proofs.StepParts.{with_content, found, unless, tree-if, treed-if, making-if, edited-if, edited_moving-if, typing-if, setting-if, placing-if}
 use Rattle.rd_state.proofs.Stepping.{IsEditOf}
@@ -65,7 +64,7 @@ show-same s t effect is = show-by s t effect s.windows is (each-same (Shows effe
 show-each : (s t : StateValue) (effect : Effect) (i : ℕ) (how : Move) → t.windows ≡ map (moved_in i how) s.windows → Show s t effect
 show-each s t effect i how is =
     show-by s t effect (map (moved_in i how) s.windows) is
-    (each-moved (Shows effect) (moved_by i how) s.windows (λ number w ne. moved-buffer (w.buffer == i) (moved how) w (λ x. refl)))
+    (each-moved (Shows effect) (moved_by i how) s.windows (λ number w ne. moved-buffer i how w))
 
 show-with : (effect : Effect) (n : ℕ) (f : WindowState → WindowState) (ws : List NumberedWindow) → ((w : WindowState) → (f w).buffer ≡ w.buffer) → Each (Shows effect) ws (with_window n f ws)
 show-with effect n f ws keep = each-with (Shows effect) (λ number w ne. refl) n f ws (λ w ne. keep w)
@@ -75,7 +74,7 @@ show-typed : (effect : Effect) (i : ℕ) (how : Move) (n : ℕ) (f : WindowState
     → Each (Shows effect) ws (with_window n f (map (moved_in i how) ws))
 show-typed effect i how n f ws keep number w v hw hv ne =
     show-with effect n f (map (moved_in i how) ws) keep number (moved_by i how w) v (window-each number (moved_by i how) ws ∙ ap (option_map (moved_by i how)) hw) hv ne
-    ∙ moved-buffer (w.buffer == i) (moved how) w (λ x. refl)
+    ∙ moved-buffer i how w
 
 -- ---- ops that leave buffers and objects
 

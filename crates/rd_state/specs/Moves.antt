@@ -23,5 +23,9 @@ abbrev pub moved : Move → WindowState → WindowState
 moved how w = record w { point = place_after how w.point; anchor = record { pos = place_after how w.anchor.pos; row = w.anchor.row } }
 
 -- the same where the window shows the buffer with this number
+abbrev pub moved_by : ℕ → Move → WindowState → WindowState
+moved_by buffer how w = if w.buffer == buffer then moved how w else w
+
+-- and with its number
 abbrev pub moved_in : ℕ → Move → ℕ × WindowState → ℕ × WindowState
-moved_in buffer how e = (e.0, if e.1.buffer == buffer then moved how e.1 else e.1)
+moved_in buffer how e = (e.0, moved_by buffer how e.1)
