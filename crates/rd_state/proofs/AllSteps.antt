@@ -12,6 +12,7 @@ use Rattle.rd_objects.specs.Things.{nothing_made}
 use Rattle.rd_script.specs.declared.op.Op.{Op}
 use Rattle.rd_script.specs.declared.op.Op.TheVariants as ops
 use Rattle.rd_script.specs.Forms.{IsInForm, is_buffer_name, is_plain_text}
+use Rattle.rd_state.specs.declared.moves.Move.{Move}
 use Rattle.rd_state.specs.declared.moves.Move.TheVariants.{Inserted, Deleted, Narrowed}
 use Rattle.rd_state.specs.declared.refused.Refused.{Refused}
 use Rattle.rd_state.specs.declared.effect.Effect.{Effect}
