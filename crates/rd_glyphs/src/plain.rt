@@ -10,6 +10,7 @@ ghost use Rattle.rd_glyphs.specs.Lines.{plain_looks, fitted, plain_cells};
 use crate::looks::{look_columns, looks_of, on_blank};
 use crate::shown::{Shown, shown_as};
 use rd_base::{Cell, Ch, Face, Glyph, ListOf, Look, Memory, push_look};
+use rd_objects::characters_have_codes;
 use rd_ucd::Classes;
 use std::alloc::Global;
 
@@ -41,6 +42,7 @@ fn looks_of_text(alloc: Global, text: &[Ch], classes: &Classes) -> Result<ListOf
     ensures columns { IfOk result (λ looks. All TakesColumns looks) }
     ensures codes { IfOk result (λ looks. All (λ c. IsTrue (is_code c)) text.now) }
 {
+    characters_have_codes(text);
     let mut looks = ListOf::new(alloc);
     let mut held = None;
     for ch in text {

@@ -17,7 +17,7 @@ pub use glyph::{columns, glyph_character};
 pub use laws::{
     extensions_keep_objects, objects_stay_closed, objects_stay_sound, strings_have_colours,
 };
-pub use objects::Objects;
+pub use objects::{Objects, characters_have_codes};
 pub use run::{Run, RunKind, Slot, Spec};
 pub use table::Table;
 pub use text::Text;

@@ -171,7 +171,7 @@ fn faces_have_colours(face: Face)
 }
 
 /// Each character is a scalar value or a raw byte. The call looks at each and does nothing.
-fn characters_have_codes(text: &[Ch])
+pub fn characters_have_codes(text: &[Ch])
     ensures { AreCodes text.now }
 {
     for ch in text {

@@ -1,5 +1,4 @@
-use Rattle.std.proofs.Common.{◌≡◌, ℕ, ◌++◌, take, drop, All, IsTrue}
-use Rattle.rd_base.specs.Chars.{is_code}
+use Rattle.std.proofs.Common.{◌≡◌, ◌++◌, drop, All}
 use Rattle.rd_glyphs.specs.Characters.{TakesColumns}
 use Rattle.rd_glyphs.specs.Held.{HoldsColumns, looks_from}
 use Rattle.rd_glyphs.specs.Lines.{plain_looks}
@@ -10,5 +9,4 @@ invariant-loop-ch l = record {
   whole : l.looks ++ looks_from l.classes l.held (drop l.ch-index l.text) ≡ plain_looks l.classes l.text;
   columns : All TakesColumns l.looks;
   held : HoldsColumns l.held;
-  codes : All (λ (c : ℕ). IsTrue (is_code c)) (take l.ch-index l.text);
 }
