@@ -149,7 +149,7 @@ total-append f [] ys = omega arith
 total-append f (x ∷ xs) ys = omega (arith, total-append f xs ys)
 
 -- whether a place is in the stretch from one up to another, that one not included
-abbrev lies : ℕ → ℕ → ℕ → Bool
+abbrev pub lies : ℕ → ℕ → ℕ → Bool
 lies pos from to = nat_le from pos && nat_lt pos to
 
 -- an empty stretch has none, and of two that meet at most one has it
