@@ -16,6 +16,7 @@ use Rattle.rd_overlays.specs.Values.{last_given}
 use Rattle.rd_props.specs.Buffers.{BufferValue}
 use Rattle.rd_props.specs.Values.{value_of, overlay_value, effective}
 use Rattle.rd_props.specs.Faces.{face_of, laid_over, face_at}
+use Rattle.rd_props.specs.Appearance.{appearance_at}
 use Rattle.rd_props.specs.Strings.{is_empty, part_of, part_in, strings_of}
 use Rattle.rd_props.specs.declared.strings.StringPlace.{StringPlace}
 use Rattle.rd_props.specs.declared.strings.StringPlace.TheVariants.{Closing, Between, Opening}
@@ -39,11 +40,15 @@ picked test (Some o) = if test o then Some (mark_of o) else None
 abbrev pub AreAlike : (Overlay → Bool) → (Overlay → Bool) → List (Option Overlay) → List (Option Overlay) → Type 0
 AreAlike f g a b = (number : ℕ) → picked f (overlay_at a number) ≡ picked g (overlay_at b number)
 
+-- what a law of overlays says of two listings
+abbrev pub ListingsAgree : Type 0
+ListingsAgree = (f g : Overlay → Bool) (a b : List (Option Overlay)) → ((number : ℕ) → listed_priority f (overlay_at a number) ≡ listed_priority g (overlay_at b number))
+    → numbers_of f a ≡ numbers_of g b
+
 -- what the laws of overlays say of listings
 pub record AreListings : Type 0 where
   pub exact : (test : Overlay → Bool) (slots : List (Option Overlay)) → HoldsExactly test slots (numbers_of test slots)
-  pub agree : (f g : Overlay → Bool) (a b : List (Option Overlay)) → ((number : ℕ) → listed_priority f (overlay_at a number) ≡ listed_priority g (overlay_at b number))
-      → numbers_of f a ≡ numbers_of g b
+  pub agree : ListingsAgree
 
 abbrev priority_of : Option Mark → Option ℤ
 priority_of None = None
@@ -192,33 +197,24 @@ pub record ReadSame (s : BufferValue) (x : ℕ) (t : BufferValue) (y : ℕ) : Ty
   pub inside : nat_lt x s.text.end ≡ nat_lt y t.text.end
   pub properties : (kind : ℕ) → s.properties kind x ≡ t.properties kind y
 
+-- two positions look alike at which the text properties are the same, and what the covering overlays give
+pub appearance-by : (s t : BufferValue) (x y : ℕ) (objects : ObjectLists) → nat_lt x s.text.end ≡ nat_lt y t.text.end
+    → ((kind : ℕ) → s.properties kind x ≡ t.properties kind y)
+    → ((kind : Kind) → last_given (overlay_value s.overlays kind) (covering x s.overlays) ≡ last_given (overlay_value t.overlays kind) (covering y t.overlays))
+    → ((face : Attributes) → laid_over objects s.overlays (covering x s.overlays) face ≡ laid_over objects t.overlays (covering y t.overlays) face)
+    → appearance_at s objects x ≡ appearance_at t objects y
+appearance-by s t x y objects inside own last laid =
+    let value : (kind : Kind) → effective s x kind ≡ effective t y kind = λ kind.
+    let here = own (place_of kind) in let over = last kind in rw (inside, here, over) in
+    let face : face_at s objects x ≡ face_at t objects y =
+    let here = own (place_of Face) in let over = laid (face_of objects (t.properties (place_of Face) y)) in rw (inside, here, over) in
+    λ i. record { display = value Display i; invisible = value Invisible i; line_prefix = value LinePrefix i; wrap_prefix = value WrapPrefix i; face = face i }
+
 module _ (listings : AreListings) (s t : BufferValue) (x y : ℕ) (read : ReadSame s x t y) (see : SeeSame x y s.overlays t.overlays) where
-  values-agree : (kind : Kind) → effective s x kind ≡ effective t y kind
-  values-agree kind =
-      let inside = read.inside in
-      let own = read.properties (place_of kind) in
-      let last = lasts-agree listings x y s.overlays t.overlays see kind in
-      rw (inside, own, last)
-
-  face-agrees : (objects : ObjectLists) → face_at s objects x ≡ face_at t objects y
-  face-agrees objects =
-      let inside = read.inside in
-      let own = read.properties (place_of Face) in
-      let laid = faces-agree listings x y s.overlays t.overlays see objects (face_of objects (t.properties (place_of Face) y)) in
-      rw (inside, own, laid)
-
   pub seen-agrees : (objects : ObjectLists) → Agree s objects x t objects y
   seen-agrees objects =
       let strings = strings-agree listings x y s.overlays t.overlays see (strings_of Closing s.overlays (reverse (ending x s.overlays)))
       (strings_of Between s.overlays (starting x s.overlays)) (strings_of Opening s.overlays (starting x s.overlays)) refl refl refl in
-      λ i. record {
-        character = read.character i;
-        appearance = record {
-          display = values-agree Display i;
-          invisible = values-agree Invisible i;
-          line_prefix = values-agree LinePrefix i;
-          wrap_prefix = values-agree WrapPrefix i;
-          face = face-agrees objects i;
-        };
-        strings = strings i;
-      }
+      let appearance = appearance-by s t x y objects read.inside read.properties (lasts-agree listings x y s.overlays t.overlays see)
+      (faces-agree listings x y s.overlays t.overlays see objects) in
+      λ i. record { character = read.character i; appearance = appearance i; strings = strings i }

@@ -3,22 +3,17 @@ use Rattle.std.proofs.Common.{◌≡◌, ◌⊎◌, inl, inr, ℕ, ◌+◌, ◌<
 use Rattle.std.proofs.lemmas.Bool.Decides.{nat_tests}
 use Rattle.std.proofs.lemmas.Bool.{lt-ltb}
 use Rattle.rd_overlays.specs.declared.overlay.Overlay.{Overlay}
-use Rattle.rd_overlays.specs.declared.overlay.Kind.{Kind}
-use Rattle.rd_overlays.specs.declared.overlay.Kind.TheVariants.{Face, Display, Invisible, LinePrefix, WrapPrefix}
-use Rattle.rd_overlays.specs.Overlays.{overlay_at, place_of, covers, starts, ends, numbers_of, covering}
+use Rattle.rd_overlays.specs.Overlays.{overlay_at, covers, starts, ends, numbers_of, covering}
 use Rattle.rd_overlays.specs.Listings.{listed_priority}
+use Rattle.rd_overlays.specs.Values.{last_given}
 use Rattle.rd_objects.specs.Things.{ObjectLists}
 use Rattle.rd_props.specs.Buffers.{BufferValue}
 use Rattle.rd_props.specs.Stops.{AreSame, HasEdge, IsNextStop, IsLastStop, LookAlike}
-use Rattle.rd_props.specs.Values.{effective}
-use Rattle.rd_props.specs.Faces.{face_at}
+use Rattle.rd_props.specs.Values.{overlay_value}
+use Rattle.rd_props.specs.Faces.{laid_over}
 use Rattle.rd_props.specs.Strings.{strings_at}
 use Rattle.rd_props.specs.Appearance.{appearance_at}
-
--- what the law of overlays says of two listings
-abbrev ListingsAgree : Type 0
-ListingsAgree = (f g : Overlay → Bool) (a b : List (Option Overlay)) → ((number : ℕ) → listed_priority f (overlay_at a number) ≡ listed_priority g (overlay_at b number))
-    → numbers_of f a ≡ numbers_of g b
+use Rattle.rd_props.proofs.Alike.{ListingsAgree, appearance-by}
 
 slot-same : (f g : Overlay → Bool) (slot : Option Overlay) → ((o : Overlay) → slot ≡ Some o → f o ≡ g o) → listed_priority f slot ≡ listed_priority g slot
 slot-same f g None same = refl
@@ -65,20 +60,11 @@ module _ (agree : ListingsAgree) (s : BufferValue) (p stop q : ℕ) (next : IsQu
   first : nat_lt p s.text.end ≡ true
   first = let within = next.within in lt-ltb p s.text.end (omega arith)
 
-  value-same : (kind : Kind) → effective s q kind ≡ effective s p kind
-  value-same kind = rw (here, first, covering-same, next.same q later before (place_of kind)) refl
-
-  face-same : (objects : ObjectLists) → face_at s objects q ≡ face_at s objects p
-  face-same objects = rw (here, first, covering-same, next.same q later before (place_of Face)) refl
-
   appearance-same : (objects : ObjectLists) → appearance_at s objects q ≡ appearance_at s objects p
-  appearance-same objects = λ i. record {
-    display = value-same Display i;
-    invisible = value-same Invisible i;
-    line_prefix = value-same LinePrefix i;
-    wrap_prefix = value-same WrapPrefix i;
-    face = face-same objects i;
-  }
+  appearance-same objects =
+      appearance-by s s q p objects (here ∙ sym first) (next.same q later before)
+      (λ kind. ap (last_given (overlay_value s.overlays kind)) covering-same)
+      (λ face. ap (λ (ns : List ℕ). laid_over objects s.overlays ns face) covering-same)
 
   none-start : numbers_of (starts q) s.overlays ≡ []
   none-start =

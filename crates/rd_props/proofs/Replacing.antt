@@ -25,6 +25,7 @@ use Rattle.rd_props.specs.Made.{AreMade}
 use Rattle.rd_props.proofs.Alike.{AreListings, AreAlike, SeeSame, mark_of, picked}
 use Rattle.rd_props.proofs.Texts.{ReadsAlike}
 use Rattle.rd_props.proofs.Editing.{StaysSame, same-by, stays-by}
+use Rattle.rd_props.proofs.Sees.{slot-made}
 
 itself : (t : TextValue) (x : ℕ) → ReadsAlike t x t x
 itself t x = record { inside = refl; character = refl; to = λ h. h; from = λ h. h }
@@ -184,14 +185,10 @@ module _ (s : BufferValue) (old new : ObjectLists) (extends : Extends old new) (
       ap (λ (a : Option Attributes). unwrap_or a plain)
       (sym (get-first old.faces extends.faces.0 v (small v refl)) ∙ ap (λ (xs : List Attributes). slice_get xs v) (sym extends.faces.1))
 
-  overlay-small : (number v : ℕ) (slot : Option Overlay) → overlay_at s.overlays number ≡ slot → value_of Face slot ≡ Some v → v < length old.faces
-  overlay-small number v None is h = absurd (cc)
-  overlay-small number v (Some o) is h = made.overlays number v Face o is h
-
   laid-same : (numbers : List ℕ) (face : Attributes) → laid_over old s.overlays numbers face ≡ laid_over new s.overlays numbers face
   laid-same [] face = refl
   laid-same (n ∷ ns) face =
-      let here = face-same (value_of Face (overlay_at s.overlays n)) (λ v h. overlay-small n v (overlay_at s.overlays n) refl h) in
+      let here = face-same (value_of Face (overlay_at s.overlays n)) (λ v h. slot-made s old made n Face (overlay_at s.overlays n) v refl h) in
       laid-same ns (over (face_of old (value_of Face (overlay_at s.overlays n))) face)
       ∙ ap (λ (a : Attributes). laid_over new s.overlays ns (over a face)) here
 

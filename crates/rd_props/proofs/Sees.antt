@@ -24,7 +24,7 @@ listed P (Some v) all = All-cons P v [] all (All-nil P)
 
 module _ (s : BufferValue) (objects : ObjectLists) (made : AreMade s objects) where
   -- the value of an overlay that may live
-  slot-made : (number : ℕ) (kind : Kind) (slot : Option Overlay) (v : ℕ) → overlay_at s.overlays number ≡ slot → value_of kind slot ≡ Some v → IsMade objects kind v
+  pub slot-made : (number : ℕ) (kind : Kind) (slot : Option Overlay) (v : ℕ) → overlay_at s.overlays number ≡ slot → value_of kind slot ≡ Some v → IsMade objects kind v
   slot-made number kind None v lives h = absurd (cc)
   slot-made number kind (Some o) v lives h = made.overlays number v kind o lives h
 
