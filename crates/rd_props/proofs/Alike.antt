@@ -42,8 +42,8 @@ AreAlike f g a b = (number : ℕ) → picked f (overlay_at a number) ≡ picked 
 
 -- what a law of overlays says of two listings
 abbrev pub ListingsAgree : Type 0
-ListingsAgree = (f g : Overlay → Bool) (a b : List (Option Overlay)) → ((number : ℕ) → listed_priority f (overlay_at a number) ≡ listed_priority g (overlay_at b number))
-    → numbers_of f a ≡ numbers_of g b
+ListingsAgree = (f g : Overlay → Bool) (a b : List (Option Overlay))
+    → ((number : ℕ) → listed_priority f (overlay_at a number) ≡ listed_priority g (overlay_at b number)) → numbers_of f a ≡ numbers_of g b
 
 -- what the laws of overlays say of listings
 pub record AreListings : Type 0 where
@@ -200,15 +200,23 @@ pub record ReadSame (s : BufferValue) (x : ℕ) (t : BufferValue) (y : ℕ) : Ty
 -- two positions look alike at which the text properties are the same, and what the covering overlays give
 pub appearance-by : (s t : BufferValue) (x y : ℕ) (objects : ObjectLists) → nat_lt x s.text.end ≡ nat_lt y t.text.end
     → ((kind : ℕ) → s.properties kind x ≡ t.properties kind y)
-    → ((kind : Kind) → last_given (overlay_value s.overlays kind) (covering x s.overlays) ≡ last_given (overlay_value t.overlays kind) (covering y t.overlays))
-    → ((face : Attributes) → laid_over objects s.overlays (covering x s.overlays) face ≡ laid_over objects t.overlays (covering y t.overlays) face)
+    → ((kind : Kind) → last_given (overlay_value s.overlays kind) (covering x s.overlays)
+    ≡ last_given (overlay_value t.overlays kind) (covering y t.overlays))
+    → ((face : Attributes) → laid_over objects s.overlays (covering x s.overlays) face
+    ≡ laid_over objects t.overlays (covering y t.overlays) face)
     → appearance_at s objects x ≡ appearance_at t objects y
 appearance-by s t x y objects inside own last laid =
     let value : (kind : Kind) → effective s x kind ≡ effective t y kind = λ kind.
-    let here = own (place_of kind) in let over = last kind in rw (inside, here, over) in
+    let here = own (place_of kind) in let given = last kind in rw (inside, here, given) in
     let face : face_at s objects x ≡ face_at t objects y =
-    let here = own (place_of Face) in let over = laid (face_of objects (t.properties (place_of Face) y)) in rw (inside, here, over) in
-    λ i. record { display = value Display i; invisible = value Invisible i; line_prefix = value LinePrefix i; wrap_prefix = value WrapPrefix i; face = face i }
+    let here = own (place_of Face) in let given = laid (face_of objects (t.properties (place_of Face) y)) in rw (inside, here, given) in
+    λ i. record {
+      display = value Display i;
+      invisible = value Invisible i;
+      line_prefix = value LinePrefix i;
+      wrap_prefix = value WrapPrefix i;
+      face = face i;
+    }
 
 module _ (listings : AreListings) (s t : BufferValue) (x y : ℕ) (read : ReadSame s x t y) (see : SeeSame x y s.overlays t.overlays) where
   pub seen-agrees : (objects : ObjectLists) → Agree s objects x t objects y

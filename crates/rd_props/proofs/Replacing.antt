@@ -188,7 +188,7 @@ module _ (s : BufferValue) (old new : ObjectLists) (extends : Extends old new) (
   laid-same : (numbers : List ℕ) (face : Attributes) → laid_over old s.overlays numbers face ≡ laid_over new s.overlays numbers face
   laid-same [] face = refl
   laid-same (n ∷ ns) face =
-      let here = face-same (value_of Face (overlay_at s.overlays n)) (λ v h. slot-made s old made n Face (overlay_at s.overlays n) v refl h) in
+      let here = face-same (value_of Face (overlay_at s.overlays n)) (λ v h. slot-made s old made n Face _ v refl h) in
       laid-same ns (over (face_of old (value_of Face (overlay_at s.overlays n))) face)
       ∙ ap (λ (a : Attributes). laid_over new s.overlays ns (over a face)) here
 
