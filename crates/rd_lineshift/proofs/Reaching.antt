@@ -21,6 +21,7 @@ use Rattle.rd_term.proofs.Encoded.{Rows, standing}
 use Rattle.rd_term.proofs.Shapes.{grid-width, length-between, length-up, length-down, grid-known}
 use Rattle.rd_update.specs.Laws.{IsReady, IsUpdated}
 use Rattle.rd_update.specs.Updates.{differing, sequence, update, Update}
+use Rattle.rd_update.proofs.Parts.{cleared-all}
 use Rattle.rd_update.proofs.Sequences.{move_fed, tty-same}
 use Rattle.rd_lineshift.specs.Choices.{AreWithin, cheaper, cheapest, choice, cost, if_gains, shifts_from, shifts_of}
 use Rattle.rd_lineshift.specs.Laws.{IsShift}
@@ -107,12 +108,6 @@ shift-fed reads cuts r rows cursor wait latest height s n tall h some =
     ∙ ap (λ e. standing (Some (0, height - 1)) (changed_between s.top e (terminal_moved s.by) rows) None false (Some plain) None) back
 
 -- ---- the rows that the terminal then has
-
-cleared-all : (w : ℕ) (rows : Rows) → AllByRecursion (λ row. length row ≡ w) rows → map cleared rows ≡ replicate (length rows) (replicate w (Some blank))
-cleared-all w [] h = refl
-cleared-all w (row ∷ rows) h =
-    ap (λ k. replicate k (Some blank) ∷ map cleared rows) h.0
-    ∙ ap (λ xs. replicate w (Some blank) ∷ xs) (cleared-all w rows h.1)
 
 cleared-some : (w k : ℕ) (rows : Rows) → IsGrid w rows → length rows ≡ k → map cleared rows ≡ replicate k (replicate w (Some blank))
 cleared-some w k rows h n = cleared-all w rows (recursion_from_All (λ row. length row ≡ w) rows h) ∙ ap (λ j. replicate j (replicate w (Some blank))) n

@@ -1,11 +1,12 @@
 -- Rows put in place one after another, and the parts of a plan.
-use Rattle.std.proofs.Common.{◌≡◌, if◌then◌else◌, ℕ, zero, suc, ◌+◌, ◌-◌, ◌<◌, ◌≤◌, Bool, true, false, not, nat_lt, nat_le, min, List, [], ◌∷◌, ◌++◌, length, get_or, set, take, drop, replicate, Option, None, Some, refl, sym, ap, ◌∙◌, arith, append_assoc, append-nil}
+use Rattle.std.proofs.Common.{◌≡◌, if◌then◌else◌, ℕ, zero, suc, ◌+◌, ◌-◌, ◌<◌, ◌≤◌, Bool, true, false, not, nat_lt, nat_le, min, List, [], ◌∷◌, ◌++◌, length, get_or, set, take, drop, map, replicate, Option, None, Some, refl, sym, ap, ◌∙◌, arith, append_assoc, append-nil}
 use Rattle.std.specs.List.{AllByRecursion}
 use Rattle.std.proofs.lemmas.List.Elements.{recursion_from_All, All-from_recursion}
 use Rattle.std.proofs.lemmas.Bool.Decides.{nat_tests}
 use Rattle.std.proofs.lemmas.List.{drop_more, take_more, set_at, length-take-le, length-append, take_all, take_at, length-map, get_or-map, length-drop, get_or-replicate, drop-replicate, get_or-append_right, length-replicate}
 use Rattle.rd_base.specs.declared.cell.Cell.{Cell}
-use Rattle.rd_term.specs.Pictures.{Picture, IsGrid, blank_row, width_of}
+use Rattle.rd_term.specs.Pictures.{Picture, IsGrid, blank, blank_row, width_of}
+use Rattle.rd_term.specs.Shifts.{cleared}
 use Rattle.rd_update.specs.Updates.{differs, row_bytes, rows_bytes, rows_after, allows, less_one, differing, within, is_done, blank_like, start, opening, update, move}
 use Rattle.rd_update.specs.Plans.{Prepared, parts_from, planned, sent_of, ArePartsOf, no_part, front_if, front_within, part_if, bytes_if, old_row, HaveOneSize}
 use Rattle.rd_update.specs.declared.plan.ChangedRow.{ChangedRow}
@@ -318,9 +319,16 @@ parts-of current target few =
 
 -- ---- blank rows
 
-blank_like-is : (rows : List (List Cell)) (w : ℕ) → AllByRecursion (λ row. length row ≡ w) rows → blank_like rows ≡ replicate (length rows) (blank_row w)
+pub blank_like-is : (rows : List (List Cell)) (w : ℕ) → AllByRecursion (λ row. length row ≡ w) rows → blank_like rows ≡ replicate (length rows) (blank_row w)
 blank_like-is [] w h = refl
 blank_like-is (row ∷ rows) w h = let rest = blank_like-is rows w h.1 in let one = ap blank_row h.0 in cc
+
+-- rows of one width, once cleared, are as many rows of known blanks
+pub cleared-all : (w : ℕ) (rows : List (List (Option Cell))) → AllByRecursion (λ row. length row ≡ w) rows → map cleared rows ≡ replicate (length rows) (replicate w (Some blank))
+cleared-all w [] h = refl
+cleared-all w (row ∷ rows) h =
+    ap (λ k. replicate k (Some blank) ∷ map cleared rows) h.0
+    ∙ ap (λ xs. replicate w (Some blank) ∷ xs) (cleared-all w rows h.1)
 
 pub drop-blanks : (rows : List (List Cell)) (from w : ℕ) → IsGrid w rows → drop from (blank_like rows) ≡ replicate (length rows - from) (blank_row w)
 drop-blanks rows from w h =

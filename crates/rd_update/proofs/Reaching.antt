@@ -1,7 +1,7 @@
 -- The update law.
-use Rattle.std.proofs.Common.{◌≡◌, if◌then◌else◌, ℕ, ◌+◌, ◌<◌, ◌≤◌, Bool, true, false, List, [], ◌∷◌, ◌++◌, length, get_or, map, replicate, Option, None, Some, refl, sym, ap, ◌∙◌, arith, All}
+use Rattle.std.proofs.Common.{◌≡◌, if◌then◌else◌, ℕ, ◌+◌, ◌<◌, ◌≤◌, Bool, true, false, List, [], ◌++◌, length, get_or, map, replicate, Option, None, Some, refl, sym, ap, ◌∙◌, arith, All}
 use Rattle.std.specs.List.{AllByRecursion}
-use Rattle.std.proofs.lemmas.List.Elements.{recursion_from_All, All-from_recursion}
+use Rattle.std.proofs.lemmas.List.Elements.{recursion_from_All, All-from_recursion, All-map}
 use Rattle.std.proofs.lemmas.List.{length-map, get_or-map, length-replicate}
 use Rattle.rd_base.proofs.Choices.{either}
 use Rattle.rd_base.proofs.Lists.{each-weaker}
@@ -17,6 +17,7 @@ use Rattle.rd_update.specs.Laws.{IsReady, IsUpdated}
 use Rattle.rd_term.proofs.Cutting.{map-replicate}
 use Rattle.rd_term.proofs.Encoded.{Rows, standing}
 use Rattle.rd_term.proofs.Feeding.{feed_bytes-append}
+use Rattle.rd_update.proofs.Parts.{blank_like-is, cleared-all}
 use Rattle.rd_update.proofs.Feeding.{repaint_fed}
 use Rattle.rd_update.proofs.Sequences.{move_fed}
 use Rattle.rd_update.proofs.Rows.{Stands, rows_fed}
@@ -25,27 +26,19 @@ use Rattle.rd_update.proofs.Soundness.{after-all, length-after}
 
 -- ---- the screen that counts as current
 
-blank-wide : (rows : List (List Cell)) (w : ℕ) → AllByRecursion (λ row. length row ≡ w) rows → AllByRecursion (λ row. length row ≡ w) (blank_like rows)
-blank-wide [] w h = tt
-blank-wide (row ∷ rows) w h = (length-replicate (length row) blank ∙ h.0, blank-wide rows w h.1)
-
 -- after a clear each cell is known to be blank
-cleared-like : (rows : Rows) (like : List (List Cell)) (w : ℕ) → length rows ≡ length like
+cleared-like : (w : ℕ) (rows : Rows) (like : List (List Cell)) → length rows ≡ length like
     → AllByRecursion (λ row. length row ≡ w) rows → AllByRecursion (λ row. length row ≡ w) like
     → map cleared rows ≡ known (blank_like like)
-cleared-like [] [] w n h k = refl
-cleared-like [] (l ∷ like) w n h k = absurd (cc)
-cleared-like (row ∷ rows) [] w n h k = absurd (cc)
-cleared-like (row ∷ rows) (l ∷ like) w n h k =
-    let first : cleared row ≡ map Some (blank_row (length l)) = ap (λ j. replicate j (Some blank)) (h.0 ∙ sym k.0) ∙ sym (map-replicate Some (length l) blank) in
-    let rest = cleared-like rows like w (omega arith) h.1 k.1 in
-    cc
+cleared-like w rows like n h k =
+    cleared-all w rows h ∙ ap (λ j. replicate j (replicate w (Some blank))) n
+    ∙ sym (ap known (blank_like-is like w k) ∙ map-replicate (map Some) (length like) (blank_row w) ∙ ap (replicate (length like)) (map-replicate Some w blank))
 
 -- what stands before the first row's bytes: the current screen, by a plain pen
 opened : (width height : ℕ) (current : Option Picture) (target : Picture) (t : Tty) → IsReady width height current target t → Stands t.region (known (start current target).rows) (feed_bytes t (opening current))
 opened width height None target t h =
     let is = tty-same t.rows t.region t.cursor t.wait t.pen t.latest t.reading t.confused t.rows t.pen refl refl h.between h.sure in
-    let blanks = cleared-like t.rows target.rows width (h.rows ∙ sym h.size.rows) (recursion_from_All (λ row. length row ≡ width) t.rows h.each) (recursion_from_All (λ row. length row ≡ width) target.rows h.size.each) in
+    let blanks = cleared-like width t.rows target.rows (h.rows ∙ sym h.size.rows) (recursion_from_All (λ row. length row ≡ width) t.rows h.each) (recursion_from_All (λ row. length row ≡ width) target.rows h.size.each) in
     record {
       cursor = t.cursor;
       wait = t.wait;
@@ -64,7 +57,7 @@ start-size width height None target t h =
     let n : length (blank_like target.rows) ≡ length target.rows = length-map target.rows (λ row. blank_row (length row)) in
     record {
       rows = n ∙ h.size.rows;
-      each = All-from_recursion (λ row. length row ≡ width) (blank_like target.rows) (blank-wide target.rows width (recursion_from_All (λ row. length row ≡ width) target.rows h.size.each));
+      each = All-map (λ row. length row ≡ width) (λ (row : List Cell). blank_row (length row)) target.rows (λ k d lt. length-replicate (length (get_or target.rows k d)) blank ∙ h.size.each k d lt);
       row = omega (arith, h.size.row);
       column = omega (arith, h.size.column);
     }
