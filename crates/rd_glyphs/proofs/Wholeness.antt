@@ -11,6 +11,7 @@ use Rattle.rd_base.specs.Cells.{single, HasColours, IsColoured, with_mark, joine
 use Rattle.rd_base.specs.Faces.{Attributes}
 use Rattle.rd_base.specs.Glyphs.{blanks, IsMeasured, IsMeasuredLook, IsRowAfter}
 use Rattle.rd_base.proofs.Colours.{blanks-coloured, look-coloured}
+use Rattle.rd_base.proofs.Lists.{each-weaker}
 use Rattle.rd_base.proofs.Rows.{behind-whole, blanks-whole, glyph-whole, look_length, printable-measured}
 use Rattle.rd_base.specs.declared.cell.Glyph.{Glyph}
 use Rattle.rd_base.specs.declared.cell.Cell.{Cell}
@@ -123,10 +124,8 @@ looks-all P (part ∷ parts) each =
 plain_looks-all : (P : Look → Type 0) (Q : PlainPart → Type 0) → ((part : PlainPart) → Q part → AllByRecursion P part.looks) → Grows plain_joins Q → (classes : List Span) (text : List ℕ)
     → AllByRecursion Q (map (plain_part classes) text) → All P (plain_looks classes text)
 plain_looks-all P Q own grows classes text each =
-    looks-all P (marks_joined plain_joins (map (plain_part classes) text)) (each-looks _ (marks_joined-all plain_joins Q grows (map (plain_part classes) text) each)) where
-      each-looks : (parts : List PlainPart) → AllByRecursion Q parts → AllByRecursion (λ part. AllByRecursion P part.looks) parts
-      each-looks [] each = tt
-      each-looks (part ∷ parts) each = (own part each.0, each-looks parts each.1)
+    let parts = marks_joined plain_joins (map (plain_part classes) text) in
+    looks-all P parts (each-weaker Q (λ part. AllByRecursion P part.looks) own parts (marks_joined-all plain_joins Q grows (map (plain_part classes) text) each))
 
 record IsMeasuredPart (part : PlainPart) : Type 0 where
   looks : AllByRecursion IsMeasuredLook part.looks

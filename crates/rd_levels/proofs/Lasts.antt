@@ -3,7 +3,7 @@ use Rattle.std.proofs.Common.{◌≡◌, ℕ, zero, suc, ◌+◌, ◌-◌, ◌�
 use Rattle.std.specs.Prelude.{nat_le, if◌then◌else◌, slice_index, map}
 use Rattle.std.proofs.lemmas.List.{map-append}
 use Rattle.std.specs.List.{range_with_len, AllByRecursion as Each}
-use Rattle.std.proofs.lemmas.List.Elements.{All-from_recursion}
+use Rattle.std.proofs.lemmas.List.Elements.{All-from_recursion, All-map}
 use Rattle.std.proofs.lemmas.Bool.{cond_both, cond-false}
 use Rattle.std.proofs.lemmas.Bool.Decides.{nat_tests}
 use Rattle.rd_base.proofs.Lists.{each-append, range-more}
@@ -59,10 +59,6 @@ range-below : (a n m : ℕ) → a + n ≤ m → Each (λ (i : ℕ). i < m) (rang
 range-below a zero m few = tt
 range-below a (suc n) m few = (omega arith, range-below (a + 1) n m (omega arith))
 
-turns-below : (levels : List ℕ) (n : ℕ) (is : List ℕ) → Each (λ (i : ℕ). i < n) is → Each (λ (t : Turn). t.index < n) (map (turn_of levels) is)
-turns-below levels n [] each = tt
-turns-below levels n (i ∷ is) each = (each.0, turns-below levels n is each.1)
-
 -- the turns of a line whose last place has the base level, or a lower one
 last-turn : (base n : ℕ) (levels : List ℕ) → length levels ≡ suc n → slice_index levels n ≤ base → ComesLast (turns_by base levels) n
 last-turn base n levels size low =
@@ -73,7 +69,7 @@ last-turn base n levels size low =
       last = turn_of levels n;
       whole = ap (map (turn_of levels)) (order-last base n levels size low) ∙ map-append (turn_of levels) before (n ∷ []);
       index = refl;
-      others = All-from_recursion (λ (t : Turn). t.index < n) (map (turn_of levels) before) (turns-below levels n before below);
+      others = All-map (λ (t : Turn). t.index < n) (turn_of levels) before (All-from_recursion (λ (i : ℕ). i < n) before below);
     }
 
 -- a separator at the end of a line comes last

@@ -2,6 +2,7 @@
 use Rattle.std.proofs.Common.{◌≡◌, if◌then◌else◌, ℕ, zero, suc, ◌+◌, ◌-◌, ◌<◌, ◌≤◌, ◌==◌, ◌&&◌, Bool, true, false, nat_lt, nat_le, min, List, [], ◌∷◌, ◌++◌, length, get_or, set, take, drop, map, replicate, Option, None, Some, refl, sym, ap, ◌∙◌, arith, append_assoc, append-nil}
 use Rattle.std.specs.Char.{encode_utf8}
 use Rattle.std.specs.List.{flat_map}
+use Rattle.std.proofs.Math.Bool.{and-false}
 use Rattle.std.proofs.lemmas.Bool.{and_parts, cond-true}
 use Rattle.std.proofs.lemmas.Bool.Decides.{nat_tests}
 use Rattle.std.proofs.lemmas.List.{get_or_at, set_at, take_at, drop_at, drop-drop, drop-append-le, length-append, length-replicate, length-take-le, length-drop, take_more, drop_more, take-append-drop}
@@ -102,10 +103,6 @@ upto g k = record { base = g.base; marks = take k g.marks ++ replicate (6 - k) 0
 
 abbrev pub grown : Glyph → ℕ → Attributes → Cell
 grown g k f = if is_space (upto g k) then Blank f else First (upto g k) f
-
-and-false : (b : Bool) → (b && false) ≡ false
-and-false true = refl
-and-false false = refl
 
 more-marks : (marks : List ℕ) (k code : ℕ) → length marks ≡ 6 → k < 6 → get_or marks k 0 ≡ code
     → set (take k marks ++ replicate (6 - k) 0) k code ≡ take (suc k) marks ++ replicate (6 - suc k) 0
