@@ -5,7 +5,7 @@ use Rattle.std.specs.Option.{option_map}
 use Rattle.std.proofs.lemmas.Bool.{cases_lt}
 use Rattle.std.proofs.lemmas.Option.{slice_get-map}
 use Rattle.rd_base.proofs.Lists.{get-map}
-use Rattle.rd_text.specs.Texts.{IsText, IsAccessible}
+use Rattle.rd_text.specs.Texts.{IsAccessible}
 use Rattle.rd_ucd.specs.declared.spans.Span.{Span}
 use Rattle.rd_props.specs.Buffers.{BufferValue}
 use Rattle.rd_items.specs.Blocks.{blocks_of, Adjoin, StartsBlock, IsBlock, IsBlockAt, is_shown_newline}
@@ -13,25 +13,6 @@ use Rattle.rd_matrix.specs.Blocks.{IsAmong, IsWithin, HoldsPosition, block_befor
 use Rattle.rd_matrix.specs.declared.block.Block.{Block}
 use Rattle.rd_blocks.specs.Bases.{block_base, block_in, blocks_in}
 use Rattle.rd_blocks.proofs.Sources.{first-is, end-is}
-
--- what the layer below says of the order of a buffer's blocks
-pub record AreInOrder (s : BufferValue) : Type 0 where
-  pub next : (k a b c : ℕ) → slice_get (blocks_of s) k ≡ Some (a, b) → IsBlock s b c → slice_get (blocks_of s) (k + 1) ≡ Some (b, c)
-  pub last : (k a : ℕ) → slice_get (blocks_of s) k ≡ Some (a, s.text.end + 1) → slice_get (blocks_of s) (k + 1) ≡ None
-  pub prev : (k a b c : ℕ) → slice_get (blocks_of s) k ≡ Some (b, c) → IsBlock s a b → (j : ℕ) × (k ≡ j + 1) × (slice_get (blocks_of s) j ≡ Some (a, b))
-  pub first : (k c : ℕ) → slice_get (blocks_of s) k ≡ Some (s.text.begin, c) → k ≡ 0
-
-pub are-in-order : ((s : BufferValue) (k a b c : ℕ) → slice_get (blocks_of s) k ≡ Some (a, b) → IsBlock s b c → slice_get (blocks_of s) (k + 1) ≡ Some (b, c))
-    → ((s : BufferValue) (k a : ℕ) → s.text.begin ≤ s.text.end → slice_get (blocks_of s) k ≡ Some (a, s.text.end + 1) → slice_get (blocks_of s) (k + 1) ≡ None)
-    → ((s : BufferValue) (k a b c : ℕ) → slice_get (blocks_of s) k ≡ Some (b, c) → IsBlock s a b → (j : ℕ) × (k ≡ j + 1) × (slice_get (blocks_of s) j ≡ Some (a, b)))
-    → ((s : BufferValue) (k c : ℕ) → s.text.begin ≤ s.text.end → slice_get (blocks_of s) k ≡ Some (s.text.begin, c) → k ≡ 0)
-    → (s : BufferValue) → IsText s.text → AreInOrder s
-are-in-order next last prev first s right = record {
-  next = next s;
-  last = λ k a. last s k a right.ordered;
-  prev = prev s;
-  first = λ k c. first s k c right.ordered;
-}
 
 -- where a block ends before the end of the text, another starts
 pub starts-behind : (s : BufferValue) (from to : ℕ) → IsBlock s from to → to ≤ s.text.end → IsAccessible s.text to × StartsBlock s to
@@ -115,38 +96,42 @@ module _ (classes : List Span) (s : BufferValue) where
       subst (λ (x : Block). x.base ≡ block_base classes s x.start) found.2 refl
 
   -- the block behind one
-  pub next-block : AreInOrder s → (b : Block) (end base : ℕ) → IsBlock s b.end end → base ≡ block_base classes s b.end → (k : ℕ) → slice_get (blocks_in classes s) k ≡ Some b
+  pub next-block : ((k a b c : ℕ) → slice_get (blocks_of s) k ≡ Some (a, b) → IsBlock s b c → slice_get (blocks_of s) (k + 1) ≡ Some (b, c))
+      → (b : Block) (end base : ℕ) → IsBlock s b.end end → base ≡ block_base classes s b.end → (k : ℕ) → slice_get (blocks_in classes s) k ≡ Some b
       → Some (let c : Block = record { start = b.end; end = end; base = base } in c) ≡ slice_get (blocks_in classes s) (k + 1)
-  next-block ordered b end base block level k at =
+  next-block next b end base block level k at =
       let found = get-map (block_in classes s) (blocks_of s) k b at in
       let is : b.end ≡ found.0.1 = ap (λ (x : Block). x.end) (sym found.2) in
-      let next = ordered.next k found.0.0 found.0.1 end found.1 (subst (λ (n : ℕ). IsBlock s n end) is block) in
-      ap (λ (c : Block). Some c) (block-is b.end end base level ∙ ap (λ (n : ℕ). block_in classes s (n, end)) is) ∙ sym (at-place (k + 1) (found.0.1, end) next)
+      let behind = next k found.0.0 found.0.1 end found.1 (subst (λ (n : ℕ). IsBlock s n end) is block) in
+      ap (λ (c : Block). Some c) (block-is b.end end base level ∙ ap (λ (n : ℕ). block_in classes s (n, end)) is) ∙ sym (at-place (k + 1) (found.0.1, end) behind)
 
   pub next-none : ((k : ℕ) (b : ℕ × ℕ) → slice_get (blocks_of s) k ≡ Some b → IsBlock s b.0 b.1)
-      → AreInOrder s → (b : Block) → s.text.end < b.end → (k : ℕ) → slice_get (blocks_in classes s) k ≡ Some b → None ≡ slice_get (blocks_in classes s) (k + 1)
-  next-none blocks ordered b past k at =
+      → ((k a : ℕ) → slice_get (blocks_of s) k ≡ Some (a, s.text.end + 1) → slice_get (blocks_of s) (k + 1) ≡ None)
+      → (b : Block) → s.text.end < b.end → (k : ℕ) → slice_get (blocks_in classes s) k ≡ Some b → None ≡ slice_get (blocks_in classes s) (k + 1)
+  next-none blocks last b past k at =
       let found = get-map (block_in classes s) (blocks_of s) k b at in
       let is : b.end ≡ found.0.1 = ap (λ (x : Block). x.end) (sym found.2) in
       let block = blocks k found.0 found.1 in
-      let last = block.last in
-      let end : found.0.1 ≡ s.text.end + 1 = omega (arith, is, past, last) in
-      sym (none-at (k + 1) (ordered.last k found.0.0 (found.1 ∙ ap (λ (n : ℕ). Some (found.0.0, n)) end)))
+      let within = block.last in
+      let end : found.0.1 ≡ s.text.end + 1 = omega (arith, is, past, within) in
+      sym (none-at (k + 1) (last k found.0.0 (found.1 ∙ ap (λ (n : ℕ). Some (found.0.0, n)) end)))
 
   -- the block before one
-  pub prev-block : AreInOrder s → (b : Block) (start base : ℕ) → IsBlock s start b.start → base ≡ block_base classes s start → (k : ℕ) → slice_get (blocks_in classes s) k ≡ Some b
+  pub prev-block : ((k a b c : ℕ) → slice_get (blocks_of s) k ≡ Some (b, c) → IsBlock s a b → (j : ℕ) × (k ≡ j + 1) × (slice_get (blocks_of s) j ≡ Some (a, b)))
+      → (b : Block) (start base : ℕ) → IsBlock s start b.start → base ≡ block_base classes s start → (k : ℕ) → slice_get (blocks_in classes s) k ≡ Some b
       → Some (let c : Block = record { start = start; end = b.start; base = base } in c) ≡ block_before (blocks_in classes s) k
-  prev-block ordered b start base block level k at =
+  prev-block prev b start base block level k at =
       let found = get-map (block_in classes s) (blocks_of s) k b at in
       let is : b.start ≡ found.0.0 = ap (λ (x : Block). x.start) (sym found.2) in
-      let before = ordered.prev k start found.0.0 found.0.1 found.1 (subst (λ (n : ℕ). IsBlock s start n) is block) in
+      let before = prev k start found.0.0 found.0.1 found.1 (subst (λ (n : ℕ). IsBlock s start n) is block) in
       let one : k ≡ suc before.0 = omega (arith, before.1) in
       ap (λ (c : Block). Some c) (block-is start b.start base level ∙ ap (λ (n : ℕ). block_in classes s (start, n)) is)
       ∙ (sym (at-place before.0 (start, found.0.0) before.2) ∙ ap (block_before (blocks_in classes s)) (sym one))
 
-  pub prev-none : AreInOrder s → (b : Block) → b.start ≡ s.text.begin → (k : ℕ) → slice_get (blocks_in classes s) k ≡ Some b → None ≡ block_before (blocks_in classes s) k
-  prev-none ordered b begins k at =
+  pub prev-none : ((k c : ℕ) → slice_get (blocks_of s) k ≡ Some (s.text.begin, c) → k ≡ 0)
+      → (b : Block) → b.start ≡ s.text.begin → (k : ℕ) → slice_get (blocks_in classes s) k ≡ Some b → None ≡ block_before (blocks_in classes s) k
+  prev-none first b begins k at =
       let found = get-map (block_in classes s) (blocks_of s) k b at in
       let is : b.start ≡ found.0.0 = ap (λ (x : Block). x.start) (sym found.2) in
-      let first : found.0.0 ≡ s.text.begin = sym is ∙ begins in
-      ap (block_before (blocks_in classes s)) (sym (ordered.first k found.0.1 (found.1 ∙ ap (λ (n : ℕ). Some (n, found.0.1)) first)))
+      let begin : found.0.0 ≡ s.text.begin = sym is ∙ begins in
+      ap (block_before (blocks_in classes s)) (sym (first k found.0.1 (found.1 ∙ ap (λ (n : ℕ). Some (n, found.0.1)) begin)))

@@ -6,7 +6,7 @@ use Rattle.rd_items.specs.Blocks.{IsBlock}
 use Rattle.rd_matrix.specs.Blocks.{block_before}
 use Rattle.rd_matrix.specs.declared.block.Block.{Block}
 use Rattle.rd_blocks.specs.Sources.{source_of}
-use Rattle.rd_blocks.proofs.Listed.{IsBehindNewline, are-in-order, newline-before, prev-block, prev-none}
+use Rattle.rd_blocks.proofs.Listed.{IsBehindNewline, newline-before, prev-block, prev-none}
 use Rattle.rd_blocks.proofs.blocks.Blocks.before.Goals as goal
 
 pub returns-then-end-begin-clause-prev : goal.returns-then-end-begin-clause-prev
@@ -17,7 +17,7 @@ returns-then-end-begin-clause-prev c =
     let b = c.args.block.now in
     let right = c.begin.ensures.right in
     subst (λ (w : View). (k : ℕ) → slice_get (source_of w).blocks k ≡ Some b → None ≡ block_before (source_of w).blocks k) c.self.view_is
-    (prev-none x.classes.now s (are-in-order order.next order.last order.prev order.first s right) b (c.if-end-begin.true ∙ c.begin.ensures.value))
+    (prev-none x.classes.now s (λ k c. order.first s k c right.ordered) b (c.if-end-begin.true ∙ c.begin.ensures.value))
 
 -- the block does not begin the text, so that a newline is shown before it
 newline : (c : goal.Else-end-begin) → IsBehindNewline (meaning c.self.inside.view.state.now) c.args.block.now.start
@@ -43,4 +43,4 @@ returns-clause-prev c =
     let b = c.args.block.now in
     let before : Block = record { start = c.in_ok-start.start; end = b.start; base = c.base_of-base.result } in
     subst (λ (w : View). (k : ℕ) → slice_get (source_of w).blocks k ≡ Some b → Some before ≡ block_before (source_of w).blocks k) c.self.view_is
-    (prev-block x.classes.now s (are-in-order order.next order.last order.prev order.first s c.begin.ensures.right) b c.in_ok-start.start c.base_of-base.result c.in_ok-start.ensures c.base_of-base.ensures.base)
+    (prev-block x.classes.now s (order.prev s) b c.in_ok-start.start c.base_of-base.result c.in_ok-start.ensures c.base_of-base.ensures.base)

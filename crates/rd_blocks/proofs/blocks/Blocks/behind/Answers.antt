@@ -6,7 +6,7 @@ use Rattle.rd_props.specs.declared.state.View.{View}
 use Rattle.rd_items.specs.Blocks.{IsBlock, StartsBlock}
 use Rattle.rd_matrix.specs.declared.block.Block.{Block}
 use Rattle.rd_blocks.specs.Sources.{source_of}
-use Rattle.rd_blocks.proofs.Listed.{are-in-order, starts-behind, next-block, next-none}
+use Rattle.rd_blocks.proofs.Listed.{starts-behind, next-block, next-none}
 use Rattle.rd_blocks.proofs.blocks.Blocks.behind.Goals as goal
 
 pub returns-then-end-start-clause-next : goal.returns-then-end-start-clause-next
@@ -19,7 +19,7 @@ returns-then-end-start-clause-next c =
     let value = c.end.ensures.value in
     let past = c.if-end-start.true in
     subst (λ (w : View). (k : ℕ) → slice_get (source_of w).blocks k ≡ Some b → None ≡ slice_get (source_of w).blocks (k + 1)) c.self.view_is
-    (next-none x.classes.now s (c.blocks_are_listed.ensures.blocks s right.ordered) (are-in-order order.next order.last order.prev order.first s right) b (omega (arith, value, past)))
+    (next-none x.classes.now s (c.blocks_are_listed.ensures.blocks s right.ordered) (λ k a. order.last s k a right.ordered) b (omega (arith, value, past)))
 
 -- the block ends before the end of the text, so that another starts there
 starts : (c : goal.Else-end-start) → let s = meaning c.self.inside.view.state.now in IsAccessible s.text c.args.block.now.end × StartsBlock s c.args.block.now.end
@@ -44,4 +44,4 @@ returns-clause-next c =
     let b = c.args.block.now in
     let next : Block = record { start = b.end; end = c.in_ok-end.end; base = c.base_of-base.result } in
     subst (λ (w : View). (k : ℕ) → slice_get (source_of w).blocks k ≡ Some b → Some next ≡ slice_get (source_of w).blocks (k + 1)) c.self.view_is
-    (next-block x.classes.now s (are-in-order order.next order.last order.prev order.first s c.end.ensures.right) b c.in_ok-end.end c.base_of-base.result c.in_ok-end.ensures c.base_of-base.ensures.base)
+    (next-block x.classes.now s (order.next s) b c.in_ok-end.end c.base_of-base.result c.in_ok-end.ensures c.base_of-base.ensures.base)
