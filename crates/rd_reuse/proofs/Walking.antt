@@ -5,7 +5,7 @@ use Rattle.std.proofs.lemmas.Bool.Decides.{nat_tests}
 use Rattle.std.proofs.lemmas.List.{append-nil, append_assoc, drop-map, length-append, length-drop, length-map, length-take, map-append, take-map}
 use Rattle.std.proofs.lemmas.List.Elements.{All-append, All-drop, All-nil, All-take}
 use Rattle.std.proofs.lemmas.Option.{slice_get-map}
-use Rattle.rd_base.proofs.Lists.{at-seam, none-left}
+use Rattle.rd_base.proofs.Lists.{at-seam, drop-at, none-left}
 use Rattle.std.specs.List.{list_any, range_with_len}
 use Rattle.rd_base.specs.declared.settings.Anchor.{Anchor}
 use Rattle.rd_matrix.proofs.Counting.{all-append, any-range, costs-behind, costs-here, length-numbered}
@@ -83,16 +83,6 @@ pub same-next : (m other : SourceValues) (b : Block) (o p : Option Block) → ot
     → (k : ℕ) → slice_get m.blocks k ≡ Some b → p ≡ slice_get m.blocks (k + 1)
 same-next m other b o p same is next k at =
     sym is ∙ (next k (ap (λ (x : SourceValues). slice_get x.blocks k) same ∙ at) ∙ ap (λ (x : SourceValues). slice_get x.blocks (k + 1)) same)
-
--- the first of the blocks that are left, and none
-
-record First (bs : List Block) (b : Block) : Type 0 where
-  rest : List Block
-  is : bs ≡ b ∷ rest
-
-first-of : (bs : List Block) (b : Block) → slice_get bs 0 ≡ Some b → First bs b
-first-of [] b h = absurd cc
-first-of (x ∷ bs) b h = let same : x ≡ b = cc in record { rest = bs; is = ap (λ y. y ∷ bs) same }
 
 -- a row that is taken is that of the first entry with its number
 
@@ -232,19 +222,19 @@ module _ {m : SourceValues} {old : List Entry} {c : Change} {shape : ShapeValues
       let R = λ (x : Block). m.rows_of x shape in
       let count = length-map rows shown_entry in
       let low' : length (shown_entries rows) < most = omega (arith, count, low) in
-      let first-is = first-of w.after b (next-first (Some b) next) in
-      let pieces : m.blocks ≡ (w.before ++ block ∷ []) ++ b ∷ first-is.rest =
-      w.pieces ∙ (ap (λ bs. w.before ++ block ∷ bs) first-is.is ∙ sym (append_assoc w.before (block ∷ []) (b ∷ first-is.rest))) in
-      let there : IsAmong m.blocks b = (length (w.before ++ block ∷ []), ap (λ bs. slice_get bs (length (w.before ++ block ∷ []))) pieces ∙ at-seam (w.before ++ block ∷ []) b first-is.rest) in
+      let first-is = drop-at w.after 0 b (next-first (Some b) next) in
+      let pieces : m.blocks ≡ (w.before ++ block ∷ []) ++ b ∷ drop 1 w.after =
+      w.pieces ∙ (ap (λ bs. w.before ++ block ∷ bs) first-is ∙ sym (append_assoc w.before (block ∷ []) (b ∷ drop 1 w.after))) in
+      let there : IsAmong m.blocks b = (length (w.before ++ block ∷ []), ap (λ bs. slice_get bs (length (w.before ++ block ∷ []))) pieces ∙ at-seam (w.before ++ block ∷ []) b (drop 1 w.after)) in
       let size = sizes laid e low' in
       let up = size.0 in
       let last = count-last R w.before block in
       let paid = costs low' in
       let cost-at = ap (λ n. costs_of (fresh_cost m old c shape) (blocks_with (is_in_view place (place + most)) R n w.after)) last in
-      let cost-of = ap (λ bs. costs_of (fresh_cost m old c shape) (blocks_with (is_in_view place (place + most)) R (length (all_rows R (w.before ++ block ∷ []))) bs)) first-is.is in
+      let cost-of = ap (λ bs. costs_of (fresh_cost m old c shape) (blocks_with (is_in_view place (place + most)) R (length (all_rows R (w.before ++ block ∷ []))) bs)) first-is in
       record {
         before = w.before ++ block ∷ [];
-        after = first-is.rest;
+        after = drop 1 w.after;
         pieces = pieces;
         at = λ room.
             let new-size = ap (λ es. length (shown_entries es)) is in
@@ -253,8 +243,8 @@ module _ {m : SourceValues} {old : List Entry} {c : Change} {shape : ShapeValues
             omega (arith, last, end, at, new-size);
         inside = some-row (m.rows_of b shape) (source.rows b shape there shaped).ends;
         room = let new-size = ap (λ es. length (shown_entries es)) is in omega (arith, new-size, up);
-        done = subst (λ es. shown_entries es ++ take (most - length (shown_entries es)) (all_rows R (b ∷ first-is.rest)) ≡ take most (drop place (rows_at m shape))) (sym is)
-            (subst (λ bs. shown_entries (grown laid) ++ take (most - length (shown_entries (grown laid))) (all_rows R bs) ≡ take most (drop place (rows_at m shape))) first-is.is (left laid e));
+        done = subst (λ es. shown_entries es ++ take (most - length (shown_entries es)) (all_rows R (b ∷ drop 1 w.after)) ≡ take most (drop place (rows_at m shape))) (sym is)
+            (subst (λ bs. shown_entries (grown laid) ++ take (most - length (shown_entries (grown laid))) (all_rows R bs) ≡ take most (drop place (rows_at m shape))) first-is (left laid e));
         copies = subst (All (IsCopied old c m.blocks)) (sym is) (copies-grown source laid kept);
         paid = omega (arith, paid, cost, cost-at, cost-of);
       }

@@ -57,11 +57,6 @@ before-some (x ∷ before) rest b e =
     let there = sym (get-first (x ∷ before) rest (length before) inside) ∙ e in
     (take (length before) (x ∷ before), sym (take_all (length before + 1) (x ∷ before) (omega arith)) ∙ take-at (x ∷ before) (length before) b there)
 
--- the list of blocks behind a strip, from its first
-pub head-of : (after : List Block) (b : Block) → slice_get after 0 ≡ Some b → (rest : List Block) × (after ≡ b ∷ rest)
-head-of [] b e = absurd cc
-head-of (x ∷ after) b e = let here : x ≡ b = cc in (after, ap (λ z. z ∷ after) here)
-
 pub some-of : (m : SourceValues) (sweep : Sweep) (bs : List Block) (ls : List StripRow) (at : ℕ) (b : Block) → IsStripOf m sweep bs ls at → IsAmong m.blocks b → 0 < length (rows_in m sweep b)
 some-of m sweep bs ls at b h among = some-row b.start b.end (rows_in m sweep b) (h.source.rows b sweep.shape among h.shape)
 

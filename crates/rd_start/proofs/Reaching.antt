@@ -1,10 +1,10 @@
 -- A strip that grows until it reaches far enough.
-use Rattle.std.proofs.Common.{◌≡◌, ℕ, ◌+◌, ◌-◌, ◌<◌, ◌≤◌, Bool, List, [], ◌∷◌, ◌++◌, length, map, Option, None, Some, Result, Ok, Err, refl, sym, ap, subst, ◌∙◌, arith}
+use Rattle.std.proofs.Common.{◌≡◌, ℕ, ◌+◌, ◌-◌, ◌<◌, ◌≤◌, Bool, List, [], ◌∷◌, ◌++◌, length, map, drop, Option, None, Some, Result, Ok, Err, refl, sym, ap, subst, ◌∙◌, arith}
 use Rattle.std.proofs.lemmas.List.{append_assoc, length-append, length-map}
 use Rattle.std.proofs.lemmas.Result.{MatchResult-from_err}
 use Rattle.std.specs.List.{slice_get}
 use Rattle.std.specs.Prelude.{IfOk, IsErr, MatchResult}
-use Rattle.rd_base.proofs.Lists.{get-second, none-left}
+use Rattle.rd_base.proofs.Lists.{drop-at, get-second, none-left}
 use Rattle.rd_base.specs.declared.memory.Memory.{Memory}
 use Rattle.rd_matrix.proofs.Counting.{count-cons}
 use Rattle.rd_matrix.specs.Blocks.{IsAmong, block_before}
@@ -19,7 +19,7 @@ use Rattle.rd_start.specs.declared.strip.StripRow.{StripRow}
 use Rattle.rd_start.specs.declared.strip.Strip.{Strip}
 use Rattle.rd_start.specs.declared.strip.Sweep.{Sweep}
 use Rattle.rd_start.proofs.Blocks.{count-append}
-use Rattle.rd_start.proofs.Growth.{affords, affords-pieces, before-none, before-some, first-place, head-of, last-place, length-joined, length-strip_rows, paid-above, paid-below, pieces-above, pieces-below, some-of, strip-joined}
+use Rattle.rd_start.proofs.Growth.{affords, affords-pieces, before-none, before-some, first-place, last-place, length-joined, length-strip_rows, paid-above, paid-below, pieces-above, pieces-below, some-of, strip-joined}
 use Rattle.rd_start.proofs.Rows.{rows_around}
 
 pub strip-same : (m : SourceValues) (sweep sweep' : Sweep) (bs bs' : List Block) (ls ls' : List StripRow) (at at' : ℕ) → sweep' ≡ sweep → bs' ≡ bs → ls' ≡ ls → at' ≡ at
@@ -58,8 +58,8 @@ next-of : (m : SourceValues) (s : Strip) (last b : Block) → IsStrip m s → sl
 next-of m s last b h at gives =
     let p = last-place m.blocks h.before s.blocks.items h.after last h.pieces h.some at in
     let here = gives p.place p.here in
-    let e = head-of h.after b (sym p.next ∙ sym here) in
-    record { before = h.before; after = e.0; pieces = pieces-below m.blocks h.before s.blocks.items h.after e.0 b h.pieces e.1; home = h.home; among = (p.place + 1, sym here) }
+    let e = drop-at h.after 0 b (sym p.next ∙ sym here) in
+    record { before = h.before; after = drop 1 h.after; pieces = pieces-below m.blocks h.before s.blocks.items h.after (drop 1 h.after) b h.pieces e; home = h.home; among = (p.place + 1, sym here) }
 
 no-next : (m : SourceValues) (s : Strip) (last : Block) → IsStrip m s → slice_get s.blocks.items (length s.blocks.items - 1) ≡ Some last → GivesNext m last None
     → first_row m s + length s.strip_rows.items ≡ count_in m s.sweep m.blocks
