@@ -1,16 +1,22 @@
--- A block's row at a place; and what holds of each row of each block holds of all rows of the blocks.
-use Rattle.std.proofs.Common.{◌≡◌, ℕ, zero, suc, ◌+◌, List, [], ◌∷◌, All, Some, refl, ap, subst, arith}
+-- The row at a place of a block or a matrix; and what holds of each row of each block holds of all rows of the blocks.
+use Rattle.std.proofs.Common.{◌≡◌, ℕ, zero, suc, ◌+◌, List, [], ◌∷◌, All, Some, refl, ap, ◌∙◌, subst, arith}
 use Rattle.std.specs.Prelude.{slice_get}
 use Rattle.std.specs.List.{AllByRecursion}
 use Rattle.std.specs.Option.{option_map}
 use Rattle.std.proofs.lemmas.List.Elements.{All-from_recursion}
+use Rattle.std.proofs.lemmas.Option.{slice_get-map}
 use Rattle.rd_base.proofs.Lists.{all-at, all-back, all-front, each-append}
 use Rattle.rd_matrix.specs.Blocks.{IsAmong}
-use Rattle.rd_matrix.specs.Entries.{EntryMeaning, all_rows, entries_of, numbered}
+use Rattle.rd_matrix.specs.Entries.{EntryMeaning, all_rows, entries_of, numbered, shown_entries, shown_entry}
 use Rattle.rd_matrix.specs.Sources.{begins_of}
 use Rattle.rd_matrix.specs.declared.block.Block.{Block}
+use Rattle.rd_matrix.specs.declared.matrix.Entry.{Entry}
 use Rattle.rd_rows.specs.Rows.{RowMeaning}
 use Rattle.rd_rows.specs.declared.begin.Begin.{Begin}
+
+-- the row at a place of the entries of a matrix
+pub entry-at : (es : List Entry) (k : ℕ) (e : Entry) → slice_get es k ≡ Some e → slice_get (shown_entries es) k ≡ Some (shown_entry e)
+entry-at es k e at = slice_get-map shown_entry es k ∙ ap (option_map shown_entry) at
 
 -- the row at a place of those that are numbered
 pub numbered-at : (start number j k : ℕ) (rows : List RowMeaning) → k ≡ number + j

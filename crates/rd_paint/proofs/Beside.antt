@@ -1,14 +1,11 @@
 -- The margins beside the rows of a matrix, one after the other.
 use Rattle.std.proofs.Common.{◌≡◌, ℕ, ◌+◌, Some, List, ◌∷◌, [], ◌++◌, map, take, sym, ap, ◌∙◌}
 use Rattle.std.proofs.lemmas.List.{map_push}
-use Rattle.std.proofs.lemmas.Option.{slice_get-map}
-use Rattle.std.specs.Prelude.{option_map, slice_get}
+use Rattle.std.specs.Prelude.{slice_get}
 use Rattle.rd_base.proofs.Lists.{take-at}
+use Rattle.rd_matrix.proofs.EachRow.{entry-at}
 use Rattle.rd_matrix.specs.Entries.{EntryMeaning, shown_entries, shown_entry}
 use Rattle.rd_matrix.specs.declared.matrix.Entry.{Entry}
-
-pub entry-at : (es : List Entry) (k : ℕ) (e : Entry) → slice_get es k ≡ Some e → slice_get (shown_entries es) k ≡ Some (shown_entry e)
-entry-at es k e at = slice_get-map shown_entry es k ∙ ap (option_map shown_entry) at
 
 -- one row more
 pub more : {A : Type 0} (f : EntryMeaning → A) (es : List Entry) (k : ℕ) (e : Entry) (xs : List A) (x : A) → slice_get es k ≡ Some e → xs ≡ map f (take k (shown_entries es)) → x ≡ f (shown_entry e)

@@ -4,9 +4,9 @@ use Rattle.std.specs.Prelude.{count_by, slice_get}
 use Rattle.std.specs.Option.{option_map}
 use Rattle.std.proofs.lemmas.Bool.{and_parts}
 use Rattle.std.proofs.lemmas.Bool.Decides.{nat_tests}
-use Rattle.std.proofs.lemmas.List.Elements.{All-head, All-tail}
 use Rattle.rd_base.proofs.Lists.{all-at, total-append}
 use Rattle.rd_matrix.proofs.Covering.{covering, count_at, few-whole}
+use Rattle.rd_matrix.proofs.EachRow.{entry-at}
 use Rattle.rd_matrix.proofs.Passing.{found-one, place-counted}
 use Rattle.rd_matrix.specs.Columns.{covers, shown_column}
 use Rattle.rd_matrix.specs.Cursors.{column_shown, cursor_in, or_below}
@@ -107,16 +107,10 @@ hit-outside (e ∷ es) zero column out = absurd (omega (arith, out))
 hit-outside (e ∷ es) (suc row) column out = hit-outside es row column (omega (arith, out))
 
 pub hit-entry : (es : List Entry) (row column : ℕ) (e : Entry) → slice_get es row ≡ Some e → hit_in (shown_entries es) row column ≡ least_at (shown_entry e) column
-hit-entry [] row column e there = absurd cc
-hit-entry (x ∷ xs) zero column e there = let same : x ≡ e = cc in ap (λ (y : Entry). least_at (shown_entry y) column) same
-hit-entry (x ∷ xs) (suc row) column e there = hit-entry xs row column e there
+hit-entry es row column e there = hit-there (shown_entries es) row column (shown_entry e) (entry-at es row e there)
 
 pub fits-entry : (es : List Entry) (row : ℕ) (e : Entry) → AreInPositions (shown_entries es) → slice_get es row ≡ Some e → AreInRow (shown_entry e)
-fits-entry [] row e fits there = absurd cc
-fits-entry (x ∷ xs) zero e fits there =
-    let same : x ≡ e = cc in
-    subst (λ (y : Entry). AreInRow (shown_entry y)) same (All-head AreInRow (shown_entry x) (shown_entries xs) fits)
-fits-entry (x ∷ xs) (suc row) e fits there = fits-entry xs row e (All-tail AreInRow (shown_entry x) (shown_entries xs) fits) there
+fits-entry es row e fits there = all-at AreInRow (shown_entries es) row (shown_entry e) fits (entry-at es row e there)
 
 some-cell : (row : RowMeaning) (column : ℕ) (b : Begin) (q : Bool) → nat_lt column (length row.cells) ≡ q → item_of_cell row column ≡ Some b → item_at (reading_column row column) row.begins ≡ Some b
 some-cell row column b true cell found = subst (λ (t : Bool). cond t (item_at (reading_column row column) row.begins) None ≡ Some b) cell found

@@ -4,11 +4,12 @@ use Rattle.std.specs.Option.{is_none}
 use Rattle.std.proofs.lemmas.Bool.{and_parts, eqb-true, le-leb, lt-leb, ne_eqb}
 use Rattle.std.proofs.lemmas.Bool.Decides.{nat_tests}
 use Rattle.std.proofs.lemmas.List.{append_assoc, length-append, length-drop, length-map, length-take}
-use Rattle.std.proofs.lemmas.Option.{slice_get-map, slice_get_within}
+use Rattle.std.proofs.lemmas.Option.{slice_get_within}
 use Rattle.rd_base.proofs.Choices.{opposite}
 use Rattle.rd_base.proofs.Lists.{element-at, get-first, get-second, get-take, get-drop, at-seam}
 use Rattle.rd_base.specs.declared.settings.Anchor.{Anchor}
 use Rattle.rd_matrix.proofs.Counting.{all-append, count-cons, length-numbered}
+use Rattle.rd_matrix.proofs.EachRow.{entry-at}
 use Rattle.rd_matrix.specs.Blocks.{HoldsPosition, StandFrom, block_before, first_start}
 use Rattle.rd_matrix.specs.Entries.{EntryMeaning, all_rows, entries_of, shown_entries, shown_entry}
 use Rattle.rd_matrix.specs.Sources.{SourceValues, IsSource, rows_at}
@@ -142,7 +143,7 @@ in-view xs place height i low = get-take height (drop place xs) i low ∙ get-dr
 view-at : (es : List Entry) (rows : List EntryMeaning) (place height i : ℕ) (e : Entry) → shown_entries es ≡ take height (drop place rows) → slice_get es i ≡ Some e → i < height
     → slice_get rows (place + i) ≡ Some (shown_entry e)
 view-at es rows place height i e same at low =
-    sym (in-view rows place height i low) ∙ sym (ap (λ xs. slice_get xs i) same) ∙ slice_get-map shown_entry es i ∙ ap (option_map shown_entry) at
+    sym (in-view rows place height i low) ∙ sym (ap (λ xs. slice_get xs i) same) ∙ entry-at es i e at
 
 -- the last row of a view of so many rows
 pub view-end : {i : ℕ} (es : List Entry) (rows : List EntryMeaning) (place height : ℕ) (e : Entry) → shown_entries es ≡ take height (drop place rows) → slice_get es i ≡ Some e → suc i ≡ height
