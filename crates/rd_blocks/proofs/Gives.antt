@@ -69,17 +69,11 @@ some-front xs ys h = let e = length-append xs ys in omega (arith, e, h)
 some-back : (xs ys : List Element) → 1 ≤ length ys → 1 ≤ length (xs ++ ys)
 some-back xs ys h = let e = length-append xs ys in omega (arith, e, h)
 
-either-more : (a b c : List Element) → 1 ≤ length (a ++ b) → (1 ≤ length b → 1 ≤ length c) → 1 ≤ length (a ++ c)
-either-more [] b c h k = k h
-either-more (e ∷ es) b c h k = omega arith
-
 front-more : {X : Type 0} (f : X → List Element) (xs ys : List X) → 1 ≤ length (flat_map f xs) → 1 ≤ length (flat_map f (xs ++ ys))
-front-more f [] ys h = absurd (omega (arith, h))
-front-more f (x ∷ xs) ys h = either-more (f x) (flat_map f xs) (flat_map f (xs ++ ys)) h (front-more f xs ys)
+front-more f xs ys h = subst (λ es. 1 ≤ length es) (sym (flat_map-append f xs ys)) (some-front (flat_map f xs) (flat_map f ys) h)
 
 back-more : {X : Type 0} (f : X → List Element) (xs ys : List X) → 1 ≤ length (flat_map f ys) → 1 ≤ length (flat_map f (xs ++ ys))
-back-more f [] ys h = h
-back-more f (x ∷ xs) ys h = some-back (f x) (flat_map f (xs ++ ys)) (back-more f xs ys h)
+back-more f xs ys h = subst (λ es. 1 ≤ length es) (sym (flat_map-append f xs ys)) (some-back (flat_map f xs) (flat_map f ys) h)
 
 -- a part of a row in its turn
 

@@ -3,7 +3,7 @@ use Rattle.std.proofs.Common.{◌≡◌, ◌⊎◌, inl, inr, ℕ, zero, suc, �
 use Rattle.std.specs.Prelude.{pos, ◌-ℤ◌, ◌^◌, slice_get}
 use Rattle.std.specs.List.{list_all}
 use Rattle.std.specs.Ordering.{int_eq}
-use Rattle.std.proofs.lemmas.Bool.{and_parts, both_ways, not-true}
+use Rattle.std.proofs.lemmas.Bool.{and_parts, both_ways, leb-true, not-true, or_cases}
 use Rattle.std.proofs.lemmas.Bool.Decides.{nat_tests, Decides-eqb, Decides-int_eq}
 use Rattle.std.proofs.lemmas.Int.{ints}
 use Rattle.std.proofs.lemmas.Option.{same_Some}
@@ -164,13 +164,6 @@ pub record FreshLaws : Type 0 where
   pub local : (old new : BufferValue) (made objects : ObjectLists) (files : Data) (a b : Block) (shape : ShapeValues) → without_flags new.settings ≡ without_flags old.settings → IsClosed made → AreMade old made → Extends made objects
       → a.base ≡ b.base → reading old made a.start ≡ reading new objects b.start → rows_in new objects files b shape ≡ rows_in old made files a shape
 
-either-side : (a b : ℕ) (c d : ℕ) → (nat_le a b || nat_le c d) ≡ true → (a ≤ b) ⊎ (c ≤ d)
-either-side a b c d e = by (nat_le a b) (nat_le c d) refl refl e where
-  by : (t u : Bool) → nat_le a b ≡ t → nat_le c d ≡ u → (t || u) ≡ true → (a ≤ b) ⊎ (c ≤ d)
-  by true u first last e = (let less : a ≤ b = grind (arith, nat_tests) in inl less)
-  by false true first last e = (let less : c ≤ d = grind (arith, nat_tests) in inr less)
-  by false false first last e = cc
-
 module _ (laws : FreshLaws) (old new : BufferValue) (made objects : ObjectLists) (files : Data) (c : Change) (shape : ShapeValues) (es : List Entry) (right : IsText old.text) (text : IsText new.text) (is : IsShape shape)
     (follows : Follows old made new objects c) (rows : AreRowsAt (text_source old made files) shape es) where
   older : IsSource (text_source old made files)
@@ -234,11 +227,11 @@ module _ (laws : FreshLaws) (old new : BufferValue) (made objects : ObjectLists)
 
     reads-from : HasStarted c b.start of.0.start → reading old made of.0.start ≡ reading new objects b.start
     reads-from (inl later) = reads-behind old made new objects setting c follows.unchanged b.start b.end is-block of.0.start later.0 later.1
-    reads-from (inr here) = by-side (either-side b.end c.head c.tail b.start outside) where
-      by-side : (b.end ≤ c.head) ⊎ (c.tail ≤ b.start) → reading old made of.0.start ≡ reading new objects b.start
+    reads-from (inr here) = by-side (or_cases (nat_le b.end c.head) (nat_le c.tail b.start) outside) where
+      by-side : (nat_le b.end c.head ≡ true) ⊎ (nat_le c.tail b.start ≡ true) → reading old made of.0.start ≡ reading new objects b.start
       by-side (inl below) =
-          ap (λ (p : ℕ). reading old made p) here.1 ∙ reads-before old made new objects setting c follows.unchanged b.start b.end is-block below
-      by-side (inr above) = let below = here.0 in absurd (omega arith)
+          ap (λ (p : ℕ). reading old made p) here.1 ∙ reads-before old made new objects setting c follows.unchanged b.start b.end is-block (leb-true b.end c.head below)
+      by-side (inr above) = let from = leb-true c.tail b.start above in let below = here.0 in absurd (omega arith)
 
     reads : reading old made of.0.start ≡ reading new objects b.start
     reads = reads-from (subst (λ (p : ℕ). HasStarted c b.start p) (sym of.2) under.started)

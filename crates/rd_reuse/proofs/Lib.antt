@@ -1,6 +1,6 @@
 pub mod Changes
 mod Joining
-pub mod Lists
+mod Lists
 pub mod Places
 mod Placing
 pub mod Taking

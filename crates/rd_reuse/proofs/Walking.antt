@@ -5,7 +5,7 @@ use Rattle.std.proofs.lemmas.Bool.Decides.{nat_tests}
 use Rattle.std.proofs.lemmas.List.{append-nil, append_assoc, drop-map, length-append, length-drop, length-map, length-take, map-append, take-map}
 use Rattle.std.proofs.lemmas.List.Elements.{All-append, All-drop, All-nil, All-take}
 use Rattle.std.proofs.lemmas.Option.{slice_get-map}
-use Rattle.rd_base.proofs.Lists.{at-seam, drop-at, none-left}
+use Rattle.rd_base.proofs.Lists.{at-seam, drop-at, get-second, none-left}
 use Rattle.std.specs.List.{list_any, range_with_len}
 use Rattle.rd_base.specs.declared.settings.Anchor.{Anchor}
 use Rattle.rd_matrix.proofs.Counting.{all-append, any-range, costs-behind, costs-here, length-numbered}
@@ -19,7 +19,7 @@ use Rattle.rd_reuse.specs.Keeping.{copied_rows, entry_under, fresh_cost, is_kept
 use Rattle.rd_reuse.specs.Laying.{placed}
 use Rattle.rd_reuse.specs.Views.{IsCopied, Names, fresh_costs, is_in_view}
 use Rattle.rd_reuse.specs.declared.change.Change.{Change}
-use Rattle.rd_reuse.proofs.Lists.{behind-seam, filled-more, filled-size}
+use Rattle.rd_reuse.proofs.Lists.{filled-more, filled-size}
 use Rattle.rd_matrix.proofs.HeldLemmas.{later-start}
 use Rattle.rd_reuse.proofs.Places.{anchor-found, count-last, holding, some-row}
 use Rattle.rd_reuse.proofs.Placing.{all-placed, none-added, shown-placed}
@@ -203,7 +203,7 @@ module _ {m : SourceValues} {old : List Entry} {c : Change} {shape : ShapeValues
 
   next-first : (o : Option Block) → ((k : ℕ) → slice_get m.blocks k ≡ Some block → o ≡ slice_get m.blocks (k + 1)) → slice_get w.after 0 ≡ o
   next-first o next =
-      sym (next (length w.before) among.1 ∙ (ap (λ bs. slice_get bs (length w.before + 1)) w.pieces ∙ behind-seam w.before block w.after))
+      sym (next (length w.before) among.1 ∙ (ap (λ bs. slice_get bs (length w.before + 1)) w.pieces ∙ get-second w.before (block ∷ w.after) (length w.before + 1) 1 refl))
 
   -- there are more rows than before
   pub grows : (laid : List RowValues) (new : List Entry) → shown_rows laid ≡ m.rows_of block shape → length rows < most → new ≡ grown laid → length rows < length new

@@ -16,7 +16,6 @@ use Rattle.rd_matrix.specs.Sources.{SourceValues, IsSource, rows_at}
 use Rattle.rd_matrix.specs.declared.block.Block.{Block}
 use Rattle.rd_matrix.specs.declared.matrix.Entry.{Entry}
 use Rattle.rd_reuse.specs.Views.{Names, anchor_of}
-use Rattle.rd_reuse.proofs.Lists.{behind-seam}
 use Rattle.rd_reuse.proofs.Places.{Found, anchor-found, holding, row-in, some-row}
 use Rattle.rd_rows.specs.Laws.{ends_last}
 use Rattle.rd_rows.specs.Rows.{RowMeaning}
@@ -101,10 +100,10 @@ module _ {m : SourceValues} {shape : ShapeValues} (source : IsSource m) (is : Is
   last-by : (before after : List Block) (b : Block) (o : Option Block) (k n : ℕ) → m.blocks ≡ before ++ b ∷ after → o ≡ slice_get m.blocks (length before + 1)
       → n ≡ suc k + length (all_rows rows_in after) → is_none o ≡ leb n (suc k)
   last-by before [] b o k n pieces at count =
-      ap is_none (at ∙ ap (λ bs. slice_get bs (length before + 1)) pieces ∙ behind-seam before b []) ∙ sym (le-leb n (suc k) (omega (arith, count)))
+      ap is_none (at ∙ ap (λ bs. slice_get bs (length before + 1)) pieces ∙ get-second before (b ∷ []) (length before + 1) 1 refl) ∙ sym (le-leb n (suc k) (omega (arith, count)))
   last-by before (x ∷ xs) b o k n pieces at count =
       let some = some-rows (before ++ b ∷ []) xs xs x (pieces ∙ sym (append_assoc before (b ∷ []) (x ∷ xs))) in
-      ap is_none (at ∙ ap (λ bs. slice_get bs (length before + 1)) pieces ∙ behind-seam before b (x ∷ xs)) ∙ sym (lt-leb n (suc k) (omega (arith, count, some)))
+      ap is_none (at ∙ ap (λ bs. slice_get bs (length before + 1)) pieces ∙ get-second before (b ∷ x ∷ xs) (length before + 1) 1 refl) ∙ sym (lt-leb n (suc k) (omega (arith, count, some)))
 
   -- a row that ends its block is the last of the source exactly where no block is behind it
   pub last-row : (k : ℕ) (e : EntryMeaning) (block : Block) (o : Option Block) → slice_get (rows_at m shape) k ≡ Some e → HoldsPosition e.start m.blocks block
