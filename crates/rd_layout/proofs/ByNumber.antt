@@ -1,12 +1,12 @@
 -- A window that lives behind a change lived before it.
-use Rattle.std.proofs.Common.{◌≡◌, ◌≢◌, ℕ, zero, suc, inl, inr, Some, List, [], ◌∷◌, ◌++◌, map, sym, ap, ◌∙◌, subst}
+use Rattle.std.proofs.Common.{◌≡◌, ◌≢◌, ℕ, zero, suc, inl, inr, Some, List, [], ◌∷◌, ◌++◌, map, sym, ap, ◌∙◌}
 use Rattle.std.proofs.lemmas.Bool.{cases_eq}
 use Rattle.std.specs.Prelude.{slice_get, option_map}
 use Rattle.rd_base.proofs.Lists.{get-end}
 use Rattle.rd_base.proofs.Choices.{map-some}
 use Rattle.rd_state.specs.Moves.{moved_by, moved_in}
 use Rattle.rd_state.specs.Windows.{window_of, with_window, without_window}
-use Rattle.rd_state.proofs.ByNumber.{NumberedWindow, get-window, get-without, under-here, under-there, window-each, window-other, window-same}
+use Rattle.rd_state.proofs.ByNumber.{NumberedWindow, get-window, get-without, under-here, under-there, window-each, window-with}
 use Rattle.rd_state.specs.declared.moves.Move.{Move}
 use Rattle.rd_state.specs.declared.window.WindowState.{WindowState}
 
@@ -31,10 +31,7 @@ pub lives-moved : (i : ℕ) (how : Move) (n : ℕ) (ws : List NumberedWindow) �
 lives-moved i how n ws l = lives-mapped (moved_by i how) n ws (map (moved_in i how) ws) (window-each n (moved_by i how) ws) l
 
 pub lives-with : (m : ℕ) (f : WindowState → WindowState) (n : ℕ) (ws : List NumberedWindow) → Lives n (with_window m f ws) → Lives n ws
-lives-with m f n ws l = elim (cases_eq n m) [
-  | inl p ↦ lives-mapped f n ws (with_window m f ws) (subst (λ (k : ℕ). window_of n (with_window k f ws) ≡ option_map f (window_of n ws)) p (window-same n f ws)) l
-  | inr q ↦ (l.0, sym (window-other m n f ws q) ∙ l.1)
-]
+lives-with m f n ws l = elim (window-with m n f ws) [ inl p ↦ (l.0, sym p ∙ l.1) | inr p ↦ lives-mapped f n ws (with_window m f ws) p l ]
 
 pub lives-without : (m n : ℕ) (ws : List NumberedWindow) → Lives n (without_window m ws) → Lives n ws
 lives-without m n ws l =

@@ -1,9 +1,10 @@
 -- Lists by numbers: what stands under one, and the windows of a state.
 use Rattle.std.proofs.Common.{◌≡◌, ◌≢◌, ℕ, zero, suc, ◌+◌, ◌<◌, ◌⊎◌, inl, inr, ◌==◌, not, if◌then◌else◌, Option, None, Some, List, [], ◌∷◌, ◌++◌, length, map, set, subst, sym, ap, refl, ◌∙◌, arith}
 use Rattle.std.proofs.lemmas.Bool.{cases_eq, cond-false, cond-true, eq-eqb, ne_eqb, not_from_false, not_from_true}
-use Rattle.std.specs.Prelude.{slice_get, option_map}
+use Rattle.std.specs.Prelude.{slice_get, option_map, IsSome}
 use Rattle.std.specs.List.{remove}
 use Rattle.std.specs.Option.{option_or}
+use Rattle.rd_base.proofs.Choices.{is_some-map}
 use Rattle.rd_state.specs.declared.window.WindowState.{WindowState}
 use Rattle.rd_state.proofs.Options.{one-value}
 use Rattle.rd_state.specs.Windows.{under, window_of, place_in, with_window, without_window, AreApart}
@@ -117,11 +118,19 @@ window-other n m f (e ∷ rest) ne = elim (cases_eq e.0 n) [
   ]
 ]
 
-none-with : (n m : ℕ) (f : WindowState → WindowState) (ws : List NumberedWindow) → window_of m ws ≡ None → window_of m (with_window n f ws) ≡ None
-none-with n m f ws h = elim (cases_eq m n) [
-  | inl p ↦ ap (λ (k : ℕ). window_of k (with_window n f ws)) p ∙ (window-same n f ws ∙ ap (option_map f) (ap (λ (k : ℕ). window_of k ws) (sym p) ∙ h))
-  | inr q ↦ window-other n m f ws q ∙ h
+-- a number leads to what it led to, or to what became of that
+pub window-with : (n m : ℕ) (f : WindowState → WindowState) (ws : List NumberedWindow)
+    → (window_of m (with_window n f ws) ≡ window_of m ws) ⊎ (window_of m (with_window n f ws) ≡ option_map f (window_of m ws))
+window-with n m f ws = elim (cases_eq m n) [
+  | inl p ↦ inr (subst (λ (k : ℕ). window_of k (with_window n f ws) ≡ option_map f (window_of k ws)) (sym p) (window-same n f ws))
+  | inr q ↦ inl (window-other n m f ws q)
 ]
+
+pub some-with : (n m : ℕ) (f : WindowState → WindowState) (ws : List NumberedWindow) → IsSome (window_of m ws) → IsSome (window_of m (with_window n f ws))
+some-with n m f ws h = elim (window-with n m f ws) [ inl p ↦ subst IsSome (sym p) h | inr p ↦ subst IsSome (sym p) (is_some-map f (window_of m ws) h) ]
+
+none-with : (n m : ℕ) (f : WindowState → WindowState) (ws : List NumberedWindow) → window_of m ws ≡ None → window_of m (with_window n f ws) ≡ None
+none-with n m f ws h = elim (window-with n m f ws) [ inl p ↦ p ∙ h | inr p ↦ p ∙ ap (option_map f) h ]
 
 pub apart-with : (n : ℕ) (f : WindowState → WindowState) (ws : List NumberedWindow) → AreApart ws → AreApart (with_window n f ws)
 apart-with n f [] h = tt

@@ -20,7 +20,7 @@ use Rattle.rd_state.specs.States.{BufferValue, ContentValue, new_buffer, new_con
 use Rattle.rd_state.specs.Windows.{window_of, with_window, leaf_at, leaf_of}
 use Rattle.rd_state.specs.Valid.{most_buffers, AreToldByName, AreBuffers, IsContent, IsWindow, AreWindows}
 use Rattle.rd_state.specs.Moves.{place_after, moved, moved_by, moved_in}
-use Rattle.rd_state.proofs.ByNumber.{NumberedWindow, window-each, apart-each, get-each, window-same, window-other, apart-with, get-with, window-at}
+use Rattle.rd_state.proofs.ByNumber.{NumberedWindow, window-each, apart-each, get-each, window-same, window-other, some-with, apart-with, get-with, window-at}
 use Rattle.rd_state.proofs.Options.{map-map}
 
 -- ---- buffers
@@ -205,9 +205,5 @@ windows-changed bs c d ws n number f valid here others keep v = record {
         let found = window-at number ws k p.0 v.apart p.1 p.3 in
         subst (λ (x : NumberedWindow). IsWindow bs x.1) (sym p.2) (keep p.0.1 found (v.each k p.0 p.1))
   ];
-  selected = elim (cases_eq n number) [
-    | inl p ↦ subst (λ (x : ℕ). IsSome (window_of x (with_window number f ws))) (sym p)
-        (subst IsSome (sym (window-same number f ws)) (is_some-map f (window_of number ws) (subst (λ (x : ℕ). IsSome (window_of x ws)) p v.selected)))
-    | inr q ↦ subst IsSome (sym (window-other number n f ws q)) v.selected
-  ];
+  selected = some-with number n f ws v.selected;
 }

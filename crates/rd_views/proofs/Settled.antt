@@ -5,7 +5,7 @@ use Rattle.std.proofs.lemmas.List.{drop_more}
 use Rattle.std.proofs.lemmas.Option.{none-some, same_Some}
 use Rattle.std.proofs.lemmas.Iterator.Adapters.{option_map_id}
 use Rattle.std.specs.Prelude.{IsSome, option_map, pos, slice_get}
-use Rattle.rd_base.proofs.Choices.{map-some, is_some-map}
+use Rattle.rd_base.proofs.Choices.{map-some}
 use Rattle.rd_start.specs.Chosen.{chosen_of}
 use Rattle.rd_start.specs.declared.wanted.Chosen.{Chosen}
 use Rattle.rd_state.specs.Shown.{IsShownAt}
@@ -21,7 +21,7 @@ use Rattle.rd_ucd.specs.Data.{Data}
 use Rattle.rd_layout.specs.Screens.{settled_at, settled_by, settled_state}
 use Rattle.rd_layout.specs.Sessions.{SessionValue, layout_of}
 use Rattle.rd_layout.specs.Windows.{place_of, places, view_in, wanted_of, window_shape, window_source}
-use Rattle.rd_state.proofs.ByNumber.{NumberedWindow, apart-became, under-became, under-here, under-there, window-other, window-same}
+use Rattle.rd_state.proofs.ByNumber.{NumberedWindow, apart-became, under-became, under-here, under-there, some-with, window-other, window-same, window-with}
 use Rattle.rd_layout.proofs.Known.{Last}
 use Rattle.rd_layout.proofs.Placed.{placed-here, placed-there}
 use Rattle.rd_views.specs.Layings.{AreDesired, AreOnce, CanSettle, IsDesiredBy, all_settled}
@@ -183,20 +183,11 @@ module _ (v : SessionValue) where
 
 -- a window that is found behind another's settling was there before it, and shows the same buffer
 pub shown-before : (n m : ℕ) (c : Chosen) (ws : List NumberedWindow) (w : WindowState) → window_of n (with_window m (settle_to c) ws) ≡ Some w → (u : WindowState) × (window_of n ws ≡ Some u) × (u.buffer ≡ w.buffer)
-shown-before n m c ws w at = elim (cases_eq n m) [
-  | inl p ↦
-      let here : window_of m (with_window m (settle_to c) ws) ≡ Some w = ap (λ (k : ℕ). window_of k (with_window m (settle_to c) ws)) (sym p) ∙ at in
-      let u = map-some (settle_to c) (window_of m ws) w (sym (window-same m (settle_to c) ws) ∙ here) in
-      (u.0, ap (λ (k : ℕ). window_of k ws) p ∙ u.1, ap (λ (x : WindowState). x.buffer) u.2)
-  | inr q ↦ (w, sym (window-other m n (settle_to c) ws q) ∙ at, refl)
-]
-
-still-lives : (n m : ℕ) (c : Chosen) (ws : List NumberedWindow) → IsSome (window_of n ws) → IsSome (window_of n (with_window m (settle_to c) ws))
-still-lives n m c ws h = elim (cases_eq n m) [
-  | inl p ↦
-      subst IsSome (sym (ap (λ (k : ℕ). window_of k (with_window m (settle_to c) ws)) p ∙ window-same m (settle_to c) ws))
-      (is_some-map (settle_to c) (window_of m ws) (subst (λ (k : ℕ). IsSome (window_of k ws)) p h))
-  | inr q ↦ subst IsSome (sym (window-other m n (settle_to c) ws q)) h
+shown-before n m c ws w at = elim (window-with m n (settle_to c) ws) [
+  | inl p ↦ (w, sym p ∙ at, refl)
+  | inr p ↦
+      let u = map-some (settle_to c) (window_of n ws) w (sym p ∙ at) in
+      (u.0, u.1, ap (λ (x : WindowState). x.buffer) u.2)
 ]
 
 still-shown : (m : ℕ) (c : Chosen) (s : StateValue) (n p : ℕ) → IsShownAt s n p → IsShownAt (settled s m c.anchor c.point) n p
@@ -208,7 +199,7 @@ pub can-still : (m : ℕ) (c : Chosen) (s : StateValue) (xs : List LaidWindow) (
 can-still m c s [] es h = tt
 can-still m c s (x ∷ xs) [] h = tt
 can-still m c s (x ∷ xs) (e ∷ es) h = (
-  still-lives e.0 m c s.windows h.0,
+  some-with m e.0 (settle_to c) s.windows h.0,
   still-shown m c s e.0 x.chosen.anchor.pos h.1,
   still-shown m c s e.0 x.chosen.point h.2,
   can-still m c s xs es h.3,
