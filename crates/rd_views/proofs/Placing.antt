@@ -1,7 +1,8 @@
 -- The numbers of the windows of a frame stand once.
-use Rattle.std.proofs.Common.{◌≡◌, inl, inr, ℕ, ◌≤◌, Option, None, Some, List, [], ◌∷◌, ◌++◌, sym, refl, ◌∙◌, arith}
+use Rattle.std.proofs.Common.{◌≡◌, inl, inr, ℕ, ◌≤◌, Option, None, Some, List, [], ◌∷◌, ◌++◌, refl, ap₂, ◌∙◌, arith}
 use Rattle.std.proofs.lemmas.Bool.{cases_eq}
-use Rattle.std.proofs.lemmas.Option.{none-some}
+use Rattle.std.specs.Option.{option_or}
+use Rattle.rd_tree.proofs.Rooms.{of_number-append}
 use Rattle.rd_tree.specs.Windows.{Windows, Window, Split, first_part, of_number, placed, second_part, times}
 use Rattle.rd_tree.specs.declared.placed.Placed.{Placed}
 use Rattle.rd_tree.specs.declared.rect.Rect.{Rect}
@@ -14,11 +15,7 @@ AreApart (p ∷ ps) = (of_number p.number ps ≡ None) × AreApart ps
 
 -- a number that is in none of two lists is not in both together
 neither : (n : ℕ) (ps qs : List Placed) → of_number n ps ≡ None → of_number n qs ≡ None → of_number n (ps ++ qs) ≡ None
-neither n [] qs h g = g
-neither n (p ∷ ps) qs h g = elim (cases_eq p.number n) [
-  | inl e ↦ absurd (none-some p (sym h ∙ placed-here n p ps e))
-  | inr e ↦ placed-there n p (ps ++ qs) e ∙ neither n ps qs (sym (placed-there n p ps e) ∙ h) g
-]
+neither n ps qs h g = of_number-append n ps qs ∙ ap₂ option_or h g
 
 -- no number of the first list is one of the second
 abbrev pub Differ : List Placed → List Placed → Type 0
