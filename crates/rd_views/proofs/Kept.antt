@@ -5,22 +5,17 @@ use Rattle.rd_layout.specs.Redisplays.{AreLaidOut, IsSent, update_of}
 use Rattle.rd_layout.specs.Screens.{laid_out, settled_state}
 use Rattle.rd_layout.specs.Sessions.{SessionValue}
 use Rattle.rd_layout.specs.Since.{IsSession}
-use Rattle.rd_layout.specs.Windows.{place_of, places, view_in}
+use Rattle.rd_layout.specs.Windows.{places}
 use Rattle.rd_layout.proofs.Known.{Last}
 use Rattle.rd_layout.proofs.Placed.{placed-at}
 use Rattle.rd_state.specs.States.{StateValue}
-use Rattle.rd_state.specs.Valid.{IsValid}
-use Rattle.rd_state.specs.Windows.{shown_content, window_of}
-use Rattle.rd_state.specs.declared.window.WindowState.{WindowState}
-use Rattle.rd_text.specs.Texts.{IsAccessible}
 use Rattle.rd_tree.specs.Calls.{frame_of}
-use Rattle.rd_tree.specs.declared.placed.Placed.{Placed}
 use Rattle.rd_ucd.specs.Data.{Data}
 use Rattle.rd_views.specs.Layings.{AreDesired, AreOnce, CanSettle, all_settled, layouts_taken}
 use Rattle.rd_views.specs.declared.desired.LaidWindow.{LaidWindow}
 use Rattle.rd_views.proofs.Desiring.{laid-out, once}
 use Rattle.rd_views.proofs.Placing.{placed-apart}
-use Rattle.rd_views.proofs.Settled.{can-settle, state-settled}
+use Rattle.rd_views.proofs.Settled.{ChosenLaw, can-settle, state-settled}
 
 abbrev pub LeadOn : Type 0
 LeadOn = (rows : ℕ) (done : Bool) (stop : Option ℕ) (old new : SessionValue) (before after : Option (List ℕ)) → IsSession old → IsSent rows done stop old new before after → IsSession new
@@ -49,11 +44,6 @@ adopted law old files s layouts session files_stay state laid =
     }) in
     record { state = shown.state; screen = tt; made = shown.made; layouts = shown.layouts }
 
--- what a redisplay chooses is accessible
-abbrev pub ChosenLaw : Type 0
-ChosenLaw = (files : Data) (s : StateValue) (number : ℕ) (w : WindowState) (place : Placed) → IsValid s → window_of number s.windows ≡ Some w → place_of number s ≡ Some place
-    → IsAccessible (shown_content s w).text (view_in files s w place).anchor.pos × IsAccessible (shown_content s w).text (view_in files s w place).point
-
 module _ (law : PlaceLaws) (v : SessionValue) (session : IsSession v) (xs : List LaidWindow) (es : List Last) (desired : AreDesired v (places v.state) xs es) where
   numbers-once : AreOnce es
   numbers-once = once v (places v.state) xs es desired (placed-apart v.state.tree.windows (frame_of v.state.tree) session.state.windows.tree.once)
@@ -63,7 +53,7 @@ module _ (law : PlaceLaws) (v : SessionValue) (session : IsSession v) (xs : List
 
   pub can-as : ChosenLaw → (s : StateValue) (us : List LaidWindow) (ws : List Last) → s ≡ v.state → us ≡ xs → ws ≡ es → CanSettle s us ws
   can-as chosen s us ws a b d =
-      let can = can-settle v (λ number w place lives at. chosen v.files v.state number w place session.state lives at) xs es (λ k p at. placed-at law v.state session.state k p at) desired in
+      let can = can-settle v chosen session.state xs es (λ k p at. placed-at law v.state session.state k p at) desired in
       subst (λ (t : StateValue). CanSettle t us ws) (sym a) (subst₂ (λ (ys : List LaidWindow) (fs : List Last). CanSettle v.state ys fs) (sym b) (sym d) can)
 
   pub state-as : (new s : StateValue) (us : List LaidWindow) (ws : List Last) → s ≡ v.state → us ≡ xs → ws ≡ es → new ≡ all_settled us ws s → new ≡ (laid_out v.files v.state).state

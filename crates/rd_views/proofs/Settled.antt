@@ -11,6 +11,7 @@ use Rattle.rd_start.specs.declared.wanted.Chosen.{Chosen}
 use Rattle.rd_state.specs.Shown.{IsShownAt}
 use Rattle.rd_state.specs.States.{ContentValue, StateValue}
 use Rattle.rd_state.specs.Steps.{settled}
+use Rattle.rd_state.specs.Valid.{IsValid}
 use Rattle.rd_state.specs.Windows.{AreApart, content_in, shown_content, window_of, with_window}
 use Rattle.rd_state.specs.declared.window.WindowState.{WindowState}
 use Rattle.rd_text.specs.Texts.{IsAccessible}
@@ -222,8 +223,8 @@ step-settled s new whole xs es i d f there less can is so_far =
     )
 
 -- what a redisplay chooses is accessible
-abbrev pub Accessible : Data → StateValue → Type 0
-Accessible files s = (number : ℕ) (w : WindowState) (place : Placed) → window_of number s.windows ≡ Some w → place_of number s ≡ Some place
+abbrev pub ChosenLaw : Type 0
+ChosenLaw = (files : Data) (s : StateValue) (number : ℕ) (w : WindowState) (place : Placed) → IsValid s → window_of number s.windows ≡ Some w → place_of number s ≡ Some place
     → IsAccessible (shown_content s w).text (view_in files s w place).anchor.pos × IsAccessible (shown_content s w).text (view_in files s w place).point
 
 one-shown : (s : StateValue) (n : ℕ) (w : WindowState) (p : ℕ) → window_of n s.windows ≡ Some w → IsAccessible (shown_content s w).text p → IsShownAt s n p
@@ -232,14 +233,14 @@ one-shown s n w p lives h u b at there =
     let content : shown_content s w ≡ b.content = ap (λ (x : WindowState). shown_content s x) same ∙ ap content_in there in
     subst (λ (c : ContentValue). IsAccessible c.text p) content h
 
-module _ (v : SessionValue) (accessible : Accessible v.files v.state) where
+module _ (v : SessionValue) (chosen : ChosenLaw) (valid : IsValid v.state) where
   settles-by : (p : Placed) (o : Option WindowState) (x : LaidWindow) (e : Last) → window_of p.number v.state.windows ≡ o → place_of p.number v.state ≡ Some p
       → IsDesiredBy v.files v.state (layout_of p.number v.layouts) p o x e
       → IsSome (window_of e.0 v.state.windows) × IsShownAt v.state e.0 x.chosen.anchor.pos × IsShownAt v.state e.0 x.chosen.point
   settles-by p None x e is at h = absurd h
   settles-by p (Some w) x e is at h =
       let lives : window_of e.0 v.state.windows ≡ Some w = ap (λ (k : ℕ). window_of k v.state.windows) h.number ∙ is in
-      let both = accessible p.number w p is at in (
+      let both = chosen v.files v.state p.number w p valid is at in (
         subst IsSome (sym lives) refl,
         one-shown v.state e.0 w x.chosen.anchor.pos lives (subst (λ (c : Chosen). IsAccessible (shown_content v.state w).text c.anchor.pos) (sym h.chosen) both.0),
         one-shown v.state e.0 w x.chosen.point lives (subst (λ (c : Chosen). IsAccessible (shown_content v.state w).text c.point) (sym h.chosen) both.1),
