@@ -177,14 +177,10 @@ impl Playing {
     {
         match self.generated {
             Some(_) => Ok(()),
-            None => tell_redisplay(
-                report,
-                &self.session,
-                &mut self.windows,
-                self.dumps,
-                self.lines,
-                rows,
-            ),
+            None => {
+                tell_rows(report, self.lines, ": shown ", rows)?;
+                tell_dump(report, &self.session, &mut self.windows, self.dumps)
+            }
         }
     }
 
@@ -230,22 +226,6 @@ fn start_of(session: &Session) -> Anchor
         Some(start) => start,
         None => Anchor { pos: 1, row: 0 },
     }
-}
-
-/// Tells that a redisplay was shown, with its dump where that is asked for.
-fn tell_redisplay<R: Sink>(
-    report: &mut R,
-    session: &Session,
-    windows: &mut Windows,
-    dumps: bool,
-    number: u32,
-    rows: u32,
-) -> Result<(), Failed>
-    ensures { Prints (R.written report.old) (R.written report.new) (R.faults report.old) (R.faults report.new)
-        (shown_line number rows ++ dump_lines dumps session.now.current (facts_of session.now)) result }
-{
-    tell_rows(report, number, ": shown ", rows)?;
-    tell_dump(report, session, windows, dumps)
 }
 
 /// Writes the dump of the screen where it is asked for.
