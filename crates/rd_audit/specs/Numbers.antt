@@ -24,6 +24,6 @@ number_of (a ∷ b ∷ []) = longer (lead a) (digit b)
 number_of (a ∷ b ∷ c ∷ []) = longer (longer (lead a) (digit b)) (digit c)
 number_of bytes = None
 
--- the numbers before and behind the first of a byte
+-- the two numbers before and behind the first place of a byte
 abbrev pub pair_of : ℕ → List ℕ → Option (ℕ × ℕ)
 pair_of byte bytes = option_and_then (λ parts. option_zip (number_of parts.0) (number_of parts.1)) (cut byte bytes)

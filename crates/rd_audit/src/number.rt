@@ -4,7 +4,8 @@ ghost use Rattle.rd_audit.specs.Numbers.{digit, lead, longer, number_of, pair_of
 
 use crate::cuts::cut;
 
-/// The numbers before and behind the first of a byte.
+/// The two numbers before and behind the first place at which a byte stands; None where it stands nowhere, or where what is before or
+/// behind it is no number of at most three digits. The cost is linear in the bytes.
 pub fn pair_of(byte: u8, bytes: &[u8]) -> Option<(u32, u32)>
     ensures value { result ≡ pair_of byte bytes.now }
     ensures bound { IfSome result (λ pair. pair.1 < 1000) }

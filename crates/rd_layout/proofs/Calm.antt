@@ -49,7 +49,7 @@ tail-told c some h =
     let is : c.tail ≡ 0 = eqb-true c.tail 0 parts.1 in
     absurd (omega (arith, is, some))
 
--- a change that has no room in its fields is all, which has a tail
+-- a change that was given a tail has one: its own, or that of `all` where its fields have no room
 change-tail : (t : Bool) (head tail : ℕ) (added : ℤ) → 0 < tail → 0 < (if t then record { head = head; tail = tail; added = added } else all).tail
 change-tail true head tail added some = some
 change-tail false head tail added some = omega arith

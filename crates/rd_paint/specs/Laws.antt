@@ -25,7 +25,7 @@ pub record LeafLaws : Type 0 where
   pub places : PlaceLaws
   pub found : (s : StateValue) (number : ℕ) (w : WindowState) → IsValid s → window_of number s.windows ≡ Some w → IsWindow s.buffers w
 
--- those that are listed of an accessible text are its blocks
+-- where the accessible range is in order, each range that is listed is a block of the buffer
 abbrev pub ListedLaw : Type 0
 ListedLaw = (s : props.BufferValue) → s.text.begin ≤ s.text.end → (k : ℕ) (b : ℕ × ℕ) → slice_get (blocks_of s) k ≡ Some b → IsBlock s b.0 b.1
 

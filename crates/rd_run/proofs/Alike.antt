@@ -53,6 +53,7 @@ Stops o w n (t ∷ ts) lines status =
 
 -- ---- it stops at one place
 
+-- lists that are equal have equal heads and equal rests
 head-of : (x y : List ℕ) (xs ys : List (List ℕ)) → x ∷ xs ≡ y ∷ ys → x ≡ y
 head-of x y xs ys e = cc
 

@@ -131,7 +131,7 @@ made-free : (s : StateValue) (o : Option ObjectFault) (made : ObjectLists) → o
 made-free s None made h = ok-free _
 made-free s (Some fault) made h = no-free (refused_object fault) (object-free fault (λ e. h (ap (λ f. Some f) e)))
 
--- what is no want of memory, in two cases
+-- neither of two possible faults is want of memory, so the one that is chosen is not
 choice-free : (b : Bool) (o p : Option ObjectFault) → o ≢ Some faults.Memory → p ≢ Some faults.Memory → (if b then o else p) ≢ Some faults.Memory
 choice-free b o p h k = either (λ (x : Option ObjectFault). x ≢ Some faults.Memory) b o p h k
 

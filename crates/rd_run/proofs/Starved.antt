@@ -1,5 +1,5 @@
 -- Which lines it matters for that they found no memory: redisplays alone.
-use Rattle.std.proofs.Common.{◌≡◌, ℕ, Bool, true, false, if◌then◌else◌, List, ◌∷◌, Option, None, Some, is_some, refl, ap, ◌∙◌}
+use Rattle.std.proofs.Common.{◌≡◌, ℕ, Bool, true, false, if◌then◌else◌, List, Option, None, Some, is_some, refl, ap, ◌∙◌}
 use Rattle.rd_script.specs.declared.op.Op.{Op}
 use Rattle.rd_run.proofs.Effects.{effects-pair}
 use Rattle.rd_run.specs.Runs.{Input, Standing, World, after, effect, effect_by, outcome_at, run_line, input_of}

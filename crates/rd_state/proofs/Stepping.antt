@@ -48,9 +48,9 @@ raw-codes bytes h =
 
 -- ---- positions
 
-moved_by : (t : Bool) (low high p n : ℕ) → low ≤ p → p ≤ high → (low ≤ (if t then p + n else p)) × ((if t then p + n else p) ≤ high + n)
-moved_by true low high p n a b = (omega arith, omega arith)
-moved_by false low high p n a b = (omega arith, omega arith)
+place-moves : (t : Bool) (low high p n : ℕ) → low ≤ p → p ≤ high → (low ≤ (if t then p + n else p)) × ((if t then p + n else p) ≤ high + n)
+place-moves true low high p n a b = (omega arith, omega arith)
+place-moves false low high p n a b = (omega arith, omega arith)
 
 -- ---- one buffer
 
@@ -103,7 +103,7 @@ pub insertion-keeps : (texts : TextLaws) (made : MadeLaws) (o : ObjectLists) (po
 insertion-keeps texts made o pos new codes c d v h =
     let m = insertion-means pos new c d h in (
       subst (IsContent o) m.2 (grown-valid texts made o c pos new v codes m.0 m.1),
-      λ p a. subst (λ (x : ContentValue). IsAccessible x.text (point_after_insertion pos (length new) p)) m.2 (moved_by (nat_lt pos p) c.text.begin c.text.end p (length new) a.0 a.1),
+      λ p a. subst (λ (x : ContentValue). IsAccessible x.text (point_after_insertion pos (length new) p)) m.2 (place-moves (nat_lt pos p) c.text.begin c.text.end p (length new) a.0 a.1),
     )
 
 pub deletion-means : (from to : ℕ) (c d : ContentValue) → deletion from to c ≡ Ok d → IsAccessibleRange c.text from to × (shrunk c from to ≡ d)

@@ -36,14 +36,14 @@ slot-fits size pos n (Some o) room h =
 pub all-fit : (slots : List (Option Overlay)) (size pos n : ℕ) → size + 1 + n < 4294967296 → AreIn size slots → AllFit pos n slots
 all-fit slots size pos n room h number slot at = slot-fits size pos n slot room (λ o is. h number o (ap live at ∙ is))
 
-moved_by : (t : Bool) (p n : ℕ) → (p ≤ (if t then p + n else p)) × ((if t then p + n else p) ≤ p + n)
-moved_by true p n = (omega arith, omega arith)
-moved_by false p n = (omega arith, omega arith)
+place-moves : (t : Bool) (p n : ℕ) → (p ≤ (if t then p + n else p)) × ((if t then p + n else p) ≤ p + n)
+place-moves true p n = (omega arith, omega arith)
+place-moves false p n = (omega arith, omega arith)
 
 grown-in : (size pos n : ℕ) (o : Overlay) → IsOverlayIn size o → IsOverlayIn (size + n) (grown pos n o)
 grown-in size pos n o h =
-    let from = moved_by (nat_lt pos o.from || ((o.from == pos) && o.front)) o.from n in
-    let to = moved_by (nat_lt pos o.to || ((o.to == pos) && o.rear)) o.to n in
+    let from = place-moves (nat_lt pos o.from || ((o.from == pos) && o.front)) o.from n in
+    let to = place-moves (nat_lt pos o.to || ((o.to == pos) && o.rear)) o.to n in
     let first = h.first in
     let ordered = h.ordered in
     let last = h.last in

@@ -26,6 +26,6 @@ moved how w = record w { point = place_after how w.point; anchor = record { pos 
 abbrev pub moved_by : ℕ → Move → WindowState → WindowState
 moved_by buffer how w = if w.buffer == buffer then moved how w else w
 
--- and with its number
+-- the same of a window that stands under its own number
 abbrev pub moved_in : ℕ → Move → ℕ × WindowState → ℕ × WindowState
 moved_in buffer how e = (e.0, moved_by buffer how e.1)

@@ -1,12 +1,12 @@
 use Rattle.std.proofs.Common.{◌∙◌}
 use Rattle.rd_base.proofs.Lists.{all-at}
 use Rattle.rd_layout.specs.Panes.{margin_of}
+use Rattle.rd_matrix.proofs.EachRow.{entry-at}
+use Rattle.rd_matrix.specs.Entries.{shown_entries, shown_entry}
 use Rattle.rd_paint.specs.Shown.{of_classes}
 use Rattle.rd_paint.proofs.Beside.{more}
 use Rattle.rd_paint.proofs.Starts.{StartsIn}
 use Rattle.rd_paint.proofs.margins.WindowMargins.beside_each.Goals as goal
-use Rattle.rd_matrix.proofs.EachRow.{entry-at}
-use Rattle.rd_matrix.specs.Entries.{shown_entries, shown_entry}
 
 pub beside-requires : goal.beside-requires
 beside-requires c =
