@@ -10,7 +10,7 @@ use Rattle.std.proofs.Math.Seq.{set-append_seam}
 use Rattle.std.proofs.lemmas.List.{replicate-append-replicate, take-append-drop, length-replicate}
 use Rattle.unicode_width.specs.Width.{char_width}
 use Rattle.rd_base.proofs.Lists.{each-append}
-use Rattle.rd_base.proofs.Rows.{spare-marks}
+use Rattle.rd_base.proofs.Rows.{by-cells, spare-marks}
 use Rattle.rd_base.specs.Cells.{single, with_mark}
 use Rattle.rd_base.specs.Chars.{is_scalar, encoded, columns_of}
 use Rattle.rd_base.specs.Faces.{plain}
@@ -116,17 +116,12 @@ marks-shown [] h = tt
 marks-shown (mark ∷ marks) h = ((h.0.0, (0, h.0.1)), marks-shown marks h.1)
 
 pub row-shown : (due : ℕ) (cells : List Cell) → IsRowAfter due cells → AreShown (codes_of cells)
-row-shown zero [] h = tt
-row-shown zero (Blank f ∷ cells) h = ((refl, (1, space-columns)), row-shown zero cells h)
-row-shown zero (First g f ∷ cells) h = (
-  (h.0.measured.scalar, (g.width, base-columns g h.0.measured)),
-  each-append IsShown (marks_of g) (codes_of cells) (marks-shown (marks_of g) (marks-are g h.0.measured)) (row-shown (g.width - 1) cells h.1),
-)
-row-shown zero (Rest ∷ cells) h = absurd h
-row-shown (suc due) [] h = absurd h
-row-shown (suc due) (Blank f ∷ cells) h = absurd h
-row-shown (suc due) (First g f ∷ cells) h = absurd h
-row-shown (suc due) (Rest ∷ cells) h = row-shown due cells h
+row-shown = by-cells (λ due cells. AreShown (codes_of cells)) tt (λ f cells so. ((refl, (1, space-columns)), so))
+    (λ g f cells good row so. (
+      (good.measured.scalar, (g.width, base-columns g good.measured)),
+      each-append IsShown (marks_of g) (codes_of cells) (marks-shown (marks_of g) (marks-are g good.measured)) so,
+    ))
+    (λ due cells so. so)
 
 -- the bytes of a row's text
 text-of_glyph : (g : Glyph) → IsMeasured g → glyph_bytes g ≡ encode_utf8 g.base ++ encode_utf8_all (marks_of g)
@@ -134,17 +129,12 @@ text-of_glyph g h = ap₂ (λ x y. x ++ y) (cond-true (is_scalar g.base) (encode
 
 pub text-is : (due : ℕ) (cells : List Cell) → IsRowAfter due cells → cells_text cells ≡ encode_utf8_all (codes_of cells)
 unfolding encode_utf8
-text-is zero [] h = refl
-text-is zero (Blank f ∷ cells) h = ap (λ l. 32 ∷ l) (text-is zero cells h)
-text-is zero (First g f ∷ cells) h =
-    ap₂ (λ x y. x ++ y) (text-of_glyph g h.0.measured) (text-is (g.width - 1) cells h.1)
+text-is = by-cells (λ due cells. cells_text cells ≡ encode_utf8_all (codes_of cells)) refl (λ f cells so. ap (λ l. 32 ∷ l) so)
+    (λ g f cells good row so.
+    ap₂ (λ x y. x ++ y) (text-of_glyph g good.measured) so
     ∙ append_assoc (encode_utf8 g.base) (encode_utf8_all (marks_of g)) (encode_utf8_all (codes_of cells))
-    ∙ sym (ap (λ l. encode_utf8 g.base ++ l) (encodes-append (marks_of g) (codes_of cells)))
-text-is zero (Rest ∷ cells) h = absurd h
-text-is (suc due) [] h = absurd h
-text-is (suc due) (Blank f ∷ cells) h = absurd h
-text-is (suc due) (First g f ∷ cells) h = absurd h
-text-is (suc due) (Rest ∷ cells) h = text-is due cells h
+    ∙ sym (ap (λ l. encode_utf8 g.base ++ l) (encodes-append (marks_of g) (codes_of cells))))
+    (λ due cells so. so)
 
 pub text-lacks : (cells : List Cell) → IsRowAfter 0 cells → lacks 10 (cells_text cells) ≡ true
 text-lacks cells h = ap (lacks 10) (text-is 0 cells h) ∙ encodes-lack (codes_of cells) (row-shown 0 cells h)
@@ -202,11 +192,8 @@ marks-joined_glyph g h =
 -- ---- a row that is read again
 
 rests : (due : ℕ) (cells : List Cell) → IsRowAfter due cells → replicate due Rest ++ drop due (plainly cells) ≡ plainly cells
-rests zero cells h = refl
-rests (suc due) [] h = absurd h
-rests (suc due) (Blank f ∷ cells) h = absurd h
-rests (suc due) (First g f ∷ cells) h = absurd h
-rests (suc due) (Rest ∷ cells) h = ap (λ l. Rest ∷ l) (rests due cells h)
+rests = by-cells (λ due cells. replicate due Rest ++ drop due (plainly cells) ≡ plainly cells) refl (λ f cells so. refl) (λ g f cells good row so. refl)
+    (λ due cells so. ap (λ l. Rest ∷ l) so)
 
 glyph-cells : (g : Glyph) (cells : List Cell) → IsGood g → IsRowAfter (g.width - 1) cells
     → cells_of (Some g) ++ drop (g.width - 1) (plainly cells) ≡ First g plain ∷ plainly cells
@@ -222,24 +209,22 @@ first-taken front held g h =
 
 pub row-read : (due : ℕ) (cells : List Cell) → IsRowAfter due cells → (front : List Cell) (held : Option Glyph)
     → cells_from front held (codes_of cells) ≡ Some (front ++ (cells_of held ++ drop due (plainly cells)))
-row-read zero [] h front held = ap (λ l. Some (front ++ l)) (sym (append-nil (cells_of held)))
-row-read zero (Blank f ∷ cells) h front held =
+row-read = by-cells
+    (λ due cells. (front : List Cell) (held : Option Glyph) → cells_from front held (codes_of cells) ≡ Some (front ++ (cells_of held ++ drop due (plainly cells))))
+    (λ front held. ap (λ l. Some (front ++ l)) (sym (append-nil (cells_of held))))
+    (λ f cells so front held.
     ap (λ o. option_and_then (λ (next : List Cell × Glyph). cells_from next.0 (Some next.1) (codes_of cells)) (taken front held 32 o)) space-columns
-    ∙ row-read zero cells h (front ++ cells_of held) (Some (single 32 1))
-    ∙ ap Some (append_assoc front (cells_of held) (Blank plain ∷ plainly cells))
-row-read zero (First g f ∷ cells) h front held =
-    let few : 0 + length (marks_of g) ≤ 6 = omega (arith, length-take g.count g.marks, h.0.measured.count) in
-    ap (option_and_then (λ (next : List Cell × Glyph). cells_from next.0 (Some next.1) (marks_of g ++ codes_of cells))) (first-taken front held g h.0.measured)
-    ∙ marks-read (front ++ cells_of held) (codes_of cells) (marks_of g) (single g.base g.width) (marks-are g h.0.measured) few
-    ∙ ap (λ x. cells_from (front ++ cells_of held) (Some x) (codes_of cells)) (marks-joined_glyph g h.0.measured)
-    ∙ row-read (g.width - 1) cells h.1 (front ++ cells_of held) (Some g)
-    ∙ ap (λ l. Some ((front ++ cells_of held) ++ l)) (glyph-cells g cells h.0 h.1)
-    ∙ ap Some (append_assoc front (cells_of held) (First g plain ∷ plainly cells))
-row-read zero (Rest ∷ cells) h front held = absurd h
-row-read (suc due) [] h front held = absurd h
-row-read (suc due) (Blank f ∷ cells) h front held = absurd h
-row-read (suc due) (First g f ∷ cells) h front held = absurd h
-row-read (suc due) (Rest ∷ cells) h front held = row-read due cells h front held
+    ∙ so (front ++ cells_of held) (Some (single 32 1))
+    ∙ ap Some (append_assoc front (cells_of held) (Blank plain ∷ plainly cells)))
+    (λ g f cells good row so front held.
+    let few : 0 + length (marks_of g) ≤ 6 = omega (arith, length-take g.count g.marks, good.measured.count) in
+    ap (option_and_then (λ (next : List Cell × Glyph). cells_from next.0 (Some next.1) (marks_of g ++ codes_of cells))) (first-taken front held g good.measured)
+    ∙ marks-read (front ++ cells_of held) (codes_of cells) (marks_of g) (single g.base g.width) (marks-are g good.measured) few
+    ∙ ap (λ x. cells_from (front ++ cells_of held) (Some x) (codes_of cells)) (marks-joined_glyph g good.measured)
+    ∙ so (front ++ cells_of held) (Some g)
+    ∙ ap (λ l. Some ((front ++ cells_of held) ++ l)) (glyph-cells g cells good row)
+    ∙ ap Some (append_assoc front (cells_of held) (First g plain ∷ plainly cells)))
+    (λ due cells so. so)
 
 -- the text of a row says its cells, in the plain face
 pub text-read : (cells : List Cell) → IsRowAfter 0 cells → text_cells (cells_text cells) ≡ Some (plainly cells)

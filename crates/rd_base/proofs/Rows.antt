@@ -8,7 +8,7 @@ use Rattle.rd_base.specs.Cells.{single}
 use Rattle.rd_base.specs.Chars.{is_scalar}
 use Rattle.rd_base.specs.Elements.{width_at_most, columns_at_most}
 use Rattle.rd_base.specs.Faces.{Attributes}
-use Rattle.rd_base.specs.Glyphs.{IsMeasured, IsRowAfter, is_space, blanks, glyph_cells, look_cells}
+use Rattle.rd_base.specs.Glyphs.{IsMeasured, IsGood, IsRowAfter, is_space, blanks, glyph_cells, look_cells}
 use Rattle.rd_base.specs.declared.cell.Cell.{Cell}
 use Rattle.rd_base.specs.declared.cell.Cell.TheVariants.{Blank, First, Rest}
 use Rattle.rd_base.specs.declared.cell.Glyph.{Glyph}
@@ -18,15 +18,22 @@ use Rattle.rd_base.specs.declared.element.Look.TheVariants as look
 
 -- ---- rows
 
+-- what holds of no cells, and of a row with one cell more where it holds of the cells behind that one, holds of every row
+pub by-cells : (P : ℕ → List Cell → Type 0) → P 0 [] → ((f : Attributes) (cells : List Cell) → P 0 cells → P 0 (Blank f ∷ cells))
+    → ((g : Glyph) (f : Attributes) (cells : List Cell) → IsGood g → IsRowAfter (g.width - 1) cells → P (g.width - 1) cells → P 0 (First g f ∷ cells))
+    → ((due : ℕ) (cells : List Cell) → P due cells → P (suc due) (Rest ∷ cells)) → (due : ℕ) (cells : List Cell) → IsRowAfter due cells → P due cells
+by-cells P none blank first rest zero [] h = none
+by-cells P none blank first rest zero (Blank f ∷ cells) h = blank f cells (by-cells P none blank first rest 0 cells h)
+by-cells P none blank first rest zero (First g f ∷ cells) h = first g f cells h.0 h.1 (by-cells P none blank first rest (g.width - 1) cells h.1)
+by-cells P none blank first rest zero (Rest ∷ cells) h = absurd h
+by-cells P none blank first rest (suc due) [] h = absurd h
+by-cells P none blank first rest (suc due) (Blank f ∷ cells) h = absurd h
+by-cells P none blank first rest (suc due) (First g f ∷ cells) h = absurd h
+by-cells P none blank first rest (suc due) (Rest ∷ cells) h = rest due cells (by-cells P none blank first rest due cells h)
+
 pub behind-whole : (due : ℕ) (left right : List Cell) → IsRowAfter due left → IsRowAfter 0 right → IsRowAfter due (left ++ right)
-behind-whole zero [] right a b = b
-behind-whole zero (Blank f ∷ left) right a b = behind-whole 0 left right a b
-behind-whole zero (First g f ∷ left) right a b = (a.0, behind-whole (g.width - 1) left right a.1 b)
-behind-whole zero (Rest ∷ left) right a b = absurd a
-behind-whole (suc due) [] right a b = absurd a
-behind-whole (suc due) (Blank f ∷ left) right a b = absurd a
-behind-whole (suc due) (First g f ∷ left) right a b = absurd a
-behind-whole (suc due) (Rest ∷ left) right a b = behind-whole due left right a b
+behind-whole due left right a b =
+    by-cells (λ due left. IsRowAfter due (left ++ right)) b (λ f cells so. so) (λ g f cells good row so. (good, so)) (λ due cells so. so) due left a
 
 pub blanks-whole : (n : ℕ) (face : Attributes) → IsRowAfter 0 (blanks n face)
 blanks-whole zero face = tt

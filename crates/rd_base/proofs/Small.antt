@@ -1,10 +1,10 @@
 -- Good glyphs and the cells of whole, coloured rows are small.
-use Rattle.std.proofs.Common.{◌≡◌, ℕ, zero, suc, ◌-◌, ◌<◌, ◌≤◌, ◌⊎◌, inl, inr, IsTrue, List, [], ◌∷◌, length, get_or, sym, arith}
+use Rattle.std.proofs.Common.{◌≡◌, ℕ, ◌-◌, ◌<◌, ◌≤◌, ◌⊎◌, inl, inr, IsTrue, List, ◌∷◌, length, get_or, sym, arith}
 use Rattle.std.specs.Prelude.{All}
 use Rattle.std.proofs.lemmas.Bool.{cases_lt}
 use Rattle.std.proofs.lemmas.Bool.Decides.{nat_tests}
 use Rattle.std.proofs.lemmas.List.{get_or_default}
-use Rattle.std.proofs.lemmas.List.Elements.{All-head, All-tail, All-cons}
+use Rattle.std.proofs.lemmas.List.Elements.{All-head, All-tail, All-cons, All-nil}
 use Rattle.std.proofs.Math.Logic.{⊎_swap}
 use Rattle.rd_base.specs.Cells.{IsColoured, IsSmall, IsSmallGlyph}
 use Rattle.rd_base.specs.Chars.{is_scalar}
@@ -12,6 +12,7 @@ use Rattle.rd_base.specs.Glyphs.{IsMeasured, IsGood, IsRowAfter}
 use Rattle.rd_base.specs.declared.cell.Glyph.{Glyph}
 use Rattle.rd_base.specs.declared.cell.Cell.{Cell}
 use Rattle.rd_base.specs.declared.cell.Cell.TheVariants.{Blank, First, Rest}
+use Rattle.rd_base.proofs.Rows.{by-cells}
 
 scalar-small : (n : ℕ) → IsTrue (is_scalar n) → n < 2097152
 scalar-small n h = grind (arith, nat_tests)
@@ -39,13 +40,8 @@ good-small g good =
     }
 
 pub row-small : (due : ℕ) (cells : List Cell) → IsRowAfter due cells → All IsColoured cells → All IsSmall cells
-row-small due [] whole coloured = λ k d p. absurd (omega arith)
-row-small zero (Blank f ∷ cells) whole coloured =
-    All-cons IsSmall (Blank f) cells (All-head IsColoured (Blank f) cells coloured) (row-small zero cells whole (All-tail IsColoured (Blank f) cells coloured))
-row-small zero (First g f ∷ cells) whole coloured =
-    All-cons IsSmall (First g f) cells (good-small g whole.0, All-head IsColoured (First g f) cells coloured)
-    (row-small (g.width - 1) cells whole.1 (All-tail IsColoured (First g f) cells coloured))
-row-small zero (Rest ∷ cells) whole coloured = absurd whole
-row-small (suc due) (Rest ∷ cells) whole coloured = All-cons IsSmall Rest cells tt (row-small due cells whole (All-tail IsColoured Rest cells coloured))
-row-small (suc due) (Blank f ∷ cells) whole coloured = absurd whole
-row-small (suc due) (First g f ∷ cells) whole coloured = absurd whole
+row-small due cells whole =
+    let next : (c : Cell) (cells : List Cell) → (IsColoured c → IsSmall c) → (All IsColoured cells → All IsSmall cells) → All IsColoured (c ∷ cells) → All IsSmall (c ∷ cells)
+    = λ c cells one so coloured. All-cons IsSmall c cells (one (All-head IsColoured c cells coloured)) (so (All-tail IsColoured c cells coloured)) in
+    by-cells (λ due cells. All IsColoured cells → All IsSmall cells) (λ coloured. All-nil IsSmall) (λ f cells so. next (Blank f) cells (λ colours. colours) so)
+    (λ g f cells good row so. next (First g f) cells (λ colours. (good-small g good, colours)) so) (λ due cells so. next Rest cells (λ colours. tt) so) due cells whole

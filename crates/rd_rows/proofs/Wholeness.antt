@@ -1,5 +1,5 @@
 -- In the rows of measured elements each glyph stands whole.
-use Rattle.std.proofs.Common.{◌≡◌, ℕ, zero, suc, ◌+◌, ◌-◌, ◌≤◌, ◌&&◌, min, max, nat_le, Bool, true, false, List, [], ◌∷◌, ◌++◌, length, flat_map, refl, ap, ◌∙◌, arith, length-append, replicate}
+use Rattle.std.proofs.Common.{◌≡◌, ℕ, suc, ◌+◌, ◌-◌, ◌≤◌, ◌&&◌, min, max, nat_le, Bool, true, false, List, [], ◌∷◌, ◌++◌, length, flat_map, refl, ap, ◌∙◌, arith, length-append, replicate}
 use Rattle.std.specs.List.{AllByRecursion}
 use Rattle.std.proofs.lemmas.List.{length-replicate}
 use Rattle.rd_base.specs.Elements.{IsSound, AreSound}
@@ -12,7 +12,7 @@ use Rattle.rd_base.specs.declared.element.Element.{Element}
 use Rattle.rd_base.specs.declared.element.Look.{Look}
 use Rattle.rd_base.specs.declared.element.Look.TheVariants.{Glyph as Shown}
 use Rattle.rd_base.proofs.Lists.{all-front, all-back, each-append}
-use Rattle.rd_base.proofs.Rows.{behind-whole, blanks-whole, rests-whole, glyph-whole}
+use Rattle.rd_base.proofs.Rows.{by-cells, behind-whole, blanks-whole, rests-whole, glyph-whole}
 use Rattle.rd_rows.specs.declared.cutting.Cutting.{Cutting}
 use Rattle.rd_rows.specs.declared.spot.Placed.{Placed}
 use Rattle.rd_rows.specs.Mirrors.{mirror_image, leading_rests}
@@ -44,18 +44,13 @@ each-whole from to a b (p ∷ ps) stand measured = (seen-whole _ from to p refl 
 -- the mirror image
 
 mirror-whole : (due : ℕ) (cells : List Cell) → IsRowAfter due cells → IsRowAfter 0 (mirror_image cells) × (leading_rests cells ≡ due)
-mirror-whole zero [] h = (tt, refl)
-mirror-whole zero (Blank f ∷ cells) h =
-    let rest = mirror-whole zero cells h in
-    (behind-whole 0 (mirror_image cells) (Blank f ∷ replicate (leading_rests cells) Rest) rest.0 (rw rest.1 tt), refl)
-mirror-whole zero (First g f ∷ cells) h =
-    let rest = mirror-whole (g.width - 1) cells h.1 in
-    (behind-whole 0 (mirror_image cells) (First g f ∷ replicate (leading_rests cells) Rest) rest.0 (rw rest.1 (h.0, rests-whole (g.width - 1))), refl)
-mirror-whole zero (Rest ∷ cells) h = absurd h
-mirror-whole (suc due) [] h = absurd h
-mirror-whole (suc due) (Blank f ∷ cells) h = absurd h
-mirror-whole (suc due) (First g f ∷ cells) h = absurd h
-mirror-whole (suc due) (Rest ∷ cells) h = let rest = mirror-whole due cells h in (rest.0, ap suc rest.1)
+mirror-whole = by-cells (λ due cells. IsRowAfter 0 (mirror_image cells) × (leading_rests cells ≡ due)) (tt, refl)
+    (λ f cells so. (behind-whole 0 (mirror_image cells) (Blank f ∷ replicate (leading_rests cells) Rest) so.0 (rw so.1 tt), refl))
+    (λ g f cells good row so. (
+      behind-whole 0 (mirror_image cells) (First g f ∷ replicate (leading_rests cells) Rest) so.0 (rw so.1 (good, rests-whole (g.width - 1))),
+      refl,
+    ))
+    (λ due cells so. (so.0, ap suc so.1))
 
 edge-whole : (b : Bool) (cells : List Cell) → IsRowAfter 0 cells → IsRowAfter 0 (from_edge b cells) × (length (from_edge b cells) ≡ length cells)
 edge-whole true cells h =

@@ -5,6 +5,7 @@ use Rattle.std.proofs.lemmas.Bool.{cases_lt}
 use Rattle.std.proofs.lemmas.Bool.Decides.{nat_tests}
 use Rattle.std.proofs.lemmas.List.{get_or_at, set_at, take-take, take_at, length-append, length-map, length-take-le, length-drop, map-append, drop-drop, length-replicate, nil_from_length}
 use Rattle.rd_base.proofs.Lists.{each-take, each-drop}
+use Rattle.rd_base.proofs.Rows.{by-cells}
 use Rattle.rd_base.proofs.Colours.{plain-coloured}
 use Rattle.rd_base.specs.Cells.{IsColoured}
 use Rattle.rd_base.specs.Faces.{plain}
@@ -42,11 +43,8 @@ stands-along region rows rows2 t u r e h = record {
 
 -- a row that goes on with no later column owes none
 none-due : (due : ℕ) (cells : List Cell) → IsRowAfter due cells → later_columns (map Some cells) ≡ 0 → due ≡ 0
-none-due zero cells h e = refl
-none-due (suc due) [] h e = absurd h
-none-due (suc due) (Blank f ∷ cells) h e = absurd h
-none-due (suc due) (First g f ∷ cells) h e = absurd h
-none-due (suc due) (Rest ∷ cells) h e = absurd (cc)
+none-due = by-cells (λ due cells. later_columns (map Some cells) ≡ 0 → due ≡ 0) (λ e. refl) (λ f cells so e. refl) (λ g f cells good row so e. refl)
+    (λ due cells so e. absurd cc)
 
 -- both parts of a row that is cut where no character goes on hold whole characters
 whole-cut : (n due : ℕ) (cells : List Cell) → IsRowAfter due cells → later_columns (map Some (drop n cells)) ≡ 0 → n ≤ length cells
