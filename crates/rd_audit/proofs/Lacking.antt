@@ -8,7 +8,8 @@ use Rattle.std.proofs.lemmas.List.Folds.{list_all-append}
 use Rattle.std.proofs.lemmas.List.Splits.{slice_split_at, slice_split_none}
 use Rattle.std.specs.Fmt.{digits, digits_onto, digit_glyph}
 use Rattle.rd_io.specs.Lines.{lines_of}
-use Rattle.rd_audit.specs.Cuts.{cut, cut_last_or, cut_last, pieces}
+use Rattle.rd_base.specs.Cuts.{cut}
+use Rattle.rd_audit.specs.Cuts.{cut_last_or, cut_last, pieces}
 use Rattle.rd_audit.proofs.Cutting.{lines-cut}
 
 -- whether bytes do not have a byte

@@ -1,5 +1,5 @@
 -- Pieces of bytes.
-use Rattle.std.specs.Prelude.{ℕ, ◌==◌, Bool, if◌then◌else◌, List, [], ◌∷◌, Option, None, Some, option_map, is_some}
+use Rattle.std.specs.Prelude.{ℕ, ◌==◌, Bool, if◌then◌else◌, List, [], ◌∷◌, Option, None, Some, is_some}
 use Rattle.std.specs.List.{slice_split}
 
 -- what stands behind these bytes, where the others begin with them
@@ -11,12 +11,7 @@ stripped (f ∷ fs) (b ∷ bs) = if b == f then stripped fs bs else None
 abbrev pub begins_with : List ℕ → List ℕ → Bool
 begins_with front bytes = is_some (stripped front bytes)
 
--- what stands before the first of a byte, and what stands behind it
-abbrev pub cut : ℕ → List ℕ → Option (List ℕ × List ℕ)
-cut byte [] = None
-cut byte (b ∷ bs) = if b == byte then Some ([], bs) else option_map (λ parts. (b ∷ parts.0, parts.1)) (cut byte bs)
-
--- the same by the last of it
+-- what stands before the last of a byte, and what stands behind it
 abbrev pub cut_last_or : ℕ → ℕ → List ℕ → Option (List ℕ × List ℕ) → Option (List ℕ × List ℕ)
 cut_last_or byte b bs None = if b == byte then Some ([], bs) else None
 cut_last_or byte b bs (Some parts) = Some (b ∷ parts.0, parts.1)

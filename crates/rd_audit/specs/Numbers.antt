@@ -1,7 +1,7 @@
 -- Numbers in decimal.
 use Rattle.std.specs.Prelude.{ℕ, ◌+◌, ◌-◌, ◌*◌, ◌==◌, nat_le, ◌&&◌, if◌then◌else◌, List, [], ◌∷◌, Option, None, Some, option_and_then}
 use Rattle.std.specs.Option.{option_zip}
-use Rattle.rd_audit.specs.Cuts.{cut}
+use Rattle.rd_base.specs.Cuts.{cut}
 
 -- the number of a digit
 abbrev pub digit : ℕ → Option ℕ

@@ -6,7 +6,8 @@ use Rattle.rd_base.specs.declared.cell.Cell.TheVariants.{Blank, First, Rest}
 use Rattle.rd_term.specs.Pens.{is_rendition, dressed}
 use Rattle.rd_term.specs.Pictures.{blank}
 use Rattle.rd_update.specs.Updates.{is_rest}
-use Rattle.rd_audit.specs.Cuts.{cut, pieces}
+use Rattle.rd_base.specs.Cuts.{cut}
+use Rattle.rd_audit.specs.Cuts.{pieces}
 use Rattle.rd_audit.specs.Numbers.{number_of, pair_of}
 use Rattle.rd_audit.specs.declared.run.SaidFaceRun.{SaidFaceRun}
 

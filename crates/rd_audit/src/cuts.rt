@@ -1,7 +1,9 @@
 //! Pieces of bytes.
 ghost use Rattle.std.specs.Prelude.{◌≡◌, ◌<◌, ◌-◌, ◌∷◌, [], option_map, IfSome, MatchOption, drop, length};
 ghost use Rattle.rd_io.specs.Lines.{lines_of};
-ghost use Rattle.rd_audit.specs.Cuts.{stripped, begins_with, cut, cut_last};
+ghost use Rattle.rd_audit.specs.Cuts.{stripped, begins_with, cut_last};
+
+use rd_base::cut;
 
 /// What stands behind a front, where bytes begin with it.
 pub fn stripped<'a>(front: &[u8], bytes: &'a [u8]) -> Option<&'a [u8]>
@@ -15,23 +17,6 @@ pub fn begins_with(front: &[u8], bytes: &[u8]) -> bool
     ensures { result ≡ begins_with front.now bytes.now }
 {
     stripped(front, bytes).is_some()
-}
-
-/// What stands before the first of a byte, and what stands behind it.
-pub fn cut(byte: u8, bytes: &[u8]) -> Option<(&[u8], &[u8])>
-    ensures value { option_map (λ parts. (parts.0.now, parts.1.now)) result ≡ cut byte bytes.now }
-    ensures shorter { IfSome result (λ parts. length parts.1.now < length bytes.now) }
-    ensures behind { IfSome result (λ parts. parts.1.now ≡ drop (length bytes.now - length parts.1.now) bytes.now) }
-{
-    let mut place = 0;
-    while place < bytes.len() {
-        if bytes[place] == byte {
-            let (front, back) = bytes.split_at(place);
-            return Some((front, back.split_at(1).1));
-        }
-        place += 1;
-    }
-    None
 }
 
 /// What stands before the last of a byte, and what stands behind it.

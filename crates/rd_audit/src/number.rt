@@ -2,7 +2,7 @@
 ghost use Rattle.std.specs.Prelude.{◌≡◌, ◌<◌, IfSome};
 ghost use Rattle.rd_audit.specs.Numbers.{digit, lead, longer, number_of, pair_of};
 
-use crate::cuts::cut;
+use rd_base::cut;
 
 /// The two numbers before and behind the first place at which a byte stands; None where it stands nowhere, or where what is before or
 /// behind it is no number of at most three digits. The cost is linear in the bytes.

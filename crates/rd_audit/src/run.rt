@@ -4,9 +4,8 @@ ghost use Rattle.rd_term.specs.Pens.{is_rendition};
 ghost use Rattle.rd_audit.specs.Cuts.{pieces};
 ghost use Rattle.rd_audit.specs.Runs.{painted, place_of, comes_behind, with_number, face_of, run_of, is_edge, fits, with_face, painted_by, with_run, runs_over};
 
-use crate::cuts::cut;
 use crate::number::{number_of, pair_of};
-use rd_base::{Cell, Face, ListOf};
+use rd_base::{Cell, Face, ListOf, cut};
 use rd_term::{dressed, is_rendition};
 
 /// A run: its first and its last column, from 0, and its face.

@@ -1,6 +1,7 @@
 pub mod Cells
 pub mod Chars
 pub mod Classes
+pub mod Cuts
 pub mod Elements
 pub mod Equals
 pub mod Faces

@@ -1,5 +1,5 @@
 //! The words that every layer of the redisplay engine shares: characters, faces, glyphs, cells, elements of a line,
-//! lines of bidirectional classes, the settings of a buffer, the counter of steps, and in `limits` every limit of the
+//! lines of bidirectional classes, the settings of a buffer, a cut of bytes, the counter of steps, and in `limits` every limit of the
 //! engine with its unit.
 #![tactic(auto)]
 
@@ -7,6 +7,7 @@ mod cell;
 mod cells;
 mod chars;
 mod class;
+mod cuts;
 mod element;
 mod face;
 mod laws;
@@ -21,6 +22,7 @@ pub use cell::{Cell, Glyph};
 pub use cells::{push_glyph, push_look};
 pub use chars::{Ch, characters, columns_of, encode};
 pub use class::Class;
+pub use cuts::cut;
 pub use element::{Element, Elements, Extent, Look, Origin};
 pub use face::Face;
 pub use laws::good_cells_are_small;

@@ -1,30 +1,32 @@
 -- Pieces of bytes, as the code finds them.
-use Rattle.std.proofs.Common.{◌≡◌, ◌≢◌, ◌==◌, ℕ, zero, suc, ◌+◌, ◌-◌, ◌<◌, ◌≤◌, Bool, true, false, ◌&&◌, if◌then◌else◌, List, [], ◌∷◌, ◌++◌, length, get_or, take, drop, refl, sym, ap, ◌∙◌, arith}
+use Rattle.std.proofs.Common.{◌≡◌, ◌≢◌, ◌==◌, ℕ, zero, suc, ◌+◌, ◌-◌, ◌<◌, ◌≤◌, Bool, true, false, ◌&&◌, if◌then◌else◌, List, [], ◌∷◌, ◌++◌, length, get_or, take, drop, None, Some, refl, sym, ap, ◌∙◌, subst, arith}
 use Rattle.std.proofs.lemmas.Bool.{eq-eqb, ne_eqb}
 use Rattle.std.proofs.lemmas.Bool.Decides.{nat_tests}
-use Rattle.std.specs.List.{slice_split}
+use Rattle.std.specs.List.{All, AllByRecursion, slice_split}
 use Rattle.std.proofs.lemmas.List.{drop-drop, length-drop, take_more, length-append}
-use Rattle.std.proofs.lemmas.List.Elements.{All-from_get_or}
-use Rattle.std.proofs.lemmas.List.Splits.{slice_split_first, slice_split_none}
-use Rattle.std.proofs.lemmas.List.Sums.{position_or_len_is}
-use Rattle.rd_ucd.specs.Pieces.{chomped, uncommented, is_blank, trimmed_back}
+use Rattle.std.proofs.lemmas.List.Elements.{All-from_recursion}
+use Rattle.std.proofs.lemmas.List.Splits.{slice_split_at, slice_split_none}
+use Rattle.rd_base.proofs.Cutting.{IsCut, cut-is}
+use Rattle.rd_base.proofs.Lists.{each-weaker}
+use Rattle.rd_base.specs.Cuts.{cut}
+use Rattle.rd_ucd.specs.Pieces.{chomped, is_blank, trimmed_back}
 
 pub first_of_pieces : (piece : List ℕ) (more all : List (List ℕ)) → all ≡ piece ∷ more → all ≡ piece ∷ drop 1 all
 first_of_pieces piece more all e = e ∙ ap (λ (rest : List (List ℕ)). piece ∷ rest) (sym (ap (drop 1) e))
 
--- without a separator there is one piece
-pub split_none : (c : ℕ) (bs : List ℕ) → ((k : ℕ) → k < length bs → get_or bs k 0 ≢ c) → slice_split (λ b. b == c) bs ≡ bs ∷ []
-split_none c bs none =
-    slice_split_none (λ b. b == c) bs (All-from_get_or (λ b. (b == c) ≡ false) bs 0 (λ k less. ne_eqb (get_or bs k 0) c (none k less)))
+-- bytes that are not the separator do not pass its test
+others : (c : ℕ) (bs : List ℕ) → AllByRecursion (λ b. b ≢ c) bs → All (λ b. (b == c) ≡ false) bs
+others c bs none = All-from_recursion (λ b. (b == c) ≡ false) bs (each-weaker (λ b. b ≢ c) (λ b. (b == c) ≡ false) (λ b. ne_eqb b c) bs none)
 
 -- the first piece ends at the first separator
-pub split_at_first : (c i : ℕ) (bs : List ℕ) → i < length bs → ((k : ℕ) → k < i → get_or bs k 0 ≢ c) → get_or bs i 0 ≡ c
-    → slice_split (λ b. b == c) bs ≡ take i bs ∷ slice_split (λ b. b == c) (drop 1 (drop i bs))
-split_at_first c i bs within none found =
-    let p : ℕ → Bool = λ b. b == c in
-    let at = position_or_len_is p bs i 0 (omega arith) (λ k less. ne_eqb (get_or bs k 0) c (none k less)) (λ _. eq-eqb (get_or bs i 0) c found) in
-    slice_split_first p bs 0 (omega (arith, at)) ∙ ap (λ (k : ℕ). take k bs ∷ slice_split p (drop (k + 1) bs)) at
-    ∙ ap (λ (xs : List ℕ). take i bs ∷ slice_split p xs) (sym (drop-drop 1 i bs))
+pub pieces-cut : (c : ℕ) (bs front rest : List ℕ) → cut c bs ≡ Some (front, rest) → slice_split (λ b. b == c) bs ≡ front ∷ slice_split (λ b. b == c) rest
+pieces-cut c bs front rest e =
+    let h = subst (IsCut c bs) e (cut-is c bs) in
+    ap (slice_split (λ b. b == c)) h.1 ∙ slice_split_at (λ b. b == c) front c rest (others c front h.0) (eq-eqb c c refl)
+
+-- without a separator there is one piece
+pub pieces-uncut : (c : ℕ) (bs : List ℕ) → cut c bs ≡ None → slice_split (λ b. b == c) bs ≡ bs ∷ []
+pieces-uncut c bs e = slice_split_none (λ b. b == c) bs (others c bs (subst (IsCut c bs) e (cut-is c bs)))
 
 -- the last byte of a tail
 tail_last : (b x : ℕ) (bs : List ℕ) → get_or (x ∷ bs) (length (x ∷ bs) - 1) 0 ≡ get_or (b ∷ x ∷ bs) (length (b ∷ x ∷ bs) - 1) 0
@@ -74,16 +76,6 @@ nothing bs e = grind (arith, nat_tests)
 
 pub something : (bs : List ℕ) → (length bs == 0) ≡ false → 0 < length bs
 something bs e = grind (arith, nat_tests)
-
--- a comment goes
-pub uncommented-at : (i : ℕ) (bs : List ℕ) → i ≤ length bs → ((k : ℕ) → k < i → get_or bs k 0 ≢ 35) → (i < length bs → get_or bs i 0 ≡ 35)
-    → uncommented bs ≡ take i bs
-uncommented-at zero [] within none found = refl
-uncommented-at (suc i) [] within none found = absurd (omega arith)
-uncommented-at zero (b ∷ bs) within none found = ap (λ (v : Bool). if v then [] else b ∷ uncommented bs) (eq-eqb b 35 (found (omega arith)))
-uncommented-at (suc i) (b ∷ bs) within none found =
-    ap (λ (v : Bool). if v then [] else b ∷ uncommented bs) (ne_eqb b 35 (none 0 (omega arith)))
-    ∙ ap (λ (xs : List ℕ). b ∷ xs) (uncommented-at i bs (omega arith) (λ k less. none (suc k) (omega arith)) (λ less. found (omega arith)))
 
 push_blank : (xs : List ℕ) (b : ℕ) → is_blank b ≡ true → trimmed_back (xs ++ (b ∷ [])) ≡ trimmed_back xs
 push_blank [] b blank = ap (λ (v : Bool). if v && true then [] else b ∷ []) blank

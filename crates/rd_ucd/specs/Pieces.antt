@@ -1,5 +1,6 @@
 -- Pieces of bytes.
-use Rattle.std.specs.Prelude.{ℕ, ◌==◌, Bool, ◌&&◌, ◌||◌, if◌then◌else◌, List, [], ◌∷◌, length}
+use Rattle.std.specs.Prelude.{ℕ, ◌==◌, Bool, ◌&&◌, ◌||◌, if◌then◌else◌, List, [], ◌∷◌, length, slice_index_or}
+use Rattle.std.specs.List.{slice_split}
 
 -- a line without one byte 13 at its end
 abbrev pub chomped : List ℕ → List ℕ
@@ -8,8 +9,7 @@ chomped (b ∷ bs) = if b == 13 && (length bs == 0) then [] else b ∷ chomped b
 
 -- what stands before the first `#`
 abbrev pub uncommented : List ℕ → List ℕ
-uncommented [] = []
-uncommented (b ∷ bs) = if b == 35 then [] else b ∷ uncommented bs
+uncommented line = slice_index_or (slice_split (λ b. b == 35) line) 0 []
 
 -- a space or a tab
 abbrev pub is_blank : ℕ → Bool

@@ -1,8 +1,10 @@
 //! Cutting bytes into lines, and lines into fields.
-ghost use Rattle.std.specs.Prelude.{◌≡◌, ◌≢◌, ◌==◌, ℕ, slice_index, ◌<◌, ◌≤◌, [], ◌∷◌, length, drop, MatchOption, slice_index_or};
+ghost use Rattle.std.specs.Prelude.{◌≡◌, ◌==◌, ◌<◌, ◌≤◌, [], ◌∷◌, length, drop, MatchOption, slice_index_or};
 ghost use Rattle.std.specs.List.{slice_split};
 ghost use Rattle.rd_ucd.specs.Lines.{fields_of};
 ghost use Rattle.rd_ucd.specs.Pieces.{chomped, uncommented, trimmed, trimmed_front, trimmed_back, is_blank};
+
+use rd_base::cut;
 
 /// The bytes before the first separator, and those behind it, if there is one.
 pub fn split_first(bytes: &[u8], separator: u8) -> (&[u8], Option<&[u8]>)
@@ -11,25 +13,10 @@ pub fn split_first(bytes: &[u8], separator: u8) -> (&[u8], Option<&[u8]>)
         (slice_split (λ b. b == separator) bytes.now ≡ result.0.now ∷ [])
         (λ rest. (slice_split (λ b. b == separator) bytes.now ≡ result.0.now ∷ slice_split (λ b. b == separator) rest.now) × (length rest.now < length bytes.now)) }
 {
-    let place = length_before(bytes, separator);
-    if place == bytes.len() {
-        return (bytes, None);
+    match cut(separator, bytes) {
+        Some((front, rest)) => (front, Some(rest)),
+        None => (bytes, None),
     }
-    let (front, back) = bytes.split_at(place);
-    (front, Some(back.split_at(1).1))
-}
-
-/// How many bytes stand before the first separator, or at all.
-fn length_before(bytes: &[u8], separator: u8) -> usize
-    ensures before { (k : ℕ) → k < result → slice_index bytes.now k ≢ separator }
-    ensures within { result ≤ length bytes.now }
-    ensures found { result < length bytes.now → slice_index bytes.now result ≡ separator }
-{
-    let mut place = 0;
-    while place < bytes.len() && bytes[place] != separator {
-        place += 1;
-    }
-    place
 }
 
 /// The field at an index, from 0, of a line that is cut at each `;`.
@@ -65,7 +52,7 @@ pub fn without_return(line: &[u8]) -> &[u8]
 pub fn before_comment(line: &[u8]) -> &[u8]
     ensures { result.now ≡ uncommented line.now }
 {
-    line.split_at(length_before(line, b'#')).0
+    split_first(line, b'#').0
 }
 
 /// The bytes without spaces and tabs at both ends.
