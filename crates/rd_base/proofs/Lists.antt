@@ -152,10 +152,11 @@ total-append f (x ∷ xs) ys = omega (arith, total-append f xs ys)
 abbrev pub lies : ℕ → ℕ → ℕ → Bool
 lies pos from to = nat_le from pos && nat_lt pos to
 
--- an empty stretch has none, and of two that meet at most one has it
+-- an empty stretch has no place
 pub lies-empty : (pos from to : ℕ) → from ≡ to → lies pos from to ≡ false
 lies-empty pos from to same = grind (arith, nat_tests)
 
+-- of two stretches that meet at most one has it
 pub lies-apart : (pos from mid to : ℕ) → from ≤ mid → mid ≤ to → cond (lies pos from mid) 1 0 + cond (lies pos mid to) 1 0 ≡ cond (lies pos from to) 1 0
 lies-apart pos from mid to low high = grind (arith, nat_tests)
 

@@ -25,7 +25,8 @@ pub fn push_glyph(
     cells.push_copies(columns.saturating_sub(1), Cell::Rest)
 }
 
-/// Adds the cells of what an element shows in so many columns: those of a glyph, and else blanks. Its one error is want of memory.
+/// Adds the cells of what an element shows in so many columns: those of a glyph, and blanks for every other look, an end too. It writes
+/// each cell once. Its one error is want of memory.
 pub fn push_look(
     cells: &mut ListOf<Cell>,
     columns: u64,

@@ -236,7 +236,7 @@ end-least : (from : ℕ) (bs : List Block) → StandFrom from bs → from ≤ en
 end-least from [] h = omega arith
 end-least from (b ∷ bs) h = let start = h.0 in let some = h.1 in let rest = end-least b.end bs h.2 in omega (arith, start, some, rest)
 
-pub end-behind : (from last k : ℕ) (bs : List Block) (b : Block) → StandFrom from bs → slice_get bs k ≡ Some b → b.end ≤ end_from last bs
+end-behind : (from last k : ℕ) (bs : List Block) (b : Block) → StandFrom from bs → slice_get bs k ≡ Some b → b.end ≤ end_from last bs
 end-behind from last k [] b h i = absurd cc
 end-behind from last zero (a ∷ bs) b h i = let same : a ≡ b = cc in subst (λ (x : Block). x.end ≤ end_from a.end bs) same (end-least a.end bs h.2)
 end-behind from last (suc k) (a ∷ bs) b h i = end-behind a.end a.end k bs b h.2 i
@@ -248,6 +248,7 @@ among-within bs b p stand among low high =
     let last = end-behind (first_start bs) 0 among.0 bs b stand among.1 in
     (omega (arith, first, low), omega (arith, last, high))
 
+-- a block begins within the blocks that it is among
 pub start-within : (bs : List Block) (b : Block) → StandFrom (first_start bs) bs → IsAmong bs b → IsWithin b.start bs
 start-within bs b stand among = among-within bs b b.start stand among (omega arith) (later-start (first_start bs) among.0 bs b stand among.1).1
 
