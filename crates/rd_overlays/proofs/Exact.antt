@@ -6,12 +6,13 @@ use Rattle.std.specs.Option.{is_none}
 use Rattle.std.proofs.lemmas.List.{get_or-map, length-map}
 use Rattle.std.proofs.lemmas.List.Elements.{All-from_recursion}
 use Rattle.std.proofs.lemmas.Option.{same_Some}
+use Rattle.rd_base.proofs.Choices.{either}
 use Rattle.rd_overlays.specs.declared.overlay.Overlay.{Overlay}
 use Rattle.rd_overlays.specs.declared.listing.Rank.{Rank}
 use Rattle.rd_overlays.specs.Overlays.{overlay_at, precedes, placed, with_slot, ranked_from, number_of_rank, numbers_of}
 use Rattle.rd_overlays.specs.Listings.{Passes, HoldsExactly, Ascends, rank_of}
 use Rattle.rd_overlays.proofs.Sorting.{Rises}
-use Rattle.rd_overlays.proofs.Listed.{weak, Stands, ranked-stand, ranked-rises}
+use Rattle.rd_overlays.proofs.Listed.{weak, placed-by, Stands, ranked-stand, ranked-rises}
 
 -- some element
 abbrev Some_one : (Rank → Type 0) → List Rank → Type 0
@@ -20,31 +21,16 @@ Some_one P rs = (i : ℕ) × (i < length rs) × ((d : Rank) → P (slice_index_o
 one-behind : (P : Rank → Type 0) (r : Rank) (rs : List Rank) → Some_one P rs → Some_one P (r ∷ rs)
 one-behind P r rs (i, inside, p) = (suc i, omega (arith, inside), p)
 
-one-by : (P : Rank → Type 0) (r s : Rank) (ss more : List Rank) (b : Bool) → P r → Some_one P more → Some_one P (if b then s ∷ more else r ∷ s ∷ ss)
-one-by P r s ss more true p rest = one-behind P s more rest
-one-by P r s ss more false p rest = (0, omega arith, λ d. p)
+one-later : (P : Rank → Type 0) (s : Rank) (ss new : List Rank) → (Some_one P ss → Some_one P new) → Some_one P (s ∷ ss) → Some_one P (s ∷ new)
+one-later P s ss new keeps (zero, inside, p) = (0, omega arith, p)
+one-later P s ss new keeps (suc i, inside, p) = one-behind P s new (keeps (i, omega (arith, inside), p))
 
+-- the one that is placed is there, and the others still are
 placed-one : (P : Rank → Type 0) (r : Rank) (rs : List Rank) → P r → Some_one P (placed r rs)
-placed-one P r [] p = (0, omega arith, λ d. p)
-placed-one P r (s ∷ ss) p = one-by P r s ss (placed r ss) (precedes s r) p (placed-one P r ss p)
+placed-one P r rs p = placed-by (λ old new. Some_one P new) r (λ ss. (0, omega arith, λ d. p)) (λ s ss new one. one-behind P s new one) rs
 
-keep-first : (P : Rank → Type 0) (r s : Rank) (ss more : List Rank) (b : Bool) → P s → Some_one P (if b then s ∷ more else r ∷ s ∷ ss)
-keep-first P r s ss more true p = (0, omega arith, λ d. p)
-keep-first P r s ss more false p = (1, omega arith, λ d. p)
-
-keep-later : (P : Rank → Type 0) (r s : Rank) (ss more : List Rank) (b : Bool) → Some_one P ss → Some_one P more → Some_one P (if b then s ∷ more else r ∷ s ∷ ss)
-keep-later P r s ss more true old rest = one-behind P s more rest
-keep-later P r s ss more false old rest = one-behind P r (s ∷ ss) (one-behind P s ss old)
-
-placed-keeps : (P : Rank → Type 0) (r : Rank) (rs : List Rank) (i : ℕ) → i < length rs → ((d : Rank) → P (slice_index_or rs i d)) → Some_one P (placed r rs)
-placed-keeps P r [] i inside p = absurd (omega (arith, inside))
-placed-keeps P r (s ∷ ss) zero inside p = keep-first P r s ss (placed r ss) (precedes s r) (p s)
-placed-keeps P r (s ∷ ss) (suc i) inside p =
-    keep-later P r s ss (placed r ss) (precedes s r) (i, omega (arith, inside), p) (placed-keeps P r ss i (omega (arith, inside)) p)
-
-slot-keeps : (P : Rank → Type 0) (r : Rank) (rs : List Rank) (b : Bool) → Some_one P rs → Some_one P (if b then placed r rs else rs)
-slot-keeps P r rs true (i, inside, p) = placed-keeps P r rs i inside p
-slot-keeps P r rs false one = one
+placed-keeps : (P : Rank → Type 0) (r : Rank) (rs : List Rank) → Some_one P rs → Some_one P (placed r rs)
+placed-keeps P r rs = placed-by (λ old new. Some_one P old → Some_one P new) r (λ ss one. one-behind P r ss one) (one-later P) rs
 
 one-weaken : (P Q : Rank → Type 0) (rs : List Rank) → ((r : Rank) → P r → Q r) → Some_one P rs → Some_one Q rs
 one-weaken P Q rs f (i, inside, p) = (i, inside, λ d. f (slice_index_or rs i d) (p d))
@@ -58,7 +44,7 @@ none_not_some {Y} o e = absurd (true≢false (ap is_none e))
 behind : (test : Overlay → Bool) (n : ℕ) (slot : Option Overlay) (rs : List Rank) (k : ℕ) → Some_one (IsNumbered k) rs
     → Some_one (IsNumbered k) (with_slot test n slot rs)
 behind test n None rs k one = one
-behind test n (Some o) rs k one = slot-keeps (IsNumbered k) (rank_of n o) rs (test o) one
+behind test n (Some o) rs k one = either (Some_one (IsNumbered k)) (test o) _ _ (placed-keeps (IsNumbered k) (rank_of n o) rs one) one
 
 complete : (test : Overlay → Bool) (n j : ℕ) (slots : List (Option Overlay)) (o : Overlay) → overlay_at slots j ≡ Some o → test o ≡ true
     → Some_one (IsNumbered (n + j)) (ranked_from test n slots)

@@ -3,7 +3,7 @@ pub mod Bounding
 mod Exact
 mod Greatest
 mod Lasts
-mod Listed
+pub mod Listed
 mod Moving
 mod Nearest
 mod Passing

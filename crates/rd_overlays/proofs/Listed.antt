@@ -14,6 +14,7 @@ use Rattle.std.proofs.lemmas.Bool.Decides.{nat_tests}
 use Rattle.std.proofs.lemmas.List.Elements.{filter-append}
 use Rattle.std.proofs.lemmas.List.Sorted.{ranks_by, sum_by-IsPermutation}
 use Rattle.std.proofs.lemmas.List.Sums.{sum_by-cons}
+use Rattle.rd_base.proofs.Choices.{either}
 use Rattle.rd_base.proofs.Lists.{each-weaker, drop-cons}
 use Rattle.rd_overlays.specs.declared.overlay.Overlay.{Overlay}
 use Rattle.rd_overlays.specs.declared.listing.Rank.{Rank}
@@ -39,15 +40,17 @@ apart r s p e =
     ap (λ (c : Ordering). is_lt (ordering_then c (nat_cmp r.number s.number))) (int_cmp_total.antisymm r.priority s.priority)
     ∙ by_number (int_cmp s.priority r.priority) r.number s.number p e
 
--- what each rank has, one more included where it is placed
-each-by : (P : Rank → Type 0) (r s : Rank) (ss more : List Rank) (b : Bool) → P r → AllByRecursion P (s ∷ ss) → AllByRecursion P more
-    → AllByRecursion P (if b then s ∷ more else r ∷ s ∷ ss)
-each-by P r s ss more true p h rest = (h.0, rest)
-each-by P r s ss more false p h rest = (p, h)
+-- what holds of putting a rank first, and still holds behind one more, holds of placing it
+pub placed-by : (P : List Rank → List Rank → Type 0) (r : Rank) → ((rs : List Rank) → P rs (r ∷ rs))
+    → ((s : Rank) (ss new : List Rank) → P ss new → P (s ∷ ss) (s ∷ new)) → (rs : List Rank) → P rs (placed r rs)
+placed-by P r first behind [] = first []
+placed-by P r first behind (s ∷ ss) =
+    either (P (s ∷ ss)) (precedes s r) _ _ (behind s ss (placed r ss) (placed-by P r first behind ss)) (first (s ∷ ss))
 
+-- what each rank has, one more included where it is placed
 each-placed : (P : Rank → Type 0) (r : Rank) (rs : List Rank) → P r → AllByRecursion P rs → AllByRecursion P (placed r rs)
-each-placed P r [] p h = (p, tt)
-each-placed P r (s ∷ ss) p h = each-by P r s ss (placed r ss) (precedes s r) p h (each-placed P r ss p h.1)
+each-placed P r rs p =
+    placed-by (λ old new. AllByRecursion P old → AllByRecursion P new) r (λ ss h. (p, h)) (λ s ss new keeps h. (h.0, keeps h.1)) rs
 
 each-slot : (P : Rank → Type 0) (r : Rank) (rs : List Rank) (b : Bool) → (b ≡ true → P r) → AllByRecursion P rs → AllByRecursion P (if b then placed r rs else rs)
 each-slot P r rs true p h = each-placed P r rs (p refl) h
@@ -118,16 +121,13 @@ placed-rises : (r : Rank) (rs : List Rank) → NumbersFrom (suc r.number) rs →
 placed-rises r [] h up = (tt, tt)
 placed-rises r (s ∷ ss) h up = rises-by r s ss (precedes s r) refl h up (placed-rises r ss h.1 up.1)
 
-slot-rises : (test : Overlay → Bool) (n : ℕ) (o : Overlay) (rs : List Rank) (b : Bool) → NumbersFrom (suc n) rs → Rises precedes weak rs
-    → Rises precedes weak (if b then placed (rank_of n o) rs else rs)
-slot-rises test n o rs true h up = placed-rises (rank_of n o) rs h up
-slot-rises test n o rs false h up = up
-
 pub ranked-rises : (test : Overlay → Bool) (n : ℕ) (slots : List (Option Overlay)) → Rises precedes weak (ranked_from test n slots)
 ranked-rises test n [] = tt
 ranked-rises test n (None ∷ slots) = ranked-rises test (suc n) slots
 ranked-rises test n (Some o ∷ slots) =
-    slot-rises test n o (ranked_from test (suc n) slots) (test o) (ranked-numbers test (suc n) slots) (ranked-rises test (suc n) slots)
+    let rs = ranked_from test (suc n) slots in
+    let up = ranked-rises test (suc n) slots in
+    either (Rises precedes weak) (test o) _ _ (placed-rises (rank_of n o) rs (ranked-numbers test (suc n) slots) up) up
 
 -- what was found and the listing have the same elements
 tied : (a b : Bool) → (not a && not b) ≡ true → (a ≡ false) × (b ≡ false)
@@ -148,22 +148,12 @@ no_other x r (s ∷ ss) h t =
     ∙ no_other x r ss h.1 t
 
 -- a filter that doesn't keep the one placed
-not_kept-by : (t : Rank → Bool) (r s : Rank) (ss more : List Rank) (b : Bool) → t r ≡ false → filter t more ≡ filter t ss
-    → filter t (if b then s ∷ more else r ∷ s ∷ ss) ≡ filter t (s ∷ ss)
-not_kept-by t r s ss more true e same = ap (λ (rest : List Rank). if t s then s ∷ rest else rest) same
-not_kept-by t r s ss more false e same = ap (λ (b : Bool). if b then r ∷ filter t (s ∷ ss) else filter t (s ∷ ss)) e
-
 not_kept : (t : Rank → Bool) (r : Rank) (rs : List Rank) → t r ≡ false → filter t (placed r rs) ≡ filter t rs
-not_kept t r [] e = ap (λ (b : Bool). if b then r ∷ [] else []) e
-not_kept t r (s ∷ ss) e = not_kept-by t r s ss (placed r ss) (precedes s r) e (not_kept t r ss e)
+not_kept t r rs e =
+    placed-by (λ old new. filter t new ≡ filter t old) r (λ ss. ap (λ (b : Bool). if b then r ∷ filter t ss else filter t ss) e)
+    (λ s ss new same. ap (λ (rest : List Rank). if t s then s ∷ rest else rest) same) rs
 
 -- a filter that keeps it alone
-alone-by : (t : Rank → Bool) (r s : Rank) (ss more : List Rank) (b : Bool) → t s ≡ false → t r ≡ true → filter t (s ∷ ss) ≡ []
-    → filter t more ≡ r ∷ [] → filter t (if b then s ∷ more else r ∷ s ∷ ss) ≡ r ∷ []
-alone-by t r s ss more true at e none rest = ap (λ (b : Bool). if b then s ∷ filter t more else filter t more) at ∙ rest
-alone-by t r s ss more false at e none rest =
-    ap (λ (b : Bool). if b then r ∷ filter t (s ∷ ss) else filter t (s ∷ ss)) e ∙ ap (λ (kept : List Rank). r ∷ kept) none
-
 none_kept : (t : Rank → Bool) (s : Rank) (ss : List Rank) (b : Bool) → t s ≡ b → filter t (s ∷ ss) ≡ [] → t s ≡ false
 none_kept t s ss true at none =
     let kept : s ∷ filter t ss ≡ [] = sym (ap (λ (b : Bool). if b then s ∷ filter t ss else filter t ss) at) ∙ none in
@@ -171,11 +161,12 @@ none_kept t s ss true at none =
 none_kept t s ss false at none = at
 
 alone : (t : Rank → Bool) (r : Rank) (rs : List Rank) → t r ≡ true → filter t rs ≡ [] → filter t (placed r rs) ≡ r ∷ []
-alone t r [] e none = ap (λ (b : Bool). if b then r ∷ [] else []) e
-alone t r (s ∷ ss) e none =
+alone t r rs e =
+    placed-by (λ old new. filter t old ≡ [] → filter t new ≡ r ∷ []) r
+    (λ ss none. ap (λ (b : Bool). if b then r ∷ filter t ss else filter t ss) e ∙ ap (λ (kept : List Rank). r ∷ kept) none)
+    (λ s ss new rest none.
     let at = none_kept t s ss (t s) refl none in
-    let rest : filter t ss ≡ [] = sym (ap (λ (b : Bool). if b then s ∷ filter t ss else filter t ss) at) ∙ none in
-    alone-by t r s ss (placed r ss) (precedes s r) at e none (alone t r ss e rest)
+    ap (λ (b : Bool). if b then s ∷ filter t new else filter t new) at ∙ rest (sym (ap (λ (b : Bool). if b then s ∷ filter t ss else filter t ss) at) ∙ none)) rs
 
 one_more : (x r : Rank) (rs found : List Rank) (b : Bool) → NumbersFrom (suc r.number) rs → filter (ties precedes x) rs ≡ filter (ties precedes x) found
     → ties precedes x r ≡ b → filter (ties precedes x) (placed r rs) ≡ filter (ties precedes x) (found ++ r ∷ [])

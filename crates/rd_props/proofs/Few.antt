@@ -7,7 +7,8 @@ use Rattle.rd_base.proofs.Lists.{total-append}
 use Rattle.rd_base.specs.Lists.{total}
 use Rattle.rd_overlays.specs.declared.overlay.Overlay.{Overlay}
 use Rattle.rd_overlays.specs.declared.overlay.Kind.TheVariants.{Before, After}
-use Rattle.rd_overlays.specs.Overlays.{overlay_at, starting, ending, precedes, placed, ranked_from, number_of_rank}
+use Rattle.rd_overlays.specs.Overlays.{overlay_at, starting, ending, placed, ranked_from, number_of_rank}
+use Rattle.rd_overlays.proofs.Listed.{placed-by}
 use Rattle.rd_props.specs.Buffers.{BufferValue}
 use Rattle.rd_props.specs.Values.{value_of}
 use Rattle.rd_props.specs.Strings.{is_empty, before_string, after_string, part_in, strings_of, strings_at, strings_within}
@@ -32,12 +33,8 @@ strings-weighed part slots (n ∷ ns) = omega (arith, length-append (part_in par
 
 -- a listing weighs what the overlays in it weigh
 placed-weighed : (w : ℕ → ℕ) (r : _) (rs : List _) → total w (map number_of_rank (placed r rs)) ≡ w r.number + total w (map number_of_rank rs)
-placed-weighed w r [] = refl
-placed-weighed w r (x ∷ rs) = by-order (placed-weighed w r rs) (precedes x r) where
-  by-order : total w (map number_of_rank (placed r rs)) ≡ w r.number + total w (map number_of_rank rs) → (b : Bool)
-      → total w (map number_of_rank (if b then x ∷ placed r rs else r ∷ x ∷ rs)) ≡ w r.number + (w x.number + total w (map number_of_rank rs))
-  by-order rest true = omega (arith, rest)
-  by-order rest false = refl
+placed-weighed w r =
+    placed-by (λ old new. total w (map number_of_rank new) ≡ w r.number + total w (map number_of_rank old)) r (λ rs. refl) (λ x rs new same. omega (arith, same))
 
 -- what the overlays weigh that pass a test
 abbrev slot_weighs : (Overlay → Bool) → (ℕ → ℕ) → ℕ → Option Overlay → ℕ
