@@ -1,5 +1,5 @@
 -- Bounds that move with their overlays, and what lies outside them.
-use Rattle.std.proofs.Common.{◌≡◌, ℕ, zero, suc, ◌+◌, ◌-◌, ◌*◌, ◌/◌, ◌<◌, ◌≤◌, min, Bool, true, false, if◌then◌else◌, List, [], ◌∷◌, ◌++◌, length, map, get_or, Option, None, Some, inl, inr, refl, sym, ap, subst, ◌∙◌, arith, length-append}
+use Rattle.std.proofs.Common.{◌≡◌, ℕ, ◌+◌, ◌-◌, ◌*◌, ◌/◌, ◌<◌, ◌≤◌, min, Bool, true, false, if◌then◌else◌, List, ◌++◌, length, map, get_or, Option, None, Some, inl, inr, refl, sym, ap, subst, ◌∙◌, arith, length-append}
 use Rattle.std.specs.Prelude.{slice_get, slice_set, nat_lt}
 use Rattle.std.specs.List.{All, range_with_len}
 use Rattle.std.specs.List.Sorted.{IsPermutation}
@@ -21,6 +21,7 @@ use Rattle.rd_overlays.specs.Overlays.{live, overlay_at, meets, after_insertion,
 use Rattle.rd_overlays.specs.Moves.{slot_moved, bounds_moved, IsEdit, SlotFollows, AllFollow}
 use Rattle.rd_overlays.specs.declared.moves.Edit.{Edit}
 use Rattle.rd_overlays.specs.declared.moves.Edit.TheVariants.{Insertion, Deletion}
+use Rattle.rd_overlays.proofs.Slots.{overlay_at-map, set-holds}
 use Rattle.rd_overlays.specs.Bounds.{Holds, SlotHolds, IsBounded, IsBoundedTo, IsWidened, IsIndex, IsAway, passed, bounds_grown, bounds_shrunk}
 
 low-after : (pos n low v : ℕ) (m : Bool) → low ≤ v → (if nat_lt pos low then min (low + n) 4294967295 else low) ≤ after_insertion pos n m v
@@ -67,12 +68,6 @@ shrunk-holds from to b (Some o) p h = record {
   from_high = deletion-rises from to o.from b.high p h.from_high;
   to_high = deletion-rises from to o.to b.high p h.to_high;
 }
-
-pub overlay_at-map : (f : Option Overlay → Option Overlay) (slots : List (Option Overlay)) (number : ℕ) → f None ≡ None
-    → overlay_at (map f slots) number ≡ f (overlay_at slots number)
-overlay_at-map f [] number e = sym e
-overlay_at-map f (s ∷ slots) zero e = refl
-overlay_at-map f (s ∷ slots) (suc number) e = overlay_at-map f slots number e
 
 both-moved : (f : Option Overlay → Option Overlay) (g : Bounds → Bounds) (slots : List (Option Overlay)) (order : List ℕ) (bounds : List Bounds)
     (place number : ℕ) (b : Bounds) → IsBounded slots order bounds → f None ≡ None
@@ -182,15 +177,6 @@ pub other-step : (order : List ℕ) (bounds : List Bounds) (number : ℕ) (slot 
     → (get_or order (place - 1) 0 ≡ number → ⊥) → HoldsFrom order bounds number slot place → HoldsFrom order bounds number slot (place - 1)
 other-step order bounds number slot place other h =
     from_before order bounds number slot place (λ c there at. absurd (other (get_or_from_slice_get order (place - 1) number 0 there))) h
-
--- what holds of a slot, and of what is put at a number where that is the slot's, holds of the slot afterwards
-pub set-holds : (P : Option Overlay → Type 0) (slots : List (Option Overlay)) (number : ℕ) (slot : Option Overlay) (k : ℕ) → (k ≡ number → P slot)
-    → P (overlay_at slots k) → P (overlay_at (slice_set slots number slot) k)
-set-holds P [] number slot k f h = h
-set-holds P (s ∷ slots) zero slot zero f h = f refl
-set-holds P (s ∷ slots) zero slot (suc k) f h = h
-set-holds P (s ∷ slots) (suc number) slot zero f h = h
-set-holds P (s ∷ slots) (suc number) slot (suc k) f h = set-holds P slots number slot k (λ e. f (ap suc e)) h
 
 -- what has no other edges can come in place of an overlay
 pub kept-bounded : (slots : List (Option Overlay)) (order : List ℕ) (bounds : List Bounds) (number : ℕ) (before after : Option Overlay)

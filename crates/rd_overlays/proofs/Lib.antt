@@ -8,4 +8,5 @@ mod Moving
 mod Nearest
 mod Passing
 mod Skipping
+pub mod Slots
 mod Sorting

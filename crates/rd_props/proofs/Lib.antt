@@ -10,5 +10,5 @@ mod Texts
 mod Editing
 mod Between
 mod Replacing
-pub mod Names
+mod Names
 mod Sees

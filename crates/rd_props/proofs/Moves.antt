@@ -3,7 +3,7 @@ use Rattle.std.proofs.Common.{◌≡◌, ℕ, ◌+◌, ◌-◌, ◌<◌, ◌≤�
 use Rattle.std.specs.Prelude.{nat_lt, nat_le, ◌==◌}
 use Rattle.std.proofs.lemmas.Bool.Decides.{nat_tests}
 use Rattle.rd_overlays.specs.declared.overlay.Overlay.{Overlay}
-use Rattle.rd_overlays.proofs.Bounding.{overlay_at-map}
+use Rattle.rd_overlays.proofs.Slots.{overlay_at-map}
 use Rattle.rd_overlays.specs.Overlays.{overlay_at, covers, starts, ends, slot_changed, slot_grown, slot_shrunk, after_insertion, grown, after_deletion, shrunk}
 use Rattle.rd_props.specs.Edits.{AreOrdered}
 use Rattle.rd_props.specs.Strings.{is_empty}

@@ -1,19 +1,17 @@
--- Where the values and the overlays of an edited buffer come from, and that edits name no object that was not made.
-use Rattle.std.proofs.Common.{◌≡◌, ◌⊎◌, inl, inr, ℕ, zero, suc, ◌+◌, ◌-◌, ◌<◌, ◌≤◌, Bool, true, false, ◌&&◌, if◌then◌else◌, List, [], ◌∷◌, ◌++◌, length, map, set, Option, None, Some, refl, sym, ap, subst, ◌∙◌, arith}
+-- Edits name no object that was not made.
+use Rattle.std.proofs.Common.{◌≡◌, inl, inr, ℕ, zero, suc, ◌+◌, ◌-◌, ◌<◌, Bool, true, false, ◌&&◌, if◌then◌else◌, List, [], ◌∷◌, ◌++◌, length, set, Option, None, Some, refl, sym, ap, subst, ◌∙◌, arith}
 use Rattle.std.specs.Prelude.{nat_lt, nat_le, ◌==◌, IfSome, slice_get}
 use Rattle.std.specs.Option.{unwrap_or}
-use Rattle.std.proofs.lemmas.Bool.{cases_lt}
 use Rattle.std.proofs.lemmas.Bool.Decides.{nat_tests}
 use Rattle.std.proofs.lemmas.List.{length-append}
-use Rattle.std.proofs.lemmas.Option.{same_Some, unwrap_or-slice_get, get_or_from_slice_get}
-use Rattle.rd_base.proofs.Lists.{get-end, get-set}
-use Rattle.rd_spans.specs.Values.{values_opened, values_closed}
-use Rattle.rd_spans.proofs.Beside.{closed-before, closed-behind}
+use Rattle.std.proofs.lemmas.Option.{unwrap_or-slice_get, get_or_from_slice_get}
+use Rattle.rd_base.proofs.Lists.{get-set}
+use Rattle.rd_spans.proofs.Beside.{opened-from, closed-from}
 use Rattle.rd_overlays.specs.declared.overlay.Overlay.{Overlay}
 use Rattle.rd_overlays.specs.declared.overlay.Kind.{Kind}
 use Rattle.rd_overlays.specs.declared.overlay.Kind.TheVariants.{Face, Display, Invisible, LinePrefix, WrapPrefix, Before, After}
-use Rattle.rd_overlays.proofs.Bounding.{overlay_at-map}
-use Rattle.rd_overlays.specs.Overlays.{live, overlay_at, place_of, slot_changed, grown, shrunk, moved, dropped, given}
+use Rattle.rd_overlays.proofs.Slots.{slot-each, changed-each, after-set, after-end}
+use Rattle.rd_overlays.specs.Overlays.{overlay_at, place_of, slot_changed, grown, shrunk, moved, dropped, given}
 use Rattle.rd_objects.specs.Things.{ObjectLists}
 use Rattle.rd_objects.specs.Sound.{GoesOn, Extends}
 use Rattle.rd_props.specs.Buffers.{BufferValue, property}
@@ -22,22 +20,6 @@ use Rattle.rd_props.specs.Edits.{IsInsertion, IsDeletion, IsPut, HasOverlays}
 use Rattle.rd_props.specs.Made.{IsMade, SettingsMade, AreMade}
 
 -- ---- values of properties
-
--- where a value stood before positions were opened, and before some were taken away
-pub opened-from : (values : ℕ → Option ℕ) (pos n p v : ℕ) → values_opened values pos n p ≡ Some v → (q : ℕ) × (values q ≡ Some v) × (q ≤ p) × (p ≤ q + n)
-opened-from values pos n p v h = by (nat_lt p pos) (nat_lt p (pos + n)) refl refl h
-  where
-    by : (t u : Bool) → nat_lt p pos ≡ t → nat_lt p (pos + n) ≡ u → (if t then values p else if u then None else values (p - n)) ≡ Some v → (q : ℕ) × (values q ≡ Some v) × (q ≤ p) × (p ≤ q + n)
-    by true u ht hu h = (p, h, omega arith, omega arith)
-    by false true ht hu h = absurd (cc)
-    by false false ht hu h = (p - n, h, omega arith, omega arith)
-
-pub closed-from : (values : ℕ → Option ℕ) (from to p v : ℕ) → values_closed values from to p ≡ Some v
-    → (q : ℕ) × (values q ≡ Some v) × (((q ≡ p) × (p < from)) ⊎ ((q ≡ p + (to - from)) × (from ≤ p)))
-closed-from values from to p v h = elim (cases_lt p from) [
-  | inl less ↦ (p, closed-before values from to p less ∙ h, inl (refl, less))
-  | inr more ↦ (p + (to - from), closed-behind values from to (p + (to - from)) p more refl ∙ h, inr (refl, more))
-]
 
 -- the kind of a place
 kind_at : ℕ → Kind
@@ -80,35 +62,6 @@ NamesMade objects kind value overlay = value_of kind (Some overlay) ≡ Some val
 abbrev AreOverlaysMade : ObjectLists → List (Option Overlay) → Type 0
 AreOverlaysMade objects slots =
     (number value : ℕ) (kind : Kind) (overlay : Overlay) → overlay_at slots number ≡ Some overlay → NamesMade objects kind value overlay
-
--- what holds of what becomes of an overlay that may be there, holds of what is there then
-pub slot-each : (Q : Overlay → Type 0) (change : Overlay → Overlay) (slot : Option Overlay) → ((o : Overlay) → slot ≡ Some o → Q (change o))
-    → (p : Overlay) → slot_changed change slot ≡ Some p → Q p
-slot-each Q change None becomes p h = absurd (cc)
-slot-each Q change (Some o) becomes p h = subst Q (same_Some (change o) p h) (becomes o refl)
-
--- the same of the overlays of a list
-pub changed-each : (Q : Overlay → Type 0) (change : Overlay → Overlay) (slots : List (Option Overlay)) → ((n : ℕ) (o : Overlay) → overlay_at slots n ≡ Some o → Q (change o))
-    → (n : ℕ) (p : Overlay) → overlay_at (map (slot_changed change) slots) n ≡ Some p → Q p
-changed-each Q change slots becomes n p h = slot-each Q change (overlay_at slots n) (becomes n) p (sym (overlay_at-map (slot_changed change) slots n refl) ∙ h)
-
--- what lives stands at its number
-living : (slot : Option (Option Overlay)) (p : Overlay) → live slot ≡ Some p → slot ≡ Some (Some p)
-living None p h = absurd (cc)
-living (Some slot) p h = ap Some h
-
-pub after-set : (slots : List (Option Overlay)) (i : ℕ) (slot : Option Overlay) (number : ℕ) (p : Overlay) → overlay_at (set slots i slot) number ≡ Some p
-    → (overlay_at slots number ≡ Some p) ⊎ (slot ≡ Some p)
-after-set slots i slot number p h =
-    elim (get-set slots i number slot (Some p) (living (slice_get (set slots i slot) number) p h)) [ inl here ↦ inr (sym here.1) | inr old ↦ inl (ap live old.1) ]
-
-pub after-end : (slots : List (Option Overlay)) (o : Overlay) (number : ℕ) (p : Overlay) → overlay_at (slots ++ Some o ∷ []) number ≡ Some p
-    → (overlay_at slots number ≡ Some p) ⊎ (o ≡ p)
-after-end slots o number p h =
-    elim (get-end slots (Some o) number (Some p) (living (slice_get (slots ++ Some o ∷ []) number) p h)) [
-      | inl old ↦ inl (ap live old)
-      | inr here ↦ inr (same_Some o p (sym here.1))
-    ]
 
 set-made : (objects : ObjectLists) (slots : List (Option Overlay)) (i : ℕ) (slot : Option Overlay) → AreOverlaysMade objects slots
     → ((p : Overlay) (kind : Kind) (v : ℕ) → slot ≡ Some p → NamesMade objects kind v p) → AreOverlaysMade objects (set slots i slot)

@@ -10,7 +10,7 @@ use Rattle.rd_text.specs.Texts.{TextValue}
 use Rattle.rd_overlays.specs.declared.overlay.Overlay.{Overlay}
 use Rattle.rd_overlays.specs.declared.overlay.Kind.{Kind}
 use Rattle.rd_overlays.specs.declared.overlay.Kind.TheVariants.{Face}
-use Rattle.rd_overlays.proofs.Bounding.{set-holds}
+use Rattle.rd_overlays.proofs.Slots.{set-holds}
 use Rattle.rd_overlays.specs.Overlays.{overlay_at, place_of, covers, starts, ends, covering, slot_changed, moved, dropped, given}
 use Rattle.rd_objects.specs.Things.{ObjectLists}
 use Rattle.rd_objects.specs.Sound.{Extends}

@@ -7,13 +7,14 @@ use Rattle.rd_text.specs.Texts.{TextValue, IsText, IsAccessible, inserted, delet
 use Rattle.rd_text.specs.Answers.{IsAccessibleRange}
 use Rattle.rd_text.proofs.Keeping.{length-grown}
 use Rattle.rd_text.proofs.Ranges.{length-gap}
+use Rattle.rd_spans.proofs.Beside.{opened-from, closed-from}
 use Rattle.rd_overlays.proofs.Bounding.{deletion-rises, deletion-within}
+use Rattle.rd_overlays.proofs.Slots.{slot-each, changed-each, after-set, after-end}
 use Rattle.rd_overlays.specs.declared.overlay.Kind.{Kind}
 use Rattle.rd_overlays.specs.declared.overlay.Overlay.{Overlay}
 use Rattle.rd_overlays.specs.Overlays.{live, overlay_at, make_fault, moved, given, place_of, slot_changed, slot_grown, slot_shrunk, grown, shrunk, AllFit, SlotFits}
 use Rattle.rd_base.specs.Settings.{SettingValues}
 use Rattle.rd_overlays.specs.declared.fault.OverlayFault.TheVariants.{OutOfRange, TooMany}
-use Rattle.rd_props.proofs.Names.{opened-from, closed-from, after-end, after-set, slot-each, changed-each}
 use Rattle.rd_props.specs.Buffers as props
 use Rattle.rd_state.specs.Edits.{is_range_of_all}
 use Rattle.rd_state.specs.Valid.{IsOverlayIn, IsWithin}

@@ -1,0 +1,54 @@
+-- What stands at a number of slots where they are changed, where one is put and where there is one more.
+use Rattle.std.proofs.Common.{◌≡◌, ◌⊎◌, inl, inr, ℕ, zero, suc, List, [], ◌∷◌, ◌++◌, map, set, Option, None, Some, refl, sym, ap, subst, ◌∙◌}
+use Rattle.std.specs.Prelude.{slice_get, slice_set}
+use Rattle.std.proofs.lemmas.Option.{same_Some}
+use Rattle.rd_base.proofs.Lists.{get-end, get-set}
+use Rattle.rd_overlays.specs.declared.overlay.Overlay.{Overlay}
+use Rattle.rd_overlays.specs.Overlays.{live, overlay_at, slot_changed}
+
+-- what stands there is changed as its slot is
+pub overlay_at-map : (f : Option Overlay → Option Overlay) (slots : List (Option Overlay)) (number : ℕ) → f None ≡ None
+    → overlay_at (map f slots) number ≡ f (overlay_at slots number)
+overlay_at-map f [] number e = sym e
+overlay_at-map f (s ∷ slots) zero e = refl
+overlay_at-map f (s ∷ slots) (suc number) e = overlay_at-map f slots number e
+
+-- what holds of a slot's overlay as it is changed holds of the overlay that the changed slot has
+pub slot-each : (Q : Overlay → Type 0) (change : Overlay → Overlay) (slot : Option Overlay) → ((o : Overlay) → slot ≡ Some o → Q (change o))
+    → (p : Overlay) → slot_changed change slot ≡ Some p → Q p
+slot-each Q change None becomes p h = absurd (cc)
+slot-each Q change (Some o) becomes p h = subst Q (same_Some (change o) p h) (becomes o refl)
+
+-- the same where all slots are changed
+pub changed-each : (Q : Overlay → Type 0) (change : Overlay → Overlay) (slots : List (Option Overlay)) → ((n : ℕ) (o : Overlay) → overlay_at slots n ≡ Some o → Q (change o))
+    → (n : ℕ) (p : Overlay) → overlay_at (map (slot_changed change) slots) n ≡ Some p → Q p
+changed-each Q change slots becomes n p h = slot-each Q change (overlay_at slots n) (becomes n) p (sym (overlay_at-map (slot_changed change) slots n refl) ∙ h)
+
+-- what holds of a slot, and of what is put at a number where that is the slot's, holds of the slot afterwards
+pub set-holds : (P : Option Overlay → Type 0) (slots : List (Option Overlay)) (number : ℕ) (slot : Option Overlay) (k : ℕ) → (k ≡ number → P slot)
+    → P (overlay_at slots k) → P (overlay_at (slice_set slots number slot) k)
+set-holds P [] number slot k f h = h
+set-holds P (s ∷ slots) zero slot zero f h = f refl
+set-holds P (s ∷ slots) zero slot (suc k) f h = h
+set-holds P (s ∷ slots) (suc number) slot zero f h = h
+set-holds P (s ∷ slots) (suc number) slot (suc k) f h = set-holds P slots number slot k (λ e. f (ap suc e)) h
+
+-- what lives stands at its number
+living : (slot : Option (Option Overlay)) (p : Overlay) → live slot ≡ Some p → slot ≡ Some (Some p)
+living None p h = absurd (cc)
+living (Some slot) p h = ap Some h
+
+-- where one is put stands what stood there, or the new one
+pub after-set : (slots : List (Option Overlay)) (i : ℕ) (slot : Option Overlay) (number : ℕ) (p : Overlay) → overlay_at (set slots i slot) number ≡ Some p
+    → (overlay_at slots number ≡ Some p) ⊎ (slot ≡ Some p)
+after-set slots i slot number p h =
+    elim (get-set slots i number slot (Some p) (living (slice_get (set slots i slot) number) p h)) [ inl here ↦ inr (sym here.1) | inr old ↦ inl (ap live old.1) ]
+
+-- and so it is where there is one more
+pub after-end : (slots : List (Option Overlay)) (o : Overlay) (number : ℕ) (p : Overlay) → overlay_at (slots ++ Some o ∷ []) number ≡ Some p
+    → (overlay_at slots number ≡ Some p) ⊎ (o ≡ p)
+after-end slots o number p h =
+    elim (get-end slots (Some o) number (Some p) (living (slice_get (slots ++ Some o ∷ []) number) p h)) [
+      | inl old ↦ inl (ap live old)
+      | inr here ↦ inr (same_Some o p (sym here.1))
+    ]
