@@ -4,7 +4,7 @@ mod Walks
 mod Strings
 mod Elements
 mod Prefixes
-mod LineEnds
+pub mod LineEnds
 mod Joined
 mod Good
 mod Parts

@@ -1,4 +1,4 @@
--- The last element of a line is its end, and no other is.
+-- The ender of items comes last in visual order; the last element of a line is its end, and no other is.
 use Rattle.std.proofs.Common.{◌≡◌, ℕ, zero, suc, ◌<◌, Bool, true, false, List, [], ◌∷◌, ◌++◌, length, All, refl, sym, subst, ap, ap₂, ◌∙◌, append-nil, arith}
 use Rattle.std.specs.Prelude.{not, ◌&&◌, map, slice_get, Some}
 use Rattle.std.specs.List.{flat_map, AllByRecursion}
@@ -18,7 +18,7 @@ use Rattle.rd_levels.specs.Turns.{turns_of, ComesLast}
 use Rattle.rd_levels.specs.declared.turn.Turn.{Turn}
 use Rattle.rd_items.specs.Pieces.{Scene}
 use Rattle.rd_items.specs.Covers.{is_ender_kind, EndOnce}
-use Rattle.rd_items.proofs.Ended.{ended}
+use Rattle.rd_items.proofs.Ended.{Ended, ended}
 use Rattle.rd_items.specs.declared.item.Item.{Item}
 use Rattle.rd_items.specs.declared.item.ItemKind.{ItemKind}
 use Rattle.rd_items.specs.declared.item.ItemKind.TheVariants as item
@@ -31,6 +31,20 @@ ends-append : (es : List Element) (e : Element) → AllByRecursion IsOpen es →
 ends-append [] e each is = is
 ends-append (x ∷ []) e each is = ap₂ (λ a b. not a && b) each.0 is
 ends-append (x ∷ y ∷ ys) e each is = ap₂ (λ a b. not a && b) each.0 (ends-append (y ∷ ys) e each.1 is)
+
+-- a separator of paragraphs at the end of a line comes last in visual order
+abbrev pub LastLaw : Type 0
+LastLaw = (entries : List BracketEntry) (reorder : Bool) (base : ℕ) (classes : List Class) (codes : List ℕ) → ComesLast (turns_of entries reorder base (classes ++ B ∷ []) codes) (length classes)
+
+-- so does the ender of items
+pub ender-last : LastLaw → (s : Scene) (base : ℕ) (items : List Item) (e : Ended items) → ComesLast (item_turns s base items) (length e.others)
+ender-last law s base items e =
+    let fronts = map item_class e.others in
+    let classes : map item_class items ≡ fronts ++ B ∷ [] =
+    ap (map item_class) e.whole ∙ map-append item_class e.others (e.ender ∷ []) ∙ ap (λ c. fronts ++ c ∷ []) e.is.class in
+    let turned : List Class → List Turn = λ cs. turns_of s.brackets s.parts.settings.reorder base cs (map item_code items) in
+    subst (ComesLast (item_turns s base items)) (length-map e.others item_class)
+    (subst (λ cs. ComesLast (turned cs) (length fronts)) (sym classes) (law s.brackets s.parts.settings.reorder base fronts (map item_code items)))
 
 module _ (s : Scene) (base : ℕ) where
   kind-ends : (k : ItemKind) (overlay odd : Bool) (face : Attributes) (origin : Origin) → is_ender_kind k ≡ true → item_elements_by s base k overlay odd face origin ≡ element_of face origin look.LineEnd ∷ []
@@ -50,35 +64,26 @@ module _ (s : Scene) (base : ℕ) where
   end-at [] last turn = refl
   end-at (x ∷ xs) last turn = end-at xs last turn
 
-  front-open : (front : List Item) (last : Item) (turns : List Turn) (n : ℕ) → n ≡ length front → AllByRecursion (λ (x : Item). is_ender_kind x.kind ≡ false) front → All (λ (t : Turn). t.index < n) turns
+  front-open : (front : List Item) (last : Item) (turns : List Turn) → AllByRecursion (λ (x : Item). is_ender_kind x.kind ≡ false) front → All (λ (t : Turn). t.index < length front) turns
       → AllByRecursion IsOpen (flat_map (item_elements s base (front ++ last ∷ [])) turns)
-  front-open front last turns n size each low =
-      each-flat (item_elements s base (front ++ last ∷ [])) (λ (t : Turn). t.index < n) IsOpen
-      (λ t below. open-at front last t each t.index (omega (arith, size, below))) turns (recursion_from_All (λ (t : Turn). t.index < n) turns low)
+  front-open front last turns each low =
+      each-flat (item_elements s base (front ++ last ∷ [])) (λ (t : Turn). t.index < length front) IsOpen (λ t below. open-at front last t each t.index below) turns
+      (recursion_from_All (λ (t : Turn). t.index < length front) turns low)
 
-  turned-ends : (front : List Item) (last : Item) (turns : List Turn) (n : ℕ) → n ≡ length front → is_ender_kind last.kind ≡ true → AllByRecursion (λ (x : Item). is_ender_kind x.kind ≡ false) front → ComesLast turns n
+  turned-ends : (front : List Item) (last : Item) (turns : List Turn) → is_ender_kind last.kind ≡ true → AllByRecursion (λ (x : Item). is_ender_kind x.kind ≡ false) front → ComesLast turns (length front)
       → ends_once (flat_map (item_elements s base (front ++ last ∷ [])) turns) ≡ true
-  turned-ends front last turns n size ends each comes =
+  turned-ends front last turns ends each comes =
       let f = item_elements s base (front ++ last ∷ []) in
       let end = element_of last.face (origin_of comes.last.index last) look.LineEnd in
-      let place : comes.last.index ≡ length front = comes.index ∙ size in
       let given : f comes.last ≡ end ∷ [] =
-      ap (λ i. turn_elements s base comes.last (slice_get (front ++ last ∷ []) i)) place ∙ end-at front last comes.last
+      ap (λ i. turn_elements s base comes.last (slice_get (front ++ last ∷ []) i)) comes.index ∙ end-at front last comes.last
       ∙ kind-ends last.kind last.overlay comes.last.odd last.face (origin_of comes.last.index last) ends in
       ap (λ ts. ends_once (flat_map f ts)) comes.whole
       ∙ ap ends_once (flat_map-append f comes.front (comes.last ∷ []) ∙ ap (λ l. flat_map f comes.front ++ l) (append-nil (f comes.last) ∙ given))
-      ∙ ends-append (flat_map f comes.front) end (front-open front last comes.front n size each comes.others) refl
+      ∙ ends-append (flat_map f comes.front) end (front-open front last comes.front each comes.others) refl
 
-  pub line-ends : ((entries : List BracketEntry) (reorder : Bool) (base : ℕ) (classes : List Class) (codes : List ℕ) → ComesLast (turns_of entries reorder base (classes ++ B ∷ []) codes) (length classes))
-      → (items : List Item) → EndOnce items → ends_once (line_of_items s base items) ≡ true
+  pub line-ends : LastLaw → (items : List Item) → EndOnce items → ends_once (line_of_items s base items) ≡ true
   line-ends law items once =
       let e = ended items once in
-      let classes : map item_class items ≡ map item_class e.others ++ B ∷ [] =
-      ap (map item_class) e.whole ∙ map-append item_class e.others (e.ender ∷ []) ∙ ap (λ c. map item_class e.others ++ c ∷ []) e.is.class in
-      let codes = map item_code items in
-      let entries = s.brackets in
-      let reorder = s.parts.settings.reorder in
-      let comes : ComesLast (item_turns s base items) (length (map item_class e.others)) =
-      subst (λ (cs : List Class). ComesLast (turns_of entries reorder base cs codes) (length (map item_class e.others))) (sym classes) (law entries reorder base (map item_class e.others) codes) in
       ap (λ xs. ends_once (flat_map (item_elements s base xs) (item_turns s base items))) e.whole
-      ∙ turned-ends e.others e.ender (item_turns s base items) (length (map item_class e.others)) (length-map e.others item_class) e.is.kind e.inner comes
+      ∙ turned-ends e.others e.ender (item_turns s base items) e.is.kind e.inner (ender-last law s base items e)

@@ -1,27 +1,23 @@
 -- The ender of a block has the last range, in visual order and in order of position.
-use Rattle.std.proofs.Common.{◌≡◌, inl, inr, ℕ, zero, suc, ◌+◌, ◌<◌, ◌≤◌, nat_lt, Bool, true, false, if◌then◌else◌, List, [], ◌∷◌, ◌++◌, length, map, All, Some, refl, sym, ap, subst, ◌∙◌, arith, append-nil}
+use Rattle.std.proofs.Common.{◌≡◌, inl, inr, ℕ, zero, suc, ◌+◌, ◌<◌, ◌≤◌, nat_lt, Bool, true, false, if◌then◌else◌, List, [], ◌∷◌, ◌++◌, length, All, Some, refl, ap, subst, ◌∙◌, arith, append-nil}
 use Rattle.std.specs.Prelude.{slice_get}
 use Rattle.std.specs.List.{flat_map}
 use Rattle.std.proofs.lemmas.Bool.Decides.{nat_tests}
 use Rattle.std.proofs.lemmas.Grind.{flat_map-append}
-use Rattle.std.proofs.lemmas.List.{map-append, length-map}
 use Rattle.std.proofs.lemmas.List.Elements.{All-nil, All-cons, All-append, All-head, All-tail}
 use Rattle.rd_base.proofs.Lists.{at-seam}
-use Rattle.rd_base.specs.declared.class.Class.{Class}
-use Rattle.rd_base.specs.declared.class.Class.TheVariants.{B}
 use Rattle.rd_objects.specs.Things.{ObjectLists}
 use Rattle.rd_ucd.specs.Data.{Data}
-use Rattle.rd_ucd.specs.declared.spans.BracketEntry.{BracketEntry}
 use Rattle.rd_props.specs.Buffers.{BufferValue}
 use Rattle.rd_items.specs.Covers.{Tile}
 use Rattle.rd_items.specs.Pieces.{Scene, scene_in}
 use Rattle.rd_items.specs.Readings.{reading}
 use Rattle.rd_items.proofs.Ended.{Ended, ended}
 use Rattle.rd_items.specs.declared.item.Item.{Item}
-use Rattle.rd_levels.specs.Turns.{turns_of, ComesLast}
 use Rattle.rd_levels.specs.declared.turn.Turn.{Turn}
 use Rattle.rd_matrix.specs.declared.block.Block.{Block}
-use Rattle.rd_stack.specs.Lines.{item_class, item_code, item_turns}
+use Rattle.rd_stack.specs.Lines.{item_turns}
+use Rattle.rd_stack.proofs.LineEnds.{LastLaw, ender-last}
 use Rattle.rd_visual.specs.Motion.{range_by, ranges_in_turn}
 use Rattle.rd_visual.specs.Order.{EndsWithEnder, block_items, ordered_ranges, range_of, ranges_in_order}
 use Rattle.rd_visual.specs.Tiles.{IsTiled}
@@ -83,9 +79,6 @@ ender-range start x less =
     let covers : nat_lt x.from x.to ≡ true = grind (arith, nat_tests) in
     ap (λ t. if t then range_of start x ∷ [] else []) covers
 
-abbrev pub LastLaw : Type 0
-LastLaw = (entries : List BracketEntry) (reorder : Bool) (base : ℕ) (classes : List Class) (codes : List ℕ) → ComesLast (turns_of entries reorder base (classes ++ B ∷ []) codes) (length classes)
-
 -- a block that its items tile
 module _ (s : BufferValue) (objects : ObjectLists) (files : Data) (b : Block) (tiles : IsTiled s objects files b) where
   abbrev pub scene : Scene
@@ -123,18 +116,10 @@ module _ (s : BufferValue) (objects : ObjectLists) (files : Data) (b : Block) (t
 
   pub turns-end : LastLaw → (base : ℕ) → EndsWithEnder b.start b.end items (ranges_in_turn b.start items (item_turns scene base items))
   turns-end law base =
-      let fronts = map item_class e.others in
-      let size : length fronts ≡ length e.others = length-map e.others item_class in
-      let classes : map item_class items ≡ fronts ++ B ∷ [] =
-      ap (map item_class) e.whole ∙ map-append item_class e.others (e.ender ∷ []) ∙ ap (λ c. fronts ++ c ∷ []) e.is.class in
-      let comes : ComesLast (item_turns scene base items) (length fronts) =
-      subst (λ (cs : List Class). ComesLast (turns_of scene.brackets scene.parts.settings.reorder base cs (map item_code items)) (length fronts)) (sym classes)
-      (law scene.brackets scene.parts.settings.reorder base fronts (map item_code items)) in
+      let comes = ender-last law scene base items e in
       let f : Turn → List Range = λ t. range_by b.start (slice_get (e.others ++ e.ender ∷ []) t.index) in
-      let place : comes.last.index ≡ length e.others = comes.index ∙ size in
-      let low : All (λ t. t.index < length e.others) comes.front = subst (λ (n : ℕ). All (λ t. t.index < n) comes.front) size comes.others in
       ends-by (ranges_in_turn b.start (e.others ++ e.ender ∷ []) comes.front) (ranges_in_turn b.start items (item_turns scene base items))
       (ap (λ l. ranges_in_turn b.start l (item_turns scene base items)) e.whole ∙ ap (flat_map f) comes.whole ∙ flat_map-append f comes.front (comes.last ∷ [])
       ∙ ap (λ l. flat_map f comes.front ++ l)
-      (append-nil (f comes.last) ∙ ap (λ k. range_by b.start (slice_get (e.others ++ e.ender ∷ []) k)) place ∙ ap (range_by b.start) (at-seam e.others e.ender []) ∙ ender-range b.start e.ender e.is.some))
-      (turns-before b.start e.ender.from e.others e.ender comes.front cut.2 low)
+      (append-nil (f comes.last) ∙ ap (λ k. range_by b.start (slice_get (e.others ++ e.ender ∷ []) k)) comes.index ∙ ap (range_by b.start) (at-seam e.others e.ender []) ∙ ender-range b.start e.ender e.is.some))
+      (turns-before b.start e.ender.from e.others e.ender comes.front cut.2 comes.others)
