@@ -1,7 +1,6 @@
 -- One place more of a sequence (BD16), and a sequence without pairs.
-use Rattle.std.proofs.Common.{◌≡◌, ℕ, suc, ◌+◌, ◌<◌, ◌==◌, Bool, true, false, List, [], ◌∷◌, length, get_or, slice_get, drop, Option, None, Some, All, refl, sym, ap, subst, ◌∙◌, arith}
+use Rattle.std.proofs.Common.{◌≡◌, ℕ, suc, ◌+◌, ◌<◌, Bool, true, false, List, [], ◌∷◌, length, get_or, slice_get, drop, Option, None, Some, All, refl, sym, ap, subst, ◌∙◌, arith}
 use Rattle.std.specs.Prelude.{if◌then◌else◌, replicate, unwrap_or, IfSome}
-use Rattle.std.proofs.lemmas.Bool.Decides.{nat_tests}
 use Rattle.std.proofs.lemmas.List.{set-get_or, get_or-replicate, length-replicate}
 use Rattle.std.proofs.lemmas.Option.{get_or_from_slice_get}
 use Rattle.rd_base.proofs.Lists.{drop-at}
@@ -60,12 +59,6 @@ without-pairs entries embedding sos is cs codes ts none =
     ∙ ap (λ vs. put_at is (n0_with_marks None cs us vs) ts) (none-taken embedding sos 0 0 (length us) us)
     ∙ ap (λ vs. put_at is vs ts) (none-marked cs us)
     ∙ put-same is ts
-
-pub empty-told : (pairs : List Pair) → (length pairs == 0) ≡ true → pairs ≡ []
-empty-told [] told = refl
-empty-told (p ∷ ps) told =
-    let some : (suc (length ps) == 0) ≡ false = grind (arith, nat_tests) in
-    absurd (cc)
 
 no-role : (t : Class) (code : ℕ) → bd14_bd15_role [] t code ≡ Other
 no-role ON code = refl

@@ -2,6 +2,7 @@
 use Rattle.std.proofs.Common.{◌≡◌, ℕ, zero, suc, ◌+◌, ◌≤◌, List, [], ◌∷◌, ◌++◌, length, Option, None, Some, IfSome, length-append, subst, arith}
 use Rattle.std.specs.List.{AllByRecursion}
 use Rattle.std.proofs.lemmas.List.{length-map}
+use Rattle.rd_base.proofs.Choices.{if-value}
 use Rattle.rd_base.specs.declared.cell.Glyph.{Glyph}
 use Rattle.rd_base.specs.declared.class.Class.{Class}
 use Rattle.rd_base.specs.declared.class.Class.TheVariants.{B, S, ON}
@@ -53,10 +54,7 @@ module _ (R : Class → ItemKind → Type 0) (C : ℕ → Type 0) (s : Scene) (g
 -- whatever is read
 pub all-read : (es : List Seen) → AllByRecursion (λ (e : Seen). IfSome e.character (λ c. Unit {0})) es
 all-read [] = tt
-all-read (e ∷ es) = (any e.character, all-read es) where
-  any : (c : Option ℕ) → IfSome c (λ n. Unit {0})
-  any None = tt
-  any (Some n) = tt
+all-read (e ∷ es) = (if-value (λ c. Unit {0}) e.character (λ c is. tt), all-read es)
 
 -- ---- how many there are
 
