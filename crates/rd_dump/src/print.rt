@@ -37,7 +37,7 @@ pub fn print_tokens<K: Sink>(sink: &mut K, tokens: &[Token]) -> Result<(), Faile
     print_each(sink, tokens, print_token)
 }
 
-/// Writes a number between two texts.
+/// Writes a number between two texts. It takes no memory. `Failed` comes only where the sink's count of faults rose.
 pub fn print_between<'a, K: Sink>(
     sink: &mut K,
     before: &'a str,

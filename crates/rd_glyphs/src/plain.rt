@@ -1,9 +1,9 @@
 //! Plain lines of text, such as mode lines.
-ghost use Rattle.std.specs.Prelude.{◌≡◌, ◌≤◌, ◌+◌, ◌++◌, length, All, IfOk, OnOk, IsTrue};
+ghost use Rattle.std.specs.Prelude.{◌≡◌, ◌≤◌, ◌++◌, length, All, IfOk, OnOk, IsTrue};
 ghost use Rattle.rd_base.specs.Chars.{is_code};
 ghost use Rattle.rd_base.specs.Cells.{single};
 ghost use Rattle.rd_base.specs.Glyphs.{IsRowAfter};
-ghost use Rattle.rd_glyphs.specs.Characters.{looks_of, look_columns, TakesColumns, ShowsColumns};
+ghost use Rattle.rd_glyphs.specs.Characters.{looks_of, TakesColumns, ShowsColumns};
 ghost use Rattle.rd_glyphs.specs.Held.{HoldsColumns, has_room, joined_held, joined_to, held_looks, given, held_after};
 ghost use Rattle.rd_glyphs.specs.Lines.{plain_looks, fitted, plain_cells};
 
@@ -35,7 +35,7 @@ pub fn plain_line(
     fit(alloc, looks.as_slice(), face, width)
 }
 
-/// What is put for a text, with marks joined.
+/// What is put for a text, with marks joined. `characters_have_codes` reads the text once more, for the clause `codes` alone.
 #[tactic(auto, using(crate::proofs::Holding::read_whole))]
 fn looks_of_text(alloc: Global, text: &[Ch], classes: &Classes) -> Result<ListOf<Look>, Memory>
     ensures value { IfOk result (λ looks. looks ≡ plain_looks classes.now text.now) }

@@ -1,4 +1,5 @@
--- The turns of a line go through each of its places once, and are as many.
+-- The turns of a line go through each of its places once, and are as many; a number for the item of each turn adds up to that for each
+-- item.
 use Rattle.std.proofs.Common.{◌≡◌, ℕ, suc, ◌+◌, ◌<◌, nat_eq, Bool, true, false, cond, List, [], ◌∷◌, length, map, Option, Some, refl, ap, ap₂, ◌∙◌, arith}
 use Rattle.std.specs.Prelude.{◌==◌, count_by, slice_get}
 use Rattle.std.specs.List.{range_with_len}

@@ -170,7 +170,7 @@ fn faces_have_colours(face: Face)
     let _colour = face.fg;
 }
 
-/// Each character is a scalar value or a raw byte. The call looks at each and does nothing.
+/// Each character is a scalar value or a raw byte. The call looks at each, takes no memory and does nothing.
 pub fn characters_have_codes(text: &[Ch])
     ensures { AreCodes text.now }
 {

@@ -5,6 +5,7 @@ use Rattle.std.proofs.lemmas.Bool.{cases_lt}
 use Rattle.std.proofs.lemmas.Bool.Decides.{nat_tests}
 use Rattle.rd_spans.specs.Values.{values_opened, values_closed}
 
+-- before positions that are opened values stay, and behind them they move
 pub opened-before : (values : ℕ → Option ℕ) (pos n p : ℕ) → p < pos → values p ≡ values_opened values pos n p
 opened-before values pos n p less = let here : nat_lt p pos ≡ true = grind (arith, nat_tests) in rw here refl
 
@@ -15,6 +16,7 @@ opened-behind values pos n p q less is =
     let back : p ≡ q - n = omega arith in
     rw (one, two) (ap values back)
 
+-- before positions that are taken away values stay, and behind them they move
 pub closed-before : (values : ℕ → Option ℕ) (from to p : ℕ) → p < from → values p ≡ values_closed values from to p
 closed-before values from to p less = let here : nat_lt p from ≡ true = grind (arith, nat_tests) in rw here refl
 

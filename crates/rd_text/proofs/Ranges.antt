@@ -1,4 +1,4 @@
--- Parts of lists, and of lists with a gap.
+-- Ranges of a list: where a gap is left out of it, by the parts that begin and end them, and what searches and counts find in them.
 use Rattle.std.proofs.Common.{◌≡◌, ℕ, ◌+◌, ◌-◌, ◌<◌, ◌≤◌, Bool, List, [], ◌++◌, length, get_or, take, drop, refl, sym, ap, ◌∙◌, arith}
 use Rattle.std.specs.Prelude.{slice_range}
 use Rattle.std.specs.List.{count_by, prefix_len, suffix_len}
