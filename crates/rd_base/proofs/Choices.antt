@@ -1,5 +1,5 @@
--- What follows from a test, from an option, and of the one of two that is chosen.
-use Rattle.std.proofs.Common.{◌≡◌, ◌≤◌, ◌⊎◌, inl, inr, Bool, true, false, not, ◌||◌, if◌then◌else◌, Option, None, Some, IfSome, is_some, refl, sym, ap, ◌∙◌, arith, IsSome}
+-- What follows from a test, from an option, from a result, and of the one of two that is chosen.
+use Rattle.std.proofs.Common.{◌≡◌, ◌≢◌, ◌≤◌, ◌⊎◌, inl, inr, Bool, true, false, not, ◌||◌, if◌then◌else◌, Option, None, Some, Result, Ok, Err, IfSome, is_some, refl, sym, ap, ◌∙◌, arith, IsSome}
 use Rattle.std.specs.Option.{option_map, option_or, unwrap_or}
 use Rattle.std.proofs.Math.Bool.{not-not}
 use Rattle.std.proofs.lemmas.Option.{none-some}
@@ -79,3 +79,33 @@ is_some-map f (Some x) h = h
 pub map-or : {X Y : Type 0} (f : X → Y) (o p : Option X) → option_map f (option_or o p) ≡ option_or (option_map f o) (option_map f p)
 map-or f None p = refl
 map-or f (Some x) p = refl
+
+-- ---- results
+
+-- a test that refuses what fails
+pub if-ok : {A E : Type 0} (t : Bool) (r : Result A E) (e : E) (x : A) → (if t then r else Err e) ≡ Ok x → (t ≡ true) × (r ≡ Ok x)
+if-ok true r e x h = (refl, h)
+if-ok false r e x h = absurd (cc)
+
+-- a test that refuses what passes, before something is made
+pub if-not : {A E : Type 0} (t : Bool) (made : A) (e : E) (x : A) → (if t then Err e else Ok made) ≡ Ok x → (t ≡ false) × (made ≡ x)
+if-not true made e x h = absurd (cc)
+if-not false made e x h = (refl, cc)
+
+-- tests before something is made
+pub made-ok : {A E : Type 0} (t : Bool) (made : A) (e : E) (x : A) → (if t then Ok made else Err e) ≡ Ok x → (t ≡ true) × (made ≡ x)
+made-ok true made e x h = (refl, cc)
+made-ok false made e x h = absurd (cc)
+
+pub both-ok : {A E : Type 0} (t u : Bool) (made : A) (e f : E) (x : A) → (if t then (if u then Ok made else Err e) else Err f) ≡ Ok x → (t ≡ true) × (u ≡ true) × (made ≡ x)
+both-ok t u made e f x h =
+    let outer = if-ok t (if u then Ok made else Err e) f x h in
+    let inner = made-ok u made e x outer.1 in
+    (outer.0, inner.0, inner.1)
+
+-- neither a value nor another fault is this fault
+pub ok-free : {A E : Type 0} {fault : E} (x : A) → ◌≢◌ {A = Result A E} (Ok x) (Err fault)
+ok-free x = λ e. cc
+
+pub no-free : {A E : Type 0} {fault : E} (other : E) → other ≢ fault → ◌≢◌ {A = Result A E} (Err other) (Err fault)
+no-free other h = λ e. h (cc)

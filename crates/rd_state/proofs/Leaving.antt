@@ -21,7 +21,8 @@ use Rattle.rd_state.proofs.Below.{LeaveLaws}
 use Rattle.rd_state.proofs.Contents.{grown-is, shrunk-is, put-is, overlays-are, with_property, with_overlays}
 use Rattle.rd_state.proofs.Keeping.{holding}
 use Rattle.rd_state.proofs.Stepping.{IsEditOf, insertion-means, deletion-means, putting-means, making-means, dropping-means, giving-means, moving-means}
-use Rattle.rd_state.proofs.Tests.{both-ok, is_range_of_all-means}
+use Rattle.rd_base.proofs.Choices.{both-ok}
+use Rattle.rd_state.proofs.Tests.{is_range_of_all-means}
 use Rattle.rd_state.proofs.Options.{one-value}
 
 -- ---- the same buffer

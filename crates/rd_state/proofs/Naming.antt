@@ -34,7 +34,7 @@ use Rattle.rd_state.proofs.Keeping.{buffers-appended, windows-appended}
 use Rattle.rd_state.proofs.StepParts.{making-if}
 use Rattle.rd_state.proofs.Stepping.{Keeps, text-kept}
 use Rattle.rd_state.proofs.Tables.{nothing-within}
-use Rattle.rd_state.proofs.Tests.{both-ok, made-ok}
+use Rattle.rd_base.proofs.Choices.{both-ok, made-ok}
 use Rattle.rd_state.proofs.WithParts.{with_parts}
 
 -- ---- settings

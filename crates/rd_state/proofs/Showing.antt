@@ -1,5 +1,5 @@
--- What the tree's calls make, and that a step leads from a valid state to a valid one: windows and the frame.
-use Rattle.std.proofs.Common.{◌≡◌, ◌≢◌, ℕ, suc, ◌+◌, ◌-◌, ◌<◌, ◌≤◌, inl, inr, ◌==◌, ◌&&◌, Bool, true, false, is_some, cond, if◌then◌else◌, nat_le, nat_lt, ℤ, pos, negsuc, Option, None, Some, Result, Ok, Err, List, [], ◌∷◌, ◌++◌, length, subst, sym, ap, refl, ◌∙◌, arith, IsTrue}
+-- That a step leads from a valid state to a valid one: windows and the frame.
+use Rattle.std.proofs.Common.{◌≡◌, ◌≢◌, ℕ, ◌+◌, ◌-◌, ◌<◌, ◌≤◌, inl, inr, ◌==◌, Bool, true, false, is_some, cond, if◌then◌else◌, nat_lt, ℤ, pos, negsuc, Option, None, Some, Result, Ok, List, [], ◌∷◌, ◌++◌, length, subst, sym, ap, refl, ◌∙◌, arith, IsTrue}
 use Rattle.std.proofs.lemmas.Bool.{cases_eq, eqb-false, ltb-true, ltb-false, cond-false, cond-true, eq-eqb, ne_eqb}
 use Rattle.std.proofs.lemmas.Bool.Decides.{nat_tests}
 use Rattle.std.specs.Int.{int_max}
@@ -14,10 +14,10 @@ use Rattle.rd_text.specs.Texts.{IsAccessible}
 use Rattle.rd_script.specs.Forms.{IsFormat}
 use Rattle.rd_script.specs.Numbers.{is_near_zero}
 use Rattle.rd_tree.specs.Calls as tree
-use Rattle.rd_tree.specs.Calls.{Configuration, frame_of, is_full, split_to, changed_to, split_tree, remove_tree, resize_tree, mode_tree, margins_tree}
-use Rattle.rd_tree.specs.Windows.{Windows, Window, fits, holds, is_single, split_at, removed, replaced, resized, with_mode, with_margins, columns_needed, rows_needed, first_leaf, sibling}
+use Rattle.rd_tree.specs.Calls.{Configuration, frame_of, split_tree, remove_tree, resize_tree, mode_tree, margins_tree}
+use Rattle.rd_tree.proofs.Steps.{split-means, remove-means, resize-means, mode-means, margins-means}
+use Rattle.rd_tree.specs.Windows.{Windows, Window, holds, is_single, split_at, removed, replaced, resized, first_leaf, sibling}
 use Rattle.rd_tree.specs.declared.fault.TreeFault.{TreeFault}
-use Rattle.rd_tree.specs.declared.fault.TreeFault.TheVariants as tree_faults
 use Rattle.rd_tree.specs.declared.side.Side.{Side}
 use Rattle.rd_state.specs.declared.window.WindowState.{WindowState}
 use Rattle.rd_state.specs.States.{BufferValue, StateValue, number_of}
@@ -29,55 +29,9 @@ use Rattle.rd_state.proofs.ByNumber.{NumberedWindow, window-end, apart-end, wind
 use Rattle.rd_state.proofs.Keeping.{window-placed, windows-changed}
 use Rattle.rd_state.proofs.Leaves.{Leaf, leaf-resized, leaf-same, leaf-other, split-same, split-other, split-new, removed-same, removed-other, heir-held, is_some-leaf, unmade}
 use Rattle.rd_state.proofs.StepParts.{found, unless, tree-if, treed-if, placing-if}
-use Rattle.rd_state.proofs.Tests.{if-ok, if-not, is_accessible-means}
+use Rattle.rd_state.proofs.Tests.{is_accessible-means}
 use Rattle.rd_state.proofs.Options.{map-map, one-value, or-none, some-or}
 use Rattle.rd_state.proofs.WithParts.{with_parts}
-
--- ---- what the calls of the tree mean
-
-changed-means : (c d : Configuration) (n : ℕ) (windows : Windows) → (if holds n c.windows then changed_to c windows else Err tree_faults.NoWindow) ≡ Ok d
-    → record c { windows = windows } ≡ d
-changed-means c d n windows h =
-    let new : Configuration = record c { windows = windows } in
-    let outer = if-ok (holds n c.windows) (changed_to c windows) tree_faults.NoWindow d h in
-    let inner = if-ok (fits windows (frame_of c)) (Ok new) tree_faults.TooSmall d outer.1 in
-    cc (inner.1)
-
-pub mode-means : (c d : Configuration) (n : ℕ) (shown : Bool) → mode_tree c n shown ≡ Ok d → record c { windows = with_mode n shown c.windows } ≡ d
-unfolding mode_tree
-mode-means c d n shown h = changed-means c d n (with_mode n shown c.windows) h
-
-pub margins-means : (c d : Configuration) (n columns : ℕ) → margins_tree c n columns ≡ Ok d → record c { windows = with_margins n columns c.windows } ≡ d
-unfolding margins_tree
-margins-means c d n columns h = changed-means c d n (with_margins n columns c.windows) h
-
-pub split-means : (c d : Configuration) (n : ℕ) (side : Side) (size : ℕ) → split_tree c n side size ≡ Ok d
-    → (holds n c.windows ≡ true) × (record c { windows = split_at n side size c.made c.windows; made = suc c.made } ≡ d)
-unfolding split_tree
-split-means c d n side size h =
-    let ws = split_at n side size c.made c.windows in
-    let new : Configuration = record c { windows = ws; made = suc c.made } in
-    let outer = if-ok (holds n c.windows) (split_to c ws) tree_faults.NoWindow d h in
-    let middle = if-ok (fits ws (frame_of c)) (if is_full c then Err tree_faults.TooMany else Ok new) tree_faults.TooSmall d outer.1 in
-    let inner = if-not (is_full c) (Ok new) tree_faults.TooMany d middle.1 in
-    (outer.0, cc (inner.1))
-
-pub remove-means : (c d : Configuration) (n : ℕ) → remove_tree c n ≡ Ok d
-    → (holds n c.windows ≡ true) × (is_single c.windows ≡ false) × (record c { windows = removed n c.windows (frame_of c) } ≡ d)
-unfolding remove_tree
-remove-means c d n h =
-    let new : Configuration = record c { windows = removed n c.windows (frame_of c) } in
-    let outer = if-ok (holds n c.windows) (if is_single c.windows then Err tree_faults.LastWindow else Ok new) tree_faults.NoWindow d h in
-    let inner = if-not (is_single c.windows) (Ok new) tree_faults.LastWindow d outer.1 in
-    (outer.0, inner.0, cc (inner.1))
-
-pub resize-means : (c d : Configuration) (width height : ℕ) → resize_tree c width height ≡ Ok d
-    → record c { windows = resized c.windows (tree.frame width height); width = width; height = height } ≡ d
-unfolding resize_tree
-resize-means c d width height h =
-    let new : Configuration = record c { windows = resized c.windows (tree.frame width height); width = width; height = height } in
-    let parts = if-ok (nat_le (columns_needed c.windows) width && nat_le (rows_needed c.windows) height) (Ok new) tree_faults.TooSmall d h in
-    cc (parts.1)
 
 -- ---- a state with other windows, in the frame that there is
 
@@ -231,7 +185,7 @@ mode_lining-valid laws s number format v form =
     found IsValid _ (window_of number s.windows) _
     (λ w lives. unless IsValid (format_fault format) _
     (λ good. retold-valid s number (λ old. record old { format = format }) (λ x. (shown, x.1)) (mode_tree s.tree number shown) v
-    (λ d at. (laws.mode s.tree d number shown v.windows.tree at, mode-means s.tree d number shown at)) (λ x. refl)
+    (λ d at. (laws.mode s.tree d number shown v.windows.tree at, (mode-means s.tree d number shown at).2)) (λ x. refl)
     (λ x old. look-keeps s.buffers x (record x { format = format }) refl refl refl old.pending old.hscroll (good-format format form good) old.numbers old.strings old)))
 
 pub margining-valid : (laws : TreeLaws) (s : StateValue) (number numbers strings : ℕ) → IsValid s → numbers ≤ 10 → strings ≤ 20 → IfOk (margining s number numbers strings) IsValid
@@ -239,7 +193,7 @@ margining-valid laws s number numbers strings v few some =
     let columns = numbers + strings in
     found IsValid _ (window_of number s.windows) _
     (λ w lives. retold-valid s number (λ old. record old { numbers = numbers; strings = strings }) (λ x. (x.0, columns)) (margins_tree s.tree number columns) v
-    (λ d at. (laws.margins s.tree d number columns v.windows.tree at, margins-means s.tree d number columns at)) (λ x. refl)
+    (λ d at. (laws.margins s.tree d number columns v.windows.tree at, (margins-means s.tree d number columns at).2)) (λ x. refl)
     (λ x old. look-keeps s.buffers x (record x { numbers = numbers; strings = strings }) refl refl refl old.pending old.hscroll old.format few some old))
 
 -- ---- splits
@@ -292,11 +246,11 @@ splitting-valid laws s number side size v =
     found IsValid _ (window_of number s.windows) _
     (λ w lives. tree-if IsValid (split_tree s.tree number side size) _
     (λ d at.
-    let is = split-means s.tree d number side size at in
+    let is = (split-means s.tree d number side size at).3 in
     let valid = laws.split s.tree d number side size v.windows.tree at in
     let copy : WindowState = record w { forced = false; pending = pos 0 } in
-    let new = split-windows s d number side size w copy v valid (sym (ap (λ (x : Configuration). x.windows) is.1)) lives refl (copy-keeps s.buffers w (window-valid s number w v lives)) in
-    with_windows s d (s.windows ++ (s.tree.made, copy) ∷ []) s.selected v new (sym (ap (λ (x : Configuration). x.width) is.1)) (sym (ap (λ (x : Configuration). x.height) is.1))))
+    let new = split-windows s d number side size w copy v valid (sym (ap (λ (x : Configuration). x.windows) is)) lives refl (copy-keeps s.buffers w (window-valid s number w v lives)) in
+    with_windows s d (s.windows ++ (s.tree.made, copy) ∷ []) s.selected v new (sym (ap (λ (x : Configuration). x.width) is)) (sym (ap (λ (x : Configuration). x.height) is))))
 
 -- ---- removals
 
@@ -352,7 +306,7 @@ pub resizing-valid : (laws : TreeLaws) (s : StateValue) (width height : ℕ) →
 resizing-valid laws s width height v wide narrow high low =
     tree-if IsValid (resize_tree s.tree width (height - 1)) _
     (λ d at.
-    let is = resize-means s.tree d width (height - 1) at in
+    let is = (resize-means s.tree d width (height - 1) at).1 in
     let valid = laws.resize s.tree d width (height - 1) narrow (omega arith) v.windows.tree at in
     let columns : d.width ≡ width = sym (ap (λ (x : Configuration). x.width) is) in
     let rows : d.height ≡ height - 1 = sym (ap (λ (x : Configuration). x.height) is) in

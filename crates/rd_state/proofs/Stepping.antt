@@ -7,7 +7,7 @@ use Rattle.std.specs.Prelude.{All, IfOk, slice_get, slice_set}
 use Rattle.rd_base.specs.Chars.{is_code, is_scalar}
 use Rattle.rd_text.specs.Texts.{TextValue, IsAccessible, most_characters}
 use Rattle.rd_text.specs.Answers.{IsAccessibleRange, IsRangeOfAll}
-use Rattle.rd_base.proofs.Choices.{some-of}
+use Rattle.rd_base.proofs.Choices.{some-of, both-ok, if-ok, if-not, made-ok}
 use Rattle.rd_overlays.specs.declared.overlay.Overlay.{Overlay}
 use Rattle.rd_overlays.specs.declared.overlay.Kind.{Kind}
 use Rattle.rd_overlays.proofs.Bounding.{deletion-within}
@@ -30,7 +30,7 @@ use Rattle.rd_state.proofs.Contents.{grown-valid, shrunk-valid, narrowed-valid, 
 use Rattle.rd_state.proofs.ByNumber.{NumberedWindow}
 use Rattle.rd_state.proofs.Keeping.{holding, buffers-replaced, windows-replaced, windows-moved}
 use Rattle.rd_state.proofs.StepParts.{with_content, edited-if, edited_moving-if}
-use Rattle.rd_state.proofs.Tests.{both-ok, if-ok, if-not, made-ok, is_accessible-means, is_accessible_range-means, is_range_of_all-means}
+use Rattle.rd_state.proofs.Tests.{is_accessible-means, is_accessible_range-means, is_range_of_all-means}
 use Rattle.rd_state.proofs.WithParts.{with_parts}
 
 -- ---- texts
@@ -169,8 +169,8 @@ making-means from to priority front rear c d h =
     let new = with_overlays c (c.overlays ++ Some (new_overlay from to priority front rear) ∷ []) in
     let all = nat_le most_overlays (length c.overlays) in
     let outer = if-ok (is_range_of_all c.text from to) (if all then Err TooManyOverlays else Ok new) OutOfRange d h in
-    let inner = if-not all (Ok new) TooManyOverlays d outer.1 in
-    (outer.0, inner.0, cc (inner.1))
+    let inner = if-not all new TooManyOverlays d outer.1 in
+    (outer.0, inner.0, inner.1)
 
 pub making-keeps : (made : MadeLaws) (o : ObjectLists) (from to : ℕ) (priority : ℤ) (front rear : Bool) → Keeps o (λ p. p) (overlay_making from to priority front rear)
 making-keeps made o from to priority front rear c d v h =

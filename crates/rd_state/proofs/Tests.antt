@@ -1,5 +1,5 @@
 -- What the tests of ops mean.
-use Rattle.std.proofs.Common.{◌≡◌, ℕ, ◌+◌, ◌&&◌, Bool, true, false, if◌then◌else◌, nat_le, Result, Ok, Err, length, refl, List, IsTrue}
+use Rattle.std.proofs.Common.{◌≡◌, ℕ, ◌+◌, ◌&&◌, true, nat_le, length, List, IsTrue}
 use Rattle.std.proofs.lemmas.Bool.{and_parts, leb-true, or_left}
 use Rattle.std.proofs.lemmas.List.Elements.{All-weaker}
 use Rattle.std.proofs.lemmas.List.Sums.{AllPass-from_list_all}
@@ -9,27 +9,6 @@ use Rattle.rd_text.specs.Answers.{IsAccessibleRange, IsRangeOfAll}
 use Rattle.rd_objects.specs.Sound.{AreCodes}
 use Rattle.rd_script.specs.Forms.{is_text}
 use Rattle.rd_state.specs.Edits.{is_accessible, is_accessible_range, is_range_of_all}
-
--- a test that refuses what fails
-pub if-ok : {A E : Type 0} (t : Bool) (r : Result A E) (e : E) (x : A) → (if t then r else Err e) ≡ Ok x → (t ≡ true) × (r ≡ Ok x)
-if-ok true r e x h = (refl, h)
-if-ok false r e x h = absurd (cc)
-
--- a test that refuses what passes
-pub if-not : {A E : Type 0} (t : Bool) (r : Result A E) (e : E) (x : A) → (if t then Err e else r) ≡ Ok x → (t ≡ false) × (r ≡ Ok x)
-if-not true r e x h = absurd (cc)
-if-not false r e x h = (refl, h)
-
--- tests before something is made
-pub made-ok : {A E : Type 0} (t : Bool) (made : A) (e : E) (x : A) → (if t then Ok made else Err e) ≡ Ok x → (t ≡ true) × (made ≡ x)
-made-ok true made e x h = (refl, cc)
-made-ok false made e x h = absurd (cc)
-
-pub both-ok : {A E : Type 0} (t u : Bool) (made : A) (e f : E) (x : A) → (if t then (if u then Ok made else Err e) else Err f) ≡ Ok x → (t ≡ true) × (u ≡ true) × (made ≡ x)
-both-ok t u made e f x h =
-    let outer = if-ok t (if u then Ok made else Err e) f x h in
-    let inner = made-ok u made e x outer.1 in
-    (outer.0, inner.0, inner.1)
 
 pub text-codes : (text : List ℕ) → is_text text ≡ true → AreCodes text
 text-codes text h = All-weaker (λ c. IsTrue (is_scalar c)) (λ c. IsTrue (is_code c)) (λ c yes. or_left (is_scalar c) _ yes) text (AllPass-from_list_all is_scalar text h)

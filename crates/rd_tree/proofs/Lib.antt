@@ -6,5 +6,5 @@ mod Listing
 pub mod Rooms
 mod Siblings
 pub mod Standing
-mod Steps
+pub mod Steps
 mod Validity
