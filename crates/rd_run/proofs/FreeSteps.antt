@@ -4,7 +4,7 @@ use Rattle.std.specs.Prelude.{ℤ, pos}
 use Rattle.rd_layout.specs.Pointing.{hitting_by, stepped_to}
 use Rattle.rd_layout.specs.Sessions.{SessionValue, layout_of, session_step}
 use Rattle.rd_layout.specs.Windows.{place_of}
-use Rattle.rd_base.proofs.Choices.{either}
+use Rattle.rd_base.proofs.Choices.{either, no-free, ok-free}
 use Rattle.rd_base.specs.declared.limits.TheConstants.{FACES, SPECS, STRINGS, TABLES}
 use Rattle.rd_objects.specs.Things.{ObjectLists, full_fault, spec_fault, string_fault}
 use Rattle.rd_objects.specs.declared.run.Run.{Run}
@@ -34,15 +34,6 @@ use Rattle.rd_window.specs.declared.layout.Layout.{Layout}
 -- what is answered is no want of memory
 abbrev pub AnswersFree : {T : Type 0} → Result T Refused → Type 0
 AnswersFree r = r ≢ Err Memory
-
-ok-free : {T : Type 0} (x : T) → AnswersFree (Ok x)
-ok-free x = λ e. cc
-
-no-free : {T : Type 0} (refusal : Refused) → refusal ≢ Memory → AnswersFree {T = T} (Err refusal)
-no-free refusal h = λ e. h (cc)
-
-either-free : {T : Type 0} (b : Bool) (r s : Result T Refused) → AnswersFree r → AnswersFree s → AnswersFree (if b then r else s)
-either-free b r s p q = either AnswersFree b r s p q
 
 found-free : {A B : Type 0} (refusal : Refused) (o : Option A) (f : A → Result B Refused) → refusal ≢ Memory → ((a : A) → AnswersFree (f a)) → AnswersFree (with_found refusal o f)
 found-free refusal None f p h = λ e. p (cc)
@@ -81,37 +72,37 @@ moved-free s name how edit h =
     named-free s name (λ i b. moving i how (replaced s i b (edit b.content))) (λ i b. moving-free i how (replaced s i b (edit b.content)) (replaced-free s i b (edit b.content) (h b.content)))
 
 insertion-free : (place : ℕ) (new : List ℕ) (c : ContentValue) → AnswersFree (insertion place new c)
-insertion-free place new c = either-free _ _ _ (either-free _ _ _ (ok-free _) (no-free TextTooLarge (λ e. cc))) (no-free OutOfRange (λ e. cc))
+insertion-free place new c = either AnswersFree _ _ _ (either AnswersFree _ _ _ (ok-free _) (no-free TextTooLarge (λ e. cc))) (no-free OutOfRange (λ e. cc))
 
 deletion-free : (from to : ℕ) (c : ContentValue) → AnswersFree (deletion from to c)
-deletion-free from to c = either-free _ _ _ (ok-free _) (no-free OutOfRange (λ e. cc))
+deletion-free from to c = either AnswersFree _ _ _ (ok-free _) (no-free OutOfRange (λ e. cc))
 
 narrowing-free : (from to : ℕ) (c : ContentValue) → AnswersFree (narrowing from to c)
-narrowing-free from to c = either-free _ _ _ (ok-free _) (no-free OutOfRange (λ e. cc))
+narrowing-free from to c = either AnswersFree _ _ _ (ok-free _) (no-free OutOfRange (λ e. cc))
 
 property_putting-free : (objects : ObjectLists) (from to : ℕ) (kind : _) (value : Option ℕ) (c : ContentValue) → AnswersFree (property_putting objects from to kind value c)
-property_putting-free objects from to kind value c = either-free _ _ _ (either-free _ _ _ (ok-free _) (no-free NoObject (λ e. cc))) (no-free OutOfRange (λ e. cc))
+property_putting-free objects from to kind value c = either AnswersFree _ _ _ (either AnswersFree _ _ _ (ok-free _) (no-free NoObject (λ e. cc))) (no-free OutOfRange (λ e. cc))
 
 overlay_making-free : (from to : ℕ) (priority : ℤ) (front rear : Bool) (c : ContentValue) → AnswersFree (overlay_making from to priority front rear c)
-overlay_making-free from to priority front rear c = either-free _ _ _ (either-free _ _ _ (no-free TooManyOverlays (λ e. cc)) (ok-free _)) (no-free OutOfRange (λ e. cc))
+overlay_making-free from to priority front rear c = either AnswersFree _ _ _ (either AnswersFree _ _ _ (no-free TooManyOverlays (λ e. cc)) (ok-free _)) (no-free OutOfRange (λ e. cc))
 
 overlay_moving-free : (number from to : ℕ) (c : ContentValue) → AnswersFree (overlay_moving number from to c)
-overlay_moving-free number from to c = either-free _ _ _ (either-free _ _ _ (ok-free _) (no-free OutOfRange (λ e. cc))) (no-free NoOverlay (λ e. cc))
+overlay_moving-free number from to c = either AnswersFree _ _ _ (either AnswersFree _ _ _ (ok-free _) (no-free OutOfRange (λ e. cc))) (no-free NoOverlay (λ e. cc))
 
 overlay_dropping-free : (number : ℕ) (c : ContentValue) → AnswersFree (overlay_dropping number c)
-overlay_dropping-free number c = either-free _ _ _ (ok-free _) (no-free NoOverlay (λ e. cc))
+overlay_dropping-free number c = either AnswersFree _ _ _ (ok-free _) (no-free NoOverlay (λ e. cc))
 
 overlay_putting-free : (objects : ObjectLists) (number : ℕ) (kind : _) (value : Option ℕ) (c : ContentValue) → AnswersFree (overlay_putting objects number kind value c)
-overlay_putting-free objects number kind value c = either-free _ _ _ (either-free _ _ _ (ok-free _) (no-free NoObject (λ e. cc))) (no-free NoOverlay (λ e. cc))
+overlay_putting-free objects number kind value c = either AnswersFree _ _ _ (either AnswersFree _ _ _ (ok-free _) (no-free NoObject (λ e. cc))) (no-free NoOverlay (λ e. cc))
 
 margin_putting-free : (objects : ObjectLists) (number : ℕ) (string : Option ℕ) (c : ContentValue) → AnswersFree (margin_putting objects number string c)
-margin_putting-free objects number string c = either-free _ _ _ (either-free _ _ _ (ok-free _) (no-free NoObject (λ e. cc))) (no-free NoOverlay (λ e. cc))
+margin_putting-free objects number string c = either AnswersFree _ _ _ (either AnswersFree _ _ _ (ok-free _) (no-free NoObject (λ e. cc))) (no-free NoOverlay (λ e. cc))
 
 setting_putting-free : (objects : ObjectLists) (value : Setting) (c : ContentValue) → AnswersFree (setting_putting objects value c)
-setting_putting-free objects value c = either-free _ _ _ (ok-free _) (no-free NoObject (λ e. cc))
+setting_putting-free objects value c = either AnswersFree _ _ _ (ok-free _) (no-free NoObject (λ e. cc))
 
 making-free : (s : StateValue) (name : List ℕ) → AnswersFree (making s name)
-making-free s name = either-free _ _ _ (no-free NameTaken (λ e. cc)) (either-free _ _ _ (no-free TooManyBuffers (λ e. cc)) (ok-free _))
+making-free s name = either AnswersFree _ _ _ (no-free NameTaken (λ e. cc)) (either AnswersFree _ _ _ (no-free TooManyBuffers (λ e. cc)) (ok-free _))
 
 typing-free : (s : StateValue) (new : List ℕ) → AnswersFree (typing s new)
 typing-free s new =
@@ -163,7 +154,7 @@ placing-free : (s : StateValue) (window place : ℕ) (f : WindowState → Window
 placing-free s window place f =
     let put : BufferValue → Result StateValue Refused = λ b. if is_accessible b.content.text place then changing window f (Ok s) else Err OutOfRange in
     lives-free s window (λ w. in_shown s w put)
-    (λ w. shown-free s w put (λ b. either-free (is_accessible b.content.text place) (changing window f (Ok s)) (Err OutOfRange) (ok-free _) (no-free OutOfRange (λ e. cc))))
+    (λ w. shown-free s w put (λ b. either AnswersFree (is_accessible b.content.text place) (changing window f (Ok s)) (Err OutOfRange) (ok-free _) (no-free OutOfRange (λ e. cc))))
 
 showing-free : (s : StateValue) (window : ℕ) (name : List ℕ) → AnswersFree (showing s window name)
 showing-free s window name =
@@ -179,7 +170,7 @@ point-free s window place = placing-free s window place _
 hit-free : (s : StateValue) (window : ℕ) (w : WindowState) (last : Option Layout) (place : Option Placed) (row column : ℕ) → AnswersFree (hitting_by s window w last place row column)
 hit-free s window w None place row column = λ e. cc
 hit-free s window w (Some l) None row column = λ e. cc
-hit-free s window w (Some l) (Some place) row column = either-free _ _ _ (point-free s window _) (no-free NotShown (λ e. cc))
+hit-free s window w (Some l) (Some place) row column = either AnswersFree _ _ _ (point-free s window _) (no-free NotShown (λ e. cc))
 
 -- ---- all ops
 

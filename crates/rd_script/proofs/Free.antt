@@ -10,7 +10,8 @@ use Rattle.rd_script.specs.declared.op.Op.{Op}
 use Rattle.rd_script.specs.Fields.{required_of}
 use Rattle.rd_script.specs.Reading.{reading, reading_name, reading_row, reading_members, object_of, json_of, closed, extra_key, unless_extra}
 use Rattle.rd_script.specs.Table.{row, name_of}
-use Rattle.rd_script.proofs.InForm.{IsFree, and_then-free, ok-free, ok_or-free, required_of-free, row-gives}
+use Rattle.rd_base.proofs.Choices.{ok-free}
+use Rattle.rd_script.proofs.InForm.{IsFree, and_then-free, ok_or-free, required_of-free, row-gives}
 
 unless_extra-free : (key : Option (List ℕ)) (op : Op) → IsFree (unless_extra key op)
 unless_extra-free None op = ok-free op

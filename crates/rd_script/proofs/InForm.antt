@@ -7,7 +7,7 @@ use Rattle.std.specs.Option.{option_zip}
 use Rattle.std.specs.Prelude.{All}
 use Rattle.serde_json.specs.Data.{Data, Items, no_items, item, Members}
 use Rattle.serde_json.specs.Find.{get_member, as_number, as_u64, as_i64, as_bool, as_str, as_array}
-use Rattle.rd_base.proofs.Choices.{map-some}
+use Rattle.rd_base.proofs.Choices.{map-some, no-free, ok-free}
 use Rattle.rd_base.specs.declared.limits.TheConstants.{ATOMS, HSCROLL_COLUMNS, INVISIBLE_ATOMS, NUMBER_COLUMNS, SCROLL_CONSERVATIVELY, SCROLL_MARGIN, SCROLL_ROWS, START_ROW, STRING_COLUMNS, FRAME_COLUMNS, FRAME_ROWS, LEAST_FRAME_COLUMNS, LEAST_FRAME_ROWS, PRIORITY, STRING_RUNS, TABLE_ENTRIES, SPACE_COLUMNS, TAB_COLUMNS}
 use Rattle.rd_base.specs.declared.settings.Invisible.{Invisible}
 use Rattle.rd_base.specs.declared.settings.Invisible.TheVariants.{Every, Listed}
@@ -64,11 +64,8 @@ pub and_then-free : {A B : Type 0} (f : A → Result B OpFault) (r : Result A Op
 and_then-free f (Ok a) h g = h a refl
 and_then-free f (Err fault) h g = λ e. g (cc)
 
-pub ok-free : {T : Type 0} (x : T) → IsFree (Ok x)
-ok-free x = λ e. cc
-
 pub ok_or-free : {T : Type 0} (fault : OpFault) (o : Option T) → (fault ≡ Memory → ⊥) → IsFree (ok_or o fault)
-ok_or-free fault None h = λ e. h (cc)
+ok_or-free fault None h = no-free fault h
 ok_or-free fault (Some x) h = ok-free x
 
 or_bad-free : {T : Type 0} (key : List ℕ) (o : Option T) → IsFree (or_bad key o)
