@@ -34,7 +34,7 @@ use Rattle.rd_layout.specs.Changes.{change_by, if_shown, restyled}
 use Rattle.rd_state.proofs.StepParts.{found, unless, objects-if, tree-if, treed-if, making-if, edited-if, edited_moving-if, typing-if, setting-if, placing-if}
 use Rattle.rd_state.proofs.ByNumber.{NumberedWindow, Each, each-same, each-with, each-moved, each-end, each-without, window-other}
 use Rattle.rd_state.proofs.Options.{one-value}
-use Rattle.rd_state.proofs.Tests.{both-ok, if-ok}
+use Rattle.rd_base.proofs.Choices.{both-ok, if-ok}
 
 -- an effect tells no change of a window that shows a buffer
 abbrev pub Quiet : Effect → ℕ → ℕ → Type 0

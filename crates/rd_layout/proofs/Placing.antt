@@ -18,7 +18,8 @@ use Rattle.rd_state.specs.Windows.{selected_window}
 use Rattle.rd_state.specs.declared.moves.Move.{Move}
 use Rattle.rd_state.specs.declared.refused.Refused.{Refused}
 use Rattle.rd_state.specs.declared.window.WindowState.{WindowState}
-use Rattle.rd_state.proofs.Tests.{both-ok, if-ok, is_accessible-means, is_accessible_range-means, is_range_of_all-means}
+use Rattle.rd_base.proofs.Choices.{both-ok, if-ok}
+use Rattle.rd_state.proofs.Tests.{is_accessible-means, is_accessible_range-means, is_range_of_all-means}
 use Rattle.rd_text.specs.Texts.{IsText}
 use Rattle.rd_layout.proofs.Leading.{HasPlace}
 use Rattle.rd_state.proofs.StepParts.{edited-if, edited_moving-if, placing-if, typing-if}

@@ -6,6 +6,7 @@ use Rattle.rd_script.specs.declared.op.Op.{Op}
 use Rattle.rd_script.specs.declared.op.Op.TheVariants as ops
 use Rattle.rd_tree.specs.Calls.{Configuration, split_tree, remove_tree, resize_tree, mode_tree, margins_tree}
 use Rattle.rd_tree.specs.declared.fault.TreeFault.{TreeFault}
+use Rattle.rd_tree.proofs.Steps.{margins-means, mode-means, remove-means, resize-means, split-means}
 use Rattle.rd_state.specs.Edits.{insertion, deletion, narrowing, widening, property_putting, overlay_making, overlay_moving, overlay_dropping, overlay_putting, margin_putting, setting_putting}
 use Rattle.rd_state.specs.Making.{table_of, string_making, spec_making, face_making, table_making}
 use Rattle.rd_state.specs.Moves.{moved_in}
@@ -18,7 +19,6 @@ use Rattle.rd_state.specs.declared.refused.Refused.{Refused}
 use Rattle.rd_state.specs.declared.window.WindowState.{WindowState}
 use Rattle.rd_layout.specs.Sessions.{is_frame}
 use Rattle.rd_layout.proofs.ByNumber.{Lives, lives-moved, lives-with, lives-without, lives-end}
-use Rattle.rd_state.proofs.Showing.{margins-means, mode-means, remove-means, resize-means, split-means}
 use Rattle.rd_state.proofs.StepParts.{found, unless, objects-if, tree-if, treed-if, making-if, edited-if, edited_moving-if, typing-if, setting-if, placing-if}
 
 -- a state from which a step led to another one: the frame has the size that it had, unless the op is that of the frame, no count of
@@ -72,7 +72,7 @@ pub goes : (s : StateValue) (op : Op) → IfOk (step s op) (Goes (is_frame op) s
 unfolding step
 goes s (ops.Frame width height) =
     tree-if (Goes true s) (resize_tree s.tree width (height - 1)) _
-    (λ d is. record { size = λ no. absurd (cc); made = subst (Grows s.tree) (resize-means s.tree d width (height - 1) is) (omega arith); lives = λ n _ l. l })
+    (λ d is. record { size = λ no. absurd (cc); made = subst (Grows s.tree) (resize-means s.tree d width (height - 1) is).1 (omega arith); lives = λ n _ l. l })
 goes s (ops.Buffer name) = making-if (Goes false s) s name (λ free room. same-windows s _ refl refl refl refl false)
 goes s (ops.Insert name place text) = edited_moving-leads s name (Inserted place (length text)) (insertion place text)
 goes s (ops.InsertRaw name place bytes) = edited_moving-leads s name (Inserted place (length (raw_text bytes))) (insertion place (raw_text bytes))
@@ -102,7 +102,7 @@ goes s (ops.Split window side size) =
     (λ w at. tree-if (Goes false s) (split_tree s.tree window side size) _
     (λ d is. record {
       size = λ _. (refl, refl);
-      made = subst (Grows s.tree) (split-means s.tree d window side size is).1 (omega arith);
+      made = subst (Grows s.tree) (split-means s.tree d window side size is).3 (omega arith);
       lives = λ n low l. lives-end n (s.tree.made, record w { forced = false; pending = pos 0 }) s.windows (λ same. omega arith) l;
     }))
 goes s (ops.Remove window) =
@@ -126,7 +126,7 @@ goes s (ops.ModeLine window format) =
     found (Goes false s) _ (window_of window s.windows) _
     (λ w at. unless (Goes false s) (format_fault format) _
     (λ good. treed-leads s (mode_tree s.tree window (is_some format)) window (λ old. record old { format = format })
-    (λ d is. subst (Grows s.tree) (mode-means s.tree d window (is_some format) is) (omega arith))))
+    (λ d is. subst (Grows s.tree) (mode-means s.tree d window (is_some format) is).2 (omega arith))))
 goes s (ops.Scrolling margin conservatively) = same-windows s (record s { margin = margin; conservatively = conservatively }) refl refl refl refl false
 goes s (ops.Echo text) = same-windows s (record s { echo = text }) refl refl refl refl false
 goes s (ops.Redisplay stop) = same-windows s s refl refl refl refl false
@@ -136,5 +136,5 @@ goes s (ops.Hit window row column) = same-windows s s refl refl refl refl false
 goes s (ops.Margin window numbers strings) =
     found (Goes false s) _ (window_of window s.windows) _
     (λ w at. treed-leads s (margins_tree s.tree window (numbers + strings)) window (λ old. record old { numbers = numbers; strings = strings })
-    (λ d is. subst (Grows s.tree) (margins-means s.tree d window (numbers + strings) is) (omega arith)))
+    (λ d is. subst (Grows s.tree) (margins-means s.tree d window (numbers + strings) is).2 (omega arith)))
 goes s (ops.MarginPut name overlay string) = edited-leads s name (margin_putting s.objects overlay string)
