@@ -7,7 +7,7 @@ use Rattle.std.specs.Option.{option_or}
 use Rattle.rd_base.proofs.Choices.{is_some-map}
 use Rattle.rd_state.specs.declared.window.WindowState.{WindowState}
 use Rattle.rd_state.proofs.Options.{one-value}
-use Rattle.rd_state.specs.Windows.{under, window_of, place_in, with_window, without_window, AreApart}
+use Rattle.rd_state.specs.Windows.{under, window_of, place_in, kept_as, becoming, with_window, without_window, AreApart}
 
 abbrev pub NumberedWindow : Type 0
 NumberedWindow = ℕ × WindowState
@@ -20,17 +20,11 @@ under-here n e rest h = cond-true (e.0 == n) (Some e.1) (under n rest) (eq-eqb e
 pub under-there : {X : Type 0} (n : ℕ) (e : ℕ × X) (rest : List (ℕ × X)) → e.0 ≢ n → under n (e ∷ rest) ≡ under n rest
 under-there n e rest h = cond-false (e.0 == n) (Some e.1) (under n rest) (ne_eqb e.0 n h)
 
-pub with-here : (n : ℕ) (f : WindowState → WindowState) (e : NumberedWindow) (rest : List NumberedWindow) → e.0 ≡ n → with_window n f (e ∷ rest) ≡ (e.0, f e.1) ∷ rest
-with-here n f e rest h = cond-true (e.0 == n) _ _ (eq-eqb e.0 n h)
+becoming-here : (n : ℕ) (f : WindowState → Option WindowState) (e : NumberedWindow) (rest : List NumberedWindow) → e.0 ≡ n → becoming n f (e ∷ rest) ≡ kept_as e.0 (f e.1) rest
+becoming-here n f e rest h = cond-true (e.0 == n) _ _ (eq-eqb e.0 n h)
 
-pub with-there : (n : ℕ) (f : WindowState → WindowState) (e : NumberedWindow) (rest : List NumberedWindow) → e.0 ≢ n → with_window n f (e ∷ rest) ≡ e ∷ with_window n f rest
-with-there n f e rest h = cond-false (e.0 == n) _ _ (ne_eqb e.0 n h)
-
-pub without-here : (n : ℕ) (e : NumberedWindow) (rest : List NumberedWindow) → e.0 ≡ n → without_window n (e ∷ rest) ≡ rest
-without-here n e rest h = cond-true (e.0 == n) _ _ (eq-eqb e.0 n h)
-
-pub without-there : (n : ℕ) (e : NumberedWindow) (rest : List NumberedWindow) → e.0 ≢ n → without_window n (e ∷ rest) ≡ e ∷ without_window n rest
-without-there n e rest h = cond-false (e.0 == n) _ _ (ne_eqb e.0 n h)
+becoming-there : (n : ℕ) (f : WindowState → Option WindowState) (e : NumberedWindow) (rest : List NumberedWindow) → e.0 ≢ n → becoming n f (e ∷ rest) ≡ e ∷ becoming n f rest
+becoming-there n f e rest h = cond-false (e.0 == n) _ _ (ne_eqb e.0 n h)
 
 place-here : (n : ℕ) (e : NumberedWindow) (rest : List NumberedWindow) → e.0 ≡ n → place_in n (e ∷ rest) ≡ 0
 place-here n e rest h = cond-false (not (e.0 == n)) (1 + place_in n rest) 0 (not_from_true (e.0 == n) (eq-eqb e.0 n h))
@@ -60,8 +54,8 @@ one-further : (n j : ℕ) (e : NumberedWindow) (rest : List NumberedWindow) (w :
 one-further n j e rest w q p = record {
   at = p.at;
   window = under-there n e rest q ∙ p.window;
-  changed = λ f. ap (λ (xs : List NumberedWindow). e ∷ xs) (p.changed f) ∙ sym (with-there n f e rest q);
-  removed = ap (λ (xs : List NumberedWindow). e ∷ xs) p.removed ∙ sym (without-there n e rest q);
+  changed = λ f. ap (λ (xs : List NumberedWindow). e ∷ xs) (p.changed f) ∙ sym (becoming-there n (λ x. Some (f x)) e rest q);
+  removed = ap (λ (xs : List NumberedWindow). e ∷ xs) p.removed ∙ sym (becoming-there n (λ x. None) e rest q);
 }
 
 found-by : (n i : ℕ) (ws : List NumberedWindow) → i ≡ place_in n ws → i < length ws → (w : WindowState) × IsPlace n i ws w
@@ -72,8 +66,8 @@ found-by n zero (e ∷ rest) is less = elim (cases_eq e.0 n) [
     record {
       at = λ k. Some (p k, e.1);
       window = under-here n e rest p;
-      changed = λ f. ap (λ (m : ℕ). (m, f e.1) ∷ rest) (sym p) ∙ sym (with-here n f e rest p);
-      removed = sym (without-here n e rest p);
+      changed = λ f. ap (λ (m : ℕ). (m, f e.1) ∷ rest) (sym p) ∙ sym (becoming-here n (λ x. Some (f x)) e rest p);
+      removed = sym (becoming-here n (λ x. None) e rest p);
     },
   )
   | inr q ↦ absurd (omega (arith, place-there n e rest q, is))
@@ -95,27 +89,61 @@ absent n (e ∷ rest) h = elim (cases_eq e.0 n) [
   | inr q ↦ under-there n e rest q ∙ absent n rest (omega (arith, place-there n e rest q, h))
 ]
 
--- ---- a window that becomes another
+-- ---- a window that becomes another, or goes
+
+kept-past : (n m : ℕ) (o : Option WindowState) (rest : List NumberedWindow) → n ≢ m → window_of m (kept_as n o rest) ≡ window_of m rest
+kept-past n m None rest other = refl
+kept-past n m (Some w) rest other = under-there m (n, w) rest other
+
+-- the others stay
+pub window-past : (n m : ℕ) (f : WindowState → Option WindowState) (ws : List NumberedWindow) → m ≢ n → window_of m (becoming n f ws) ≡ window_of m ws
+window-past n m f [] ne = refl
+window-past n m f (e ∷ rest) ne = elim (cases_eq e.0 n) [
+  | inl p ↦
+      let other : e.0 ≢ m = λ r. ne (sym r ∙ p) in
+      ap (window_of m) (becoming-here n f e rest p) ∙ (kept-past e.0 m (f e.1) rest other ∙ sym (under-there m e rest other))
+  | inr q ↦ ap (window_of m) (becoming-there n f e rest q) ∙ elim (cases_eq e.0 m) [
+    | inl r ↦ under-here m e (becoming n f rest) r ∙ sym (under-here m e rest r)
+    | inr r ↦ under-there m e (becoming n f rest) r ∙ (window-past n m f rest ne ∙ sym (under-there m e rest r))
+  ]
+]
+
+pub window-other : (n m : ℕ) (f : WindowState → WindowState) (ws : List NumberedWindow) → m ≢ n → window_of m (with_window n f ws) ≡ window_of m ws
+window-other n m f ws ne = window-past n m (λ w. Some (f w)) ws ne
+
+pub some-none : {X : Type 0} (x : X) (o : Option X) → o ≡ Some x → o ≡ None → ⊥
+some-none x None h k = cc
+some-none x (Some y) h k = cc
+
+-- none comes
+pub none-past : (n m : ℕ) (f : WindowState → Option WindowState) (ws : List NumberedWindow) → window_of m ws ≡ None → window_of m (becoming n f ws) ≡ None
+none-past n m f [] h = refl
+none-past n m f (e ∷ rest) h =
+    let other : e.0 ≢ m = λ p. some-none e.1 (window_of m (e ∷ rest)) (under-here m e rest p) h in
+    let further : window_of m rest ≡ None = sym (under-there m e rest other) ∙ h in
+    elim (cases_eq e.0 n) [
+      | inl p ↦ ap (window_of m) (becoming-here n f e rest p) ∙ (kept-past e.0 m (f e.1) rest other ∙ further)
+      | inr q ↦ ap (window_of m) (becoming-there n f e rest q) ∙ (under-there m e (becoming n f rest) other ∙ none-past n m f rest further)
+    ]
+
+apart-kept : (n : ℕ) (o : Option WindowState) (rest : List NumberedWindow) → window_of n rest ≡ None → AreApart rest → AreApart (kept_as n o rest)
+apart-kept n None rest none h = h
+apart-kept n (Some w) rest none h = (none, h)
+
+pub apart-becoming : (n : ℕ) (f : WindowState → Option WindowState) (ws : List NumberedWindow) → AreApart ws → AreApart (becoming n f ws)
+apart-becoming n f [] h = tt
+apart-becoming n f (e ∷ rest) h = elim (cases_eq e.0 n) [
+  | inl p ↦ subst AreApart (sym (becoming-here n f e rest p)) (apart-kept e.0 (f e.1) rest h.0 h.1)
+  | inr q ↦ subst AreApart (sym (becoming-there n f e rest q)) (none-past n e.0 f rest h.0, apart-becoming n f rest h.1)
+]
 
 pub window-same : (n : ℕ) (f : WindowState → WindowState) (ws : List NumberedWindow) → window_of n (with_window n f ws) ≡ option_map f (window_of n ws)
 window-same n f [] = refl
 window-same n f (e ∷ rest) = elim (cases_eq e.0 n) [
-  | inl p ↦ ap (window_of n) (with-here n f e rest p) ∙ (under-here n (e.0, f e.1) rest p ∙ sym (ap (option_map f) (under-here n e rest p)))
+  | inl p ↦ ap (window_of n) (becoming-here n (λ w. Some (f w)) e rest p) ∙ (under-here n (e.0, f e.1) rest p ∙ sym (ap (option_map f) (under-here n e rest p)))
   | inr q ↦
-      ap (window_of n) (with-there n f e rest q)
+      ap (window_of n) (becoming-there n (λ w. Some (f w)) e rest q)
       ∙ (under-there n e (with_window n f rest) q ∙ (window-same n f rest ∙ sym (ap (option_map f) (under-there n e rest q))))
-]
-
-pub window-other : (n m : ℕ) (f : WindowState → WindowState) (ws : List NumberedWindow) → m ≢ n → window_of m (with_window n f ws) ≡ window_of m ws
-window-other n m f [] ne = refl
-window-other n m f (e ∷ rest) ne = elim (cases_eq e.0 n) [
-  | inl p ↦
-      let other : e.0 ≢ m = λ r. ne (sym r ∙ p) in
-      ap (window_of m) (with-here n f e rest p) ∙ (under-there m (e.0, f e.1) rest other ∙ sym (under-there m e rest other))
-  | inr q ↦ ap (window_of m) (with-there n f e rest q) ∙ elim (cases_eq e.0 m) [
-    | inl r ↦ under-here m e (with_window n f rest) r ∙ sym (under-here m e rest r)
-    | inr r ↦ under-there m e (with_window n f rest) r ∙ (window-other n m f rest ne ∙ sym (under-there m e rest r))
-  ]
 ]
 
 -- a number leads to what it led to, or to what became of that
@@ -129,76 +157,11 @@ window-with n m f ws = elim (cases_eq m n) [
 pub some-with : (n m : ℕ) (f : WindowState → WindowState) (ws : List NumberedWindow) → IsSome (window_of m ws) → IsSome (window_of m (with_window n f ws))
 some-with n m f ws h = elim (window-with n m f ws) [ inl p ↦ subst IsSome (sym p) h | inr p ↦ subst IsSome (sym p) (is_some-map f (window_of m ws) h) ]
 
-none-with : (n m : ℕ) (f : WindowState → WindowState) (ws : List NumberedWindow) → window_of m ws ≡ None → window_of m (with_window n f ws) ≡ None
-none-with n m f ws h = elim (window-with n m f ws) [ inl p ↦ p ∙ h | inr p ↦ p ∙ ap (option_map f) h ]
-
-pub apart-with : (n : ℕ) (f : WindowState → WindowState) (ws : List NumberedWindow) → AreApart ws → AreApart (with_window n f ws)
-apart-with n f [] h = tt
-apart-with n f (e ∷ rest) h = elim (cases_eq e.0 n) [
-  | inl p ↦ subst AreApart (sym (with-here n f e rest p)) (h.0, h.1)
-  | inr q ↦ subst AreApart (sym (with-there n f e rest q)) (none-with n e.0 f rest h.0, apart-with n f rest h.1)
-]
-
--- an entry is one of the old ones, or what became of one
-abbrev pub CameFrom : ℕ → (WindowState → WindowState) → List NumberedWindow → ℕ → NumberedWindow → Type 0
-CameFrom n f ws k e = (slice_get ws k ≡ Some e) ⊎ ((old : NumberedWindow) × (slice_get ws k ≡ Some old) × (e ≡ (old.0, f old.1)) × (old.0 ≡ n))
-
-pub get-with : (n : ℕ) (f : WindowState → WindowState) (ws : List NumberedWindow) (k : ℕ) (e : NumberedWindow) → slice_get (with_window n f ws) k ≡ Some e → CameFrom n f ws k e
-get-with n f [] k e h = absurd (cc)
-get-with n f (x ∷ rest) zero e h = elim (cases_eq x.0 n) [
-  | inl p ↦
-      let here : (x.0, f x.1) ≡ e = cc (sym (ap (λ (xs : List NumberedWindow). slice_get xs zero) (with-here n f x rest p)) ∙ h) in
-      inr (x, refl, sym here, p)
-  | inr q ↦ inl (sym (ap (λ (xs : List NumberedWindow). slice_get xs zero) (with-there n f x rest q)) ∙ h)
-]
-get-with n f (x ∷ rest) (suc k) e h = elim (cases_eq x.0 n) [
-  | inl p ↦ inl (sym (ap (λ (xs : List NumberedWindow). slice_get xs (suc k)) (with-here n f x rest p)) ∙ h)
-  | inr q ↦ get-with n f rest k e (sym (ap (λ (xs : List NumberedWindow). slice_get xs (suc k)) (with-there n f x rest q)) ∙ h)
-]
-
--- ---- a window that goes
-
 pub window-gone : (n : ℕ) (ws : List NumberedWindow) → AreApart ws → window_of n (without_window n ws) ≡ None
 window-gone n [] h = refl
 window-gone n (e ∷ rest) h = elim (cases_eq e.0 n) [
-  | inl p ↦ ap (window_of n) (without-here n e rest p) ∙ (ap (λ (k : ℕ). window_of k rest) (sym p) ∙ h.0)
-  | inr q ↦ ap (window_of n) (without-there n e rest q) ∙ (under-there n e (without_window n rest) q ∙ window-gone n rest h.1)
-]
-
-pub window-left : (n m : ℕ) (ws : List NumberedWindow) → m ≢ n → window_of m (without_window n ws) ≡ window_of m ws
-window-left n m [] ne = refl
-window-left n m (e ∷ rest) ne = elim (cases_eq e.0 n) [
-  | inl p ↦ ap (window_of m) (without-here n e rest p) ∙ sym (under-there m e rest (λ r. ne (sym r ∙ p)))
-  | inr q ↦ ap (window_of m) (without-there n e rest q) ∙ elim (cases_eq e.0 m) [
-    | inl r ↦ under-here m e (without_window n rest) r ∙ sym (under-here m e rest r)
-    | inr r ↦ under-there m e (without_window n rest) r ∙ (window-left n m rest ne ∙ sym (under-there m e rest r))
-  ]
-]
-
-none-without : (n m : ℕ) (ws : List NumberedWindow) → AreApart ws → window_of m ws ≡ None → window_of m (without_window n ws) ≡ None
-none-without n m ws h none = elim (cases_eq m n) [
-  | inl p ↦ ap (λ (k : ℕ). window_of k (without_window n ws)) p ∙ window-gone n ws h
-  | inr q ↦ window-left n m ws q ∙ none
-]
-
-pub apart-without : (n : ℕ) (ws : List NumberedWindow) → AreApart ws → AreApart (without_window n ws)
-apart-without n [] h = tt
-apart-without n (e ∷ rest) h = elim (cases_eq e.0 n) [
-  | inl p ↦ subst AreApart (sym (without-here n e rest p)) h.1
-  | inr q ↦ subst AreApart (sym (without-there n e rest q)) (none-without n e.0 rest h.1 h.0, apart-without n rest h.1)
-]
-
-pub get-without : (n : ℕ) (ws : List NumberedWindow) (k : ℕ) (e : NumberedWindow) → slice_get (without_window n ws) k ≡ Some e → (j : ℕ) × (slice_get ws j ≡ Some e)
-get-without n [] k e h = absurd (cc)
-get-without n (x ∷ rest) zero e h = elim (cases_eq x.0 n) [
-  | inl p ↦ (suc zero, sym (ap (λ (xs : List NumberedWindow). slice_get xs zero) (without-here n x rest p)) ∙ h)
-  | inr q ↦ (zero, sym (ap (λ (xs : List NumberedWindow). slice_get xs zero) (without-there n x rest q)) ∙ h)
-]
-get-without n (x ∷ rest) (suc k) e h = elim (cases_eq x.0 n) [
-  | inl p ↦ (suc (suc k), sym (ap (λ (xs : List NumberedWindow). slice_get xs (suc k)) (without-here n x rest p)) ∙ h)
-  | inr q ↦
-      let there = get-without n rest k e (sym (ap (λ (xs : List NumberedWindow). slice_get xs (suc k)) (without-there n x rest q)) ∙ h) in
-      (suc there.0, there.1)
+  | inl p ↦ ap (window_of n) (becoming-here n (λ w. None) e rest p) ∙ (ap (λ (k : ℕ). window_of k rest) (sym p) ∙ h.0)
+  | inr q ↦ ap (window_of n) (becoming-there n (λ w. None) e rest q) ∙ (under-there n e (without_window n rest) q ∙ window-gone n rest h.1)
 ]
 
 -- ---- a window that comes
@@ -211,10 +174,6 @@ window-end m (x ∷ rest) e = elim (cases_eq x.0 m) [
       under-there m x (rest ++ e ∷ []) q
       ∙ (window-end m rest e ∙ sym (ap (λ (o : Option WindowState). option_or o (if e.0 == m then Some e.1 else None)) (under-there m x rest q)))
 ]
-
-pub some-none : {X : Type 0} (x : X) (o : Option X) → o ≡ Some x → o ≡ None → ⊥
-some-none x None h k = cc
-some-none x (Some y) h k = cc
 
 pub apart-end : (ws : List NumberedWindow) (e : NumberedWindow) → AreApart ws → window_of e.0 ws ≡ None → AreApart (ws ++ e ∷ [])
 apart-end [] e h none = (refl, tt)
@@ -252,12 +211,6 @@ window-each n f ws = under-became (λ k. f) n ws
 
 pub apart-each : (f : WindowState → WindowState) (ws : List NumberedWindow) → AreApart ws → AreApart (map (each_by f) ws)
 apart-each f = apart-became (λ k. f)
-
-pub get-each : (f : WindowState → WindowState) (ws : List NumberedWindow) (k : ℕ) (e : NumberedWindow) → slice_get (map (each_by f) ws) k ≡ Some e
-    → (old : NumberedWindow) × (slice_get ws k ≡ Some old) × (e ≡ (old.0, f old.1))
-get-each f [] k e h = absurd (cc)
-get-each f (x ∷ rest) zero e h = (x, refl, cc)
-get-each f (x ∷ rest) (suc k) e h = get-each f rest k e h
 
 -- ---- windows that correspond
 
@@ -302,7 +255,7 @@ module _ (R : ℕ → WindowState → WindowState → Type 0) (stays : (number :
   pub each-without : (n : ℕ) (ws : List NumberedWindow) → AreApart ws → Each R ws (without_window n ws)
   each-without n ws apart number w v h k = elim (cases_eq number n) [
     | inl p ↦ absurd (some-none v (window_of n (without_window n ws)) (ap (λ (m : ℕ). window_of m (without_window n ws)) (sym p) ∙ k) (window-gone n ws apart))
-    | inr q ↦ stays-found number ws w v h (sym (window-left n number ws q) ∙ k)
+    | inr q ↦ stays-found number ws w v h (sym (window-past n number (λ x. None) ws q) ∙ k)
   ]
 
 -- ---- places and numbers
@@ -317,3 +270,24 @@ window-at n (x ∷ rest) (suc k) e apart h is = elim (cases_eq x.0 n) [
   | inl p ↦ absurd (some-none e.1 (window_of n rest) (window-at n rest k e apart.1 h is) (ap (λ (m : ℕ). window_of m rest) (sym p) ∙ apart.0))
   | inr q ↦ under-there n x rest q ∙ window-at n rest k e apart.1 h is
 ]
+
+-- ---- what holds of each entry
+
+-- a window that lives behind lived before, where none comes
+pub some-before : (n : ℕ) (ws us : List NumberedWindow) → (window_of n ws ≡ None → window_of n us ≡ None) → (w : WindowState) × (window_of n us ≡ Some w) → (u : WindowState) × (window_of n ws ≡ Some u)
+some-before n ws us none l = by (window_of n ws) refl where
+  by : (o : Option WindowState) → window_of n ws ≡ o → (u : WindowState) × (window_of n ws ≡ Some u)
+  by None is = absurd (some-none l.0 (window_of n us) l.1 (none is))
+  by (Some u) is = (u, is)
+
+-- what holds of a window that lives is handed on as something else
+abbrev pub Hands : (WindowState → Type 0) → (WindowState → Type 0) → List NumberedWindow → ℕ → WindowState → WindowState → Type 0
+Hands P Q ws number w v = window_of number ws ≡ Some w → P w → Q v
+
+pub each-entry : (P Q : WindowState → Type 0) (ws us : List NumberedWindow) → AreApart us → ((n : ℕ) → window_of n ws ≡ None → window_of n us ≡ None) → Each (Hands P Q ws) ws us
+    → ((k : ℕ) (e : NumberedWindow) → slice_get ws k ≡ Some e → P e.1) → (k : ℕ) (e : NumberedWindow) → slice_get us k ≡ Some e → Q e.1
+each-entry P Q ws us apart none hands old k e h =
+    let lives = window-at e.0 us k e apart h refl in
+    let was = some-before e.0 ws us (none e.0) (e.1, lives) in
+    let at = get-window e.0 ws was.0 was.1 in
+    hands e.0 was.0 e.1 was.1 lives was.1 (old at.0 (e.0, was.0) at.1)

@@ -20,7 +20,7 @@ use Rattle.rd_state.specs.States.{BufferValue, ContentValue, new_buffer, new_con
 use Rattle.rd_state.specs.Windows.{window_of, with_window, leaf_at, leaf_of}
 use Rattle.rd_state.specs.Valid.{most_buffers, AreToldByName, AreBuffers, IsContent, IsWindow, AreWindows}
 use Rattle.rd_state.specs.Moves.{place_after, moved, moved_by, moved_in}
-use Rattle.rd_state.proofs.ByNumber.{NumberedWindow, window-each, apart-each, get-each, window-same, window-other, some-with, apart-with, get-with, window-at}
+use Rattle.rd_state.proofs.ByNumber.{NumberedWindow, Hands, each-entry, each-moved, each-with, window-each, apart-each, window-same, window-other, some-with, none-past, apart-becoming}
 use Rattle.rd_state.proofs.Options.{map-map}
 
 -- ---- buffers
@@ -171,14 +171,14 @@ pub windows-moved : (bs : List BufferValue) (i : ℕ) (b : BufferValue) (d : Con
     → AreWindows (slice_set bs i (holding b d)) c (map (moved_in i how) ws) n
 windows-moved bs i b d how c ws n at keep v =
     let f = moved_by i how in
+    let was : WindowState → Type 0 = IsWindow bs in
+    let is : WindowState → Type 0 = IsWindow (slice_set bs i (holding b d)) in
     record {
       tree = v.tree;
       leaves = λ k. v.leaves k ∙ sym (ap (option_map leaf_of) (window-each k f ws) ∙ map-map f leaf_of leaf_of (window_of k ws) (leaf-moved i how));
       apart = apart-each f ws v.apart;
-      each = λ k e h.
-          let came = get-each f ws k e h in
-          subst (λ (x : NumberedWindow). IsWindow (slice_set bs i (holding b d)) x.1) (sym came.2)
-          (moved-window bs i b d how came.0.1 (came.0.1.buffer == i) refl at keep (v.each k came.0 came.1));
+      each = each-entry was is ws (map (moved_in i how) ws) (apart-each f ws v.apart) (λ k none. window-each k f ws ∙ ap (option_map f) none)
+          (each-moved (Hands was is ws) f ws (λ k w lives old. moved-window bs i b d how w (w.buffer == i) refl at keep old)) v.each;
       selected = subst IsSome (sym (window-each n f ws)) (is_some-map f (window_of n ws) v.selected);
     }
 
@@ -198,12 +198,8 @@ windows-changed bs c d ws n number f valid here others keep v = record {
         ∙ (sym (ap (option_map leaf_of) (window-same number f ws)) ∙ ap (λ (x : ℕ). option_map leaf_of (window_of x (with_window number f ws))) (sym p))))
     | inr q ↦ others k q ∙ (v.leaves k ∙ sym (ap (option_map leaf_of) (window-other number k f ws q)))
   ];
-  apart = apart-with number f ws v.apart;
-  each = λ k e h. elim (get-with number f ws k e h) [
-    | inl p ↦ v.each k e p
-    | inr p ↦
-        let found = window-at number ws k p.0 v.apart p.1 p.3 in
-        subst (λ (x : NumberedWindow). IsWindow bs x.1) (sym p.2) (keep p.0.1 found (v.each k p.0 p.1))
-  ];
+  apart = apart-becoming number (λ w. Some (f w)) ws v.apart;
+  each = each-entry (IsWindow bs) (IsWindow bs) ws (with_window number f ws) (apart-becoming number (λ w. Some (f w)) ws v.apart) (λ k. none-past number k (λ w. Some (f w)) ws)
+      (each-with (Hands (IsWindow bs) (IsWindow bs) ws) (λ k w lives old. old) number f ws keep) v.each;
   selected = some-with number n f ws v.selected;
 }

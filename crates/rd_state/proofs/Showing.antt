@@ -21,11 +21,11 @@ use Rattle.rd_tree.specs.declared.fault.TreeFault.{TreeFault}
 use Rattle.rd_tree.specs.declared.side.Side.{Side}
 use Rattle.rd_state.specs.declared.window.WindowState.{WindowState}
 use Rattle.rd_state.specs.States.{BufferValue, StateValue, number_of}
-use Rattle.rd_state.specs.Windows.{window_of, with_window, without_window, leaf_at, leaf_of}
+use Rattle.rd_state.specs.Windows.{AreApart, window_of, with_window, without_window, leaf_at, leaf_of}
 use Rattle.rd_state.specs.Valid.{IsWindow, AreWindows, IsGoodFormat, IsValid}
 use Rattle.rd_state.specs.Steps.{in_window, changing, on_tree, splitting, removing, showing, placing, held, format_fault, mode_lining, margining}
 use Rattle.rd_state.proofs.Below.{TreeLaws}
-use Rattle.rd_state.proofs.ByNumber.{NumberedWindow, window-end, apart-end, window-gone, window-left, apart-without, get-without, get-window, some-none}
+use Rattle.rd_state.proofs.ByNumber.{NumberedWindow, Hands, each-entry, each-without, window-end, apart-end, window-gone, window-past, none-past, apart-becoming, get-window, some-none}
 use Rattle.rd_state.proofs.Keeping.{window-placed, windows-changed}
 use Rattle.rd_state.proofs.Leaves.{Leaf, leaf-resized, leaf-same, leaf-other, split-same, split-other, split-new, removed-same, removed-other, heir-held, is_some-leaf, unmade}
 use Rattle.rd_state.proofs.StepParts.{found, unless, tree-if, treed-if, placing-if}
@@ -268,6 +268,7 @@ removed-windows : (s : StateValue) (d : Configuration) (number : ℕ) (w : Windo
 removed-windows s d number w v valid there many is found =
     let heir = first_leaf (sibling number s.tree.windows) in
     let left = without_window number s.windows in
+    let apart : AreApart left = apart-becoming number (λ x. None) s.windows v.windows.apart in
     let leaves : (k : ℕ) → leaf_at k d.windows ≡ option_map leaf_of (window_of k left) = λ k. elim (cases_eq k number) [
       | inl p ↦
           ap (λ (x : ℕ). leaf_at x d.windows) p ∙ (ap (leaf_at number) is
@@ -275,17 +276,18 @@ removed-windows s d number w v valid there many is found =
           ∙ sym (ap (option_map leaf_of) (ap (λ (x : ℕ). window_of x left) p ∙ window-gone number s.windows v.windows.apart))))
       | inr q ↦
           ap (leaf_at k) is ∙ (removed-other number k s.tree.windows (frame_of s.tree) q
-          ∙ (v.windows.leaves k ∙ sym (ap (option_map leaf_of) (window-left number k s.windows q))))
+          ∙ (v.windows.leaves k ∙ sym (ap (option_map leaf_of) (window-past number k (λ x. None) s.windows q))))
     ] in
     record {
       tree = valid;
       leaves = leaves;
-      apart = apart-without number s.windows v.windows.apart;
-      each = λ k e h. let at = get-without number s.windows k e h in v.windows.each at.0 e at.1;
+      apart = apart;
+      each = each-entry (IsWindow s.buffers) (IsWindow s.buffers) s.windows left apart (λ k. none-past number k (λ x. None) s.windows)
+          (each-without (Hands (IsWindow s.buffers) (IsWindow s.buffers) s.windows) (λ k x lives old. old) number s.windows v.windows.apart) v.windows.each;
       selected = selected-after (s.selected == number) heir s.selected left
           (λ h. some-window (window_of heir left) (sym (ap (λ (o : Option Leaf). is_some o) (leaves heir))
           ∙ (is_some-leaf heir d.windows ∙ (ap (holds heir) is ∙ heir-held number s.tree.windows (frame_of s.tree)))))
-          (λ h. subst IsSome (sym (window-left number s.selected s.windows (eqb-false s.selected number h))) v.windows.selected);
+          (λ h. subst IsSome (sym (window-past number s.selected (λ x. None) s.windows (eqb-false s.selected number h))) v.windows.selected);
     }
 
 pub removing-valid : (laws : TreeLaws) (s : StateValue) (number : ℕ) → IsValid s → IfOk (removing s number) IsValid

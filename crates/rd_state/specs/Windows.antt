@@ -19,15 +19,23 @@ window_of number windows = under number windows
 abbrev pub place_in : ℕ → List (ℕ × WindowState) → ℕ
 place_in number windows = position_or_len (λ e. e.0 == number) windows
 
--- the windows where the one with a number became another
-abbrev pub with_window : ℕ → (WindowState → WindowState) → List (ℕ × WindowState) → List (ℕ × WindowState)
-with_window number f [] = []
-with_window number f (e ∷ rest) = if e.0 == number then (e.0, f e.1) ∷ rest else e ∷ with_window number f rest
+-- a window before others, where there is one
+abbrev pub kept_as : ℕ → Option WindowState → List (ℕ × WindowState) → List (ℕ × WindowState)
+kept_as number None rest = rest
+kept_as number (Some w) rest = (number, w) ∷ rest
 
--- the windows but for the one with a number
+-- the windows where the one with a number became another, or went
+abbrev pub becoming : ℕ → (WindowState → Option WindowState) → List (ℕ × WindowState) → List (ℕ × WindowState)
+becoming number f [] = []
+becoming number f (e ∷ rest) = if e.0 == number then kept_as e.0 (f e.1) rest else e ∷ becoming number f rest
+
+-- where it became another
+abbrev pub with_window : ℕ → (WindowState → WindowState) → List (ℕ × WindowState) → List (ℕ × WindowState)
+with_window number f windows = becoming number (λ w. Some (f w)) windows
+
+-- where it went
 abbrev pub without_window : ℕ → List (ℕ × WindowState) → List (ℕ × WindowState)
-without_window number [] = []
-without_window number (e ∷ rest) = if e.0 == number then rest else e ∷ without_window number rest
+without_window number windows = becoming number (λ w. None) windows
 
 -- no number stands twice
 abbrev pub AreApart : List (ℕ × WindowState) → Type 0
