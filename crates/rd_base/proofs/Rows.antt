@@ -90,7 +90,7 @@ printable-measured base low high =
     single-measured base 1 (search (rules, tests)) (one-column base low high) (omega arith) (omega arith)
 
 -- behind those that count the marks are zeros
-zeros : (n : ℕ) (xs : List ℕ) → length xs ≡ n → ((k : ℕ) → k < n → get_or xs k 0 ≡ 0) → xs ≡ replicate n 0
+pub zeros : (n : ℕ) (xs : List ℕ) → length xs ≡ n → ((k : ℕ) → k < n → get_or xs k 0 ≡ 0) → xs ≡ replicate n 0
 zeros zero [] e all = refl
 zeros zero (x ∷ xs) e all = absurd (omega (arith, e))
 zeros (suc n) [] e all = absurd (omega (arith, e))

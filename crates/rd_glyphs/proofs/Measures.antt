@@ -1,10 +1,9 @@
 -- Glyphs as Unicode measures them.
-use Rattle.std.proofs.Common.{rules, ◌≡◌, ℕ, ◌+◌, ◌<◌, ◌≤◌, Bool, true, false, IsTrue, List, [], ◌∷◌, length, get_or, Option, Some, None, All, IfSome, refl, sym, subst, ap, map, ◌∙◌, ◌⊎◌, inl, inr, arith, tests, unwrap_or, replicate}
-use Rattle.std.specs.Prelude.{zero, suc, ◌-◌, ◌/◌, ◌%◌, ◌≢◌, ◌==◌, nat_le, ◌&&◌, if◌then◌else◌}
+use Rattle.std.proofs.Common.{rules, ◌≡◌, ℕ, ◌+◌, ◌<◌, ◌≤◌, Bool, true, false, IsTrue, List, [], ◌∷◌, length, get_or, set, Option, Some, None, All, IfSome, refl, sym, subst, ap, map, ◌∙◌, ◌⊎◌, inl, inr, arith, tests, unwrap_or, replicate, length-set, get_or-set_same, get_or-set_other}
+use Rattle.std.specs.Prelude.{◌-◌, ◌/◌, ◌%◌, ◌≢◌, ◌==◌, nat_le, nat_lt, ◌&&◌, if◌then◌else◌}
 use Rattle.std.specs.List.{list_all}
 use Rattle.std.proofs.lemmas.Bool.{and_parts, eqb-true}
 use Rattle.std.proofs.lemmas.Bool.Decides.{nat_tests}
-use Rattle.std.proofs.lemmas.List.{get_or-replicate}
 use Rattle.std.proofs.lemmas.List.Sums.{AllPass-from_list_all}
 use Rattle.std.proofs.lemmas.List.Elements.{All-map, All-cons}
 use Rattle.rd_base.proofs.Lists.{all-one}
@@ -12,9 +11,10 @@ use Rattle.unicode_width.specs.Width.{char_width, alone}
 use Rattle.rd_ucd.specs.declared.spans.Pair.{Pair}
 use Rattle.rd_ucd.specs.Lookup.{mirror_in}
 use Rattle.rd_base.specs.Chars.{is_scalar, is_code}
-use Rattle.rd_base.specs.Cells.{single}
+use Rattle.rd_base.specs.Cells.{single, with_mark}
 use Rattle.rd_base.specs.Glyphs.{IsMeasured, IsMeasuredLook}
-use Rattle.rd_base.proofs.Rows.{single-measured, printable-measured}
+use Rattle.rd_base.proofs.Equals.{glyphs-same}
+use Rattle.rd_base.proofs.Rows.{single-measured, printable-measured, zeros}
 use Rattle.rd_base.specs.declared.cell.Glyph.{Glyph}
 use Rattle.rd_base.specs.declared.class.Class.{Class}
 use Rattle.rd_objects.specs.Widths.{columns}
@@ -60,18 +60,11 @@ character-with g places is =
     let own : columns g.base ≡ g.width = grind (arith, nat_tests) in
     let some : 1 ≤ g.width = grind (arith, nat_tests) in
     let few : g.width ≤ 3 = grind (arith, nat_tests) in
-    let none : g.count ≡ 0 = grind (arith, nat_tests) in
-    let zeros : list_all (λ mark. mark == 0) g.marks ≡ true = grind (arith, nat_tests) in
-    record {
-      scalar = search (rules, tests);
-      columns = own-columns g.base g.width own some;
-      some = some;
-      few = few;
-      places = places;
-      count = omega arith;
-      marks = λ k p. absurd (omega arith);
-      rest = λ k p q. zero-mark g.marks zeros k (rw places q);
-    }
+    let none : 0 ≡ g.count = grind (arith, nat_tests) in
+    let empty : list_all (λ mark. mark == 0) g.marks ≡ true = grind (arith, nat_tests) in
+    let marks : replicate 6 0 ≡ g.marks = sym (zeros 6 g.marks places (λ k below. zero-mark g.marks empty k (rw places below))) in
+    subst IsMeasured (glyphs-same g.base 0 g.width g.base g.count g.width (replicate 6 0) g.marks refl marks none refl)
+    (single-measured g.base g.width (search (rules, tests)) (own-columns g.base g.width own some) some few)
 
 -- a glyph character in its own columns
 pub character-measured : (g : Glyph) → is_glyph_character g ≡ true → IsMeasured g
@@ -79,25 +72,41 @@ character-measured g is =
     let places : length g.marks ≡ 6 = grind (arith, nat_tests) in
     character-with g places is
 
+-- a measured glyph takes one more mark
+pub marked-measured : (g : Glyph) (code : ℕ) → IsMeasured g → g.count < 6 → IsTrue (is_scalar code) → char_width false code ≡ Some 0 → IsMeasured (with_mark g code)
+marked-measured g code is room scalar none = record {
+  scalar = is.scalar;
+  columns = is.columns;
+  some = is.some;
+  few = is.few;
+  places = length-set g.marks g.count code ∙ is.places;
+  count = omega arith;
+  marks = marks;
+  rest = rest;
+} where
+  inside : g.count < length g.marks
+  inside = rw is.places room
+
+  marks : (k : ℕ) → k < g.count + 1 → IsTrue (is_scalar (get_or (set g.marks g.count code) k 0)) × (char_width false (get_or (set g.marks g.count code) k 0) ≡ Some 0)
+  marks k p = by-place (nat_lt k g.count) refl where
+    by-place : (before : Bool) → nat_lt k g.count ≡ before → IsTrue (is_scalar (get_or (set g.marks g.count code) k 0)) × (char_width false (get_or (set g.marks g.count code) k 0) ≡ Some 0)
+    by-place true e =
+        let below : k < g.count = grind (arith, nat_tests) in
+        let other : k ≢ g.count = omega arith in
+        rw (get_or-set_other g.marks g.count k code 0 other) (is.marks k below)
+    by-place false e =
+        let same : g.count ≡ k = grind (arith, nat_tests) in
+        let last = get_or-set_same g.marks g.count code 0 inside in
+        rw (sym same) (rw last (scalar, none))
+
+  rest : (k : ℕ) → g.count + 1 ≤ k → k < 6 → get_or (set g.marks g.count code) k 0 ≡ 0
+  rest k p q =
+      let other : k ≢ g.count = omega arith in
+      get_or-set_other g.marks g.count k code 0 other ∙ is.rest k (omega arith) q
+
 -- a mark on a blank
 pub on_blank-measured : (code : ℕ) → IsTrue (is_scalar code) → char_width false code ≡ Some 0 → IsMeasured (on_blank code)
-on_blank-measured code scalar none = record {
-  scalar = refl;
-  columns = (printable-measured 32 (omega arith) (omega arith)).columns;
-  some = omega arith;
-  few = omega arith;
-  places = refl;
-  count = omega arith;
-  marks = λ k p. first-mark k p;
-  rest = λ k p q. other-marks k p q;
-} where
-  first-mark : (k : ℕ) → k < 1 → IsTrue (is_scalar (get_or (code ∷ replicate 5 0) k 0)) × (char_width false (get_or (code ∷ replicate 5 0) k 0) ≡ Some 0)
-  first-mark zero p = (scalar, none)
-  first-mark (suc k) p = absurd (omega arith)
-
-  other-marks : (k : ℕ) → 1 ≤ k → k < 6 → get_or (code ∷ replicate 5 0) k 0 ≡ 0
-  other-marks zero p q = absurd (omega arith)
-  other-marks (suc k) p q = get_or-replicate 5 k 0 0 (omega arith)
+on_blank-measured code scalar none = marked-measured (single 32 1) code (printable-measured 32 (omega arith) (omega arith)) (omega arith) scalar none
 
 above-controls : (code : ℕ) → 160 ≤ code → char_width false code ≡ Some (alone false code).0
 unfolding char_width

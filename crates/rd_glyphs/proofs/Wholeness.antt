@@ -1,12 +1,11 @@
 -- The cells of a plain line stand whole, and there are as many as it has columns.
-use Rattle.std.proofs.Common.{◌≡◌, ℕ, ◌+◌, ◌-◌, ◌<◌, ◌≤◌, ◌≢◌, Bool, true, false, IsTrue, List, [], ◌∷◌, ◌++◌, length, length-append, map, get_or, set, Option, Some, None, IfSome, All, refl, sym, subst, ◌∙◌, arith, length-set, get_or-set_same, get_or-set_other}
+use Rattle.std.proofs.Common.{◌≡◌, ℕ, ◌+◌, ◌-◌, ◌≤◌, Bool, true, false, IsTrue, List, [], ◌∷◌, ◌++◌, length, length-append, map, Option, Some, None, IfSome, All, refl, subst, arith}
 use Rattle.std.specs.Prelude.{nat_lt, nat_le, if◌then◌else◌}
 use Rattle.std.specs.List.{AllByRecursion}
 use Rattle.std.proofs.lemmas.Bool.Decides.{nat_tests}
 use Rattle.std.proofs.lemmas.List.{length-replicate}
 use Rattle.std.proofs.lemmas.List.Elements.{All-append, All-nil, All-from_recursion, recursion_from_All}
-use Rattle.unicode_width.specs.Width.{char_width}
-use Rattle.rd_base.specs.Chars.{is_scalar, is_code}
+use Rattle.rd_base.specs.Chars.{is_code}
 use Rattle.rd_base.specs.Cells.{single, HasColours, IsColoured, with_mark, joined_glyph}
 use Rattle.rd_base.specs.Faces.{Attributes}
 use Rattle.rd_base.specs.Glyphs.{blanks, IsMeasured, IsMeasuredLook, IsRowAfter}
@@ -30,7 +29,7 @@ use Rattle.rd_glyphs.specs.Marks.{marked_glyph, marks_joined}
 use Rattle.rd_glyphs.specs.Lines.{PlainPart, part_of, plain_part, plain_joins, looks_of_parts, plain_looks, cells_of, fitted, plain_cells}
 use Rattle.rd_glyphs.proofs.Elements.{shown_as-columns, looks-columns}
 use Rattle.rd_glyphs.proofs.Joined.{Grows, marks_joined-all}
-use Rattle.rd_glyphs.proofs.Measures.{ShowsMeasured, on_blank-measured, shown_as-measured, looks-measured, role-measured}
+use Rattle.rd_glyphs.proofs.Measures.{ShowsMeasured, marked-measured, on_blank-measured, shown_as-measured, looks-measured, role-measured}
 
 -- ---- cells
 
@@ -49,39 +48,7 @@ fitted-whole face room (l ∷ ls) each =
 
 -- ---- looks
 
--- a measured glyph takes one more mark
-pub marked-measured : (g : Glyph) (code : ℕ) → IsMeasured g → g.count < 6 → IsTrue (is_scalar code) → char_width false code ≡ Some 0 → IsMeasured (with_mark g code)
-marked-measured g code is room scalar none = record {
-  scalar = is.scalar;
-  columns = is.columns;
-  some = is.some;
-  few = is.few;
-  places = length-set g.marks g.count code ∙ is.places;
-  count = omega arith;
-  marks = marks;
-  rest = rest;
-} where
-  inside : g.count < length g.marks
-  inside = rw is.places room
-
-  marks : (k : ℕ) → k < g.count + 1 → IsTrue (is_scalar (get_or (set g.marks g.count code) k 0)) × (char_width false (get_or (set g.marks g.count code) k 0) ≡ Some 0)
-  marks k p = by-place (nat_lt k g.count) refl where
-    by-place : (before : Bool) → nat_lt k g.count ≡ before → IsTrue (is_scalar (get_or (set g.marks g.count code) k 0)) × (char_width false (get_or (set g.marks g.count code) k 0) ≡ Some 0)
-    by-place true e =
-        let below : k < g.count = grind (arith, nat_tests) in
-        let other : k ≢ g.count = omega arith in
-        rw (get_or-set_other g.marks g.count k code 0 other) (is.marks k below)
-    by-place false e =
-        let same : g.count ≡ k = grind (arith, nat_tests) in
-        let last = get_or-set_same g.marks g.count code 0 inside in
-        rw (sym same) (rw last (scalar, none))
-
-  rest : (k : ℕ) → g.count + 1 ≤ k → k < 6 → get_or (set g.marks g.count code) k 0 ≡ 0
-  rest k p q =
-      let other : k ≢ g.count = omega arith in
-      get_or-set_other g.marks g.count k code 0 other ∙ is.rest k (omega arith) q
-
--- and one that a mark joins
+-- a measured glyph that a mark joins
 pub joined_glyph-measured : (g : Glyph) (code : ℕ) → IsMeasured g → IsMark code → IfSome (joined_glyph g code) (λ glyph. IsMeasured glyph)
 joined_glyph-measured g code is mark = by-room (nat_lt g.count 6) refl where
   by-room : (room : Bool) → nat_lt g.count 6 ≡ room → IfSome (if room then Some (with_mark g code) else None) (λ glyph. IsMeasured glyph)
