@@ -23,6 +23,14 @@ seam a b i d p q =
     ∙ sym (append_assoc (take i a) (here ∷ []) (drop (i + 1) b))
     ∙ ap (λ xs. xs ++ drop (i + 1) b) (sym (take_more a i d p))
 
+-- a row more of a screen that has those of others up to it
+pub seam-row : (screen before : Picture) (whole : List (List Cell)) (row : ℕ) (cells : List Cell)
+    → before ≡ record screen { rows = take row whole ++ drop row screen.rows } → cells ≡ get_or whole row [] → row < length whole → row < length screen.rows
+    → (let after : Picture = record before { rows = set before.rows row cells } in after) ≡ record screen { rows = take (row + 1) whole ++ drop (row + 1) screen.rows }
+seam-row screen before whole row cells is same here there =
+    ap (λ (s : Picture). record s { rows = set s.rows row cells }) is
+    ∙ ap (λ rows. record screen { rows = rows }) (ap (λ x. set (take row whole ++ drop row screen.rows) row x) same ∙ seam whole screen.rows row [] here there)
+
 pub length-seam : {X : Type 0} (a b : List X) (i : ℕ) → length a ≡ length b → i ≤ length a → length (take i a ++ drop i b) ≡ length a
 length-seam a b i same p = omega (arith, length-append (take i a) (drop i b), length-take-le i a p, length-drop i b)
 

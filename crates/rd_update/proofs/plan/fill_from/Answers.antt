@@ -1,6 +1,5 @@
-use Rattle.std.proofs.Common.{◌<◌, ◌-◌, ◌++◌, ◌∙◌, [], length, set, take, drop, replicate, ap, sym, arith}
-use Rattle.rd_term.specs.Pictures.{Picture}
-use Rattle.rd_update.proofs.Parts.{seam, at-replica, length-replica}
+use Rattle.std.proofs.Common.{◌<◌, ◌-◌, ◌++◌, ◌∙◌, [], length, take, replicate, sym, arith}
+use Rattle.rd_update.proofs.Parts.{seam-row, at-replica, length-replica}
 use Rattle.rd_update.proofs.plan.fill_from.Goals as goal
 
 pub loop-row-preserved : goal.loop-row-preserved
@@ -14,11 +13,8 @@ loop-row-preserved c =
     let n = length-replica screen.rows from cells c.requires.row in
     let there : c.loop-row.row < length c.args.screen.now.rows = omega arith in
     let here : c.loop-row.row < length whole = omega (arith, n) in
-    let same = at-replica screen.rows from row cells [] h.2 there c.requires.row in
-    let step = ap (λ x. set (take row whole ++ drop row screen.rows) row x) (sym same) ∙ seam whole screen.rows row [] here there in (
-      c.set_row.ensures.screen
-          ∙ ap (λ (s : Picture). record s { rows = set s.rows row cells }) h.0
-          ∙ ap (λ rows. record screen { rows = rows }) step,
+    let same = at-replica screen.rows from row cells [] h.2 there c.requires.row in (
+      c.set_row.ensures.screen ∙ seam-row screen _ whole row cells h.0 (sym same) here there,
       c.set_row.ensures.width ∙ h.1,
       omega arith,
     )
