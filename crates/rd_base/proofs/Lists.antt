@@ -1,8 +1,8 @@
 -- What holds of each element of a list, and what a list is from one of its places.
-use Rattle.std.proofs.Common.{◌≡◌, ◌≢◌, ◌⊎◌, ℕ, zero, suc, ◌+◌, ◌<◌, ◌≤◌, nat_le, nat_lt, Bool, true, false, ◌&&◌, ◌||◌, List, [], ◌∷◌, ◌++◌, length, length-append, take, drop, get_or, None, Some, is_some, inl, inr, All, refl, sym, subst, ap, ap₂, cond, ◌∙◌, arith, map, set}
+use Rattle.std.proofs.Common.{◌≡◌, ◌≢◌, ◌⊎◌, ℕ, zero, suc, ◌+◌, ◌<◌, ◌≤◌, nat_le, nat_lt, ◌==◌, Bool, true, false, not, ◌&&◌, ◌||◌, List, [], ◌∷◌, ◌++◌, length, length-append, take, drop, get_or, None, Some, is_some, inl, inr, All, refl, sym, subst, ap, ap₂, cond, ◌∙◌, arith, map, set}
 use Rattle.std.specs.Prelude.{IfSome, slice_get}
 use Rattle.std.specs.List.{AllByRecursion, count_by, find, list_any, position_or_len, range_with_len}
-use Rattle.std.proofs.lemmas.Bool.{cases_lt}
+use Rattle.std.proofs.lemmas.Bool.{cases_lt, ne_eqb}
 use Rattle.std.proofs.lemmas.Bool.Decides.{nat_tests}
 use Rattle.std.proofs.lemmas.List.{get_or_append_left, get_or_past, drop_more, drop_all, drop-set-lt, drop-drop, get_or-drop, map_more, take_more, take_more_set}
 use Rattle.std.proofs.lemmas.List.Folds.{find_at}
@@ -139,6 +139,15 @@ is_some-found p (x ∷ xs) = elim (p x) as (λ b. is_some (cond b (Some x) (find
 -- how many elements pass a test
 pub count-cons : {X : Type 0} (p : X → Bool) (x : X) (xs : List X) → count_by p (x ∷ xs) ≡ cond (p x) 1 0 + count_by p xs
 count-cons p x xs = sum_by-cons (λ y. cond (p y) 1 0) x xs
+
+-- nothing is counted where no element passes
+counted : (first : Bool) (n : ℕ) (any : Bool) → (n == 0) ≡ not any → (cond first 1 0 + n == 0) ≡ not (first || any)
+counted true n any e = ne_eqb (1 + n) 0 (λ h. absurd (omega arith))
+counted false n any e = (let z : 0 + n ≡ n = omega arith in ap (λ (m : ℕ). m == 0) z) ∙ e
+
+pub none_counted : {X : Type 0} (p : X → Bool) (xs : List X) → (count_by p xs == 0) ≡ not (list_any p xs)
+none_counted p [] = refl
+none_counted p (x ∷ xs) = ap (λ (n : ℕ). n == 0) (count-cons p x xs) ∙ counted (p x) (count_by p xs) (list_any p xs) (none_counted p xs)
 
 pub count-append : {X : Type 0} (p : X → Bool) (xs ys : List X) → count_by p (xs ++ ys) ≡ count_by p xs + count_by p ys
 count-append p xs ys = sum_by-append (λ x. cond (p x) 1 0) xs ys

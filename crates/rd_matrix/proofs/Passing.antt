@@ -1,23 +1,17 @@
 -- Elements of a list that pass a test: where the first of them stands, and how many there are.
-use Rattle.std.proofs.Common.{◌≡◌, ℕ, zero, suc, ◌+◌, ◌<◌, ◌≤◌, inl, inr, Bool, true, false, cond, ◌||◌, List, [], ◌∷◌, length, Some, refl, sym, ap, ◌∙◌, arith}
+use Rattle.std.proofs.Common.{◌≡◌, ℕ, zero, suc, ◌+◌, ◌<◌, ◌≤◌, inl, inr, Bool, true, false, not, cond, List, [], ◌∷◌, length, Some, refl, sym, ap, ◌∙◌, arith}
 use Rattle.std.specs.List.{count_by, find, list_any, position_or_len, slice_get}
-use Rattle.std.proofs.lemmas.Bool.{cases_Bool, or_parts}
+use Rattle.std.proofs.lemmas.Bool.{cases_Bool, eqb-true}
 use Rattle.std.proofs.lemmas.List.Folds.{find_at}
 use Rattle.std.proofs.lemmas.Option.{slice_get_within}
-use Rattle.rd_base.proofs.Lists.{count-cons}
+use Rattle.rd_base.proofs.Choices.{some-of}
+use Rattle.rd_base.proofs.Lists.{count-cons, found-passes, is_some-found, none_counted}
 
 -- where some element passes, the first that does stands at its place
 pub at-position : {X : Type 0} (p : X → Bool) (xs : List X) → list_any p xs ≡ true → (x : X) × (slice_get xs (position_or_len p xs) ≡ Some x) × (p x ≡ true)
-at-position p [] some = absurd cc
-at-position p (y ∷ xs) some =
-    elim (cases_Bool (p y)) as (λ _. (x : _) × (slice_get (y ∷ xs) (position_or_len p (y ∷ xs)) ≡ Some x) × (p x ≡ true)) [
-      | inl here ↦ let place : position_or_len p (y ∷ xs) ≡ 0 = rw here refl in (y, ap (slice_get (y ∷ xs)) place, here)
-      | inr other ↦
-          let later : list_any p xs ≡ true = sym (ap (λ b. b || list_any p xs) other) ∙ some in
-          let rest = at-position p xs later in
-          let place : position_or_len p (y ∷ xs) ≡ suc (position_or_len p xs) = rw other (omega arith) in
-          (rest.0, ap (slice_get (y ∷ xs)) place ∙ rest.1, rest.2)
-    ]
+at-position p xs some =
+    let found = some-of (find p xs) (is_some-found p xs ∙ some) in
+    (found.0, sym (find_at p xs) ∙ found.1, (found-passes p xs found.0 found.1).0)
 
 pub first-inside : {X : Type 0} (p : X → Bool) (xs : List X) → list_any p xs ≡ true → position_or_len p xs < length xs
 first-inside p xs some = let first = at-position p xs some in slice_get_within xs (position_or_len p xs) first.0 first.1
@@ -35,11 +29,7 @@ pub some-counted : {X : Type 0} (p : X → Bool) (xs : List X) → list_any p xs
 some-counted p xs some = let first = at-position p xs some in place-counted p xs (position_or_len p xs) first.0 first.1 first.2
 
 pub none-counted : {X : Type 0} (p : X → Bool) (xs : List X) → list_any p xs ≡ false → count_by p xs ≡ 0
-none-counted p [] none = refl
-none-counted p (x ∷ xs) none =
-    let both = or_parts (p x) (list_any p xs) none in
-    let here = both.0 in
-    rw here (none-counted p xs both.1)
+none-counted p xs none = eqb-true (count_by p xs) 0 (none_counted p xs ∙ ap not none)
 
 -- behind the first element no more pass than with it
 pub fewer : {X : Type 0} (p : X → Bool) (x : X) (xs : List X) (most : ℕ) → count_by p (x ∷ xs) ≤ most → count_by p xs ≤ most

@@ -1,9 +1,8 @@
 -- What is kept of a stretch, character by character and part by part.
-use Rattle.std.proofs.Common.{◌≡◌, ℕ, zero, suc, ◌+◌, ◌-◌, ◌<◌, ◌==◌, ltb, length, get_or, None, arith, Bool, true, false, not, ◌&&◌, ◌||◌, cond, List, [], ◌∷◌, ◌++◌, refl, sym, ap, ◌∙◌}
-use Rattle.std.specs.Prelude.{count_by}
+use Rattle.std.proofs.Common.{◌≡◌, ℕ, zero, suc, ◌+◌, ◌-◌, ◌<◌, ltb, length, get_or, None, arith, Bool, true, false, not, ◌&&◌, ◌||◌, List, [], ◌∷◌, ◌++◌, refl, sym, ap, ◌∙◌}
 use Rattle.std.specs.List.{list_all, list_any, position, position_or_len, suffix_len}
-use Rattle.std.proofs.lemmas.List.Sums.{sum_by-cons, position_or_len_is, suffix_len_is, prefix_len-le-length, suffix_len-le-length}
-use Rattle.std.proofs.lemmas.Bool.{ltb-false, ne_eqb, or_parts}
+use Rattle.std.proofs.lemmas.List.Sums.{position_or_len_is, suffix_len_is, prefix_len-le-length, suffix_len-le-length}
+use Rattle.std.proofs.lemmas.Bool.{ltb-false, or_parts}
 use Rattle.rd_base.proofs.Choices.{none-chosen}
 use Rattle.rd_lanes.specs.Kernels.{last_position}
 use Rattle.rd_text.specs.Texts.{is_newline, is_blank}
@@ -38,16 +37,6 @@ separated-append (c ∷ cs) ys =
     ap (λ b. (is_newline c && b) || separated (cs ++ ys)) (opens-append cs ys)
     ∙ ap (λ b. (is_newline c && (opens cs || (list_all is_blank cs && opens ys))) || b) (separated-append cs ys)
     ∙ joined_gap (is_newline c) (opens cs) (list_all is_blank cs) (opens ys) (separated cs) (closes cs) (separated ys)
-
--- what is counted nowhere
-counted : (first : Bool) (n : ℕ) (any : Bool) → (n == 0) ≡ not any → (cond first 1 0 + n == 0) ≡ not (first || any)
-counted true n any e = ne_eqb (1 + n) 0 (λ h. absurd (omega arith))
-counted false n any e = (let z : 0 + n ≡ n = omega arith in ap (λ (m : ℕ). m == 0) z) ∙ e
-
-pub none_counted : (p : ℕ → Bool) (xs : List ℕ) → (count_by p xs == 0) ≡ not (list_any p xs)
-none_counted p [] = refl
-none_counted p (x ∷ xs) =
-    ap (λ (n : ℕ). n == 0) (sum_by-cons (λ y. cond (p y) 1 0) x xs) ∙ counted (p x) (count_by p xs) (list_any p xs) (none_counted p xs)
 
 -- what is seen nowhere
 pub none_seen : (p : ℕ → Bool) (xs : List ℕ) (k : ℕ) → list_any p xs ≡ false → k < length xs → p (get_or xs k 0) ≡ false

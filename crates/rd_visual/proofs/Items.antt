@@ -1,9 +1,11 @@
 -- The item of a reading column.
-use Rattle.std.proofs.Common.{◌≡◌, ℕ, zero, suc, ◌≤◌, ◌&&◌, nat_le, nat_eq, Bool, true, false, cond, List, [], ◌∷◌, Option, None, Some, refl, ap, ◌∙◌, subst, arith}
+use Rattle.std.proofs.Common.{◌≡◌, ℕ, zero, suc, ◌≤◌, ◌&&◌, nat_le, nat_eq, Bool, true, false, not, cond, List, [], ◌∷◌, Option, None, Some, refl, ap, ◌∙◌, subst, arith}
 use Rattle.std.specs.Prelude.{count_by, find, slice_get}
-use Rattle.std.proofs.lemmas.Bool.{and_parts}
+use Rattle.std.proofs.lemmas.Bool.{and_parts, eq-eqb}
 use Rattle.std.proofs.lemmas.Bool.Decides.{nat_tests}
-use Rattle.rd_matrix.proofs.Passing.{fewer, none-here, not-counted, place-counted}
+use Rattle.rd_base.proofs.Choices.{none-of, opposite}
+use Rattle.rd_base.proofs.Lists.{is_some-found, none_counted}
+use Rattle.rd_matrix.proofs.Passing.{fewer, not-counted, place-counted}
 use Rattle.rd_rows.specs.declared.begin.Begin.{Begin}
 use Rattle.rd_visual.specs.Hits.{covers_some, reaches, nearer, item_at, begins_at}
 
@@ -100,11 +102,7 @@ item-again column (x ∷ xs) b found = again-cases column x xs b _ _ refl refl (
 -- counts
 
 pub found-none : (p : Begin → Bool) (bs : List Begin) → count_by p bs ≡ 0 → find p bs ≡ None
-found-none p [] none = refl
-found-none p (x ∷ xs) none =
-    let both = none-here p x xs none in
-    let out = both.0 in
-    rw out (found-none p xs both.1)
+found-none p bs none = none-of (find p bs) (is_some-found p bs ∙ opposite _ _ (none_counted p bs) ∙ ap not (eq-eqb (count_by p bs) 0 none))
 
 pass-behind : (column : ℕ) (x b : Begin) (q : Bool) → reaches column x ≡ q → begins_at column x ≡ false → b.column ≡ column → nearer (cond q (Some x) None) (Some b) ≡ Some b
 pass-behind column x b false here out same = refl
