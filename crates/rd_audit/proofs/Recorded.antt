@@ -3,6 +3,7 @@ use Rattle.std.proofs.Common.{◌≡◌, ℕ, ◌+◌, ◌<◌, ◌≤◌, Bool,
 use Rattle.std.specs.Prelude.{IsSome}
 use Rattle.std.specs.Io.KnownBytes.{Appends}
 use Rattle.std.proofs.lemmas.List.Elements.{All-nil}
+use Rattle.std.proofs.lemmas.List.Sums.{fold-append}
 use Rattle.rd_dump.specs.Dumps.{dump_text}
 use Rattle.rd_dump.specs.declared.dump.WindowFacts.{WindowFacts}
 use Rattle.rd_io.specs.Lines.{lines_of}
@@ -17,7 +18,7 @@ use Rattle.rd_layout.specs.Windows.{places}
 use Rattle.rd_layout.proofs.Placed.{shown-count}
 use Rattle.rd_run.proofs.Effects.{effect-is, shown-done}
 use Rattle.rd_update.proofs.Sizes.{is-screen, width-is}
-use Rattle.rd_run.proofs.Inputs.{run-append, run-clear, run-push}
+use Rattle.rd_run.proofs.Inputs.{run-clear, run-push}
 use Rattle.rd_run.specs.Alike.{End}
 use Rattle.rd_run.specs.Ends.{Comes, Drawn, Ended, IsWhole, Ran, Sunk, Took, done_of, last_in, told_in}
 use Rattle.rd_run.specs.Given.{Given}
@@ -159,7 +160,7 @@ shown-run laws mode before t behind dumps read ran shown leave =
     let leads = laws.leads mode before t in
     let under = laws.in_mode mode before in
     let screen = (laid_out w.now.session.files w.now.session.state).picture in
-    let whole : run (opened mode) inputs ≡ run next behind = run-append (opened mode) before (t ∷ behind) in
+    let whole : run (opened mode) inputs ≡ run next behind = fold-append run_line (opened mode) before (t ∷ behind) in
     let ended : (run next behind).fault ≡ None = ap (λ (x : World). x.fault) (sym whole) ∙ ran in
     let clear : w.fault ≡ None = run-clear w (t ∷ behind) ended in
     let session : IsSession next.now.session = subst (λ (x : World). IsSession x.now.session) (run-push (opened mode) before t) (laws.session mode (before ++ t ∷ [])) in

@@ -4,8 +4,8 @@ use Rattle.rd_run.proofs.Inputs.{run-clear, run_line-goes}
 use Rattle.rd_run.specs.Ends.{Ran}
 use Rattle.rd_run.specs.Runs.{AreOfOneSize, Input, LeadsOn, Mode, World, after, effect, opened, run, run_line}
 use Rattle.rd_state.specs.States.{StateValue}
-use Rattle.rd_term.proofs.Feeding.{feed_bytes-append}
-use Rattle.rd_term.specs.Terminals.{Tty, feed_bytes, unknown}
+use Rattle.std.proofs.lemmas.List.Sums.{fold-append}
+use Rattle.rd_term.specs.Terminals.{Tty, feed_bytes, unknown, feed_byte}
 use Rattle.rd_audit.specs.Recorded.{recorded, since, since_frame}
 
 -- ---- what the terminal has read
@@ -20,7 +20,7 @@ read-if true s next t bytes sent size h = refl
 read-if false s next t bytes sent size h =
     let same = size refl in
     ap (λ x. feed_bytes x sent) (h ∙ ap (λ x. feed_bytes (unknown x s.height) bytes) (sym same.0) ∙ ap (λ x. feed_bytes (unknown next.width x) bytes) (sym same.1))
-    ∙ sym (feed_bytes-append (unknown next.width next.height) bytes sent)
+    ∙ sym (fold-append feed_byte (unknown next.width next.height) bytes sent)
 
 pub run_line-reads : (w : World) (t : Input) (bytes : List ℕ) → w.fault ≡ None → LeadsOn w t → HasRead bytes w → HasRead (since bytes (effect w.now t)) (run_line w t)
 run_line-reads w t bytes clear leads h =

@@ -1,8 +1,9 @@
 -- The rows of a block, added one by one.
-use Rattle.std.proofs.Common.{◌≡◌, ℕ, zero, suc, ◌+◌, ◌-◌, ◌<◌, ◌≤◌, ◌&&◌, inl, inr, Bool, true, false, if◌then◌else◌, leb, ltb, List, [], ◌∷◌, ◌++◌, length, take, drop, slice_get, All, Some, refl, sym, ap, ◌∙◌, subst, arith}
+use Rattle.std.proofs.Common.{◌≡◌, ℕ, zero, suc, ◌+◌, ◌-◌, ◌<◌, ◌≤◌, ◌&&◌, inl, inr, Bool, true, false, if◌then◌else◌, leb, ltb, List, [], ◌∷◌, ◌++◌, length, take, drop, slice_get, All, fold, Some, refl, sym, ap, ◌∙◌, subst, arith}
 use Rattle.std.proofs.lemmas.Bool.{and_from, and_left, and_right, cases_Bool, leb-true, leb-false, ltb-true, ltb-false}
 use Rattle.std.proofs.lemmas.List.{append-nil, append_assoc, length_push}
 use Rattle.std.proofs.lemmas.List.Elements.{All-cons, All-nil}
+use Rattle.std.proofs.lemmas.List.Sums.{fold-append}
 use Rattle.rd_matrix.specs.Entries.{numbered, shown_entries}
 use Rattle.rd_matrix.specs.declared.matrix.Entry.{Entry}
 use Rattle.rd_reuse.specs.Laying.{placed, with_row}
@@ -10,12 +11,7 @@ use Rattle.rd_rows.specs.Copies.{RowValues, shown_rows}
 
 -- rows to which others were added
 abbrev pub with_rows : ℕ → ℕ → List Entry → List Entry → List Entry
-with_rows first most rows [] = rows
-with_rows first most rows (e ∷ es) = with_rows first most (with_row first most rows e) es
-
-pub with-last : (first most : ℕ) (rows es : List Entry) (e : Entry) → with_rows first most rows (es ++ e ∷ []) ≡ with_row first most (with_rows first most rows es) e
-with-last first most rows [] e = refl
-with-last first most rows (x ∷ es) e = with-last first most (with_row first most rows x) es e
+with_rows first most = fold (with_row first most)
 
 pub placed-last : (start number : ℕ) (rows : List RowValues) (r : RowValues)
     → placed start number (rows ++ r ∷ []) ≡ placed start number rows ++ record { start = start; number = number + length rows; row = r } ∷ []
@@ -34,7 +30,7 @@ pub one-more : (first most start : ℕ) (old : List Entry) (rows : List RowValue
 one-more first most start old rows r now new number at is added =
     let same : 0 + length rows ≡ number = omega (arith, at) in
     ap (with_rows first most old) (placed-last start 0 rows r)
-    ∙ (with-last first most old (placed start 0 rows) (record { start = start; number = 0 + length rows; row = r })
+    ∙ (fold-append (with_row first most) old (placed start 0 rows) (record { start = start; number = 0 + length rows; row = r } ∷ [])
     ∙ (ap (λ (n : ℕ). with_row first most (with_rows first most old (placed start 0 rows)) (record { start = start; number = n; row = r })) same
     ∙ (ap (λ es. with_row first most es (record { start = start; number = number; row = r })) is ∙ sym added)))
 

@@ -1,6 +1,7 @@
 -- Runs over lists of lines.
 use Rattle.std.proofs.Common.{◌≡◌, true, List, [], ◌∷◌, ◌++◌, length, Option, None, Some, is_some, refl, sym, ap, ◌∙◌, arith}
 use Rattle.std.proofs.lemmas.List.{map-append}
+use Rattle.std.proofs.lemmas.List.Sums.{fold-append}
 use Rattle.std.proofs.lemmas.Bool.{cond-false, cond-true}
 use Rattle.rd_run.specs.Ends.{lines_in}
 use Rattle.rd_run.specs.Runs.{Input, World, run, run_line, after, effect}
@@ -13,12 +14,8 @@ lines-length (t ∷ ts) = omega (arith, lines-length ts)
 pub lines-push : (ts : List Input) (t : Input) → lines_in (ts ++ t ∷ []) ≡ lines_in ts ++ t.line ∷ []
 lines-push ts t = map-append (λ (u : Input). u.line) ts (t ∷ [])
 
-pub run-append : (w : World) (ts us : List Input) → run w (ts ++ us) ≡ run (run w ts) us
-run-append w [] us = refl
-run-append w (t ∷ ts) us = run-append (run_line w t) ts us
-
 pub run-push : (w : World) (ts : List Input) (t : Input) → run w (ts ++ t ∷ []) ≡ run_line (run w ts) t
-run-push w ts t = run-append w ts (t ∷ [])
+run-push w ts t = fold-append run_line w ts (t ∷ [])
 
 -- a run that has no fault goes on
 pub run_line-goes : (w : World) (t : Input) → w.fault ≡ None → run_line w t ≡ after w (effect w.now t)

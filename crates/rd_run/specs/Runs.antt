@@ -1,5 +1,5 @@
 -- The run over the lines of a script.
-use Rattle.std.specs.Prelude.{◌≡◌, ℕ, ◌+◌, ◌==◌, ◌||◌, Bool, true, false, if◌then◌else◌, is_some, List, [], ◌∷◌, ◌++◌, Option, None, Some, Result, Ok, Err}
+use Rattle.std.specs.Prelude.{◌≡◌, ℕ, ◌+◌, ◌==◌, ◌||◌, Bool, true, false, if◌then◌else◌, is_some, List, [], ◌∷◌, ◌++◌, Option, None, Some, Result, Ok, Err, fold}
 use Rattle.std.specs.List.{list_all}
 use Rattle.rd_ucd.specs.Data.{Data}
 use Rattle.rd_term.specs.Pictures.{Picture}
@@ -174,8 +174,7 @@ abbrev pub run_line : World → Input → World
 run_line w t = if is_some w.fault then w else after w (effect w.now t)
 
 abbrev pub run : World → List Input → World
-run w [] = w
-run w (t ∷ ts) = run (run_line w t) ts
+run = fold run_line
 
 -- how the redisplay of a line ended, where it is one and was run
 abbrev pub outcome_at : World → Input → Option Outcome

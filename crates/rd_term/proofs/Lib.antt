@@ -1,7 +1,6 @@
 pub mod Cutting
 pub mod Encoded
 mod Erasing
-pub mod Feeding
 pub mod Measured
 mod Putting
 pub mod Shapes

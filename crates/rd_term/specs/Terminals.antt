@@ -1,5 +1,5 @@
 -- The terminal: a function from what it is and the bytes that it reads to what it then is.
-use Rattle.std.specs.Prelude.{◌≡◌, ℕ, zero, suc, ◌+◌, ◌-◌, ◌<◌, ◌≤◌, ◌==◌, nat_lt, nat_le, min, Bool, true, false, if◌then◌else◌, ◌&&◌, ◌||◌, not, List, [], ◌∷◌, length, replicate, map, Option, None, Some, IfSome, slice_set, slice_index_or}
+use Rattle.std.specs.Prelude.{◌≡◌, ℕ, zero, suc, ◌+◌, ◌-◌, ◌<◌, ◌≤◌, ◌==◌, nat_lt, nat_le, min, Bool, true, false, if◌then◌else◌, ◌&&◌, ◌||◌, not, List, [], ◌∷◌, length, replicate, map, Option, None, Some, IfSome, slice_set, slice_index_or, fold}
 use Rattle.rd_base.specs.Chars.{columns_of}
 use Rattle.rd_base.specs.declared.limits.TheConstants.{FRAME_COLUMNS, FRAME_ROWS}
 use Rattle.rd_base.specs.Cells.{single, with_mark, row_at}
@@ -188,8 +188,7 @@ feed_byte t byte = if t.confused then t else perform (read_byte t.reading byte) 
 
 -- bytes, one after another
 abbrev pub feed_bytes : Tty → List ℕ → Tty
-feed_bytes t [] = t
-feed_bytes t (byte ∷ bytes) = feed_bytes (feed_byte t byte) bytes
+feed_bytes = fold feed_byte
 
 -- rows of which each cell is known
 abbrev pub known : List (List Cell) → List (List (Option Cell))

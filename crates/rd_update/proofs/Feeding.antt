@@ -10,7 +10,7 @@ use Rattle.rd_term.specs.Terminals.{Tty, feed_byte, feed_bytes}
 use Rattle.rd_term.specs.Shifts.{cleared}
 use Rattle.rd_term.specs.declared.reading.Reading.TheVariants.{Sequence}
 use Rattle.rd_term.proofs.Encoded.{Rows, reading_at, standing}
-use Rattle.rd_term.proofs.Feeding.{feed_bytes-append}
+use Rattle.std.proofs.lemmas.List.Sums.{fold-append}
 use Rattle.rd_update.specs.Updates.{repaint}
 
 -- a terminal within a sequence
@@ -46,7 +46,7 @@ decimal_fed region rows cursor wait pen ended n room small =
     let low : k % 10 < 10 = omega arith in
     let few : k / 10 ≤ 65535 = omega arith in
     let value : longer (suc (k / 10 - 1)) (48 + k % 10 - 48) ≡ k = omega arith in
-    feed_bytes-append (amid region rows cursor wait pen ended None) ds ((48 + k % 10) ∷ [])
+    fold-append feed_byte (amid region rows cursor wait pen ended None) ds ((48 + k % 10) ∷ [])
     ∙ ap (λ t. feed_byte t (48 + k % 10)) (ih few ∙ ap (λ j. amid region rows cursor wait pen ended (Some j)) high)
     ∙ more_digit region rows cursor wait pen ended (k / 10 - 1) (48 + k % 10) (digit-is (k % 10) low)
     ∙ ap (λ j. amid region rows cursor wait pen ended (Some j)) value in

@@ -10,13 +10,13 @@ use Rattle.rd_base.specs.Glyphs.{IsRowAfter}
 use Rattle.rd_base.specs.declared.cell.Cell.{Cell}
 use Rattle.rd_term.specs.Pictures.{Picture, blank, blank_row, IsOfSize}
 use Rattle.rd_base.specs.Cells.{IsColoured}
-use Rattle.rd_term.specs.Terminals.{Tty, feed_bytes, known}
+use Rattle.rd_term.specs.Terminals.{Tty, feed_bytes, known, feed_byte}
 use Rattle.rd_term.specs.Shifts.{cleared}
 use Rattle.rd_update.specs.Updates.{move, repaint, rows_bytes, rows_after, blank_like, start, opening, Update, update, is_done, differing}
 use Rattle.rd_update.specs.Laws.{IsReady, IsUpdated}
 use Rattle.rd_term.proofs.Cutting.{map-replicate}
 use Rattle.rd_term.proofs.Encoded.{Rows, standing}
-use Rattle.rd_term.proofs.Feeding.{feed_bytes-append}
+use Rattle.std.proofs.lemmas.List.Sums.{fold-append}
 use Rattle.rd_update.proofs.Parts.{blank_like-is, cleared-all}
 use Rattle.rd_update.proofs.Feeding.{repaint_fed}
 use Rattle.rd_update.proofs.Sequences.{move_fed}
@@ -99,9 +99,9 @@ updated width height current target limit t h =
     let column : target.column < length (get_or after target.row []) = omega (arith, h.size.column, each target.row [] row) in
     let wide : IsOfSize width height (update current target limit).screen = record { rows = n; each = each; row = either (λ k. k < height) done target.row old.row h.size.row size.row; column = either (λ k. k < width) done target.column old.column h.size.column size.column } in
     let is : feed_bytes t (update current target limit).bytes ≡ feed_bytes (standing t.region (known after) sent.cursor sent.wait (Some plain) sent.latest) last =
-    feed_bytes-append t (opening current ++ rows_bytes 0 limit old.rows target.rows) last
+    fold-append feed_byte t (opening current ++ rows_bytes 0 limit old.rows target.rows) last
     ∙ ap (λ x. feed_bytes x last) (
-    feed_bytes-append t (opening current) (rows_bytes 0 limit old.rows target.rows)
+    fold-append feed_byte t (opening current) (rows_bytes 0 limit old.rows target.rows)
     ∙ ap (λ x. feed_bytes x (rows_bytes 0 limit old.rows target.rows)) begun.is
     ∙ sent.is) in
     rw is (ended t.region width height (update current target limit) done target sent.cursor sent.wait sent.latest refl wide row column (omega (arith, h.size.row, h.tall)) (omega (arith, h.size.column, h.wide)))

@@ -14,10 +14,10 @@ use Rattle.rd_base.specs.declared.cell.Cell.{Cell}
 use Rattle.rd_base.specs.declared.cell.Cell.TheVariants.{Blank, First, Rest}
 use Rattle.rd_term.specs.Overwriting.{first_column, later_columns}
 use Rattle.rd_term.specs.Pictures.{blank}
-use Rattle.rd_term.specs.Terminals.{Tty, feed_bytes, known, erased_from}
+use Rattle.rd_term.specs.Terminals.{Tty, feed_bytes, known, erased_from, feed_byte}
 use Rattle.rd_term.proofs.Cutting.{Row, front as front_of, behind, overwritten-is, map-replicate}
 use Rattle.rd_term.proofs.Encoded.{Rows, standing}
-use Rattle.rd_term.proofs.Feeding.{feed_bytes-append}
+use Rattle.std.proofs.lemmas.List.Sums.{fold-append}
 use Rattle.rd_update.specs.Updates.{move, erase_to_end, text_by, pen_behind, dress, first_difference, end_of_differences, going_on, goes_on, begin_of, end_of, used, differs, row_bytes, rows_bytes, rows_after, allows, less_one}
 use Rattle.rd_update.proofs.Dressing.{dress_fed}
 use Rattle.rd_update.proofs.Sequences.{move_fed}
@@ -123,7 +123,7 @@ row-end region above below front back many cells rest true t fed gone kept =
       wait = false;
       latest = None;
       is =
-          feed_bytes-append t (dress pen plain) erase_to_end
+          fold-append feed_byte t (dress pen plain) erase_to_end
           ∙ ap (λ u. feed_bytes u erase_to_end) (
           ap (λ u. feed_bytes u (dress pen plain)) fed.is ∙ dressed.1
           ∙ ap (λ c. State row c fed.wait dressed.0) free.0 ∙ ap (λ w. State row (Some (length above, K)) w dressed.0) free.1)
@@ -258,9 +258,9 @@ row_fed region above below old new cursor wait latest w few old_wide new_wide na
     ∙ ap (λ r. standing region (above ++ r ∷ below) (Some (length above, a)) false (Some plain) None) row_old
     ∙ ap (λ c. standing region (above ++ (front ++ (mid ++ back)) ∷ below) (Some (length above, c)) false (Some plain) None) (sym front_length) in
     stands-along region _ _ _ _ (ap (λ r. above ++ r ∷ below) row_new) (sym (
-    feed_bytes-append start (move (length above) a) (text ++ ending)
+    fold-append feed_byte start (move (length above) a) (text ++ ending)
     ∙ ap (λ t. feed_bytes t (text ++ ending)) moved
-    ∙ feed_bytes-append (standing region (above ++ (front ++ (mid ++ back)) ∷ below) (Some (length above, length front)) false (Some plain) None) text ending)) ended
+    ∙ fold-append feed_byte (standing region (above ++ (front ++ (mid ++ back)) ∷ below) (Some (length above, length front)) false (Some plain) None) text ending)) ended
 
 -- rows by a choice on whether the first differs and whether the limit allows it
 chosen : (region : Option (ℕ × ℕ)) → (differ allow : Bool) (same_bytes bytes : List ℕ) (above : Rows) (same_rows rows rest : List (List Cell)) (t : Tty)
@@ -300,6 +300,6 @@ rows_fed region above limit (o ∷ os) (n ∷ ns) w cursor wait latest few narro
     (λ d.
     let row = row_fed region above (known os) o n cursor wait latest w (omega arith) ow.0 nw.0 narrow wholes.0 colours.0 d in
     stands-along region _ _ _ _ refl (sym (
-    feed_bytes-append t (row_bytes (length above) o n) (rows_bytes (length above + 1) (less_one limit) os ns)
+    fold-append feed_byte t (row_bytes (length above) o n) (rows_bytes (length above + 1) (less_one limit) os ns)
     ∙ ap (λ t. feed_bytes t (rows_bytes (length above + 1) (less_one limit) os ns)) row.is)) (next (less_one limit) row.cursor row.wait row.latest))
     (record { cursor = cursor; wait = wait; latest = latest; is = refl })

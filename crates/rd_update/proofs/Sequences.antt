@@ -13,7 +13,7 @@ use Rattle.rd_term.specs.Terminals.{Tty, feed_byte, feed_bytes, on_screen, perfo
 use Rattle.rd_term.specs.declared.reading.Reading.{Reading}
 use Rattle.rd_term.specs.declared.reading.Reading.TheVariants.{Between}
 use Rattle.rd_term.proofs.Encoded.{Rows, standing}
-use Rattle.rd_term.proofs.Feeding.{feed_bytes-append}
+use Rattle.std.proofs.lemmas.List.Sums.{fold-append}
 use Rattle.rd_update.specs.Updates.{parameter, sequence, move}
 use Rattle.rd_update.proofs.Feeding.{amid, decimal_fed}
 
@@ -42,7 +42,7 @@ parameters_fed region rows cursor wait pen ended last byte (n ∷ ns) d s few sm
     let next : length (ended ++ last ∷ []) + length ns < 16 = omega (arith, few, length-append ended (last ∷ [])) in
     ap (feed_bytes (amid region rows cursor wait pen ended (Some last))) (append_assoc (parameter n) (flat_map parameter ns) (byte ∷ []))
     ∙ ap (λ t. feed_bytes t (decimal n ++ more)) (next_fed region rows cursor wait pen ended last)
-    ∙ feed_bytes-append (amid region rows cursor wait pen (ended ++ last ∷ []) None) (decimal n) more
+    ∙ fold-append feed_byte (amid region rows cursor wait pen (ended ++ last ∷ []) None) (decimal n) more
     ∙ ap (λ t. feed_bytes t more) (decimal_fed region rows cursor wait pen (ended ++ last ∷ []) n room small.0)
     ∙ parameters_fed region rows cursor wait pen (ended ++ last ∷ []) n byte ns d s next small.1
     ∙ ap (λ xs. obeyed byte xs (standing region rows cursor wait pen None)) (append_assoc ended (last ∷ []) (n ∷ ns))
@@ -53,7 +53,7 @@ sequence_fed : (region : Option (ℕ × ℕ)) (rows : Rows) (cursor : Option (�
 sequence_fed region rows cursor wait pen latest n byte ns d s first small few =
     let none : length {A = ℕ} [] < 16 = omega arith in
     let room : length {A = ℕ} [] + length ns < 16 = omega (arith, few) in
-    feed_bytes-append (amid region rows cursor wait pen [] None) (decimal n) (flat_map parameter ns ++ byte ∷ [])
+    fold-append feed_byte (amid region rows cursor wait pen [] None) (decimal n) (flat_map parameter ns ++ byte ∷ [])
     ∙ ap (λ t. feed_bytes t (flat_map parameter ns ++ byte ∷ [])) (decimal_fed region rows cursor wait pen [] n none first)
     ∙ parameters_fed region rows cursor wait pen [] n byte ns d s room small
 

@@ -16,10 +16,10 @@ use Rattle.rd_base.specs.declared.cell.Glyph.{Glyph}
 use Rattle.rd_base.specs.declared.cell.Cell.{Cell}
 use Rattle.rd_base.specs.declared.cell.Cell.TheVariants.{Blank, First, Rest}
 use Rattle.rd_term.specs.Overwriting.{first_column, later_columns, overwritten}
-use Rattle.rd_term.specs.Terminals.{Tty, feed_bytes, show, put, join_mark, join_mark_into, marked}
+use Rattle.rd_term.specs.Terminals.{Tty, feed_bytes, show, put, join_mark, join_mark_into, marked, feed_byte}
 use Rattle.rd_term.proofs.Cutting.{Row, front as front_of, behind, overwritten-is, later-within, length-glyph, map-replicate}
 use Rattle.rd_term.proofs.Encoded.{Rows, standing}
-use Rattle.rd_term.proofs.Feeding.{feed_bytes-append}
+use Rattle.std.proofs.lemmas.List.Sums.{fold-append}
 use Rattle.rd_term.proofs.Measured.{shown_fed, base-columns, mark-columns, space-narrow, space-columns}
 
 -- ---- cells that are left where a character was put before them
@@ -189,7 +189,7 @@ marks_join region above below front tail g f cursor wait (suc n) k h le =
     let after : suc k + n ≡ k + suc n = omega arith in
     let next : k + 1 ≡ suc k = omega arith in
     ap (feed_bytes (State k)) bytes
-    ∙ feed_bytes-append (State k) (encoded code) (flat_map encoded (take n (drop (k + 1) g.marks)))
+    ∙ fold-append feed_byte (State k) (encoded code) (flat_map encoded (take n (drop (k + 1) g.marks)))
     ∙ ap (λ t. feed_bytes t (flat_map encoded (take n (drop (k + 1) g.marks)))) (
     code_fed region (with_glyph above below front tail (grown g k f)) cursor wait (Some f) (Some (length above, length front)) code 0 mark.0 (mark-columns g k h lt)
     ∙ mark_joins region above below front tail g f cursor wait k code h.places within refl (space-narrow g h))
@@ -248,7 +248,7 @@ glyph_fed region above below front o1 o2 back g f latest first same h good =
     ∙ ap (λ (cells : Row). standing region (above ++ (front ++ (cells ++ (loose o2 ++ back))) ∷ below) cursor wait (Some f) (Some (length above, length front))) (bare g f m) in
     let end : 0 + g.count ≡ g.count = omega arith in
     let cells : map Some (First g f ∷ replicate (g.width - 1) Rest) ≡ Some (First g f) ∷ replicate (g.width - 1) (Some Rest) = ap (λ xs. Some (First g f) ∷ xs) (map-replicate Some (g.width - 1) Rest) in
-    feed_bytes-append before (encoded g.base) marks
+    fold-append feed_byte before (encoded g.base) marks
     ∙ ap (λ t. feed_bytes t marks) begun
     ∙ marks_join region above below front tail g f cursor wait g.count 0 m (omega arith)
     ∙ ap (λ k. State (grown g k f)) end

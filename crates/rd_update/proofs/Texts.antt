@@ -9,10 +9,10 @@ use Rattle.rd_base.specs.declared.cell.Cell.{Cell}
 use Rattle.rd_base.specs.declared.cell.Cell.TheVariants.{Blank, First, Rest}
 use Rattle.rd_term.specs.Overwriting.{is_later, first_column, later_columns}
 use Rattle.rd_base.specs.Cells.{IsColoured}
-use Rattle.rd_term.specs.Terminals.{Tty, feed_bytes}
+use Rattle.rd_term.specs.Terminals.{Tty, feed_bytes, feed_byte}
 use Rattle.rd_term.proofs.Cutting.{Row}
 use Rattle.rd_term.proofs.Encoded.{Rows, standing}
-use Rattle.rd_term.proofs.Feeding.{feed_bytes-append}
+use Rattle.std.proofs.lemmas.List.Sums.{fold-append}
 use Rattle.rd_update.specs.Updates.{dress, text_by, pen_behind}
 use Rattle.rd_update.proofs.Dressing.{dress_fed}
 use Rattle.rd_update.proofs.Showing.{loose, length-loose, loose-whole, behind_it, glyph_fed, blank_fed}
@@ -182,8 +182,8 @@ text_fed region (suc n) above below front (o ∷ os) back (Blank f ∷ rest) pen
     let t = standing region (above ++ (front ++ (o ∷ (os ++ back))) ∷ below) (Some (length above, length front)) false (Some pen) latest in
     let dressed = dress_fed region (above ++ (front ++ (o ∷ (os ++ back))) ∷ below) (Some (length above, length front)) false pen f latest colours.0 in
     let shown = blank_fed region above below front back o os f dressed.0 first h in
-    let begun = feed_bytes-append t (dress pen f ++ 32 ∷ []) (text_by f rest)
-    ∙ ap (λ u. feed_bytes u (text_by f rest)) (feed_bytes-append t (dress pen f) (32 ∷ []) ∙ ap (λ u. feed_bytes u (32 ∷ [])) dressed.1 ∙ shown) in
+    let begun = fold-append feed_byte t (dress pen f ++ 32 ∷ []) (text_by f rest)
+    ∙ ap (λ u. feed_bytes u (text_by f rest)) (fold-append feed_byte t (dress pen f) (32 ∷ []) ∙ ap (λ u. feed_bytes u (32 ∷ [])) dressed.1 ∙ shown) in
     let long : length (front ++ (o ∷ (os ++ back))) ≡ length front + (1 + length (loose os ++ back)) =
     omega (arith, length-append front (o ∷ (os ++ back)), length-append os back, length-append (loose os) back, length-loose os) in
     let made = carry region above below front (Blank f ∷ []) rest os back f (pen_behind f rest) (Some (length above, length front)) (length (front ++ (o ∷ (os ++ back)))) long h (omega arith) refl
@@ -214,8 +214,8 @@ text_fed region (suc n) above below front (o ∷ os) back (First g f ∷ rest) p
     let After = λ (k : ℕ). standing region (above ++ (front ++ (map Some chars ++ (loose o2 ++ back))) ∷ below) (behind_it (length above) there k long) (nat_le long (there + k)) (Some f) (Some (length above, there)) in
     let shown = ap (λ r. feed_bytes (State r f dressed.0) (glyph_bytes g)) split ∙ glyph_fed region above below front o1 o2 back g f dressed.0 first2 same h good ∙ ap After (sym wide) in
     let rest_text = ap (text_by f) rests.is ∙ rests-text (w - 1) f rests.more in
-    let begun = feed_bytes-append (State (front ++ (old ++ back)) pen latest) (dress pen f ++ glyph_bytes g) (text_by f rest)
-    ∙ ap (λ u. feed_bytes u (text_by f rest)) (feed_bytes-append (State (front ++ (old ++ back)) pen latest) (dress pen f) (glyph_bytes g) ∙ ap (λ u. feed_bytes u (glyph_bytes g)) dressed.1 ∙ shown)
+    let begun = fold-append feed_byte (State (front ++ (old ++ back)) pen latest) (dress pen f ++ glyph_bytes g) (text_by f rest)
+    ∙ ap (λ u. feed_bytes u (text_by f rest)) (fold-append feed_byte (State (front ++ (old ++ back)) pen latest) (dress pen f) (glyph_bytes g) ∙ ap (λ u. feed_bytes u (glyph_bytes g)) dressed.1 ∙ shown)
     ∙ ap (feed_bytes (After (length chars))) rest_text in
     let total : length (front ++ (take g.width (o ∷ os) ++ (drop g.width (o ∷ os) ++ back))) ≡ length front + (length (First g f ∷ replicate (g.width - 1) Rest) + length (loose (drop g.width (o ∷ os)) ++ back)) =
     omega (
