@@ -7,9 +7,10 @@ use Rattle.rd_modeline.specs.declared.piece.Piece.{Piece}
 use Rattle.rd_modeline.specs.declared.reading.Begun.{Begun}
 use Rattle.rd_modeline.specs.Formats.{before, behind_all, fault_in, pieces_from, pieces_of, Checks, ReadsOn}
 
-fault-before : (p : Piece) (r : Result (List Piece) ℕ) → fault_in (before p r) ≡ fault_in r
-fault-before p (Ok ps) = refl
-fault-before p (Err place) = refl
+-- what was read before is no fault
+pub fault-all : (ps : List Piece) (r : Result (List Piece) ℕ) → fault_in (behind_all ps r) ≡ fault_in r
+fault-all ps (Ok qs) = refl
+fault-all ps (Err place) = refl
 
 all-before : (ps : List Piece) (p : Piece) (r : Result (List Piece) ℕ) → behind_all ps (before p r) ≡ behind_all (ps ++ p ∷ []) r
 all-before ps p (Ok qs) = ap Ok (sym (append_assoc ps (p ∷ []) qs))
@@ -19,7 +20,7 @@ all-before ps p (Err place) = refl
 pub step-fault : (b after : Begun) (piece : Option Piece) (place c : ℕ) (cs : List ℕ) →
     ReadsOn (Ok (after, piece)) b place c → fault_in (pieces_from b place (c ∷ cs)) ≡ fault_in (pieces_from after (place + 1) cs)
 step-fault b after None place c cs reads = ap fault_in (reads cs)
-step-fault b after (Some p) place c cs reads = ap fault_in (reads cs) ∙ fault-before p (pieces_from after (place + 1) cs)
+step-fault b after (Some p) place c cs reads = ap fault_in (reads cs) ∙ fault-all (p ∷ []) (pieces_from after (place + 1) cs)
 
 -- a step adds its piece
 pub step-pieces : (b after : Begun) (piece : Option Piece) (place c : ℕ) (cs : List ℕ) (ps : List Piece) →
@@ -54,8 +55,3 @@ pub refused-at : {A : Type 0} (result : Result A FormatFault) (fault : FormatFau
 refused-at result fault b place c text is reads split same =
     handed-on result fault (pieces_of text) is
     (step-bad fault b place c (drop (place + 1) text) (pieces_of text) reads (ap (λ l. fault_in (pieces_from b place l)) (sym split) ∙ same))
-
--- what was read before is no fault
-pub fault-all : (ps : List Piece) (r : Result (List Piece) ℕ) → fault_in (behind_all ps r) ≡ fault_in r
-fault-all ps (Ok qs) = refl
-fault-all ps (Err place) = refl

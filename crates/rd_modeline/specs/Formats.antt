@@ -34,10 +34,14 @@ value_or None width other = other
 abbrev pub piece_of : ℕ → ℕ → ℕ → Option Piece
 piece_of digits width c = value_or (field_of c) width (sign_of digits c)
 
+-- the pieces that were read before those of the rest
+abbrev pub behind_all : List Piece → Result (List Piece) ℕ → Result (List Piece) ℕ
+behind_all ps (Ok rest) = Ok (ps ++ rest)
+behind_all ps (Err place) = Err place
+
 -- a piece before those of the rest
 abbrev pub before : Piece → Result (List Piece) ℕ → Result (List Piece) ℕ
-before p (Ok ps) = Ok (p ∷ ps)
-before p (Err place) = Err place
+before p = behind_all (p ∷ [])
 
 -- a piece before those of the rest, and the place of the percent sign where there is none
 abbrev pub before_or : Option Piece → ℕ → Result (List Piece) ℕ → Result (List Piece) ℕ
@@ -58,11 +62,6 @@ pieces_from (Percent start digits width) place (c ∷ cs) =
 
 abbrev pub pieces_of : List ℕ → Result (List Piece) ℕ
 pieces_of format = pieces_from Text 0 format
-
--- the pieces that were read before those of the rest
-abbrev pub behind_all : List Piece → Result (List Piece) ℕ → Result (List Piece) ℕ
-behind_all ps (Ok rest) = Ok (ps ++ rest)
-behind_all ps (Err place) = Err place
 
 -- the place of a format's first bad code
 abbrev pub fault_in : Result (List Piece) ℕ → Option ℕ
