@@ -38,21 +38,11 @@ pub fn read_entry(line: &[u8], number: u64) -> Result<DataEntry, UcdFault>
     ensures value { result ≡ entry_of_fields number (fields_of line.now) }
     ensures bound { IfOk result (λ entry. entry.code ≤ 1114111) }
 {
-    let Some(class) = field(line, 4) else {
-        return Err(UcdFault::BadLine(number));
-    };
-    let Some(name) = field(line, 1) else {
-        return Err(UcdFault::BadLine(number));
-    };
-    let Some(digits) = field(line, 0) else {
-        return Err(UcdFault::BadLine(number));
-    };
-    let Some(code) = read_code(digits) else {
-        return Err(UcdFault::BadCode(number));
-    };
-    let Some(class) = class_named(class) else {
-        return Err(UcdFault::BadClass(number));
-    };
+    let class = field(line, 4).ok_or(UcdFault::BadLine(number))?;
+    let name = field(line, 1).ok_or(UcdFault::BadLine(number))?;
+    let digits = field(line, 0).ok_or(UcdFault::BadLine(number))?;
+    let code = read_code(digits).ok_or(UcdFault::BadCode(number))?;
+    let class = class_named(class).ok_or(UcdFault::BadClass(number))?;
     Ok(DataEntry {
         code,
         kind: kind_of_name(name),

@@ -132,12 +132,8 @@ pub fn read_codes(line: &[u8], count: usize, number: u64) -> Result<Codes, UcdFa
     if field(line, count).is_some() || field(line, count - 1).is_none() {
         return Err(UcdFault::BadLine(number));
     }
-    let Some(code) = read_code(trimmed_field(line, 0)) else {
-        return Err(UcdFault::BadCode(number));
-    };
-    let Some(other) = read_code(trimmed_field(line, 1)) else {
-        return Err(UcdFault::BadCode(number));
-    };
+    let code = read_code(trimmed_field(line, 0)).ok_or(UcdFault::BadCode(number))?;
+    let other = read_code(trimmed_field(line, 1)).ok_or(UcdFault::BadCode(number))?;
     Ok(Codes { code, other })
 }
 
