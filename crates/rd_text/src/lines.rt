@@ -53,14 +53,11 @@ fn after_ink(codes: &[u32]) -> usize
     ensures value { result ≡ suffix_len (λ c. not (is_ink c)) codes.now }
     ensures bound { result ≤ length codes.now }
 {
-    let mut at = codes.len();
-    while 0 < at {
-        if is_ink(codes[at - 1]) {
-            return codes.len() - at;
-        }
-        at -= 1;
-    }
-    codes.len()
+    codes
+        .iter()
+        .rev()
+        .take_while(|code| !is_ink(**code))
+        .count()
 }
 
 /// A character that is neither newline nor blank.
