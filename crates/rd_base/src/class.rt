@@ -36,20 +36,17 @@ impl Class {
     pub fn is_initiator(self) -> bool
         ensures { result ≡ is_initiator self }
     {
-        match self {
-            Class::LRI | Class::RLI | Class::FSI => true,
-            _ => false,
-        }
+        matches!(self, Class::LRI | Class::RLI | Class::FSI)
     }
 
     /// Whether rule X9 takes it out of the line: an embedding, an override, PDF or BN.
     pub fn is_removed(self) -> bool
         ensures { result ≡ is_removed self }
     {
-        match self {
-            Class::LRE | Class::RLE | Class::LRO | Class::RLO | Class::PDF | Class::BN => true,
-            _ => false,
-        }
+        matches!(
+            self,
+            Class::LRE | Class::RLE | Class::LRO | Class::RLO | Class::PDF | Class::BN
+        )
     }
 
     /// The level that holds behind a character of this class: its own, or the one before it where rule X9 takes it out.

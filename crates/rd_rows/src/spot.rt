@@ -66,30 +66,21 @@ impl Shape {
 pub fn is_blank(look: Look) -> bool
     ensures { result ≡ is_blank look }
 {
-    match look {
-        Look::Blank => true,
-        _ => false,
-    }
+    matches!(look, Look::Blank)
 }
 
 /// Whether a look is the line end.
 pub fn is_line_end(look: Look) -> bool
     ensures { result ≡ is_line_end look }
 {
-    match look {
-        Look::LineEnd => true,
-        _ => false,
-    }
+    matches!(look, Look::LineEnd)
 }
 
 /// Whether a row ends behind an element of this look.
 pub fn ends_row(look: Look) -> bool
     ensures { result ≡ ends_row look }
 {
-    match look {
-        Look::RowEnd | Look::LineEnd => true,
-        _ => false,
-    }
+    matches!(look, Look::RowEnd | Look::LineEnd)
 }
 
 /// How many columns an extent has at a column of the line.
