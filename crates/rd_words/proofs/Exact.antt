@@ -6,10 +6,10 @@ use Rattle.std.specs.Str.{bytes_eq}
 use Rattle.clap.proofs.FaultLemmas.{leaf_fault}
 use Rattle.clap.specs.Kinds.{Kinds}
 use Rattle.clap.specs.Lexer.{long_of}
-use Rattle.clap.specs.Walk.{Held, Row, Rule, arg_by_id, arg_by_long, nothing_held, reacted, settled, walk_from}
+use Rattle.clap.specs.Walk.{Held, Row, Rule, arg_by_id, arg_by_long, nothing_held, reacted, settled, used, walk_from}
 use Rattle.clap.specs.Simple.{built, matches_of}
 use Rattle.clap.specs.Faults.{fault_of, react_fault, settle_fault, use_fault}
-use Rattle.rd_words.specs.Words.{Text, Setting, class_file, mirror_file, bracket_file, generate, dump, name_of, named, has_value, Use, with_use, begun, last, uses_from, fits, is_flag, WordValues, values_from, values_of}
+use Rattle.rd_words.specs.Words.{Text, Setting, dump, name_of, named, has_value, Use, with_use, begun, last, uses_from, fits, is_flag, WordValues, values_from, values_of}
 use Rattle.rd_words.specs.Command.{command, values_of_rows}
 use Rattle.rd_words.proofs.Turns.{awaiting, at_end, held, is_none, later, met, outcome, outcome-is, rule, shape, turn, unless, unless-first, waits}
 use Rattle.rd_words.proofs.Uses.{ended-is, flag-fits, flag-used, named-is, rows, value-fits, value-used}
@@ -26,28 +26,19 @@ after-use us u None = go (fits us u)
     go false = refl
 after-use us u (Some vs) = refl
 
-unless-by : (k : Kinds) (b : Bool) (x : Option WordValues) → is_none k ≡ b → unless k x ≡ (if b then x else None)
-unless-by k b x e = rw e refl
-
--- the same behind a use that fits
-fitting : (b : Bool) (x y : Option WordValues) → (b ≡ true → x ≡ y) → (if b then x else None) ≡ (if b then y else None)
-fitting true x y h = h refl
-fitting false x y h = refl
+-- where a use fits what is behind it counts, and nothing where it does not
+unless-fits : (k : Kinds) (b : Bool) (x y : Option WordValues) → is_none k ≡ b → (b ≡ true → x ≡ y) → unless k x ≡ (if b then y else None)
+unless-fits k true x y e h = rw e (h refl)
+unless-fits k false x y e h = rw e refl
 
 -- the option of a setting, by its name
 by_name : (s : Setting) → arg_by_id shape.rules (name_of s) ≡ Some (rule s)
-by_name class_file = refl
-by_name mirror_file = refl
-by_name bracket_file = refl
-by_name generate = refl
 by_name dump = refl
+by_name s = refl
 
 unsettled : (us : List Use) (s : Setting) → has_value s ≡ true → is_none (settle_fault shape.rules false (held (rows us) (Some (name_of s, [])))) ≡ false
-unsettled us class_file e = refl
-unsettled us mirror_file e = refl
-unsettled us bracket_file e = refl
-unsettled us generate e = refl
 unsettled us dump e = cc
+unsettled us s e = refl
 
 pending-fits : (us : List Use) (s : Setting) (v : Text) → has_value s ≡ true
     → is_none (settle_fault shape.rules false (held (rows us) (Some (name_of s, v ∷ [])))) ≡ fits us (s, v)
@@ -69,23 +60,16 @@ pending : (us : List Use) (s : Setting) (v : Text) (words : List Text) → has_v
     → outcome (walk_from (held (rows us) (Some (name_of s, v ∷ [])))) words ≡ (if fits us (s, v) then start (us ++ (s, v) ∷ []) words else None)
 pending us s v words e =
     later (rows us) (Some (name_of s, v ∷ [])) words
-    ∙ (unless-by (settle_fault shape.rules false (held (rows us) (Some (name_of s, v ∷ [])))) (fits us (s, v)) _ (pending-fits us s v e)
-    ∙ fitting (fits us (s, v)) _ _ (λ f. ap (λ (h : Held). outcome (walk_from h) words) (pending-used us s v e f)))
+    ∙ unless-fits (settle_fault shape.rules false (held (rows us) (Some (name_of s, v ∷ [])))) (fits us (s, v)) _ _ (pending-fits us s v e)
+    (λ f. ap (λ (h : Held). outcome (walk_from h) words) (pending-used us s v e f))
 
--- an option with its value in one word
-joined : (us : List Use) (s : Setting) (v : Text) (words : List Text) → has_value s ≡ true
-    → unless (react_fault shape.rules false (rule s) (v ∷ []) (held (rows us) None)) (outcome (walk_from (reacted shape.rules (rule s) (v ∷ []) (held (rows us) None))) words)
-    ≡ (if fits us (s, v) then start (us ++ (s, v) ∷ []) words else None)
-joined us s v words e =
-    unless-by (use_fault false (rule s) (v ∷ []) (rows us)) (fits us (s, v)) _ (value-fits us s v e)
-    ∙ fitting (fits us (s, v)) _ _ (λ f. ap (λ (rs : List Row). outcome (walk_from (held rs None)) words) (value-used us s v e f))
-
-flagged : (us : List Use) (words : List Text)
-    → unless (react_fault shape.rules false (rule dump) [] (held (rows us) None)) (outcome (walk_from (reacted shape.rules (rule dump) [] (held (rows us) None))) words)
-    ≡ (if fits us (dump, codes "true") then start (us ++ (dump, codes "true") ∷ []) words else None)
-flagged us words =
-    unless-by (use_fault false (rule dump) [] (rows us)) (fits us (dump, codes "true")) _ (flag-fits us)
-    ∙ fitting (fits us (dump, codes "true")) _ _ (λ f. ap (λ (rs : List Row). outcome (walk_from (held rs None)) words) (flag-used us f))
+-- a use in one word
+used-once : (us : List Use) (a : Rule) (vs : List Text) (u : Use) (words : List Text) → is_none (use_fault false a vs (rows us)) ≡ fits us u
+    → (fits us u ≡ true → used a vs (rows us) ≡ rows (us ++ u ∷ []))
+    → unless (react_fault shape.rules false a vs (held (rows us) None)) (outcome (walk_from (reacted shape.rules a vs (held (rows us) None))) words)
+    ≡ (if fits us u then start (us ++ u ∷ []) words else None)
+used-once us a vs u words fault row =
+    unless-fits (use_fault false a vs (rows us)) (fits us u) _ _ fault (λ f. ap (λ (rs : List Row). outcome (walk_from (held rs None)) words) (row f))
 
 -- one more use, and then what the words say behind it
 used-then : (us : List Use) (u : Use) (words : List Text) → ((vs : List Use) → start vs words ≡ after vs (uses_from None words))
@@ -100,15 +84,10 @@ met-is : (us : List Use) (words : List Text) (o : Option Setting) (v : Option Te
     → met (held (rows us) None) (option_map rule o) v words ≡ after us (begun o v (uses_from None words) (λ s. uses_from (Some s) words))
 met-is us words None v rest waiting = refl
 met-is us words (Some dump) (Some v) rest waiting = refl
-met-is us words (Some dump) None rest waiting = flagged us words ∙ used-then us (dump, codes "true") words rest
-met-is us words (Some class_file) (Some v) rest waiting = joined us class_file v words refl ∙ used-then us (class_file, v) words rest
-met-is us words (Some class_file) None rest waiting = waiting class_file refl
-met-is us words (Some mirror_file) (Some v) rest waiting = joined us mirror_file v words refl ∙ used-then us (mirror_file, v) words rest
-met-is us words (Some mirror_file) None rest waiting = waiting mirror_file refl
-met-is us words (Some bracket_file) (Some v) rest waiting = joined us bracket_file v words refl ∙ used-then us (bracket_file, v) words rest
-met-is us words (Some bracket_file) None rest waiting = waiting bracket_file refl
-met-is us words (Some generate) (Some v) rest waiting = joined us generate v words refl ∙ used-then us (generate, v) words rest
-met-is us words (Some generate) None rest waiting = waiting generate refl
+met-is us words (Some dump) None rest waiting =
+    used-once us (rule dump) [] (dump, codes "true") words (flag-fits us) (flag-used us) ∙ used-then us (dump, codes "true") words rest
+met-is us words (Some s) (Some v) rest waiting = used-once us (rule s) (v ∷ []) (s, v) words (value-fits us s v refl) (value-used us s v refl) ∙ used-then us (s, v) words rest
+met-is us words (Some s) None rest waiting = waiting s refl
 
 end-is : (us : List Use) (words : List Text) → at_end (held (rows us) None) words ≡ after us (last words)
 end-is us [] = ended-is us
@@ -140,11 +119,8 @@ mutual
 
   waits-is : (words : List Text) (us : List Use) (s : Setting) → has_value s ≡ true → wait us s words ≡ after us (uses_from (Some s) words)
   waits-is [] us s e = unless-first (settle_fault shape.rules false (held (rows us) (Some (name_of s, [])))) _ _ (unsettled us s e)
-  waits-is (word ∷ words) us class_file e = waits (rows us) (name_of class_file) word words refl refl ∙ value-is us class_file word words (is_flag word) refl (starts words)
-  waits-is (word ∷ words) us mirror_file e = waits (rows us) (name_of mirror_file) word words refl refl ∙ value-is us mirror_file word words (is_flag word) refl (starts words)
-  waits-is (word ∷ words) us bracket_file e = waits (rows us) (name_of bracket_file) word words refl refl ∙ value-is us bracket_file word words (is_flag word) refl (starts words)
-  waits-is (word ∷ words) us generate e = waits (rows us) (name_of generate) word words refl refl ∙ value-is us generate word words (is_flag word) refl (starts words)
   waits-is (word ∷ words) us dump e = cc
+  waits-is (word ∷ words) us s e = waits (rows us) (name_of s) word words refl refl ∙ value-is us s word words (is_flag word) refl (starts words)
 
 -- what the command faults, and what else it finds
 pub exact : (words : List Text) → unless (fault_of command words) (values_of_rows (matches_of command words)) ≡ values_of words

@@ -62,11 +62,9 @@ kinds-fit false true p q = refl
 kinds-fit false false p q = refl
 
 pub value-fits : (us : List Use) (s : Setting) (v : Text) → has_value s ≡ true → is_none (use_fault false (rule s) (v ∷ []) (rows us)) ≡ fits us (s, v)
-value-fits us class_file v e = rw (has_row-is us class_file) (kinds-fit (is_used class_file us) true kind.ArgumentConflict kind.ValueValidation)
-value-fits us mirror_file v e = rw (has_row-is us mirror_file) (kinds-fit (is_used mirror_file us) true kind.ArgumentConflict kind.ValueValidation)
-value-fits us bracket_file v e = rw (has_row-is us bracket_file) (kinds-fit (is_used bracket_file us) true kind.ArgumentConflict kind.ValueValidation)
-value-fits us generate v e = rw (has_row-is us generate) (kinds-fit (is_used generate us) (is_number v) kind.ArgumentConflict kind.ValueValidation)
 value-fits us dump v e = cc
+value-fits us generate v e = rw (has_row-is us generate) (kinds-fit (is_used generate us) (is_number v) kind.ArgumentConflict kind.ValueValidation)
+value-fits us s v e = rw (has_row-is us s) (kinds-fit (is_used s us) true kind.ArgumentConflict kind.ValueValidation)
 
 pub flag-fits : (us : List Use) → is_none (use_fault false (rule dump) [] (rows us)) ≡ fits us (dump, codes "true")
 flag-fits us = rw (has_row-is us dump) (kinds-fit (is_used dump us) true kind.ArgumentConflict kind.InvalidValue)
@@ -92,11 +90,8 @@ is_new us s v e = has_row-is us s ∙ go (is_used s us) e
 
 pub value-used : (us : List Use) (s : Setting) (v : Text) → has_value s ≡ true → fits us (s, v) ≡ true
     → used (rule s) (v ∷ []) (rows us) ≡ rows (us ++ (s, v) ∷ [])
-value-used us class_file v e f = added (name_of class_file) (more_values CommandLine (v ∷ [])) (row (class_file, v)) (rows us) (is_new us class_file v f) ∙ rows-more us (class_file, v)
-value-used us mirror_file v e f = added (name_of mirror_file) (more_values CommandLine (v ∷ [])) (row (mirror_file, v)) (rows us) (is_new us mirror_file v f) ∙ rows-more us (mirror_file, v)
-value-used us bracket_file v e f = added (name_of bracket_file) (more_values CommandLine (v ∷ [])) (row (bracket_file, v)) (rows us) (is_new us bracket_file v f) ∙ rows-more us (bracket_file, v)
-value-used us generate v e f = added (name_of generate) (more_values CommandLine (v ∷ [])) (row (generate, v)) (rows us) (is_new us generate v f) ∙ rows-more us (generate, v)
 value-used us dump v e f = cc
+value-used us s v e f = added (name_of s) (more_values CommandLine (v ∷ [])) (row (s, v)) (rows us) (is_new us s v f) ∙ rows-more us (s, v)
 
 pub flag-used : (us : List Use) → fits us (dump, codes "true") ≡ true → used (rule dump) [] (rows us) ≡ rows (us ++ (dump, codes "true") ∷ [])
 flag-used us f = added (name_of dump) (more_values CommandLine (codes "true" ∷ [])) (row (dump, codes "true")) (rows us) (is_new us dump (codes "true") f) ∙ rows-more us (dump, codes "true")
@@ -112,11 +107,8 @@ no_default rs s e = go s (has_row (name_of s) rs) e
   where
     go : (s : Setting) (b : Bool) → has_value s ≡ true → (if b then rs else default_rows (name_of s) (reading_by (rule s)) (rule s).defaults rs) ≡ rs
     go s true e = refl
-    go class_file false e = refl
-    go mirror_file false e = refl
-    go bracket_file false e = refl
-    go generate false e = refl
     go dump false e = cc
+    go s false e = refl
 
 finish-is : (rs : List Row) → fold with_default rs shape.rules ≡ with_default rs (rule dump)
 finish-is rs =
@@ -154,11 +146,8 @@ row-is us true s e = sym (find-map (λ r. bytes_eq r.id (name_of s)) row us)
 row-is us false s e = find-more (λ r. bytes_eq r.id (name_of s)) (rows us) unused (other s e) ∙ sym (find-map (λ r. bytes_eq r.id (name_of s)) row us)
   where
     other : (s : Setting) → has_value s ≡ true → bytes_eq (name_of dump) (name_of s) ≡ false
-    other class_file e = refl
-    other mirror_file e = refl
-    other bracket_file e = refl
-    other generate e = refl
     other dump e = cc
+    other s e = refl
 
 text-is : (o : Option Use) → option_and_then (λ r. slice_get r.values 0) (option_map row o) ≡ option_map (λ u. u.1) o
 text-is None = refl
@@ -197,11 +186,8 @@ default-passes rs s = go s (has_row (name_of s) rs)
   where
     go : (s : Setting) (b : Bool) → (if b || is_empty (rule s).defaults then [] else given_default_fault (rule s) (rule s).defaults) ≡ []
     go s true = refl
-    go class_file false = refl
-    go mirror_file false = refl
-    go bracket_file false = refl
-    go generate false = refl
     go dump false = refl
+    go s false = refl
 
 defaults-pass : (ss : List Setting) (rs : List Row) → defaults_fault rs (map rule ss) ≡ []
 unfolding defaults_fault
