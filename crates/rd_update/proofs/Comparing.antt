@@ -1,5 +1,5 @@
 -- Rows that are compared cell by cell.
-use Rattle.std.proofs.Common.{◌≡◌, inl, inr, ℕ, zero, suc, ◌+◌, ◌<◌, ◌≤◌, ◌&&◌, not, nat_lt, Bool, true, false, if◌then◌else◌, List, [], ◌∷◌, length, get_or, refl, sym, ap, ◌∙◌, arith, rules}
+use Rattle.std.proofs.Common.{◌≡◌, inl, inr, ℕ, zero, suc, ◌+◌, ◌-◌, ◌<◌, ◌≤◌, ◌&&◌, not, nat_lt, Bool, true, false, if◌then◌else◌, List, [], ◌∷◌, length, get_or, refl, sym, ap, ◌∙◌, arith, rules}
 use Rattle.std.specs.Cmp.Lexicographic.{pointwise}
 use Rattle.std.proofs.lemmas.Bool.{cases_lt}
 use Rattle.std.proofs.lemmas.Bool.Decides.{nat_tests}
@@ -9,6 +9,7 @@ use Rattle.rd_base.specs.Equals.{same_cell}
 use Rattle.rd_base.specs.declared.cell.Cell.{Cell}
 use Rattle.rd_base.specs.declared.cell.Cell.TheVariants.{Blank, First, Rest}
 use Rattle.rd_term.specs.Pictures.{blank, blank_row}
+use Rattle.rd_term.specs.Walks.{back_while}
 use Rattle.rd_update.specs.Updates.{differs, end_before, end_of_differences, used}
 use Rattle.rd_update.proofs.Intervals.{behind-last, last-differs}
 
@@ -57,14 +58,14 @@ used-within-chosen row k le e other = elim (cases_lt k (used row)) [
 ]
 
 -- a cell that is blank and plain is none of them
-pub used-less : (row : List Cell) (k : ℕ) → k < length row → used row ≤ k + 1 → same_cell blank (get_or row k blank) ≡ true → used row ≤ k
+used-less : (row : List Cell) (k : ℕ) → k < length row → used row ≤ k + 1 → same_cell blank (get_or row k blank) ≡ true → used row ≤ k
 used-less row k lt le e =
     used-within-chosen row k le e (λ most.
     ap (λ c. same_cell c (get_or row k blank)) (sym (get_or-replicate (length row) k blank blank lt))
     ∙ last-differs blank (blank_row (length row)) row k (omega (arith, le, most)))
 
 -- and any other cell is the last one
-pub used-here : (row : List Cell) (k : ℕ) → k < length row → used row ≤ k + 1 → same_cell blank (get_or row k blank) ≡ false → k + 1 ≡ used row
+used-here : (row : List Cell) (k : ℕ) → k < length row → used row ≤ k + 1 → same_cell blank (get_or row k blank) ≡ false → k + 1 ≡ used row
 used-here row k lt le e = elim (cases_lt k (used row)) [
   | inl more ↦ omega (arith, le, more)
   | inr ge ↦ absurd (
@@ -73,3 +74,19 @@ used-here row k lt le e = elim (cases_lt k (used row)) [
       ∙ behind-last k blank (blank_row (length row)) row (length-replicate (length row) blank) lt ge in
       cc)
 ]
+
+-- by whether that cell is, from what is so of the columns before it
+used-by : (row : List Cell) (k back : ℕ) (clear : Bool) → same_cell blank (get_or row k blank) ≡ clear → k < length row → used row ≤ k + 1 → (used row ≤ k → back ≡ used row)
+    → (if clear then back else suc k) ≡ used row
+used-by row k back true e lt le so = so (used-less row k lt le e)
+used-by row k back false e lt le so = omega (arith, used-here row k lt le e)
+
+-- a walk back from the end of the row over cells that are blank and plain ends there
+pub used-back : (row : List Cell) (end : ℕ) → used row ≤ end → end ≤ length row → back_while (λ column. same_cell blank (get_or row (column - 1) blank)) end ≡ used row
+used-back row zero le within = omega (arith, le)
+used-back row (suc k) le within =
+    let test : ℕ → Bool = λ column. same_cell blank (get_or row (column - 1) blank) in
+    let here : k ≡ suc k - 1 = omega arith in
+    let same : same_cell blank (get_or row k blank) ≡ test (suc k) = ap (λ (j : ℕ). same_cell blank (get_or row j blank)) here in
+    used-by row k (back_while test k) (test (suc k)) same (omega (arith, within)) (omega (arith, le))
+    (λ less. used-back row k less (omega (arith, within)))

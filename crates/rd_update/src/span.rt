@@ -1,5 +1,5 @@
 //! Where two rows differ.
-ghost use Rattle.std.specs.Prelude.{◌≡◌, ◌<◌, ◌≤◌, All, IfOk, length};
+ghost use Rattle.std.specs.Prelude.{◌≡◌, ◌<◌, ◌≤◌, ◌-◌, All, IfOk, length, slice_index_or};
 ghost use Rattle.rd_base.specs.Cells.{IsSmall};
 ghost use Rattle.rd_base.specs.Equals.{same_cell};
 ghost use Rattle.rd_term.specs.Pictures.{blank};
@@ -65,18 +65,16 @@ fn columns_between(old: &[u64], new: &[u64]) -> Option<Columns>
 pub(crate) fn used(row: &[Cell]) -> usize
     ensures { result ≡ used_of row.now }
 {
-    let mut end = row.len();
-    while end > 0 && is_clear(&row[end - 1]) {
-        end -= 1;
-    }
-    end
+    back_while(row.len(), |column: usize| is_clear(row, column))
 }
 
-/// Whether a cell is blank and plain.
-fn is_clear(cell: &Cell) -> bool
-    ensures { result ≡ same_cell blank cell.now }
+/// Whether the cell before a column is blank and plain.
+fn is_clear(row: &[Cell], column: usize) -> bool
+    requires some { 0 < column }
+    requires within { column ≤ length row.now }
+    ensures { result ≡ same_cell blank (slice_index_or row.now (column - 1) blank) }
 {
-    match cell {
+    match &row[column - 1] {
         Cell::Blank(face) => Face::PLAIN.is_same(*face),
         _ => false,
     }
