@@ -10,7 +10,7 @@ use Rattle.std.proofs.lemmas.List.Sums.{passes_at_first, sum_by-append, sum_by-c
 use Rattle.std.proofs.Math.Seq.{drop-append_seam}
 use Rattle.std.proofs.lemmas.List.Elements.{All-drop, All-cons, All-nil}
 use Rattle.std.proofs.lemmas.Option.{slice_get-map, slice_get_within, slice_get_cases, get_or_from_slice_get}
-use Rattle.rd_base.specs.Lists.{total}
+use Rattle.rd_base.specs.Lists.{Follow, total}
 use Rattle.rd_base.proofs.Choices.{if-value, map-some}
 
 -- what is read at a place heads what is left there
@@ -171,12 +171,7 @@ lies-apart pos from mid to low high = grind (arith, nat_tests)
 
 -- stretches that stand one behind the other hold each place between once, and no other; an element's goes from its start up to its end
 module _ {X : Type 0} (start end : X → ℕ) where
-  -- from a place to another: each goes on where the one before it ended, or has no place
-  abbrev pub Follow : ℕ → ℕ → List X → Type 0
-  Follow from to [] = from ≡ to
-  Follow from to (x ∷ xs) = ((start x ≡ end x) × Follow from to xs) ⊎ ((start x ≡ from) × (from < end x) × Follow (end x) to xs)
-
-  pub follow-once : (pos from to : ℕ) (xs : List X) → Follow from to xs → (from ≤ to) × (count_by (λ x. lies pos (start x) (end x)) xs ≡ cond (lies pos from to) 1 0)
+  pub follow-once : (pos from to : ℕ) (xs : List X) → Follow start end from to xs → (from ≤ to) × (count_by (λ x. lies pos (start x) (end x)) xs ≡ cond (lies pos from to) 1 0)
   follow-once pos from to [] ends = (omega (arith, ends), ap (λ (b : Bool). cond b 1 0) (sym (lies-empty pos from to ends)))
   follow-once pos from to (x ∷ xs) (inl none) =
       let rest = follow-once pos from to xs none.1 in

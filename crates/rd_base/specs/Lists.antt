@@ -1,8 +1,13 @@
--- Sums over lists.
-use Rattle.std.specs.Prelude.{ℕ, ◌+◌, List, [], ◌∷◌}
+-- Sums over lists, and stretches one behind the other.
+use Rattle.std.specs.Prelude.{◌≡◌, ◌⊎◌, ℕ, ◌+◌, ◌<◌, List, [], ◌∷◌}
 
 -- the sum of a number for each element: by definition the first one's number and the sum of the others. The library's `sum_by`, which
 -- goes from the front with the sum so far, has that by a lemma alone (`sum_by-cons`)
 abbrev pub total : {X : Type 0} → (X → ℕ) → List X → ℕ
 total f [] = 0
 total f (x ∷ xs) = f x + total f xs
+
+-- elements from one place to another, by where each starts and ends: it goes on where the one before it ended, or has no place
+abbrev pub Follow : {X : Type 0} → (X → ℕ) → (X → ℕ) → ℕ → ℕ → List X → Type 0
+Follow start end from to [] = from ≡ to
+Follow start end from to (x ∷ xs) = ((start x ≡ end x) × Follow start end from to xs) ⊎ ((start x ≡ from) × (from < end x) × Follow start end (end x) to xs)

@@ -19,7 +19,7 @@ use Rattle.rd_rows.specs.Laws.{ranges_of}
 use Rattle.rd_rows.specs.Placing.{is_item}
 use Rattle.rd_stack.specs.Lines.{item_elements_by, turn_elements, origin_of, item_elements, item_class, item_code, item_turns, line_of_items}
 use Rattle.rd_stack.proofs.EachElement.{item-each}
-use Rattle.rd_base.proofs.Lists.{Follow, all-at, count-cons, follow-once}
+use Rattle.rd_base.proofs.Lists.{all-at, count-cons, follow-once}
 use Rattle.rd_base.specs.Cells.{bit_of}
 use Rattle.rd_base.specs.Lists.{total}
 use Rattle.rd_blocks.proofs.Gives.{ItemsGive}
@@ -132,20 +132,15 @@ module _ (s : Scene) (base : ℕ) (q : ℕ × ℕ → Bool) where
 
 -- counted by items
 
-hits : (q : ℕ × ℕ → Bool) (items : List Item) → total (λ x. hit_by q (Some x)) items ≡ count_by q (map range_of_item items)
+hits : (q : ℕ × ℕ → Bool) (items : List Item) → total (λ x. hit_by q (Some x)) items ≡ count_by (λ (x : Item). q (range_of_item x)) items
 hits q [] = refl
-hits q (x ∷ xs) = ap (λ n. cond (q (range_of_item x)) 1 0 + n) (hits q xs) ∙ sym (count-cons q (range_of_item x) (map range_of_item xs))
+hits q (x ∷ xs) = ap (λ n. cond (q (range_of_item x)) 1 0 + n) (hits q xs) ∙ sym (count-cons (λ (y : Item). q (range_of_item y)) x xs)
 
 -- items that tile
 
-tile-follow : (since to : ℕ) (items : List Item) → Tile since to items → Follow (λ (r : ℕ × ℕ). r.0) (λ (r : ℕ × ℕ). r.1) since to (map range_of_item items)
-tile-follow since to [] tile = tile
-tile-follow since to (x ∷ xs) (inl empty) = inl (empty.0, tile-follow since to xs empty.1)
-tile-follow since to (x ∷ xs) (inr next) = inr (next.0, next.1, tile-follow x.to to xs next.2)
-
-tiled-once : (k since to : ℕ) (items : List Item) → Tile since to items → since ≤ k → k < to → count_by (in_range k) (map range_of_item items) ≡ 1
+tiled-once : (k since to : ℕ) (items : List Item) → Tile since to items → since ≤ k → k < to → count_by (λ (x : Item). in_range k (range_of_item x)) items ≡ 1
 tiled-once k since to items tile low high =
-    let once = (follow-once (λ (r : ℕ × ℕ). r.0) (λ (r : ℕ × ℕ). r.1) k since to (map range_of_item items) (tile-follow since to items tile)).1 in
+    let once = (follow-once (λ (x : Item). x.from) (λ (x : Item). x.to) k since to items tile).1 in
     let here : in_range k (since, to) ≡ true = grind (arith, nat_tests) in
     once ∙ ap (λ (b : Bool). cond b 1 0) here
 

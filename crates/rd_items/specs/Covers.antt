@@ -1,5 +1,6 @@
 -- What items cover, and how they end.
-use Rattle.std.specs.Prelude.{◌≡◌, ◌⊎◌, ℕ, ◌<◌, nat_lt, Bool, true, false, not, ◌&&◌, List, [], ◌∷◌, All}
+use Rattle.std.specs.Prelude.{◌≡◌, ℕ, ◌<◌, nat_lt, Bool, true, false, not, ◌&&◌, List, [], ◌∷◌, All}
+use Rattle.rd_base.specs.Lists.{Follow}
 use Rattle.rd_base.specs.declared.class.Class.TheVariants.{B}
 use Rattle.rd_items.specs.Pieces.{Scene}
 use Rattle.rd_items.specs.Items.{kind_gives}
@@ -10,8 +11,7 @@ use Rattle.rd_items.specs.declared.item.ItemKind.TheVariants as kind
 -- items that cover the offsets from one to another, that one not included: each covers none, or goes on where the last that
 -- covers any ended
 abbrev pub Tile : ℕ → ℕ → List Item → Type 0
-Tile since to [] = since ≡ to
-Tile since to (x ∷ xs) = ((x.from ≡ x.to) × Tile since to xs) ⊎ ((x.from ≡ since) × (since < x.to) × Tile x.to to xs)
+Tile = Follow (λ x. x.from) (λ x. x.to)
 
 -- an item covers any offset exactly where it is no overlay's string and gives an element
 abbrev pub CoverWhereTheyGive : Scene → List Item → Type 0

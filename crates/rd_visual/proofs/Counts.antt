@@ -3,7 +3,8 @@ use Rattle.std.proofs.Common.{◌≡◌, ℕ, suc, ◌+◌, ◌^◌, ◌<◌, �
 use Rattle.std.specs.Prelude.{count_by, slice_get}
 use Rattle.std.specs.List.{flat_map}
 use Rattle.std.proofs.lemmas.Bool.Decides.{nat_tests}
-use Rattle.rd_base.proofs.Lists.{Follow, count-append, count-cons, each-append, follow-once}
+use Rattle.rd_base.specs.Lists.{Follow}
+use Rattle.rd_base.proofs.Lists.{count-append, count-cons, each-append, follow-once}
 use Rattle.rd_ucd.specs.Data.{Data}
 use Rattle.rd_objects.specs.Things.{ObjectLists}
 use Rattle.rd_text.specs.Texts.{IsText, IsAccessible}

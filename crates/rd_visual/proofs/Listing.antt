@@ -4,7 +4,7 @@ use Rattle.std.specs.Prelude.{slice_get, if◌then◌else◌}
 use Rattle.std.proofs.lemmas.List.{length-drop}
 use Rattle.std.proofs.lemmas.List.Elements.{All-cons, All-nil}
 use Rattle.std.proofs.lemmas.Option.{same_Some}
-use Rattle.rd_base.proofs.Lists.{drop-at, element-at}
+use Rattle.rd_base.proofs.Lists.{drop-at, element-at, follow-once}
 use Rattle.rd_props.specs.Seen.{Seen}
 use Rattle.rd_items.specs.Covers.{Tile}
 use Rattle.rd_items.specs.Items.{items_of}
@@ -34,18 +34,13 @@ ranges-same scene start base es items ts e d =
 
 -- items of a block end within it, where they cover a position
 
-tile-order : (since to : ℕ) (items : List Item) → Tile since to items → since ≤ to
-tile-order since to [] tile = omega (arith, tile)
-tile-order since to (x ∷ xs) (inl empty) = tile-order since to xs empty.1
-tile-order since to (x ∷ xs) (inr next) = let at = next.0 in let some = next.1 in let rest = tile-order x.to to xs next.2 in omega (arith, at, some, rest)
-
 pub tile-fits : (start limit since to : ℕ) (items : List Item) → Tile since to items → start + to < limit → All (λ (x : Item). x.from < x.to → start + x.to < limit) items
 tile-fits start limit since to [] tile low = All-nil (λ (x : Item). x.from < x.to → start + x.to < limit)
 tile-fits start limit since to (x ∷ xs) (inl empty) low =
     let same = empty.0 in
     All-cons (λ (y : Item). y.from < y.to → start + y.to < limit) x xs (λ some. absurd (omega (arith, same, some))) (tile-fits start limit since to xs empty.1 low)
 tile-fits start limit since to (x ∷ xs) (inr next) low =
-    let rest = tile-order x.to to xs next.2 in
+    let rest = (follow-once (λ (y : Item). y.from) (λ (y : Item). y.to) 0 x.to to xs next.2).0 in
     All-cons (λ (y : Item). y.from < y.to → start + y.to < limit) x xs (λ some. omega (arith, rest, low)) (tile-fits start limit x.to to xs next.2 low)
 
 -- the range beside one, found by its place
