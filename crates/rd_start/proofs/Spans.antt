@@ -23,24 +23,17 @@ joined_spans-assoc (Some a) (Some b) (Some c) =
     let greatest : max (max a.last b.last) c.last ≡ max a.last (max b.last c.last) = omega arith in
     cc
 
-fold-min : (a y : ℕ) (ys : List ℕ) → fold min (min a y) ys ≡ min a (fold min y ys)
-fold-min a y [] = refl
-fold-min a y (z ∷ ys) =
-    let e : min (min a y) z ≡ min a (min y z) = omega arith in
-    ap (λ n. fold min n ys) e ∙ fold-min a (min y z) ys
-
-fold-max : (a y : ℕ) (ys : List ℕ) → fold max (max a y) ys ≡ max a (fold max y ys)
-fold-max a y [] = refl
-fold-max a y (z ∷ ys) =
-    let e : max (max a y) z ≡ max a (max y z) = omega arith in
-    ap (λ n. fold max n ys) e ∙ fold-max a (max y z) ys
+-- what is joined with the first of some numbers is joined with all
+fold-first : (f : ℕ → ℕ → ℕ) → ((a y z : ℕ) → f (f a y) z ≡ f a (f y z)) → (a y : ℕ) (ys : List ℕ) → fold f (f a y) ys ≡ f a (fold f y ys)
+fold-first f joins a y [] = refl
+fold-first f joins a y (z ∷ ys) = ap (λ n. fold f n ys) (joins a y z) ∙ fold-first f joins a (f y z) ys
 
 pub span_of-append : (xs ys : List ℕ) → span_of (xs ++ ys) ≡ joined_spans (span_of xs) (span_of ys)
 span_of-append [] ys = refl
 span_of-append (x ∷ xs) [] = ap (λ zs. span_of (x ∷ zs)) (append-nil xs)
 span_of-append (x ∷ xs) (y ∷ ys) =
-    let least : fold min x (xs ++ (y ∷ ys)) ≡ min (fold min x xs) (fold min y ys) = fold-append min x xs (y ∷ ys) ∙ fold-min (fold min x xs) y ys in
-    let greatest : fold max x (xs ++ (y ∷ ys)) ≡ max (fold max x xs) (fold max y ys) = fold-append max x xs (y ∷ ys) ∙ fold-max (fold max x xs) y ys in
+    let least : fold min x (xs ++ (y ∷ ys)) ≡ min (fold min x xs) (fold min y ys) = fold-append min x xs (y ∷ ys) ∙ fold-first min (λ a b c. omega arith) (fold min x xs) y ys in
+    let greatest : fold max x (xs ++ (y ∷ ys)) ≡ max (fold max x xs) (fold max y ys) = fold-append max x xs (y ∷ ys) ∙ fold-first max (λ a b c. omega arith) (fold max x xs) y ys in
     cc
 
 pub span_of-least : (ps : List ℕ) → reduce min ps ≡ option_map (λ (s : Span). s.first) (span_of ps)
