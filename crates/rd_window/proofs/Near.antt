@@ -1,10 +1,9 @@
 -- The rows in view from a new start are near the window.
-use Rattle.std.proofs.Common.{◌≡◌, ℕ, zero, suc, ◌+◌, ◌-◌, ◌<◌, ◌≤◌, ◌⊎◌, inl, inr, Bool, true, ◌||◌, leb, ltb, List, [], ◌∷◌, length, Option, None, Some, refl, sym, ap, ◌∙◌, subst, arith}
+use Rattle.std.proofs.Common.{◌≡◌, ℕ, zero, suc, ◌+◌, ◌-◌, ◌<◌, ◌≤◌, ◌⊎◌, inl, inr, Bool, true, leb, ltb, List, [], ◌∷◌, length, Option, None, Some, refl, sym, ap, ◌∙◌, subst, arith}
 use Rattle.std.specs.List.{find, list_any, range_with_len}
 use Rattle.std.specs.Option.{option_or, unwrap_or}
-use Rattle.std.proofs.Math.Bool.{or-true}
 use Rattle.std.proofs.lemmas.Bool.{and_parts, cases_Bool, leb-true, ltb-true}
-use Rattle.std.proofs.lemmas.List.Folds.{find-append}
+use Rattle.std.proofs.lemmas.List.Folds.{Any-from_list_any, find-append, list_any-from_Any}
 use Rattle.rd_base.proofs.Choices.{or-some}
 use Rattle.rd_matrix.proofs.Counting.{costs-if}
 use Rattle.rd_matrix.specs.Rows.{blocks_with}
@@ -102,12 +101,7 @@ start-near w at k low high =
 -- ---- what the rows in view cost
 
 any-other : (p q : ℕ → Bool) (ks : List ℕ) → ((k : ℕ) → p k ≡ true → q k ≡ true) → list_any p ks ≡ true → list_any q ks ≡ true
-any-other p q [] each e = absurd cc
-any-other p q (k ∷ ks) each e =
-    elim (cases_Bool (p k)) [
-      | inl passes ↦ ap (λ b. b || list_any q ks) (each k passes)
-      | inr fails ↦ ap (λ b. q k || b) (any-other p q ks each (sym (ap (λ b. b || list_any p ks) fails) ∙ e)) ∙ or-true (q k)
-    ]
+any-other p q ks each e = let found = Any-from_list_any p ks e in list_any-from_Any q ks (found.0, found.1, found.2, found.3, each found.1 found.4)
 
 -- blocks that have rows of a kind cost no more than those that have rows of a wider one, where each costs no more
 pub costs-wider : (p q : ℕ → Bool) (rows : Block → List RowMeaning) (cost more : Block → ℕ) (first : ℕ) (bs : List Block) → ((b : Block) → cost b ≤ more b) → ((k : ℕ) → p k ≡ true → q k ≡ true)
