@@ -9,6 +9,7 @@ use Rattle.rd_matrix.specs.Entries.{all_rows, entries_of, numbered}
 use Rattle.rd_matrix.specs.Rows.{blocks_with}
 use Rattle.rd_matrix.specs.Sources.{costs_of}
 use Rattle.rd_matrix.specs.declared.block.Block.{Block}
+use Rattle.rd_rows.specs.Laws.{ends_last}
 use Rattle.rd_rows.specs.Rows.{RowMeaning}
 
 pub length-numbered : (start number : ℕ) (rows : List RowMeaning) → length (numbered start number rows) ≡ length rows
@@ -20,6 +21,17 @@ count-cons rows b bs = length-append (entries_of rows b) (all_rows rows bs) ∙ 
 
 pub all-append : (rows : Block → List RowMeaning) (xs ys : List Block) → all_rows rows (xs ++ ys) ≡ all_rows rows xs ++ all_rows rows ys
 all-append rows xs ys = flat_map-append (entries_of rows) xs ys
+
+pub count-append : (rows : Block → List RowMeaning) (xs ys : List Block) → length (all_rows rows (xs ++ ys)) ≡ length (all_rows rows xs) + length (all_rows rows ys)
+count-append rows xs ys = ap length (all-append rows xs ys) ∙ length-append (all_rows rows xs) (all_rows rows ys)
+
+pub count-last : (rows : Block → List RowMeaning) (xs : List Block) (b : Block) → length (all_rows rows (xs ++ b ∷ [])) ≡ length (all_rows rows xs) + length (rows b)
+count-last rows xs b = omega (arith, count-append rows xs (b ∷ []), count-cons rows b [])
+
+-- there is a row where the last one ends the block
+pub some-row : (rows : List RowMeaning) → ends_last rows ≡ true → 0 < length rows
+some-row [] e = absurd cc
+some-row (r ∷ rows) e = omega arith
 
 -- a test that passes at a number passes in each list of numbers that has it
 pub any-range : (p : ℕ → Bool) (from n k : ℕ) → from ≤ k → k < from + n → p k ≡ true → list_any p (range_with_len from n) ≡ true

@@ -1,34 +1,21 @@
 -- Blocks and their rows, by place.
-use Rattle.std.proofs.Common.{◌≡◌, ℕ, ◌+◌, ◌-◌, ◌<◌, ◌≤◌, inl, inr, true, List, [], ◌∷◌, ◌++◌, length, option_map, Option, None, Some, refl, sym, ap, ◌∙◌, subst, arith}
+use Rattle.std.proofs.Common.{◌≡◌, ℕ, ◌+◌, ◌-◌, ◌<◌, ◌≤◌, inl, inr, List, [], ◌∷◌, ◌++◌, length, option_map, Option, None, Some, refl, sym, ap, ◌∙◌, subst, arith}
 use Rattle.std.proofs.lemmas.Bool.{cases_lt}
-use Rattle.std.proofs.lemmas.List.{length-append}
 use Rattle.std.proofs.lemmas.Option.{same_Some}
 use Rattle.std.specs.List.{slice_get}
 use Rattle.rd_base.proofs.Choices.{map-some}
 use Rattle.rd_base.proofs.Lists.{get-first, get-second, at-seam}
 use Rattle.rd_base.specs.declared.settings.Anchor.{Anchor}
 use Rattle.rd_matrix.proofs.HeldLemmas.{same-holder, start-within}
-use Rattle.rd_matrix.proofs.Counting.{all-append, count-cons, length-numbered}
+use Rattle.rd_matrix.proofs.Counting.{count-cons, length-numbered}
 use Rattle.rd_matrix.proofs.EachRow.{numbered-at}
 use Rattle.rd_matrix.specs.Blocks.{IsAmong, IsWithin, StandFrom}
 use Rattle.rd_matrix.specs.Entries.{EntryMeaning, all_rows, entries_of, numbered}
 use Rattle.rd_matrix.specs.Sources.{SourceValues, IsSource, rows_at}
 use Rattle.rd_matrix.specs.declared.block.Block.{Block}
 use Rattle.rd_reuse.specs.Views.{Names, anchor_of}
-use Rattle.rd_rows.specs.Laws.{ends_last}
 use Rattle.rd_rows.specs.Rows.{RowMeaning}
 use Rattle.rd_rows.specs.Shapes.{ShapeValues}
-
-pub count-last : (rows : Block → List RowMeaning) (xs : List Block) (b : Block) → length (all_rows rows (xs ++ b ∷ [])) ≡ length (all_rows rows xs) + length (rows b)
-count-last rows xs b =
-    let whole = ap length (all-append rows xs (b ∷ [])) ∙ length-append (all_rows rows xs) (all_rows rows (b ∷ [])) in
-    let last = count-cons rows b [] in
-    omega (arith, whole, last)
-
--- there is a row where the last one ends the block
-pub some-row : (rows : List RowMeaning) → ends_last rows ≡ true → 0 < length rows
-some-row [] e = absurd cc
-some-row (r ∷ rows) e = omega arith
 
 -- a row of a block, by its place among those that are numbered
 pub row-in : (start k : ℕ) (rows : List RowMeaning) (e : EntryMeaning) → slice_get (numbered start 0 rows) k ≡ Some e

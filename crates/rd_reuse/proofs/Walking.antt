@@ -8,7 +8,7 @@ use Rattle.std.proofs.lemmas.Option.{slice_get-map}
 use Rattle.rd_base.proofs.Lists.{at-seam, drop-at, get-second, none-left}
 use Rattle.std.specs.List.{list_any, range_with_len}
 use Rattle.rd_base.specs.declared.settings.Anchor.{Anchor}
-use Rattle.rd_matrix.proofs.Counting.{all-append, any-range, costs-behind, costs-here, length-numbered}
+use Rattle.rd_matrix.proofs.Counting.{all-append, any-range, costs-behind, costs-here, count-last, length-numbered, some-row}
 use Rattle.rd_matrix.specs.Blocks.{HoldsPosition, IsAmong, StandFrom, first_start}
 use Rattle.rd_matrix.specs.Entries.{EntryMeaning, all_rows, entries_of, numbered, shown_entries, shown_entry}
 use Rattle.rd_matrix.specs.Rows.{blocks_with}
@@ -21,7 +21,7 @@ use Rattle.rd_reuse.specs.Views.{IsCopied, Names, fresh_costs, is_in_view}
 use Rattle.rd_reuse.specs.declared.change.Change.{Change}
 use Rattle.rd_reuse.proofs.Lists.{filled-more, filled-size}
 use Rattle.rd_matrix.proofs.HeldLemmas.{later-start}
-use Rattle.rd_reuse.proofs.Places.{anchor-found, count-last, holding, some-row}
+use Rattle.rd_reuse.proofs.Places.{anchor-found, holding}
 use Rattle.rd_reuse.proofs.Placing.{all-placed, none-added, shown-placed}
 use Rattle.rd_rows.specs.Copies.{RowValues, copied, shown_rows}
 use Rattle.rd_rows.specs.Shapes.{ShapeValues, IsShape}

@@ -3,7 +3,7 @@ use Rattle.std.proofs.Common.{◌≡◌, ℕ, ◌+◌, ◌-◌, ◌^◌, ◌<◌
 use Rattle.std.proofs.lemmas.List.{append-nil, length-map, take-append-drop}
 use Rattle.std.specs.List.{list_any, position_or_len, range_with_len}
 use Rattle.rd_base.proofs.Lists.{drop-at}
-use Rattle.rd_matrix.proofs.Counting.{all-append, any-range, length-numbered}
+use Rattle.rd_matrix.proofs.Counting.{all-append, any-range, length-numbered, some-row}
 use Rattle.rd_matrix.proofs.Covering.{Fit, whole-fit}
 use Rattle.rd_matrix.proofs.Passing.{first-inside}
 use Rattle.rd_matrix.specs.Blocks.{HoldsPosition, IsWithin, StandFrom, end_from, first_start}
@@ -18,7 +18,7 @@ use Rattle.rd_start.specs.declared.strip.Edge.TheVariants.{Bottom}
 use Rattle.rd_start.specs.declared.strip.StripRow.{StripRow}
 use Rattle.rd_start.specs.declared.strip.Strip.{Strip}
 use Rattle.rd_start.specs.declared.strip.Sweep.{Sweep}
-use Rattle.rd_start.proofs.Blocks.{anchor-skips, any-block, any-fit, fit-back, fit-front, row-below, some-row}
+use Rattle.rd_start.proofs.Blocks.{anchor-skips, any-block, any-fit, fit-back, fit-front, row-below}
 use Rattle.rd_start.proofs.Costs.{costs-piece}
 use Rattle.rd_start.proofs.Lists.{first-among, first-behind}
 use Rattle.rd_start.proofs.Reaching.{paid-same, strip-same}
@@ -47,7 +47,7 @@ around m sweep b source shape holds =
       pieces = pieces;
       fit = subst (Fit rows (first_start m.blocks)) pieces (whole-fit m sweep.shape source shape);
       home = ap (λ (ys : List Block). anchor_row rows sweep.anchor ys) pieces ∙ anchor-skips rows sweep.anchor (first_start m.blocks) before after b stand holds.from holds.below;
-      some = some-row b.start b.end (rows b) (source.rows b sweep.shape holds.among shape);
+      some = some-row (rows b) (source.rows b sweep.shape holds.among shape).ends;
     }
 
 pub strip-around : (m : SourceValues) (sweep : Sweep) (b : Block) → IsSource m → IsShape sweep.shape → IsWithin sweep.point m.blocks → HoldsPosition sweep.anchor.pos m.blocks b → b.end < 2 ^ 32

@@ -1,13 +1,12 @@
 -- Blocks that stand one behind the other, and their rows.
 use Rattle.std.proofs.Common.{◌≡◌, ℕ, ◌+◌, ◌-◌, ◌<◌, ◌≤◌, inl, inr, Bool, true, false, cond, ◌||◌, ◌&&◌, ◌==◌, leb, ltb, min, List, [], ◌∷◌, ◌++◌, length, refl, sym, ap, ◌∙◌, subst, arith, zero-add}
-use Rattle.std.proofs.lemmas.Bool.{cases_Bool, false≢true, le-ltb, lt-ltb}
+use Rattle.std.proofs.lemmas.Bool.{cases_Bool, le-ltb, lt-ltb}
 use Rattle.std.proofs.lemmas.Bool.Decides.{nat_tests}
-use Rattle.std.proofs.lemmas.List.{length-append}
 use Rattle.std.proofs.lemmas.List.Folds.{list_any-append}
 use Rattle.std.specs.List.{list_any}
 use Rattle.rd_base.proofs.Lists.{get-second}
 use Rattle.rd_base.specs.declared.settings.Anchor.{Anchor}
-use Rattle.rd_matrix.proofs.Counting.{all-append, count-cons}
+use Rattle.rd_matrix.proofs.Counting.{count-cons}
 use Rattle.rd_matrix.proofs.Covering.{Fit, none-covers, whole-fit}
 use Rattle.rd_matrix.proofs.HeldLemmas.{end-any, later-start}
 use Rattle.rd_matrix.specs.Blocks.{IsWithin, StandFrom, end_from, first_start}
@@ -20,9 +19,6 @@ use Rattle.rd_rows.specs.Shapes.{IsShape, ShapeValues}
 use Rattle.rd_start.specs.Chosen.{anchor_row, begins_item, row_in_block}
 use Rattle.rd_start.proofs.Lists.{one-passes}
 use Rattle.rd_start.proofs.Tests.{in-range, range-parts}
-
-pub count-append : (rows : Block → List RowMeaning) (xs ys : List Block) → length (all_rows rows (xs ++ ys)) ≡ length (all_rows rows xs) + length (all_rows rows ys)
-count-append rows xs ys = ap length (all-append rows xs ys) ∙ length-append (all_rows rows xs) (all_rows rows ys)
 
 pub fit-front : (rows : Block → List RowMeaning) (from : ℕ) (xs ys : List Block) → Fit rows from (xs ++ ys) → Fit rows from xs
 fit-front rows from [] ys h = tt
@@ -39,11 +35,6 @@ end-append from (x ∷ xs) ys = end-append x.end xs ys
 pub fit-le : (rows : Block → List RowMeaning) (from : ℕ) (bs : List Block) → Fit rows from bs → from ≤ end_from from bs
 fit-le rows from [] h = omega arith
 fit-le rows from (b ∷ bs) h = omega (arith, h.0, h.1, fit-le rows b.end bs h.3)
-
--- a block has a row
-pub some-row : (start end : ℕ) (rows : List RowMeaning) → AreRowsOf start end rows → 0 < length rows
-some-row start end [] h = absurd (false≢true h.ends)
-some-row start end (r ∷ rows) h = omega arith
 
 any-numbered : (point start number : ℕ) (rows : List RowMeaning) → list_any (begins_item point) (numbered start number rows) ≡ list_any (covers start point) (begins_of rows)
 any-numbered point start number [] = refl

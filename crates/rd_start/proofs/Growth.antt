@@ -3,7 +3,7 @@ use Rattle.std.proofs.Common.{◌≡◌, ℕ, ◌+◌, ◌-◌, ◌^◌, ◌<◌
 use Rattle.std.proofs.lemmas.List.{append-nil, append_assoc, length-append, length-map, map-append, take_all}
 use Rattle.std.proofs.lemmas.Option.{slice_get-get_or}
 use Rattle.std.specs.List.{AllByRecursion, slice_get}
-use Rattle.rd_matrix.proofs.Counting.{all-append, any-range, length-numbered}
+use Rattle.rd_matrix.proofs.Counting.{all-append, any-range, length-numbered, some-row}
 use Rattle.rd_matrix.specs.Blocks.{IsAmong, block_before}
 use Rattle.rd_matrix.specs.Entries.{EntryMeaning, all_rows, entries_of}
 use Rattle.rd_matrix.specs.Sources.{SourceValues}
@@ -14,7 +14,6 @@ use Rattle.rd_start.specs.declared.strip.Edge.{Edge}
 use Rattle.rd_start.specs.declared.strip.Edge.TheVariants.{Bottom, Top}
 use Rattle.rd_start.specs.declared.strip.StripRow.{StripRow}
 use Rattle.rd_start.specs.declared.strip.Sweep.{Sweep}
-use Rattle.rd_start.proofs.Blocks.{some-row}
 use Rattle.rd_start.proofs.Costs.{costs-piece, have-more}
 use Rattle.rd_base.proofs.Lists.{each-append, get-first, get-second, take-at, total-append}
 
@@ -58,7 +57,7 @@ before-some (x ∷ before) rest b e =
     (take (length before) (x ∷ before), sym (take_all (length before + 1) (x ∷ before) (omega arith)) ∙ take-at (x ∷ before) (length before) b there)
 
 pub some-of : (m : SourceValues) (sweep : Sweep) (bs : List Block) (ls : List StripRow) (at : ℕ) (b : Block) → IsStripOf m sweep bs ls at → IsAmong m.blocks b → 0 < length (rows_in m sweep b)
-some-of m sweep bs ls at b h among = some-row b.start b.end (rows_in m sweep b) (h.source.rows b sweep.shape among h.shape)
+some-of m sweep bs ls at b h among = some-row (rows_in m sweep b) (h.source.rows b sweep.shape among h.shape).ends
 
 pub pieces-below : (all before bs after rest : List Block) (b : Block) → all ≡ before ++ (bs ++ after) → after ≡ b ∷ rest → all ≡ before ++ ((bs ++ (b ∷ [])) ++ rest)
 pieces-below all before bs after rest b pieces behind =

@@ -6,7 +6,7 @@ use Rattle.std.specs.List.{slice_get}
 use Rattle.std.specs.Prelude.{IfOk, IsErr, MatchResult}
 use Rattle.rd_base.proofs.Lists.{drop-at, get-second, none-left}
 use Rattle.rd_base.specs.declared.memory.Memory.{Memory}
-use Rattle.rd_matrix.proofs.Counting.{count-cons}
+use Rattle.rd_matrix.proofs.Counting.{count-append, count-last}
 use Rattle.rd_matrix.specs.Blocks.{IsAmong, block_before}
 use Rattle.rd_matrix.specs.Entries.{all_rows, entries_of, numbered}
 use Rattle.rd_matrix.specs.Sources.{SourceValues}
@@ -18,7 +18,6 @@ use Rattle.rd_start.specs.declared.strip.Edge.TheVariants.{Bottom, Top}
 use Rattle.rd_start.specs.declared.strip.StripRow.{StripRow}
 use Rattle.rd_start.specs.declared.strip.Strip.{Strip}
 use Rattle.rd_start.specs.declared.strip.Sweep.{Sweep}
-use Rattle.rd_start.proofs.Blocks.{count-append}
 use Rattle.rd_start.proofs.Growth.{affords, affords-pieces, before-none, before-some, first-place, last-place, length-joined, length-strip_rows, paid-above, paid-below, pieces-above, pieces-below, some-of, strip-joined}
 use Rattle.rd_start.proofs.Rows.{rows_around}
 
@@ -103,7 +102,7 @@ prev-of m s first b h at gives =
     let e = before-some h.before (s.blocks.items ++ h.after) b (prev-value m s first (Some b) h at gives) in
     let front = e.0 in
     let whole = h.pieces ∙ ap (λ ys. ys ++ (s.blocks.items ++ h.after)) e.1 in
-    let count = ap (λ ys. length (all_rows rows ys)) e.1 ∙ (count-append rows front (b ∷ []) ∙ ap (λ n. length (all_rows rows front) + n) (count-cons rows b [])) in
+    let count = ap (λ ys. length (all_rows rows ys)) e.1 ∙ count-last rows front b in
     record {
       before = front;
       after = h.after;
@@ -132,8 +131,7 @@ more-below m s b h next =
     let own = ap length h.strip_rows ∙ length-map (all_rows rows s.blocks.items) (strip_row_of s.sweep.point) in
     let all = ap (λ ys. length (all_rows rows ys)) next.pieces ∙ count-append rows next.before ((s.blocks.items ++ (b ∷ [])) ++ next.after) in
     let from = count-append rows (s.blocks.items ++ (b ∷ [])) next.after in
-    let pushed = count-append rows s.blocks.items (b ∷ []) in
-    let one = count-cons rows b [] in
+    let pushed = count-last rows s.blocks.items b in
     let home = next.home in
     omega arith
 

@@ -8,7 +8,7 @@ use Rattle.std.proofs.lemmas.Option.{slice_get_within}
 use Rattle.rd_base.proofs.Choices.{opposite}
 use Rattle.rd_base.proofs.Lists.{element-at, get-first, get-second, get-take, get-drop, at-seam}
 use Rattle.rd_base.specs.declared.settings.Anchor.{Anchor}
-use Rattle.rd_matrix.proofs.Counting.{all-append, count-cons, length-numbered}
+use Rattle.rd_matrix.proofs.Counting.{all-append, count-cons, length-numbered, some-row}
 use Rattle.rd_matrix.proofs.EachRow.{entry-at}
 use Rattle.rd_matrix.specs.Blocks.{HoldsPosition, StandFrom, block_before, first_start}
 use Rattle.rd_matrix.specs.Entries.{EntryMeaning, all_rows, entries_of, shown_entries, shown_entry}
@@ -16,7 +16,7 @@ use Rattle.rd_matrix.specs.Sources.{SourceValues, IsSource, rows_at}
 use Rattle.rd_matrix.specs.declared.block.Block.{Block}
 use Rattle.rd_matrix.specs.declared.matrix.Entry.{Entry}
 use Rattle.rd_reuse.specs.Views.{Names, anchor_of}
-use Rattle.rd_reuse.proofs.Places.{Found, anchor-found, holding, row-in, some-row}
+use Rattle.rd_reuse.proofs.Places.{Found, anchor-found, holding, row-in}
 use Rattle.rd_rows.specs.Laws.{ends_last}
 use Rattle.rd_rows.specs.Rows.{RowMeaning}
 use Rattle.rd_rows.specs.Shapes.{ShapeValues, IsShape}
