@@ -44,12 +44,12 @@ use Rattle.rd_layout.specs.Laws.{ViewLaws}
 use Rattle.rd_layout.specs.Pointing.{hitting_by, is_shown, pointed, stepped_to}
 use Rattle.rd_layout.specs.Sessions.{IsStep, SessionValue, behind, is_frame, layout_of, opened, session_step}
 use Rattle.rd_layout.specs.Since.{FitsFrame, IsKnown, IsSession}
-use Rattle.rd_layout.proofs.Calm.{Calm, Quiet, calm-step}
+use Rattle.rd_layout.proofs.Calm.{Quiet}
 use Rattle.rd_layout.proofs.Leading.{effect-leads}
 use Rattle.rd_layout.specs.Windows.{place_of, window_shape, window_source}
 use Rattle.rd_layout.proofs.Over.{OverLaws, first-none, joined-change, joined-none, objects-over}
 use Rattle.rd_layout.proofs.Placing.{has-place, point-whole}
-use Rattle.rd_layout.proofs.Standing.{Goes, goes}
+use Rattle.rd_layout.proofs.Standing.{Moves, moved}
 
 -- what the layers below say
 pub record StepLaws : Type 0 where
@@ -117,9 +117,6 @@ module _ (laws : StepLaws) (s t : StateValue) (op : Op) (valid : IsValid s) (for
       let heads : 0 ≡ 4294967295 = ap (λ (c : Change). c.head) all-is-none in
       absurd (omega (arith, heads))
 
-  calm-here : Calm (effect_of s op) s t
-  calm-here = IfOk-at_ok (Calm (effect_of s op) s) is (calm-step s op valid.windows.apart)
-
   -- a layout since which an effect tells none stands as it stood
   stands-by : (files : Data) (number : ℕ) (w v : WindowState) (l : Layout) → window_of number s.windows ≡ Some w → window_of number t.windows ≡ Some v → IsKnown files s w l
       → v.buffer ≡ w.buffer → change_by (effect_of s op) number v.buffer ≡ none → is_none l.change ≡ true → v.forced ≡ false → Stands (window_source files t v) v.anchor l
@@ -127,8 +124,9 @@ module _ (laws : StepLaws) (s t : StateValue) (op : Op) (valid : IsValid s) (for
       let both = shown-both number w v hw hv same in
       let content = valid.buffers.contents v.buffer both.0 both.2 in
       let quiet : Quiet (effect_of s op) number v.buffer = ap is_none nothing in
-      let rest = (calm-here.windows number w v hw hv (subst (Quiet (effect_of s op) number) same quiet)).1 forced in
-      let seen-same : seen both.1.content ≡ seen both.0.content = calm-here.contents number v.buffer both.0 both.1 both.2 both.3 quiet in
+      let moves = moved s t op is in
+      let rest = (moves.windows.calm valid.windows.apart number w v hw hv (subst (Quiet (effect_of s op) number) same quiet)).1 forced in
+      let seen-same : seen both.1.content ≡ seen both.0.content = moves.contents number v.buffer both.0 both.1 both.2 both.3 quiet in
       let text = subst (λ (x : ContentValue). IsText x.text) both.4 content.text in
       let named = subst (λ (x : ContentValue). AreMade (seen x) s.objects) both.4 content.names in
       let over = objects-over laws.over (seen (shown_content s w)) s.objects t.objects valid.closed named (laws.objects s t op valid form is) text laws.views files w.anchor l known.shape (known.stands before rest.0) in
@@ -163,26 +161,26 @@ module _ (laws : StepLaws) (s t : StateValue) (op : Op) (valid : IsValid s) (for
 -- ---- a session behind an op
 
 -- the screen of a frame that kept its size
-screen-stays : (framed : Bool) (current : Option Picture) (s t : StateValue) → Goes framed s t → FitsFrame current s → FitsFrame (if framed then None else current) t
-screen-stays true current s t g fits = tt
-screen-stays false None s t g fits = tt
-screen-stays false (Some screen) s t g fits =
+screen-stays : (framed : Bool) (effect : Effect) (current : Option Picture) (s t : StateValue) → Moves framed effect s t → FitsFrame current s → FitsFrame (if framed then None else current) t
+screen-stays true effect current s t g fits = tt
+screen-stays false effect None s t g fits = tt
+screen-stays false effect (Some screen) s t g fits =
     (subst₂ (λ (w : ℕ) (h : ℕ). IsOfSize w h screen) (sym (g.size refl).0) (sym (g.size refl).1) fits.0, fits.1)
 
 pub stays-session : StepLaws → (v : SessionValue) (op : Op) (t : StateValue) → IsSession v → IsInForm op → step v.state op ≡ Ok t → IsSession (behind v op t)
 stays-session laws v op t session form is = record {
   state = laws.valid v.state t op session.state form is;
-  screen = screen-stays (is_frame op) v.current v.state t g session.screen;
+  screen = screen-stays (is_frame op) (effect_of v.state op) v.current v.state t g session.screen;
   made = λ number l h. le (session.made number _ (earlier number l h).1) g.made;
   layouts = λ number w l hw hl.
       let e = earlier number l hl in
-      let old = g.lives number (session.made number e.0 e.1) (w, hw) in
+      let old = g.windows.lives number (session.made number e.0 e.1) (w, hw) in
       subst (IsKnown v.files t w)
       (ap (λ (o : Option WindowState). changed (change_in (effect_of v.state op) number o) e.0) (sym hw) ∙ e.2)
       (known-behind laws v.state t op session.state form is v.files number old.0 w e.0 old.1 hw (session.layouts number old.0 e.0 old.1 e.1));
 } where
-  g : Goes (is_frame op) v.state t
-  g = IfOk-at_ok (Goes (is_frame op) v.state) is (goes v.state op)
+  g : Moves (is_frame op) (effect_of v.state op) v.state t
+  g = moved v.state t op is
 
   le : {a b c : ℕ} → a < b → b ≤ c → a < c
   le h k = omega arith

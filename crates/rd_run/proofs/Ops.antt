@@ -1,6 +1,5 @@
 -- What holds of each op that is no redisplay.
 use Rattle.std.proofs.Common.{◌≡◌, false, None, Some, Ok, refl}
-use Rattle.std.proofs.lemmas.Result.{IfOk-at_ok}
 use Rattle.rd_script.specs.declared.op.Op.{Op}
 use Rattle.rd_script.specs.declared.op.Op.TheVariants as ops
 use Rattle.rd_state.specs.States.{StateValue}
@@ -9,7 +8,7 @@ use Rattle.rd_layout.specs.Pointing.{stepped_to}
 use Rattle.rd_layout.specs.Sessions.{IsStep, SessionValue, is_frame, layout_of, session_step}
 use Rattle.rd_layout.specs.Windows.{place_of}
 use Rattle.rd_layout.proofs.Known.{found-window, hit-moves}
-use Rattle.rd_layout.proofs.Standing.{Goes, goes}
+use Rattle.rd_layout.proofs.Standing.{moved}
 use Rattle.rd_run.specs.Runs.{AreOfOneSize, asked}
 
 -- an op that asks for no redisplay is a step
@@ -20,7 +19,7 @@ step-of op e = tt
 -- ---- the size of the frame
 
 stays : (s t : StateValue) (op : Op) → step s op ≡ Ok t → is_frame op ≡ false → AreOfOneSize s t
-stays s t op e other = let g : Goes (is_frame op) s t = IfOk-at_ok (Goes (is_frame op) s) e (goes s op) in g.size other
+stays s t op e other = (moved s t op e).size other
 
 -- an op that sets no frame leaves its size
 pub keeps-size : (v : SessionValue) (op : Op) (t : StateValue) → session_step v op ≡ Ok t → is_frame op ≡ false → AreOfOneSize v.state t
