@@ -10,7 +10,7 @@ use Rattle.std.specs.Prelude.{IfSome, IsTrue, option_map, slice_get, slice_index
 use Rattle.rd_base.proofs.Choices.{some-of}
 use Rattle.rd_base.specs.Chars.{is_code}
 use Rattle.rd_base.specs.declared.element.Element.{Element}
-use Rattle.rd_base.proofs.Lists.{all-at, element-at, found-each}
+use Rattle.rd_base.proofs.Lists.{all-at, found-each}
 use Rattle.rd_blocks.specs.Rows.{block_cutting}
 use Rattle.rd_blocks.specs.Sources.{rows_in, text_source}
 use Rattle.rd_items.specs.Pieces.{scene_in}
@@ -40,7 +40,7 @@ use Rattle.rd_rows.specs.Whole.{IsWhole}
 use Rattle.rd_rows.specs.declared.begin.Begin.{Begin}
 use Rattle.rd_state.specs.States.{StateValue, seen}
 use Rattle.rd_state.proofs.Leaves.{is_some-leaf, placed-window}
-use Rattle.rd_state.specs.Valid.{IsContent, IsGoodFormat, IsValid, IsWindow}
+use Rattle.rd_state.specs.Valid.{IsGoodFormat, IsValid, IsWindow}
 use Rattle.rd_state.specs.Windows.{leaf_at, leaf_of, shown_content, window_of}
 use Rattle.rd_state.specs.declared.window.WindowState.{WindowState}
 use Rattle.rd_text.specs.Texts as text
@@ -57,7 +57,7 @@ use Rattle.rd_layout.specs.Panes.{cells_of_pieces, facts_of, margin_of, margin_t
 use Rattle.rd_layout.specs.Screens.{cursor_at, cursor_by, frame_in, pane_at, pane_by}
 use Rattle.rd_layout.specs.Windows.{place_of, places, shown_buffer, view_in, wanted_of, window_shape, window_source}
 use Rattle.rd_layout.proofs.Placed.{all-places}
-use Rattle.rd_layout.proofs.Settling.{is-shape, shown-is}
+use Rattle.rd_layout.proofs.Settling.{is-shape, shown-right}
 
 -- ---- what holds of all rows
 
@@ -128,18 +128,13 @@ module _ (laws : FitLaws) (files : Data) (s : StateValue) (valid : IsValid s) wh
   pub place-window : (p : Placed) → place_of p.number s ≡ Some p → (w : WindowState) × (window_of p.number s.windows ≡ Some w) × (leaf_of w ≡ (p.mode, p.margins))
   place-window p at = placed-window s p.number p valid at
 
-  pub shown-right : (w : WindowState) → IsWindow s.buffers w → IsContent s.objects (shown_content s w)
-  shown-right w window =
-      let b = element-at s.buffers w.buffer window.made in
-      subst (IsContent s.objects) (sym (shown-is laws.views s valid w b.0 b.1)) (valid.buffers.contents w.buffer b.0 b.1)
-
   -- what holds of all rows of a window's text holds of those in view
   pub in-view : (P : EntryMeaning → Type 0) (w : WindowState) (p : Placed) → All P (rows_at (window_source files s w) (window_shape s w p)) → All P (view_in files s w p).rows
   in-view P w p all = All-take P (body_height p) _ (All-drop P (start_row (window_source files s w) (window_shape s w p) (wanted_of s w p)) _ all)
 
   pub view-whole : (w : WindowState) (p : Placed) → place_of p.number s ≡ Some p → IsWindow s.buffers w → All (λ (e : EntryMeaning). IsWhole (body_width s.width p) e.row) (view_in files s w p).rows
   view-whole w p at window =
-      let content = shown-right w window in
+      let content = shown-right s w valid window in
       in-view (λ (e : EntryMeaning). IsWhole (body_width s.width p) e.row) w p
       (laws.whole (seen (shown_content s w)) s.objects files (window_shape s w p) valid.objects content.least_tab content.most_tab content.characters (is-shape laws.views s valid p.number w p at))
 
@@ -153,7 +148,7 @@ module _ (laws : FitLaws) (files : Data) (s : StateValue) (valid : IsValid s) wh
       → IsMargin p.margins (margin_of files s.objects (shown_content s w) (widths_of w) e)
   margin-right w p e window leaf =
       subst (λ (n : ℕ). IsMargin n (margin_of files s.objects (shown_content s w) (widths_of w) e)) (ap (λ (x : Bool × ℕ). x.1) leaf)
-      (laws.margin files.classes (widths_of w) e.number (text.line_of (shown_content s w).text e.start) (margin_text s.objects (shown_content s w) e.start) (line-told (shown_content s w).text e.start (shown-right w window).text)
+      (laws.margin files.classes (widths_of w) e.number (text.line_of (shown_content s w).text e.start) (margin_text s.objects (shown_content s w) e.start) (line-told (shown_content s w).text e.start (shown-right s w valid window).text)
       (string-codes w e.start))
 
   window-fits : (w : WindowState) (p : Placed) → place_of p.number s ≡ Some p → IsWindow s.buffers w → leaf_of w ≡ (p.mode, p.margins)

@@ -1,6 +1,5 @@
 -- The rows of a known layout that the blocks of its window keep are the rows that they have now.
-use Rattle.std.proofs.Common.{◌≡◌, inl, inr, ℕ, Bool, true, false, if◌then◌else◌, Option, None, Some, List, [], sym, ap, refl, subst}
-use Rattle.rd_base.proofs.Lists.{element-at}
+use Rattle.std.proofs.Common.{◌≡◌, inl, inr, ℕ, Bool, true, false, if◌then◌else◌, Option, None, Some, List, [], sym, refl, subst}
 use Rattle.rd_blocks.specs.Kept.{AreRowsAt, Follows}
 use Rattle.rd_blocks.specs.Sources.{text_source}
 use Rattle.rd_matrix.specs.Sources.{SourceValues}
@@ -12,9 +11,9 @@ use Rattle.rd_reuse.specs.Keeping.{AreRight}
 use Rattle.rd_reuse.specs.declared.change.Change.{Change}
 use Rattle.rd_rows.specs.Shapes.{IsShape, ShapeValues, is_same_shape}
 use Rattle.rd_rows.proofs.SameShapes.{same-shape}
-use Rattle.rd_state.specs.States.{ContentValue, StateValue, seen}
+use Rattle.rd_state.specs.States.{StateValue, seen}
 use Rattle.rd_state.specs.Valid.{IsValid, IsWindow}
-use Rattle.rd_state.specs.Windows.{content_in, shown_content, window_of}
+use Rattle.rd_state.specs.Windows.{shown_content, window_of}
 use Rattle.rd_state.specs.declared.window.WindowState.{WindowState}
 use Rattle.rd_text.specs.Texts.{IsText}
 use Rattle.rd_ucd.specs.Data.{Data}
@@ -23,6 +22,7 @@ use Rattle.rd_window.specs.declared.layout.Layout.{Layout}
 use Rattle.rd_layout.specs.Sessions.{SessionValue, layout_of}
 use Rattle.rd_layout.specs.Since.{IsKnown, IsSession}
 use Rattle.rd_layout.specs.Windows.{window_source}
+use Rattle.rd_layout.proofs.Settling.{shown-right}
 
 -- what the layers below say
 pub record KeptLaws : Type 0 where
@@ -57,16 +57,11 @@ module _ (laws : KeptLaws) (files : Data) (s : StateValue) (w : WindowState) (te
 
 -- ---- the session
 
-text-of : (s : StateValue) (w : WindowState) → IsValid s → IsWindow s.buffers w → IsText (shown_content s w).text
-text-of s w valid window =
-    let b = element-at s.buffers w.buffer window.made in
-    subst (λ (c : ContentValue). IsText c.text) (sym (ap content_in b.1)) (valid.buffers.contents w.buffer b.0 b.1).text
-
 pub kept-session : KeptLaws → ((s : StateValue) (number : ℕ) (w : WindowState) → IsValid s → window_of number s.windows ≡ Some w → IsWindow s.buffers w)
     → (v : SessionValue) (number : ℕ) (w : WindowState) (shape : ShapeValues) → IsSession v → window_of number v.state.windows ≡ Some w
     → AreRight (window_source v.files v.state w) (older_rows (layout_of number v.layouts) shape) (change_since (layout_of number v.layouts)) shape
 kept-session laws found v number w shape session lives =
-    kept-right laws v.files v.state w (text-of v.state w session.state (found v.state number w session.state lives)) (layout_of number v.layouts) shape
+    kept-right laws v.files v.state w (shown-right v.state w session.state (found v.state number w session.state lives)).text (layout_of number v.layouts) shape
     (λ l at. session.layouts number w l lives at)
 
 pub session-stands : (v : SessionValue) (number : ℕ) (w : WindowState) → IsSession v → window_of number v.state.windows ≡ Some w

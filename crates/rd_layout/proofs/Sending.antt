@@ -3,7 +3,6 @@ use Rattle.std.proofs.Common.{◌≡◌, inl, inr, ℕ, suc, ◌<◌, ◌≤◌,
 use Rattle.std.proofs.lemmas.Bool.{cases_eq}
 use Rattle.std.proofs.lemmas.List.{length-map, length-replicate}
 use Rattle.std.proofs.lemmas.List.Elements.{All-replicate}
-use Rattle.rd_base.proofs.Lists.{element-at}
 use Rattle.std.specs.Prelude.{IfSome, slice_get, option_map}
 use Rattle.rd_base.proofs.Choices.{map-some}
 use Rattle.rd_base.specs.Faces.{plain}
@@ -55,7 +54,7 @@ use Rattle.rd_layout.proofs.Known.{Last}
 use Rattle.rd_state.proofs.ByNumber.{under-became, under-here, under-there}
 use Rattle.rd_layout.proofs.Over.{new-change}
 use Rattle.rd_layout.proofs.Placed.{bands-within, made-number, placed-at}
-use Rattle.rd_layout.proofs.Settling.{is-shape, point-within, shown-is, shown-text, state-stays}
+use Rattle.rd_layout.proofs.Settling.{is-shape, point-within, shown-right, state-stays}
 
 -- what the layers below say
 pub record SendLaws : Type 0 where
@@ -140,26 +139,24 @@ module _ (laws : SendLaws) (files : Data) (s : StateValue) (valid : IsValid s) w
       → IsLaidOut last (window_source files s x) (window_shape s x p) (wanted_of s x p) l → IsKnown files (settled_state files s) w l
   known-by p x w last l at window settled laid =
       let same : w.buffer ≡ x.buffer = ap (λ (y : WindowState). y.buffer) (sym settled) in
-      let b = element-at s.buffers x.buffer window.made in
       let m = window_source files s x in
       let shape = window_shape s x p in
       let shaped : l.shape ≡ shape = ap (λ (y : Layout). y.shape) laid.is in
       let anew : l.change ≡ none = ap (λ (y : Layout). y.change) laid.is in
-      let content = valid.buffers.contents x.buffer b.0 b.1 in
-      let named : AreMade (seen (shown_content s x)) s.objects = subst (λ (c : ContentValue). AreMade (seen c) s.objects) (sym (shown-is laws.views s valid x b.0 b.1)) content.names in
+      let content = shown-right s x valid window in
       let here : shown_content (settled_state files s) w ≡ shown_content s x = ap (λ k. content_in (slice_get s.buffers k)) same in
       record {
         old = seen (shown_content s x);
         made = s.objects;
-        text = shown-text laws.views s valid x b.0 b.1;
+        text = content.text;
         shape = subst IsShape (sym shaped) (is-shape laws.views s valid p.number x p at);
         rows = subst (λ (y : ShapeValues). AreRowsAt m y l.matrix) (sym shaped) (laws.rows m shape l.matrix (start_row m shape (wanted_of s x p)) (body_height p) laid.rows);
         change = subst IsChange (sym anew) new-change;
         stands = λ unchanged forced. subst₂ (λ (c : ContentValue) (a : Anchor). Stands (text_source (seen c) s.objects files) a l) (sym here) (ap (λ (y : WindowState). y.anchor) settled)
-            (laws.stand last m shape (wanted_of s x p) l (laws.views.source (seen (shown_content s x)) s.objects files (shown-text laws.views s valid x b.0 b.1)) (is-shape laws.views s valid p.number x p at)
-            (point-within laws.views files s valid x b.0 b.1 window) laid);
+            (laws.stand last m shape (wanted_of s x p) l (laws.views.source (seen (shown_content s x)) s.objects files content.text) (is-shape laws.views s valid p.number x p at)
+            (point-within laws.views files s valid x window) laid);
         leads = subst₂ (λ (c : ContentValue) (change : Change). LeadsTo (seen (shown_content s x)) s.objects (seen c) s.objects change) (sym here) (sym anew)
-            (laws.grown (seen (shown_content s x)) s.objects s.objects valid.closed named (laws.itself s.objects));
+            (laws.grown (seen (shown_content s x)) s.objects s.objects valid.closed content.names (laws.itself s.objects));
       }
 
 -- ---- the session

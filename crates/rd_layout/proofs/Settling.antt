@@ -11,7 +11,7 @@ use Rattle.rd_matrix.specs.Blocks.{IsWithin}
 use Rattle.rd_props.specs.Buffers as props
 use Rattle.rd_rows.specs.Shapes.{IsShape}
 use Rattle.rd_state.specs.States.{BufferValue, ContentValue, StateValue, seen}
-use Rattle.rd_state.specs.Valid.{AreWindows, IsValid, IsWindow}
+use Rattle.rd_state.specs.Valid.{AreWindows, IsContent, IsValid, IsWindow}
 use Rattle.rd_state.specs.Windows.{content_in, leaf_of, shown_content, window_of}
 use Rattle.rd_state.specs.declared.window.WindowState.{WindowState}
 use Rattle.rd_text.specs.Texts.{IsAccessible, IsText}
@@ -51,16 +51,17 @@ module _ (laws : ViewLaws) (s : StateValue) (valid : IsValid s) where
       let fits = shape-fits (has_border s.width place) place.rect.width place.margins there.1 (omega arith) in
       record { least = fits.0; most = fits.1 }
 
-  pub shown-is : (w : WindowState) (b : BufferValue) → slice_get s.buffers w.buffer ≡ Some b → shown_content s w ≡ b.content
-  shown-is w b at = ap content_in at
-
-  pub shown-text : (w : WindowState) (b : BufferValue) → slice_get s.buffers w.buffer ≡ Some b → IsText (shown_content s w).text
-  shown-text w b at = subst (λ (c : ContentValue). IsText c.text) (sym (shown-is w b at)) (valid.buffers.contents w.buffer b at).text
+-- what a window shows is right
+pub shown-right : (s : StateValue) (w : WindowState) → IsValid s → IsWindow s.buffers w → IsContent s.objects (shown_content s w)
+shown-right s w valid window =
+    let b = element-at s.buffers w.buffer window.made in
+    subst (IsContent s.objects) (sym (ap content_in b.1)) (valid.buffers.contents w.buffer b.0 b.1)
 
 module _ (laws : ViewLaws) (files : Data) (s : StateValue) (valid : IsValid s) where
-  pub point-within : (w : WindowState) (b : BufferValue) → slice_get s.buffers w.buffer ≡ Some b → IsWindow s.buffers w → IsWithin w.point (window_source files s w).blocks
-  point-within w b at window =
-      laws.within (seen (shown_content s w)) s.objects files w.point (subst (λ (c : ContentValue). IsAccessible c.text w.point) (sym (shown-is laws s valid w b at)) (window.point b at))
+  pub point-within : (w : WindowState) → IsWindow s.buffers w → IsWithin w.point (window_source files s w).blocks
+  point-within w window =
+      let b = element-at s.buffers w.buffer window.made in
+      laws.within (seen (shown_content s w)) s.objects files w.point (subst (λ (c : ContentValue). IsAccessible c.text w.point) (sym (ap content_in b.1)) (window.point b.0 b.1))
 
   -- the start and the point are accessible in the buffer that is shown
   pub chosen-accessible : (number : ℕ) (w : WindowState) (place : Placed) → place_of number s ≡ Some place → IsWindow s.buffers w
@@ -69,11 +70,10 @@ module _ (laws : ViewLaws) (files : Data) (s : StateValue) (valid : IsValid s) w
       let m = window_source files s w in
       let shape = window_shape s w place in
       let wanted = wanted_of s w place in
-      let b = element-at s.buffers w.buffer window.made in
-      let text = shown-text laws s valid w b.0 b.1 in
+      let text = (shown-right s w valid window).text in
       let source = laws.source (seen (shown_content s w)) s.objects files text in
       let is = is-shape laws s valid number w place there in
-      let point = point-within w b.0 b.1 window in
+      let point = point-within w window in
       let first = accessible laws files.classes (seen (shown_content s w)) _ text (chosen-anchor m shape source is laws.start wanted point) in
       let second = accessible laws files.classes (seen (shown_content s w)) _ text (chosen-point m shape source is wanted point) in
       (first, second)
@@ -85,8 +85,8 @@ module _ (laws : ViewLaws) (files : Data) (s : StateValue) (valid : IsValid s) w
   settled-window number w (Some place) there window =
       let v = view_in files s w place in
       let both = chosen-accessible number w place there window in
-      placed-keeps s.buffers w v.point v.anchor false window (λ b at. subst (λ (c : ContentValue). IsAccessible c.text v.point) (shown-is laws s valid w b at) both.1)
-      (λ b at. subst (λ (c : ContentValue). IsAccessible c.text v.anchor.pos) (shown-is laws s valid w b at) both.0)
+      placed-keeps s.buffers w v.point v.anchor false window (λ b at. subst (λ (c : ContentValue). IsAccessible c.text v.point) (ap content_in at) both.1)
+      (λ b at. subst (λ (c : ContentValue). IsAccessible c.text v.anchor.pos) (ap content_in at) both.0)
 
   abbrev pub settled : ℕ → WindowState → WindowState
   settled number w = settled_by files s w (place_of number s)
