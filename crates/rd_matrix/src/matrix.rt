@@ -73,6 +73,13 @@ impl Matrix {
         &self.entries[i]
     }
 
+    /// The rows, from the top.
+    pub fn as_slice(&self) -> &[Entry]
+        ensures { result.now ≡ self.now }
+    {
+        self.entries.as_slice()
+    }
+
     /// The row and the column, from 0, in which the item that covers a position begins: the column in which its first element is
     /// shown, held within the window. In a row that is read from the right edge these columns are counted from there, so that the
     /// item's first element is shown in the column as far from that edge. None exactly where no row holds its beginning. It costs

@@ -3,5 +3,5 @@ mod Joining
 mod Lists
 pub mod Places
 mod Placing
-pub mod Taking
+mod Taking
 mod Walking

@@ -1,9 +1,8 @@
 -- The older rows of a block, one after the other.
-use Rattle.std.proofs.Common.{◌≡◌, ℕ, suc, ◌+◌, ◌-◌, ◌<◌, ◌&&◌, Bool, true, false, if◌then◌else◌, List, [], ◌∷◌, ◌++◌, length, drop, find, slice_get, Option, None, Some, refl, sym, ap, ◌∙◌, arith}
+use Rattle.std.proofs.Common.{◌≡◌, ℕ, suc, ◌+◌, ◌-◌, ◌<◌, ◌&&◌, true, false, if◌then◌else◌, List, [], ◌∷◌, ◌++◌, length, Option, None, Some, refl, sym, ap, ◌∙◌, arith}
 use Rattle.std.proofs.lemmas.Bool.{and_right}
 use Rattle.std.proofs.lemmas.List.{append_assoc}
 use Rattle.std.specs.List.{list_all}
-use Rattle.rd_base.proofs.Lists.{drop-at}
 use Rattle.rd_matrix.specs.declared.matrix.Entry.{Entry}
 use Rattle.rd_reuse.specs.Keeping.{are_whole, copied_rows, entry_under, has_base, taken_from, up_to_end}
 use Rattle.rd_reuse.specs.declared.change.Change.{Change}
@@ -11,14 +10,6 @@ use Rattle.rd_rows.specs.Copies.{RowValues, copied, shown_rows}
 use Rattle.rd_rows.specs.Laws.{ends_last}
 use Rattle.rd_rows.specs.Rows.{RowMeaning}
 use Rattle.rd_rows.specs.Shapes.{ShapeValues}
-
--- an element that passes a test, and one that does not
-pub find-here : {X : Type 0} (test : X → Bool) (xs : List X) (k : ℕ) (x : X) → slice_get xs k ≡ Some x → test x ≡ true → find test (drop k xs) ≡ Some x
-find-here test xs k x i e = rw (drop-at xs k x i, e) refl
-
-pub find-behind : {X : Type 0} (test : X → Bool) (xs : List X) (k : ℕ) (x : X) → slice_get xs k ≡ Some x → test x ≡ false
-    → find test (drop k xs) ≡ find test (drop (k + 1) xs)
-find-behind test xs k x i e = rw (drop-at xs k x i, e) refl
 
 -- rows that are of no such base are not whole
 based-not : (base : ℕ) (r : RowMeaning) (rs : List RowMeaning) → has_base base r ≡ false → are_whole base (r ∷ rs) ≡ false

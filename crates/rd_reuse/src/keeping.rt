@@ -92,13 +92,9 @@ pub fn copies(alloc: Global, old: &Matrix, change: Change, start: Pos) -> Result
 fn entry_under<'a>(old: &'a Matrix, change: Change, start: Pos, number: usize) -> Option<&'a Entry>
     ensures { option_map (λ entry. entry.now) result ≡ entry_under old.now change start number }
 {
-    for place in 0..old.len() {
-        let entry = old.entry(place);
-        if is_under(entry, change, start, number) {
-            return Some(entry);
-        }
-    }
-    None
+    old.as_slice()
+        .iter()
+        .find(|entry| is_under(entry, change, start, number))
 }
 
 /// Whether an older row has a number in the block that starts at a position now.

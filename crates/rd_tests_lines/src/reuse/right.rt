@@ -1,5 +1,5 @@
 //! Whether older rows are those of the blocks that keep them: what `relay` asks, tested row by row.
-ghost use Rattle.std.specs.Prelude.{◌≡◌, true, IsTrue, IfOk, Some};
+ghost use Rattle.std.specs.Prelude.{◌≡◌, true, IsTrue, IfOk, Some, option_map};
 ghost use Rattle.std.specs.Bool.{OnTrue};
 ghost use Rattle.rd_matrix.specs.Blocks.{IsAmong, IsWithin, first_start};
 ghost use Rattle.rd_matrix.specs.Sources.{IsSource};
@@ -66,6 +66,15 @@ fn is_under(entry: &Entry, change: Change, start: Pos, number: usize) -> bool
     started_at(change, start, entry.start) && entry.number as usize == number
 }
 
+/// The first of the older rows with a number in the block that starts at a position now.
+fn entry_under<'a>(old: &'a Matrix, change: Change, start: Pos, number: usize) -> Option<&'a Entry>
+    ensures { option_map (λ entry. entry.now) result ≡ entry_under old.now change start number }
+{
+    old.as_slice()
+        .iter()
+        .find(|entry| is_under(entry, change, start, number))
+}
+
 /// Whether an older row, where it is read from the edge that a base level asks for, shows what another one does.
 fn is_one_of(entry: &Entry, base: u8, row: &Row) -> bool
     ensures { OnTrue result (has_base base entry.now.row.shown ≡ true → entry.now.row.shown ≡ row.now.shown) }
@@ -81,13 +90,10 @@ fn is_right_at(old: &Matrix, change: Change, block: &Block, number: usize, row: 
     ensures { OnTrue result ((e : Entry) → entry_under old.now change block.now.start number ≡ Some e
         → has_base block.now.base e.row.shown ≡ true → e.row.shown ≡ row.now.shown) }
 {
-    for place in 0..old.len() {
-        let entry = old.entry(place);
-        if is_under(entry, change, block.start, number) {
-            return is_one_of(entry, block.base, row);
-        }
+    match entry_under(old, change, block.start, number) {
+        Some(entry) => is_one_of(entry, block.base, row),
+        None => true,
     }
-    true
 }
 
 /// Whether the older rows of a block are its own, where it keeps them.
