@@ -92,14 +92,6 @@ open-step_at : (first column : ℕ) (face next : Attributes) (cells : List Cell)
 open-step_at first column face next cells true e = ap (λ f. open_text first (column + 1) face (faces_of f cells)) (face-told next face e)
 open-step_at first column face next cells false e = refl
 
-pub open-step : (first column first' : ℕ) (face next face' : Attributes) (cells : List Cell)
-    → first' ≡ (if same_face next face then first else column) → face' ≡ (if same_face next face then face else next)
-    → open_text first column face (next ∷ faces_of next cells) ≡ ended_text first column face next ++ open_text first' (column + 1) face' (faces_of face' cells)
-open-step first column first' face next face' cells p q =
-    open-step_at first column face next cells (same_face next face) refl
-    ∙ ap (λ k. ended_text first column face next ++ open_text k (column + 1) (if same_face next face then face else next) (faces_of (if same_face next face then face else next) cells)) (sym p)
-    ∙ ap (λ f. ended_text first column face next ++ open_text first' (column + 1) f (faces_of f cells)) (sym q)
-
 pub run_text-shown : (first end : ℕ) (face : Attributes) → same_face face plain ≡ false
     → concat (codes " " ∷ decimal first ∷ codes "-" ∷ decimal (end - 1) ∷ []) ++ numbers_text face ≡ run_text first end face
 run_text-shown first end face e = sym (cond-false (same_face face plain) [] _ e)
@@ -109,9 +101,12 @@ pub runs-step : (first column first' i : ℕ) (face next face' : Attributes) (ce
     → first' ≡ (if same_face next face then first else column) → face' ≡ (if same_face next face then face else next)
     → open_text first column face (faces_of face (drop i cells)) ≡ ended_text first column face next ++ open_text first' (column + 1) face' (faces_of face' (drop (i + 1) cells))
 runs-step first column first' i face next face' cell cells less is of p q =
+    let left = drop (i + 1) cells in
     ap (λ l. open_text first column face (faces_of face l)) (drop-read cells i cell less is)
-    ∙ ap (λ f. open_text first column face (f ∷ faces_of f (drop (i + 1) cells))) (sym of)
-    ∙ open-step first column first' face next face' (drop (i + 1) cells) p q
+    ∙ ap (λ f. open_text first column face (f ∷ faces_of f left)) (sym of)
+    ∙ open-step_at first column face next left (same_face next face) refl
+    ∙ ap (λ k. ended_text first column face next ++ open_text k (column + 1) (if same_face next face then face else next) (faces_of (if same_face next face then face else next) left)) (sym p)
+    ∙ ap (λ f. ended_text first column face next ++ open_text first' (column + 1) f (faces_of f left)) (sym q)
 
 -- what is left of a face's numbers, by the next one
 pub numbers-step : (any now : Bool) (i : ℕ) (number : Option ℕ) (numbers : List (Option ℕ)) → i < length numbers → number ≡ get_or numbers i number → now ≡ (any || is_some number)
