@@ -72,11 +72,7 @@ values f is Narrowing = narrow f.narrowed
 
 filled-characters : (field : Field) (blanks : ℕ) (text : List ℕ) → All IsCharacter text → All IsCharacter (filled field blanks text)
 filled-characters Line blanks text is = All-append IsCharacter (replicate blanks 32) text (All-replicate IsCharacter blanks 32 refl) is
-filled-characters Name blanks text is = All-append IsCharacter text (replicate blanks 32) is (All-replicate IsCharacter blanks 32 refl)
-filled-characters Place blanks text is = All-append IsCharacter text (replicate blanks 32) is (All-replicate IsCharacter blanks 32 refl)
-filled-characters ReadOnly blanks text is = All-append IsCharacter text (replicate blanks 32) is (All-replicate IsCharacter blanks 32 refl)
-filled-characters Modified blanks text is = All-append IsCharacter text (replicate blanks 32) is (All-replicate IsCharacter blanks 32 refl)
-filled-characters Narrowing blanks text is = All-append IsCharacter text (replicate blanks 32) is (All-replicate IsCharacter blanks 32 refl)
+filled-characters field blanks text is = All-append IsCharacter text (replicate blanks 32) is (All-replicate IsCharacter blanks 32 refl)
 
 -- ---- pieces
 
