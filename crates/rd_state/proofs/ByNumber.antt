@@ -43,44 +43,44 @@ get-window n (e ∷ rest) w h = elim (cases_eq e.0 n) [
   | inr q ↦ let there = get-window n rest w (sym (under-there n e rest q) ∙ h) in (suc there.0, there.1)
 ]
 
--- what is found at the place of a number
-pub record IsPlace (n i : ℕ) (ws : List NumberedWindow) (w : WindowState) : Type 0 where
-  pub at : slice_get ws i ≡ Some (n, w)
-  pub window : window_of n ws ≡ Some w
-  pub changed : (f : WindowState → WindowState) → set ws i (n, f w) ≡ with_window n f ws
+-- an entry that stands at the place of a number
+pub record IsFound (n i : ℕ) (ws : List NumberedWindow) (e : NumberedWindow) : Type 0 where
+  pub at : slice_get ws i ≡ Some e
+  pub number : e.0 ≡ n
+  pub window : window_of n ws ≡ Some e.1
+  pub changed : (f : WindowState → WindowState) → set ws i (e.0, f e.1) ≡ with_window n f ws
   pub removed : remove ws i ≡ without_window n ws
 
-one-further : (n j : ℕ) (e : NumberedWindow) (rest : List NumberedWindow) (w : WindowState) → e.0 ≢ n → IsPlace n j rest w → IsPlace n (suc j) (e ∷ rest) w
-one-further n j e rest w q p = record {
+one-further : (n j : ℕ) (d : NumberedWindow) (rest : List NumberedWindow) (e : NumberedWindow) → d.0 ≢ n → IsFound n j rest e → IsFound n (suc j) (d ∷ rest) e
+one-further n j d rest e q p = record {
   at = p.at;
-  window = under-there n e rest q ∙ p.window;
-  changed = λ f. ap (λ (xs : List NumberedWindow). e ∷ xs) (p.changed f) ∙ sym (becoming-there n (λ x. Some (f x)) e rest q);
-  removed = ap (λ (xs : List NumberedWindow). e ∷ xs) p.removed ∙ sym (becoming-there n (λ x. None) e rest q);
+  number = p.number;
+  window = under-there n d rest q ∙ p.window;
+  changed = λ f. ap (λ (xs : List NumberedWindow). d ∷ xs) (p.changed f) ∙ sym (becoming-there n (λ x. Some (f x)) d rest q);
+  removed = ap (λ (xs : List NumberedWindow). d ∷ xs) p.removed ∙ sym (becoming-there n (λ x. None) d rest q);
 }
 
-found-by : (n i : ℕ) (ws : List NumberedWindow) → i ≡ place_in n ws → i < length ws → (w : WindowState) × IsPlace n i ws w
-found-by n i [] is less = absurd (omega arith)
-found-by n zero (e ∷ rest) is less = elim (cases_eq e.0 n) [
+pub found : (n i : ℕ) (ws : List NumberedWindow) → i ≡ place_in n ws → i < length ws → (e : NumberedWindow) × IsFound n i ws e
+found n i [] is less = absurd (omega arith)
+found n zero (e ∷ rest) is less = elim (cases_eq e.0 n) [
   | inl p ↦ (
-    e.1,
+    e,
     record {
-      at = λ k. Some (p k, e.1);
+      at = refl;
+      number = p;
       window = under-here n e rest p;
-      changed = λ f. ap (λ (m : ℕ). (m, f e.1) ∷ rest) (sym p) ∙ sym (becoming-here n (λ x. Some (f x)) e rest p);
+      changed = λ f. sym (becoming-here n (λ x. Some (f x)) e rest p);
       removed = sym (becoming-here n (λ x. None) e rest p);
     },
   )
   | inr q ↦ absurd (omega (arith, place-there n e rest q, is))
 ]
-found-by n (suc j) (e ∷ rest) is less = elim (cases_eq e.0 n) [
-  | inl p ↦ absurd (omega (arith, place-here n e rest p, is))
+found n (suc j) (d ∷ rest) is less = elim (cases_eq d.0 n) [
+  | inl p ↦ absurd (omega (arith, place-here n d rest p, is))
   | inr q ↦
-      let there = found-by n j rest (omega (arith, place-there n e rest q, is)) (omega arith) in
-      (there.0, one-further n j e rest there.0 q there.1)
+      let there = found n j rest (omega (arith, place-there n d rest q, is)) (omega arith) in
+      (there.0, one-further n j d rest there.0 q there.1)
 ]
-
-pub found : (n i : ℕ) (ws : List NumberedWindow) → i ≡ place_in n ws → i < length ws → (w : WindowState) × IsPlace n i ws w
-found n i ws is less = found-by n i ws is less
 
 pub absent : (n : ℕ) (ws : List NumberedWindow) → length ws ≡ place_in n ws → window_of n ws ≡ None
 absent n [] h = refl

@@ -3,7 +3,6 @@ use Rattle.std.proofs.Common.{◌≡◌, ℕ, ◌<◌, ◌==◌, not, None, Some
 use Rattle.std.proofs.lemmas.Bool.{ltb-false}
 use Rattle.std.proofs.lemmas.List.Sums.{prefix_len-le-length}
 use Rattle.std.proofs.lemmas.Option.{slice_get-get_or}
-use Rattle.std.specs.List.{remove}
 use Rattle.std.specs.Prelude.{position}
 use Rattle.rd_base.proofs.Choices.{none-chosen}
 use Rattle.rd_state.specs.declared.refused.Refused.{Refused}
@@ -11,8 +10,8 @@ use Rattle.rd_state.specs.declared.refused.Refused.TheVariants.{NoWindow}
 use Rattle.rd_state.specs.declared.window.WindowState.{WindowState}
 use Rattle.rd_state.specs.States.{StateValue}
 use Rattle.rd_state.specs.Steps.{with_found, in_window, changing, setting}
-use Rattle.rd_state.specs.Windows.{window_of, place_in, with_window, without_window}
-use Rattle.rd_state.proofs.ByNumber.{NumberedWindow, IsPlace, found, absent}
+use Rattle.rd_state.specs.Windows.{window_of, place_in, with_window}
+use Rattle.rd_state.proofs.ByNumber.{NumberedWindow, IsFound, found, absent}
 
 -- where no place is found the window does not live
 pub nowhere : (number : ℕ) (ws : List NumberedWindow) → position (λ e. e.0 == number) ws ≡ None → window_of number ws ≡ None
@@ -20,21 +19,11 @@ nowhere number ws h =
     let past = ltb-false (place_in number ws) (length ws) (none-chosen (nat_lt (place_in number ws) (length ws)) (place_in number ws) None h).0 in
     absent number ws (omega (arith, past, prefix_len-le-length (λ (e : NumberedWindow). not (e.0 == number)) ws))
 
--- an entry that stands at the place of a number
-pub record IsFound (n i : ℕ) (ws : List NumberedWindow) (e : NumberedWindow) : Type 0 where
-  pub number : e.0 ≡ n
-  pub window : window_of n ws ≡ Some e.1
-  pub changed : (f : WindowState → WindowState) → set ws i (e.0, f e.1) ≡ with_window n f ws
-  pub removed : remove ws i ≡ without_window n ws
-
-from-place : (n i : ℕ) (ws : List NumberedWindow) (w : WindowState) → IsPlace n i ws w → IsFound n i ws (n, w)
-from-place n i ws w p = record { number = refl; window = p.window; changed = p.changed; removed = p.removed }
-
 pub found-entry : (n i : ℕ) (ws : List NumberedWindow) (e : NumberedWindow) → i ≡ place_in n ws → i < length ws → e ≡ get_or ws i e → IsFound n i ws e
 found-entry n i ws e is less at =
     let there = found n i ws is less in
-    let same : (n, there.0) ≡ e = cc (sym there.1.at ∙ (slice_get-get_or ws i e less ∙ ap Some (sym at))) in
-    subst (IsFound n i ws) same (from-place n i ws there.0 there.1)
+    let same : there.0 ≡ e = cc (sym there.1.at ∙ (slice_get-get_or ws i e less ∙ ap Some (sym at))) in
+    subst (IsFound n i ws) same there.1
 
 -- what `find` answers, of the windows of a state
 pub found-in : (s : StateValue) (ws : List NumberedWindow) (n i : ℕ) (e : NumberedWindow) → ws ≡ s.windows → i ≡ place_in n ws → i < length ws → e ≡ get_or s.windows i e → IsFound n i s.windows e
@@ -57,6 +46,4 @@ sets-window s t n i e f same there = at-window s t n i e (λ x w. changing n f (
 
 -- a window that was found stands in an entry
 pub some-found : (s : StateValue) (ws : List NumberedWindow) (n i : ℕ) → ws ≡ s.windows → i ≡ place_in n ws → i < length ws → (e : NumberedWindow) × IsFound n i s.windows e
-some-found s ws n i shown is less =
-    let there = found n i s.windows (subst (λ xs. i ≡ place_in n xs) shown is) (subst (λ xs. i < length xs) shown less) in
-    ((n, there.0), from-place n i s.windows there.0 there.1)
+some-found s ws n i shown is less = found n i s.windows (subst (λ xs. i ≡ place_in n xs) shown is) (subst (λ xs. i < length xs) shown less)

@@ -1,6 +1,7 @@
 -- What an option holds, and choices of options.
-use Rattle.std.proofs.Common.{◌≡◌, ℕ, ◌<◌, Bool, true, false, cond, is_some, Option, None, Some, ap, refl, List, length, nat_lt, arith}
-use Rattle.std.proofs.lemmas.Bool.Decides.{nat_tests}
+use Rattle.std.proofs.Common.{◌≡◌, ℕ, ◌<◌, Bool, true, is_some, Option, None, Some, ap, refl, sym, List, length, nat_lt, arith}
+use Rattle.std.proofs.lemmas.Bool.{ltb-true}
+use Rattle.std.proofs.lemmas.Option.{cond_some}
 use Rattle.std.specs.List.{position_or_len}
 use Rattle.std.specs.Prelude.{option_map, position}
 use Rattle.std.specs.Option.{option_or, ok_or}
@@ -23,15 +24,11 @@ map-map f g h None e = refl
 map-map f g h (Some x) e = ap (λ z. Some z) (e x)
 
 -- the place that a search finds, and what is answered of it
-placed : (b : Bool) (n i : ℕ) → cond b (Some n) None ≡ Some i → (b ≡ true) × (i ≡ n)
-placed true n i h = (refl, cc)
-placed false n i h = absurd (cc)
-
 pub position-is : {X : Type 0} (p : X → Bool) (xs : List X) (i : ℕ) → position p xs ≡ Some i → (i ≡ position_or_len p xs) × (i < length xs)
 position-is p xs i h =
     let n = position_or_len p xs in
-    let (less, is) = placed (nat_lt n (length xs)) n i h in
-    (is, grind (arith, nat_tests))
+    let found = cond_some (nat_lt n (length xs)) n i h in
+    (sym found.1, omega (arith, found.1, ltb-true n (length xs) found.0))
 
 pub finds : {X : Type 0} (o : Option X) (refusal : Refused) (Found : X → Type 0) (Absent : Type 0) → ((x : X) → o ≡ Some x → Found x) → (o ≡ None → Absent)
     → Finds (ok_or o refusal) Found Absent refusal

@@ -20,8 +20,8 @@ use Rattle.rd_state.specs.Steps.{with_found, in_shown, replaced, moving, changin
 use Rattle.rd_state.specs.Valid.{IsValid}
 use Rattle.rd_state.specs.Windows.{place_in, with_window, selected_window}
 use Rattle.rd_state.proofs.ByName.{AnswersAt}
-use Rattle.rd_state.proofs.ByNumber.{NumberedWindow}
-use Rattle.rd_state.proofs.Finding.{IsFound, found-entry, at-window}
+use Rattle.rd_state.proofs.ByNumber.{NumberedWindow, IsFound}
+use Rattle.rd_state.proofs.Finding.{found-entry, at-window}
 use Rattle.rd_state.proofs.Stepping.{insertion-means}
 
 -- ---- insertions
