@@ -157,10 +157,7 @@ impl Node {
     pub(crate) fn is_single(&self) -> bool
         ensures { result ≡ is_single (shape self.now) }
     {
-        match self {
-            Node::Leaf(_leaf) => true,
-            Node::Split { .. } => false,
-        }
+        matches!(self, Node::Leaf(_leaf))
     }
 
     /// Whether it is one window alone, with this number.

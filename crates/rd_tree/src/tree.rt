@@ -68,12 +68,11 @@ impl Tree {
     /// and has its margins. The first of these faults counts: NoWindow, where the window does not live; TooSmall, where one of the two
     /// would not have the columns and rows that it needs; TooMany, where 64 windows live or 4,294,967,295 were made. A fault changes
     /// nothing, nor does want of memory.
+    #[tactic(auto, using(crate::proofs::Answering::split_unknown))]
     pub fn split(&mut self, window: u32, side: Side, size: u32) -> Result<u32, TreeFault>
         ensures { Splits result (split_tree self.old window side size) self.old self.new }
     {
-        let Some(old) = self.placed(window) else {
-            return Err(TreeFault::NoWindow);
-        };
+        let old = self.placed(window).ok_or(TreeFault::NoWindow)?;
         if !old.takes_split(side, size) {
             return Err(TreeFault::TooSmall);
         }
@@ -128,9 +127,7 @@ impl Tree {
     pub fn mode(&mut self, window: u32, shown: bool) -> Result<(), TreeFault>
         ensures { Answers result (mode_tree self.old window shown) self.old self.new }
     {
-        let Some(old) = self.placed(window) else {
-            return Err(TreeFault::NoWindow);
-        };
+        let old = self.placed(window).ok_or(TreeFault::NoWindow)?;
         self.dress(Placed { mode: shown, ..old })
     }
 
@@ -140,9 +137,7 @@ impl Tree {
     pub fn margins(&mut self, window: u32, columns: u32) -> Result<(), TreeFault>
         ensures { Answers result (margins_tree self.old window columns) self.old self.new }
     {
-        let Some(old) = self.placed(window) else {
-            return Err(TreeFault::NoWindow);
-        };
+        let old = self.placed(window).ok_or(TreeFault::NoWindow)?;
         self.dress(Placed {
             margins: columns,
             ..old

@@ -1,8 +1,9 @@
-use Rattle.std.proofs.Common.{◌≡◌, true, add-one, refl, sym, ◌∙◌, arith}
+use Rattle.std.proofs.Common.{◌≡◌, true, add-one, refl, sym, ap, ◌∙◌, arith}
+use Rattle.std.specs.Result.{result_ok}
 use Rattle.rd_tree.specs.Calls.{frame_of, is_full}
 use Rattle.rd_tree.specs.Held.{configuration_of}
 use Rattle.rd_tree.specs.Windows.{fits, holds, split_at}
-use Rattle.rd_tree.proofs.Answering.{found_is_held, split_room, split_unknown, split_small, split_many, split_done, full_of_windows, full_of_numbers, not_full}
+use Rattle.rd_tree.proofs.Answering.{found_is_held, split_room, split_small, split_many, split_done, full_of_windows, full_of_numbers, not_full}
 use Rattle.rd_tree.proofs.Validity.{split_valid}
 use Rattle.rd_tree.proofs.tree.Tree.split.Goals.{After-takes_split, then-count-ge-MOST_WINDOWS-via-then-count-ge-MOST_WINDOWS, then-count-ge-MOST_WINDOWS-via-else-count-ge-MOST_WINDOWS+then-self}
 use Rattle.rd_tree.proofs.tree.Tree.split.Goals as goal
@@ -13,13 +14,8 @@ taken : (c : goal.After-takes_split)
     × (fits (split_at c.args.window c.args.side c.args.size (configuration_of c.self.inside).made (configuration_of c.self.inside).windows) (frame_of (configuration_of c.self.inside)) ≡ c.takes_split.result)
 taken c =
     let tree = configuration_of c.self.inside in
-    let found = sym (rw (← c.self.view_is) at c.placed.ensures.place) ∙ c.in-Some.is in
-    (found_is_held tree c.args.window c.in-Some.old found, split_room tree c.args.window c.args.side c.args.size c.in-Some.old c.self.invariant.room found ∙ sym c.takes_split.ensures)
-
-pub returns-in_default : goal.returns-in_default
-returns-in_default c =
-    let found = sym (rw (← c.self.view_is) at c.placed.ensures.place) ∙ c.in_default.is in
-    (refl, rw (← c.self.view_is) (split_unknown (configuration_of c.self.inside) c.args.window c.args.side c.args.size found))
+    let found = sym (rw (← c.self.view_is) at c.placed.ensures.place) ∙ (c.ok_or.ensures.ok_part ∙ ap result_ok c.in_ok-old.was) in
+    (found_is_held tree c.args.window c.in_ok-old.old found, split_room tree c.args.window c.args.side c.args.size c.in_ok-old.old c.self.invariant.room found ∙ sym c.takes_split.ensures)
 
 pub returns-then-not-takes_split : goal.returns-then-not-takes_split
 returns-then-not-takes_split c =
