@@ -4,7 +4,6 @@ mod Exact
 mod Greatest
 mod Lasts
 pub mod Listed
-mod Moving
 mod Nearest
 mod Passing
 mod Skipping

@@ -1,5 +1,11 @@
-use Rattle.rd_overlays.proofs.Moving.{IsMoved}
+use Rattle.std.proofs.Common.{◌≡◌, ◌++◌, length, map, take, drop}
 use Rattle.rd_overlays.proofs.moves.change_each.Given as goal
 
+-- those before a place are what calls made of them, and those from it on stand as they stood
 abbrev pub invariant-loop-i : goal.invariant-loop-i
-invariant-loop-i g l = record { moved : IsMoved (λ x y. goal.F-post g l.change x y) l.initial.list l.list l.i }
+invariant-loop-i g l = record {
+  size : length l.list ≡ length l.initial.list;
+  back : drop l.i l.list ≡ drop l.i l.initial.list;
+  whole : (f : g.row.T.Denot → g.row.T.Denot) → ((x y : g.row.T.Denot) → goal.F-post g l.change x y → y ≡ f x)
+      → l.list ≡ map f (take l.i l.initial.list) ++ drop l.i l.initial.list;
+}
