@@ -178,8 +178,4 @@ brackets-within bytes = listed-within (λ entry. entry.code) bracket_of bytes br
 pub line-fits : {T : Type 0} (right : Result T UcdFault) (bytes : List ℕ) (fault : UcdFault) → length bytes ≤ 8388608 → IsWithin (suc (length bytes)) right
     → Answers (Err fault) right → line_of fault < 2 ^ 32
 line-fits right bytes ucd.Memory small within answer = omega arith
-line-fits right bytes (ucd.BadLine n) small within answer = let low : IsLine (suc (length bytes)) n = rw answer at within in omega (arith, low.1)
-line-fits right bytes (ucd.BadCode n) small within answer = let low : IsLine (suc (length bytes)) n = rw answer at within in omega (arith, low.1)
-line-fits right bytes (ucd.BadClass n) small within answer = let low : IsLine (suc (length bytes)) n = rw answer at within in omega (arith, low.1)
-line-fits right bytes (ucd.NotAscending n) small within answer = let low : IsLine (suc (length bytes)) n = rw answer at within in omega (arith, low.1)
-line-fits right bytes (ucd.BadRange n) small within answer = let low : IsLine (suc (length bytes)) n = rw answer at within in omega (arith, low.1)
+line-fits right bytes fault small within answer = let low : IsLine (suc (length bytes)) (line_of fault) = rw answer at within in omega (arith, low.1)
