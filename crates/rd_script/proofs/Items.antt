@@ -65,16 +65,10 @@ list-all most kind d vs e h = list-by most kind d vs true e (le-leb (length vs) 
 -- ---- arrays of another length
 
 pub not-two : {A B : Type 0} (a : Data → Option A) (b : Data → Option B) (vs : List Value) → length vs ≢ 2 → None ≡ two_items_of a b (items_view vs)
-not-two a b [] h = refl
-not-two a b (v ∷ []) h = refl
 not-two a b (v ∷ w ∷ []) h = absurd (h refl)
-not-two a b (v ∷ w ∷ x ∷ vs) h = refl
+not-two a b vs h = refl
 
 pub not-four : {A B C D : Type 0} (a : Data → Option A) (b : Data → Option B) (c : Data → Option C) (d : Data → Option D) (vs : List Value) → length vs ≢ 4
     → None ≡ four_items_of a b c d (items_view vs)
-not-four a b c d [] h = refl
-not-four a b c d (v ∷ []) h = refl
-not-four a b c d (v ∷ w ∷ []) h = refl
-not-four a b c d (v ∷ w ∷ x ∷ []) h = refl
 not-four a b c d (v ∷ w ∷ x ∷ y ∷ []) h = absurd (h refl)
-not-four a b c d (v ∷ w ∷ x ∷ y ∷ z ∷ vs) h = refl
+not-four a b c d vs h = refl
