@@ -154,11 +154,6 @@ cursor-on-frame f (Some window) stands some h =
     let w = stands.0 in
     (let a = place.0 in omega arith, let b = place.1 in omega arith)
 
--- the selected window stands on the frame
-pub some-stands : (f : FrameValues) (selected : Option Placed) → ((window : Placed) → selected ≡ Some window → StandsIn window (frame_of f.tree)) → IfSome selected (λ window. StandsIn window (frame_of f.tree))
-some-stands f None h = tt
-some-stands f (Some window) h = h window refl
-
 -- the target screen has the frame's size
 pub frame-size : (f : FrameValues) → HasSize f.tree.width f.tree.height (composed (rows_of f) f.tree.windows (frame_of f.tree)) → IfSome (selected_window f) (λ window. StandsIn window (frame_of f.tree)) → FitsFrame f
     → IsOfSize f.tree.width (f.tree.height + 1) (frame_picture f)

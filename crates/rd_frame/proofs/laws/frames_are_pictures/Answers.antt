@@ -4,13 +4,15 @@ use Rattle.std.proofs.lemmas.List.Elements.{All-append}
 use Rattle.rd_base.specs.Cells.{AreColoured, IsColoured}
 use Rattle.rd_base.specs.Faces.{plain}
 use Rattle.rd_base.specs.Glyphs.{IsRowAfter}
+use Rattle.rd_base.proofs.Choices.{if-value}
 use Rattle.rd_base.proofs.Colours.{blanks-coloured, plain-coloured}
 use Rattle.rd_base.proofs.Rows.{behind-whole, blanks-whole}
 use Rattle.rd_term.specs.Pictures.{IsOfSize, IsWellFormed}
 use Rattle.rd_tree.specs.Calls.{frame_of}
+use Rattle.rd_tree.specs.Places.{StandsIn}
 use Rattle.rd_frame.specs.Frames.{FrameValues, rows_of, frame_rows, selected_window, frame_picture}
 use Rattle.rd_frame.specs.Fits.{FitsFrame, IsWholeFrame, IsColouredFrame}
-use Rattle.rd_frame.proofs.Filling.{frame-filled, frame-size, frame-width, some-stands, echo-each, windows-each}
+use Rattle.rd_frame.proofs.Filling.{frame-filled, frame-size, frame-width, echo-each, windows-each}
 use Rattle.rd_frame.proofs.laws.frames_are_pictures.Goals as goal
 
 pub returns : goal.returns
@@ -20,7 +22,7 @@ returns c = record { size = size; whole = whole; coloured = coloured } where
       let tiles = c.windows_tile_their_rectangle.ensures in
       let filled = frame-filled f (tiles.room f.tree.windows (frame_of f.tree) fits.room) fits in
       let rows = c.frames_are_composed.ensures.size (rows_of f) f.tree.windows (frame_of f.tree) fits.room filled in
-      frame-size f rows (some-stands f (selected_window f) (λ window e. tiles.inside f.selected f.tree.windows (frame_of f.tree) window fits.room e)) fits
+      frame-size f rows (if-value (λ window. StandsIn window (frame_of f.tree)) (selected_window f) (λ window e. tiles.inside f.selected f.tree.windows (frame_of f.tree) window fits.room e)) fits
 
   whole : (f : FrameValues) → FitsFrame f → IsWholeFrame f → IsWellFormed (frame_picture f)
   whole f fits each =
