@@ -197,11 +197,11 @@ removed_others v n (Split side size first second) rect d =
     (λ _ _ e. two_lists v side size first (removed n second b) rect
     ∙ (ap (option_or (window_at v first a)) (removed_others v n second b d e) ∙ sym whole))
 
-pub first_within : (side : Side) (size : ℕ) (first second : Windows) (rect : Rect) → HasRoom (Split side size first second) rect → IsWithin (first_part side size rect) rect
+first_within : (side : Side) (size : ℕ) (first second : Windows) (rect : Rect) → HasRoom (Split side size first second) rect → IsWithin (first_part side size rect) rect
 first_within Right size first second rect h = let w = room_within Right size first second rect h in (omega arith, omega arith, omega arith, omega arith)
 first_within Below size first second rect h = let w = room_within Below size first second rect h in (omega arith, omega arith, omega arith, omega arith)
 
-pub second_within : (side : Side) (size : ℕ) (first second : Windows) (rect : Rect) → HasRoom (Split side size first second) rect → IsWithin (second_part side size rect) rect
+second_within : (side : Side) (size : ℕ) (first second : Windows) (rect : Rect) → HasRoom (Split side size first second) rect → IsWithin (second_part side size rect) rect
 second_within Right size first second rect h = let w = room_within Right size first second rect h in (omega arith, omega arith, omega arith, omega arith)
 second_within Below size first second rect h = let w = room_within Below size first second rect h in (omega arith, omega arith, omega arith, omega arith)
 
