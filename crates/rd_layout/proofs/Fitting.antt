@@ -53,7 +53,7 @@ use Rattle.rd_tree.specs.declared.rect.Rect.{Rect}
 use Rattle.rd_ucd.specs.Data.{Data}
 use Rattle.rd_window.specs.Views.{start_row}
 use Rattle.rd_layout.specs.Laws.{FitLaws}
-use Rattle.rd_layout.specs.Panes.{cells_of_pieces, facts_of, margin_of, margin_text, mode_line, pane_of, text_of, widths_of}
+use Rattle.rd_layout.specs.Panes.{cells_of_pieces, line_facts, margin_of, margin_text, mode_line, pane_of, text_of, widths_of}
 use Rattle.rd_layout.specs.Screens.{cursor_at, cursor_by, frame_in, pane_at, pane_by}
 use Rattle.rd_layout.specs.Windows.{place_of, places, shown_buffer, view_in, wanted_of, window_shape, window_source}
 use Rattle.rd_layout.proofs.Placed.{all-places}
@@ -163,7 +163,7 @@ module _ (laws : FitLaws) (files : Data) (s : StateValue) (valid : IsValid s) wh
         let whole = view-whole w p at window in
         All-map (FitsRow s.width p) (glyph_row (margin_of files s.objects (shown_content s w) (widths_of w))) (view_in files s w p).rows
         (λ k d less. record { margin = (margin-right w p (slice_index_or (view_in files s w p).rows k d) window leaf).count; text = (whole k d less).wide });
-    mode_line = λ shown. mode-fits laws files (facts_of (shown_buffer s w) (view_in files s w p)) p.rect.width w.format (ap (λ (x : Bool × ℕ). x.0) leaf ∙ shown) window.format;
+    mode_line = λ shown. mode-fits laws files (line_facts (shown_buffer s w) (view_in files s w p)) p.rect.width w.format (ap (λ (x : Bool × ℕ). x.0) leaf ∙ shown) window.format;
   }
 
   pane-fits : (p : Placed) → place_of p.number s ≡ Some p → FitsWindow s.width (pane_at files s p) p

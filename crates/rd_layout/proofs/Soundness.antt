@@ -49,7 +49,7 @@ use Rattle.rd_update.specs.Laws.{IsSound}
 use Rattle.rd_window.specs.Views.{WindowView}
 use Rattle.rd_state.proofs.Tests.{text-codes}
 use Rattle.rd_layout.specs.Laws.{FitLaws}
-use Rattle.rd_layout.specs.Panes.{border_in, border_slot, cells_of_pieces, facts_of, margin_of, mode_line, pane_of, widths_of}
+use Rattle.rd_layout.specs.Panes.{border_in, border_slot, cells_of_pieces, line_facts, margin_of, mode_line, pane_of, widths_of}
 use Rattle.rd_layout.specs.Screens.{frame_in, laid_out, pane_at, pane_by}
 use Rattle.rd_layout.specs.Windows.{place_of, shown_buffer, view_in, window_shape}
 use Rattle.rd_layout.proofs.Fitting.{fits, in-view, line-small, margin-right, place-window, view-whole}
@@ -107,11 +107,11 @@ module _ (laws : SoundLaws) (files : Data) (s : StateValue) (valid : IsValid s) 
 
   -- ---- mode lines
 
-  facts-right : (w : WindowState) (v : WindowView) → IsWindow s.buffers w → AreFacts (facts_of (shown_buffer s w) v)
+  facts-right : (w : WindowState) (v : WindowView) → IsWindow s.buffers w → AreFacts (line_facts (shown_buffer s w) v)
   facts-right w v window =
       let b = element-at s.buffers w.buffer window.made in
       let is : b.0 ≡ shown_buffer s w = sym (ap (λ (o : Option BufferValue). unwrap_or o (new_buffer [])) b.1) in
-      subst (λ (x : BufferValue). AreFacts (facts_of x v)) is
+      subst (λ (x : BufferValue). AreFacts (line_facts x v)) is
       (record { name = name-codes b.0.name (valid.buffers.names w.buffer b.0 b.1); line = line-small b.0.content.text v.point (valid.buffers.contents w.buffer b.0 b.1).text })
 
   mode-whole : (facts : FactValues) (width : ℕ) (format : Option (List ℕ)) → AreFacts facts → IfSome format IsGoodFormat → IsRowAfter 0 (mode_line files facts width format)
@@ -138,7 +138,7 @@ module _ (laws : SoundLaws) (files : Data) (s : StateValue) (valid : IsValid s) 
         margins = All-map (λ (r : GlyphRow). IsRowAfter 0 r.margin) row (view_in files s w p).rows (λ k d less. (margin-right laws.fit files s valid w p (slice_index_or (view_in files s w p).rows k d) window leaf).whole);
         texts = All-map (λ (r : GlyphRow). IsRowAfter 0 r.text) row (view_in files s w p).rows (λ k d less. (whole k d less).whole);
         border = border-whole laws (border_slot s.objects (shown_content s w)) (slot-right (shown_content s w));
-        mode_line = λ shown. mode-whole (facts_of (shown_buffer s w) (view_in files s w p)) p.rect.width w.format (facts-right w (view_in files s w p) window) window.format;
+        mode_line = λ shown. mode-whole (line_facts (shown_buffer s w) (view_in files s w p)) p.rect.width w.format (facts-right w (view_in files s w p) window) window.format;
       }
 
   coloured-part : (w : WindowState) (p : Placed) → place_of p.number s ≡ Some p → IsWindow s.buffers w → leaf_of w ≡ (p.mode, p.margins) → EachPart (All IsColoured) (pane_of files s w p (view_in files s w p)) p
@@ -149,7 +149,7 @@ module _ (laws : SoundLaws) (files : Data) (s : StateValue) (valid : IsValid s) 
         margins = All-map (λ (r : GlyphRow). All IsColoured r.margin) row (view_in files s w p).rows (λ k d less. (margin-right laws.fit files s valid w p (slice_index_or (view_in files s w p).rows k d) window leaf).coloured);
         texts = All-map (λ (r : GlyphRow). All IsColoured r.text) row (view_in files s w p).rows coloured;
         border = laws.border_coloured (border_slot s.objects (shown_content s w));
-        mode_line = λ shown. mode-coloured (facts_of (shown_buffer s w) (view_in files s w p)) p.rect.width w.format;
+        mode_line = λ shown. mode-coloured (line_facts (shown_buffer s w) (view_in files s w p)) p.rect.width w.format;
       }
 
   part-by : (P : List Cell → Type 0) (p : Placed) → place_of p.number s ≡ Some p

@@ -62,8 +62,8 @@ abbrev pub is_whole : text.TextValue → Bool
 is_whole t = (t.begin == 1) && (t.end == length t.text + 1)
 
 -- what a mode line can show of a buffer and of the view of it, which was chosen before
-abbrev pub facts_of : BufferValue → WindowView → FactValues
-facts_of b v = record {
+abbrev pub line_facts : BufferValue → WindowView → FactValues
+line_facts b v = record {
   name = chars b.name;
   line = text.line_of b.content.text v.point;
   top = v.top;
@@ -97,4 +97,4 @@ pane_with files objects content facts w width v = record {
 
 -- what a window shows in its rectangle, where this is its view
 abbrev pub pane_of : Data → StateValue → WindowState → Placed → WindowView → PaneValues
-pane_of files s w place v = pane_with files s.objects (shown_content s w) (facts_of (shown_buffer s w) v) w place.rect.width v
+pane_of files s w place v = pane_with files s.objects (shown_content s w) (line_facts (shown_buffer s w) v) w place.rect.width v

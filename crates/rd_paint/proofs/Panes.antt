@@ -14,7 +14,7 @@ use Rattle.rd_state.specs.Windows.{content_in}
 use Rattle.rd_state.specs.declared.window.WindowState.{WindowState}
 use Rattle.rd_tree.specs.declared.placed.Placed.{Placed}
 use Rattle.rd_window.specs.Views.{WindowView}
-use Rattle.rd_layout.specs.Panes.{cells_of_pieces, facts_of, mode_line, pane_of, pane_with}
+use Rattle.rd_layout.specs.Panes.{cells_of_pieces, line_facts, mode_line, pane_of, pane_with}
 use Rattle.rd_layout.specs.Screens.{pane_at, pane_by}
 use Rattle.rd_layout.specs.Windows.{view_in}
 use Rattle.rd_paint.specs.Shown.{IsLeaf, of_classes, painted_of, pane_in}
@@ -29,12 +29,12 @@ mode-by files facts width (Some format) = pieces-by files facts width (pieces_of
 
 pane-by : (files : Data) (objects : ObjectLists) (b : BufferValue) (w : WindowState) (width : ℕ) (v : WindowView) → pane_in files objects b w width v ≡ pane_in (of_classes files.classes) objects (painted_of b) w width v
 pane-by files objects b w width v =
-    ap (λ (cells : List Cell). let p : PaneValues = record (pane_in files objects b w width v) { mode_line = cells } in p) (mode-by files (facts_of b v) width w.format)
+    ap (λ (cells : List Cell). let p : PaneValues = record (pane_in files objects b w width v) { mode_line = cells } in p) (mode-by files (line_facts b v) width w.format)
 
 pane-of-buffer : (files : Data) (s : StateValue) (w : WindowState) (place : Placed) (v : WindowView) (b : BufferValue) → slice_get s.buffers w.buffer ≡ Some b
     → pane_of files s w place v ≡ pane_in files s.objects b w place.rect.width v
 pane-of-buffer files s w place v b at =
-    ap (λ (o : Option BufferValue). pane_with files s.objects (content_in o) (facts_of (unwrap_or o (new_buffer [])) v) w place.rect.width v) at
+    ap (λ (o : Option BufferValue). pane_with files s.objects (content_in o) (line_facts (unwrap_or o (new_buffer [])) v) w place.rect.width v) at
 
 -- what a window of the frame shows
 pub pane-here : (files : Data) (classes : List Span) (s : StateValue) (i : ℕ) (place : Placed) (w : WindowState) (content : BufferValue) → files.classes ≡ classes → IsLeaf s i place w content

@@ -11,7 +11,7 @@ use Rattle.rd_state.specs.declared.window.WindowState.{WindowState}
 use Rattle.rd_text.specs.Texts.{IsAccessible, TextValue}
 use Rattle.rd_tree.specs.declared.placed.Placed.{Placed}
 use Rattle.rd_window.specs.Views.{WindowView}
-use Rattle.rd_layout.specs.Panes.{facts_of, pane_with}
+use Rattle.rd_layout.specs.Panes.{line_facts, pane_with}
 use Rattle.rd_layout.specs.Windows.{place_of, places, views_in}
 
 -- by data files with these classes the windows of a state show this, in leaf order
@@ -29,7 +29,7 @@ painted_of b = record b { content = record b.content { properties = [] } }
 
 -- what a window of so many columns shows in its rectangle, where it shows this buffer and this is its view
 abbrev pub pane_in : Data → ObjectLists → BufferValue → WindowState → ℕ → WindowView → PaneValues
-pane_in files objects b w width v = pane_with files objects b.content (facts_of b v) w width v
+pane_in files objects b w width v = pane_with files objects b.content (line_facts b v) w width v
 
 -- the positions of a view are accessible in a text: its start, its point, and the starts of the blocks that it has rows of
 pub record IsViewOf (text : TextValue) (v : WindowView) : Type 0 where

@@ -1,7 +1,7 @@
 //! The mode line of a window.
 ghost use Rattle.std.specs.Prelude.{◌≡◌, IfOk};
 ghost use Rattle.std.specs.Str.{chars};
-ghost use Rattle.rd_layout.specs.Panes.{facts_of, is_whole, mode_line};
+ghost use Rattle.rd_layout.specs.Panes.{is_whole, line_facts, mode_line};
 ghost use Rattle.rd_paint.specs.Shown.{IsViewOf, of_classes};
 
 use crate::content::Content;
@@ -23,7 +23,7 @@ pub(crate) fn mode_line(
     text: &Option<ListOf<Ch>>,
 ) -> Result<ListOf<Cell>, Memory>
     requires { IsViewOf content.now.content.text shown.now }
-    ensures { IfOk result (λ cells. cells ≡ mode_line (of_classes classes.now) (facts_of content.now shown.now) width text.now) }
+    ensures { IfOk result (λ cells. cells ≡ mode_line (of_classes classes.now) (line_facts content.now shown.now) width text.now) }
 {
     let Some(text) = text else {
         return Ok(ListOf::new(alloc));
@@ -40,7 +40,7 @@ pub(crate) fn mode_line(
 fn facts<'a>(name: &'a [Ch], content: &Content<'_>, shown: &ShownWindow<'_>) -> Facts<'a>
     requires name { name.now ≡ chars content.now.name }
     requires view { IsViewOf content.now.content.text shown.now }
-    ensures { result ≡ facts_of content.now shown.now }
+    ensures { result ≡ line_facts content.now shown.now }
 {
     let text = &content.buffer.text;
     let settings = &content.buffer.settings;
