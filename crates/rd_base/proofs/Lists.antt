@@ -4,7 +4,7 @@ use Rattle.std.specs.Prelude.{IfSome, slice_get}
 use Rattle.std.specs.List.{AllByRecursion, count_by, find, list_any, position_or_len, range_with_len}
 use Rattle.std.proofs.lemmas.Bool.{cases_lt, ne_eqb}
 use Rattle.std.proofs.lemmas.Bool.Decides.{nat_tests}
-use Rattle.std.proofs.lemmas.List.{get_or_append_left, get_or_past, drop_more, drop_all, drop-set-lt, drop-drop, get_or-drop, map_more, take_more, take_more_set}
+use Rattle.std.proofs.lemmas.List.{get_or_append_left, get_or_past, drop_more, drop_all, drop-set-lt, drop-drop, take_more}
 use Rattle.std.proofs.lemmas.List.Folds.{find_at}
 use Rattle.std.proofs.lemmas.List.Sums.{passes_at_first, sum_by-append, sum_by-cons}
 use Rattle.std.proofs.Math.Seq.{drop-append_seam}
@@ -110,19 +110,6 @@ read-set P (y ∷ xs) zero zero x d new old = new
 read-set P (y ∷ xs) zero (suc k) x d new old = old
 read-set P (y ∷ xs) (suc i) zero x d new old = old
 read-set P (y ∷ xs) (suc i) (suc k) x d new old = read-set P xs i k x d new old
-
--- an element in place of one of the same list, where those before it became others and those from it on did not
-pub one-becomes : {X : Type 0} (f : X → X) (xs whole : List X) (i : ℕ) (new d : X) → i < length xs → length xs ≡ length whole
-    → take i xs ≡ map f (take i whole) → drop i xs ≡ drop i whole → new ≡ f (get_or xs i d)
-    → (take (i + 1) (set xs i new) ≡ map f (take (i + 1) whole)) × (drop (i + 1) (set xs i new) ≡ drop (i + 1) whole)
-one-becomes f xs whole i new d lt same above below made =
-    let at : i + 0 ≡ i = omega arith in
-    let here : get_or xs i d ≡ get_or whole i d =
-    ap (λ k. get_or xs k d) (sym at) ∙ sym (get_or-drop i xs 0 d) ∙ ap (λ ys. get_or ys 0 d) below ∙ get_or-drop i whole 0 d ∙ ap (λ k. get_or whole k d) at in
-    let within : i < length whole = omega arith in
-    let front = take_more_set xs i new lt in
-    let mapped = map_more f whole i d within in
-    (cc, drop-next xs whole i new below)
 
 -- what is found passes, and is an element
 pub found-passes : {X : Type 0} (p : X → Bool) (xs : List X) (x : X) → find p xs ≡ Some x → (p x ≡ true) × (k : ℕ) × (slice_get xs k ≡ Some x)
