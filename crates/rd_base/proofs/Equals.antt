@@ -22,9 +22,8 @@ glyphs-same a b c d e f xs ys p q r s = cc
 
 flag-told : (a b : Bool) → same_flag a b ≡ true → a ≡ b
 flag-told true true e = refl
-flag-told true false e = absurd (cc)
-flag-told false true e = absurd (cc)
 flag-told false false e = refl
+flag-told a b e = absurd (cc)
 
 flag-itself : (a : Bool) → same_flag a a ≡ true
 flag-itself true = refl
@@ -71,12 +70,7 @@ pub cell-told : (x y : Cell) → same_cell x y ≡ true → x ≡ y
 cell-told (Blank f) (Blank g) e = ap Blank (face-told f g e)
 cell-told (First g f) (First h k) e = let parts = and_parts _ _ e in let glyph = glyph-told g h parts.0 in let face = face-told f k parts.1 in cc
 cell-told Rest Rest e = refl
-cell-told (Blank f) (First h k) e = absurd (cc)
-cell-told (Blank f) Rest e = absurd (cc)
-cell-told (First g f) (Blank k) e = absurd (cc)
-cell-told (First g f) Rest e = absurd (cc)
-cell-told Rest (Blank f) e = absurd (cc)
-cell-told Rest (First g f) e = absurd (cc)
+cell-told x y e = absurd (cc)
 
 pub cell-itself : (x : Cell) → same_cell x x ≡ true
 cell-itself (Blank f) = face-itself f
