@@ -208,10 +208,8 @@ bound f (Some y) x e = (y, refl, e)
 
 two-some : {A B : Type 0} (a : Data → Option A) (b : Data → Option B) (P : A → Type 0) (Q : B → Type 0) → Finds a P → Finds b Q
     → (ds : Items) (x : A × B) → two_items_of a b ds ≡ Some x → P x.0 × Q x.1
-two-some a b P Q fa fb no_items x e = absurd (none-some x e)
-two-some a b P Q fa fb (item d no_items) x e = absurd (none-some x e)
 two-some a b P Q fa fb (item d (item f no_items)) x e = let parts = pair-some (a d) (b f) x e in (fa.found d x.0 parts.0, fb.found f x.1 parts.1)
-two-some a b P Q fa fb (item d (item f (item g ds))) x e = absurd (none-some x e)
+two-some a b P Q fa fb ds x e = absurd (none-some x e)
 
 two-finds : {A B : Type 0} (a : Data → Option A) (b : Data → Option B) (P : A → Type 0) (Q : B → Type 0) → Finds a P → Finds b Q
     → Finds (two_items a b) (λ x. P x.0 × Q x.1)
@@ -220,16 +218,12 @@ two-finds a b P Q fa fb = record {
 }
 
 run-some : (ds : Items) (x : ℕ × (ℕ × (RunKind × ℕ))) → four_items_of whole whole (word run_kinds) whole ds ≡ Some x → IsWhole x.0 × IsWhole x.1.0 × IsWhole x.1.1.1
-run-some no_items x e = absurd (none-some x e)
-run-some (item a no_items) x e = absurd (none-some x e)
-run-some (item a (item b no_items)) x e = absurd (none-some x e)
-run-some (item a (item b (item c no_items))) x e = absurd (none-some x e)
 run-some (item a (item b (item c (item d no_items)))) x e =
     let first = pair-some (whole a) (option_zip (whole b) (option_zip (word run_kinds c) (whole d))) x e in
     let second = pair-some (whole b) (option_zip (word run_kinds c) (whole d)) x.1 first.1 in
     let third = pair-some (word run_kinds c) (whole d) x.1.1 second.1 in
     (whole-finds.found a x.0 first.0, whole-finds.found b x.1.0 second.0, whole-finds.found d x.1.1.1 third.1)
-run-some (item a (item b (item c (item d (item f ds))))) x e = absurd (none-some x e)
+run-some ds x e = absurd (none-some x e)
 
 run-finds : Finds run IsRunInForm
 run-finds = mapped-finds run_of (four_items whole whole (word run_kinds) whole) (λ x. IsWhole x.0 × IsWhole x.1.0 × IsWhole x.1.1.1) IsRunInForm
@@ -343,12 +337,7 @@ to_field key most = required-gives key (within 0 most) _ (record { found = λ d 
 property_value-form : (kind : Kind) (value : Option ℕ) → ((n : ℕ) → value ≡ Some n → n ≤ greatest_value kind) → IsPropertyValue kind value
 property_value-form kind None h = tt
 property_value-form kinds.Face (Some n) h = h n refl
-property_value-form kinds.Display (Some n) h = h n refl
-property_value-form kinds.Invisible (Some n) h = h n refl
-property_value-form kinds.LinePrefix (Some n) h = h n refl
-property_value-form kinds.WrapPrefix (Some n) h = h n refl
-property_value-form kinds.Before (Some n) h = h n refl
-property_value-form kinds.After (Some n) h = h n refl
+property_value-form kind (Some n) h = h n refl
 
 abbrev AtMost : ℕ → Option ℕ → Type 0
 AtMost most o = (n : ℕ) → o ≡ Some n → n ≤ most
