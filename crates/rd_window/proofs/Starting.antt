@@ -25,13 +25,6 @@ pub start-named : (m : SourceValues) (shape : ShapeValues) (w : Wanted) → star
     → Names (chosen_of m shape w).anchor (rows_at m shape) (start_row m shape w)
 start-named m shape w low = named-at (rows_at m shape) (start_row m shape w) low
 
--- a row is in view
-pub some-in-view : (m : SourceValues) (shape : ShapeValues) (w : Wanted) → 1 ≤ w.height → start_row m shape w < length (rows_at m shape) → 0 < length (rows_in_view m shape w)
-some-in-view m shape w some low =
-    let taken = length-take w.height (drop (start_row m shape w) (rows_at m shape)) in
-    let left = length-drop (start_row m shape w) (rows_at m shape) in
-    omega (arith, taken, left, some, low)
-
 -- ---- over a source that a call has left as it was
 
 -- the row that was chosen as the start, once its source means what it meant
@@ -74,5 +67,6 @@ spent m n old c shape w chosen before chose laid start first told =
 pub some-laid : (m : SourceValues) (shape : ShapeValues) (w : Wanted) (es : List Entry) → 1 ≤ w.height → start_row m shape w < length (rows_at m shape) → shown_entries es ≡ rows_in_view m shape w → 0 < length es
 some-laid m shape w es some low same =
     let count = sym (length-map es shown_entry) ∙ ap length same in
-    let there = some-in-view m shape w some low in
-    omega (arith, count, there)
+    let taken = length-take w.height (drop (start_row m shape w) (rows_at m shape)) in
+    let left = length-drop (start_row m shape w) (rows_at m shape) in
+    omega (arith, count, taken, left, some, low)
