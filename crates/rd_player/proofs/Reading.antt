@@ -6,7 +6,7 @@ use Rattle.std.proofs.KnownBytes.{Consumes-nil, Consumes-trans}
 use Rattle.std.proofs.lemmas.Bool.{both_ways, false_from_ne_true}
 use Rattle.std.proofs.lemmas.List.{length_push}
 use Rattle.rd_base.proofs.Lists.{each-append}
-use Rattle.rd_io.specs.Lines.{Reading, Answers, IsLine, Gives, GivesNone, IsUnbroken, lines_of, text_of_lines, unread}
+use Rattle.rd_io.specs.Lines.{Reading, Answers, IsLine, Gives, IsUnbroken, lines_of, text_of_lines, unread}
 use Rattle.rd_io.specs.declared.lines.LineFault.{LineFault}
 use Rattle.rd_io.proofs.Cuts.{last-some, lines-text_of_lines}
 use Rattle.rd_run.specs.Ends.{AreFirst, AreInLimits}
@@ -83,35 +83,26 @@ are-first lines bytes l0 l1 r h = first-if r.ended lines bytes l0 l1 r refl h
 
 -- ---- the end
 
-pub read-over-open : (lines : List (List ℕ)) (bytes more : List ℕ) (l0 l1 l2 : Option (List ℕ)) (old new : Reading) → HasRead lines bytes l0 l1 old → Consumes l1 l2 more → old.ended ≡ false
-    → GivesNone old new more l2 → Consumes l0 l2 (bytes ++ more) × (lines_of (bytes ++ more) ≡ lines) × IsAtEnd l2
-read-over-open lines bytes more l0 l1 l2 old new h p off g = (
-  Consumes-trans l0 l1 l2 bytes more h.taken p,
-  ap lines_of (come lines bytes old.held more (h.split off) ∙ ap (λ l. text_of_lines lines ++ l) g.split) ∙ lines-text_of_lines lines [] h.unbroken tt ∙ append-nil lines,
-  g.end off,
-)
-
 nothing-more : (held more : List ℕ) → held ++ more ≡ [] → more ≡ []
 nothing-more [] more e = e
 nothing-more (b ∷ bs) more e = absurd (let q : b ∷ (bs ++ more) ≡ [] = e in cc)
 
-read-over-closed : (lines : List (List ℕ)) (bytes more : List ℕ) (l0 l1 l2 : Option (List ℕ)) (old new : Reading) → HasRead lines bytes l0 l1 old → Consumes l1 l2 more → old.ended ≡ true → l2 ≡ l1
-    → GivesNone old new more l2 → Consumes l0 l2 (bytes ++ more) × (lines_of (bytes ++ more) ≡ lines) × IsAtEnd l2
-read-over-closed lines bytes more l0 l1 l2 old new h p on same g = (
-  Consumes-trans l0 l1 l2 bytes more h.taken p,
-  ap lines_of (ap (λ l. bytes ++ l) (nothing-more old.held more g.split) ∙ append-nil bytes) ∙ (h.over on).0,
-  subst IsAtEnd (sym same) (h.over on).1,
-)
-
-read-over-if : (b : Bool) (lines : List (List ℕ)) (bytes more : List ℕ) (l0 l1 l2 : Option (List ℕ)) (old new : Reading) → old.ended ≡ b → HasRead lines bytes l0 l1 old → Consumes l1 l2 more → (old.ended ≡ true → l2 ≡ l1)
-    → GivesNone old new more l2 → Consumes l0 l2 (bytes ++ more) × (lines_of (bytes ++ more) ≡ lines) × IsAtEnd l2
-read-over-if false lines bytes more l0 l1 l2 old new e h p same g = read-over-open lines bytes more l0 l1 l2 old new h p e g
-read-over-if true lines bytes more l0 l1 l2 old new e h p same g = read-over-closed lines bytes more l0 l1 l2 old new h p e (same e) g
-
 -- the reader answers that no line is left
 pub read-over : (lines : List (List ℕ)) (bytes more : List ℕ) (l0 l1 l2 : Option (List ℕ)) (old new : Reading) → HasRead lines bytes l0 l1 old → Consumes l1 l2 more → (old.ended ≡ true → l2 ≡ l1)
     → Answers (Ok false) old new more l2 → Consumes l0 l2 (bytes ++ more) × (lines_of (bytes ++ more) ≡ lines) × IsAtEnd l2
-read-over lines bytes more l0 l1 l2 old new h p same g = read-over-if old.ended lines bytes more l0 l1 l2 old new refl h p same g
+read-over lines bytes more l0 l1 l2 old new h p same g = by old.ended refl
+  where
+    by : (b : Bool) → old.ended ≡ b → Consumes l0 l2 (bytes ++ more) × (lines_of (bytes ++ more) ≡ lines) × IsAtEnd l2
+    by false off = (
+      Consumes-trans l0 l1 l2 bytes more h.taken p,
+      ap lines_of (come lines bytes old.held more (h.split off) ∙ ap (λ l. text_of_lines lines ++ l) g.split) ∙ lines-text_of_lines lines [] h.unbroken tt ∙ append-nil lines,
+      g.end off,
+    )
+    by true on = (
+      Consumes-trans l0 l1 l2 bytes more h.taken p,
+      ap lines_of (ap (λ l. bytes ++ l) (nothing-more old.held more g.split) ∙ append-nil bytes) ∙ (h.over on).0,
+      subst IsAtEnd (sym (same on)) (h.over on).1,
+    )
 
 -- an answer other than the end comes while the end has not been met
 pub is-open : (r : Reading) (result : Result Bool LineFault) → (r.ended ≡ true → result ≡ Ok false) → (result ≡ Ok false → ⊥) → r.ended ≡ false
