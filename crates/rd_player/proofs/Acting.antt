@@ -8,10 +8,10 @@ use Rattle.rd_io.specs.declared.traits.Failed.{Failed}
 use Rattle.rd_layout.specs.Copies.{redisplayed as redisplayed_session, without_copies}
 use Rattle.rd_layout.specs.Facts.{facts_of}
 use Rattle.rd_layout.specs.Redisplays.{update_of, outcome_of}
-use Rattle.rd_layout.specs.Sessions.{SessionValue, session_step}
+use Rattle.rd_layout.specs.Sessions.{SessionValue}
 use Rattle.rd_run.specs.Ends.{Sunk, sunk}
 use Rattle.rd_run.specs.Reports.{no_memory_line, shown_line, stopped_line}
-use Rattle.rd_run.specs.Runs.{Effect, Standing, asked, dump_lines, effect_by, effect_of_op, is_sent, redisplayed, stepped, told_of, unshown}
+use Rattle.rd_run.specs.Runs.{Effect, Standing, asked, dump_lines, effect_by, effect_of_op, is_sent, redisplayed, told_of, unshown}
 use Rattle.rd_script.specs.declared.op.Op.{Op}
 use Rattle.rd_update.specs.Updates.{Update}
 use Rattle.rd_player.specs.Acts.{Acts, IsTold}
@@ -26,18 +26,10 @@ CopyLaw = (v : SessionValue) → facts_of (without_copies v) ≡ facts_of v
 abbrev pub stand : Bool → Option ℕ → ℕ → ℕ → SessionValue → Standing
 stand dumps generated lines shown v = record { mode = record { files = v.files; dumps = dumps; generated = generated }; session = without_copies v; lines = lines; shown = shown }
 
--- ---- which op it is
-
--- a redisplay
-pub redisplay-acts : (result : Result Unit Halt) (place next : Standing) (op : Op) (screen report : Sunk) (answer : Option (Option ℕ)) (stop : Option ℕ) → answer ≡ asked op → answer ≡ Some stop
-    → Acts result (λ starved. if starved then unshown place else redisplayed place stop) next screen report → Acts result (λ starved. effect_of_op starved place op) next screen report
-redisplay-acts result place next op screen report answer stop p q h =
-    subst (λ o. Acts result (λ starved. effect_by o starved place op) next screen report) (sym (sym p ∙ q)) h
-
--- another op
-pub step-acts : (result : Result Unit Halt) (place next : Standing) (op : Op) (screen report : Sunk) (answer : Option (Option ℕ)) → answer ≡ asked op → answer ≡ None
-    → Acts result (λ starved. stepped place op (session_step place.session op)) next screen report → Acts result (λ starved. effect_of_op starved place op) next screen report
-step-acts result place next op screen report answer p q h =
+-- an op, by what it asks for
+pub op-acts : (result : Result Unit Halt) (place next : Standing) (op : Op) (screen report : Sunk) (answer asks : Option (Option ℕ)) → answer ≡ asked op → answer ≡ asks
+    → Acts result (λ starved. effect_by asks starved place op) next screen report → Acts result (λ starved. effect_of_op starved place op) next screen report
+op-acts result place next op screen report answer asks p q h =
     subst (λ o. Acts result (λ starved. effect_by o starved place op) next screen report) (sym (sym p ∙ q)) h
 
 -- ---- a redisplay
