@@ -1,5 +1,5 @@
 mod Filling
 mod Painting
-mod Screens
+pub mod Screens
 mod Turns
 mod Whole

@@ -15,7 +15,7 @@ use Rattle.rd_state.specs.States.{BufferValue, StateValue}
 use Rattle.rd_state.specs.Valid.{IsValid}
 use Rattle.rd_state.specs.Windows.{content_in, shown_content}
 use Rattle.rd_state.specs.declared.window.WindowState.{WindowState}
-use Rattle.rd_term.specs.Pictures.{Picture, width_of}
+use Rattle.rd_term.specs.Pictures.{width_of}
 use Rattle.rd_term.proofs.Shapes.{grid-width}
 use Rattle.rd_text.specs.Texts.{IsText, TextValue}
 use Rattle.rd_tree.specs.Calls.{frame_of}
@@ -33,14 +33,6 @@ use Rattle.rd_paint.proofs.Starts.{is-view}
 
 pub width-is : (width height : ℕ) (rows : List (List Cell)) → HasSize width (height + 1) rows → width_of rows ≡ width
 width-is width height rows h = grid-width width rows (let tall = h.0 in omega arith) h.1
-
--- the cursor stays
-pub others-stay : (first old new : Picture) (rows : List (List Cell)) → (let p : Picture = record first { rows = old.rows } in old ≡ p) → (let p : Picture = record old { rows = rows } in new ≡ p)
-    → (let p : Picture = record first { rows = new.rows } in new ≡ p)
-others-stay first old new rows before is =
-    is
-    ∙ (ap (λ (p : Picture). let q : Picture = record p { rows = rows } in q) before
-    ∙ ap (λ (xs : List (List Cell)). let q : Picture = record first { rows = xs } in q) (sym (ap (λ (p : Picture). p.rows) is)))
 
 -- when no window is left
 pub all-painted : (f : FrameValues) (i : ℕ) (first rows : List (List Cell)) → length (placed f.tree.windows (frame_of f.tree)) ≤ i → painted_from f 0 first ≡ painted_from f i rows

@@ -2,6 +2,7 @@ use Rattle.std.proofs.Common.{◌≡◌, ◌+◌, List, length, Some, sym, ap, s
 use Rattle.std.proofs.lemmas.Option.{slice_get-get_or}
 use Rattle.std.specs.Prelude.{slice_get}
 use Rattle.rd_base.specs.declared.cell.Cell.{Cell}
+use Rattle.rd_frame.proofs.Screens.{twice}
 use Rattle.rd_frame.specs.Fits.{FitsWindow}
 use Rattle.rd_frame.specs.Turns.{IsTurn, painted_from, with_window}
 use Rattle.rd_layout.specs.Screens.{frame_in}
@@ -12,7 +13,7 @@ use Rattle.rd_ucd.specs.Data.{Data}
 use Rattle.rd_window.specs.Views.{WindowView}
 use Rattle.rd_paint.specs.Shown.{AreShown, of_classes, pane_in}
 use Rattle.rd_paint.proofs.Leaves.{inside, small, views-count}
-use Rattle.rd_paint.proofs.Turning.{all-painted, fits-here, others-stay, rows-here, turn-here, view-here}
+use Rattle.rd_paint.proofs.Turning.{all-painted, fits-here, rows-here, turn-here, view-here}
 use Rattle.rd_paint.proofs.frame.paint_windows.Goals as goal
 use Rattle.rd_paint.proofs.frame.paint_windows.Goals.{After-leaf_at-leaf}
 
@@ -66,7 +67,7 @@ loop-i-preserved c =
     c.loop-i.invariant.size files shown c.objects.result.now c.objects.ensures new.rows (ap (λ (p : Picture). p.rows) painted) in
     record {
       size = subst (HasSize s.tree.width (s.tree.height + 1)) (sym (rows c.requires.shown.0 c.requires.shown.1)) (turned here c.requires.shown.0).size;
-      others = others-stay c.args.screen.now old new _ c.loop-i.invariant.others painted;
+      others = twice c.args.screen.now old new old.rows _ new.rows c.loop-i.invariant.others painted (sym (ap (λ (p : Picture). p.rows) painted));
       rest = λ files shown. c.loop-i.invariant.rest files shown ∙ ((turned here files).rest ∙ ap (painted_from (frame_in files s) (c.loop-i.i + 1)) (sym (rows files shown)));
     }
 
