@@ -11,5 +11,4 @@ mod Reach
 pub mod Readings
 mod Runs
 mod Steps
-mod Strings
 mod Tiling

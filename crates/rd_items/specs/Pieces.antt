@@ -1,6 +1,7 @@
 -- The pieces of a block: what its positions give, before marks join and ranges are handed on. Places are offsets in what is read.
 use Rattle.std.specs.Prelude.{ℕ, zero, suc, ◌+◌, ◌==◌, Bool, true, false, not, ◌||◌, ◌&&◌, if◌then◌else◌, List, [], ◌∷◌, ◌++◌, slice_get, map, Option, None, Some}
 use Rattle.std.specs.Option.{unwrap_or, option_and_then}
+use Rattle.std.specs.List.{list_any}
 use Rattle.rd_base.specs.declared.class.Class.{Class}
 use Rattle.rd_base.specs.declared.class.Class.TheVariants.{B, S, ON}
 use Rattle.rd_base.specs.Faces.{Attributes}
@@ -65,8 +66,7 @@ gives_element table c = is_newline c || not (is_empty_entry (entry_of table c))
 
 -- whether characters give any element
 abbrev pub give_elements : Option TableValue → List ℕ → Bool
-give_elements table [] = false
-give_elements table (c ∷ cs) = gives_element table c || give_elements table cs
+give_elements table = list_any (gives_element table)
 
 -- whether a display string gives any element
 abbrev pub string_gives : Option TableValue → Option TextValue → Bool

@@ -102,10 +102,7 @@ pub fn parts_of<'a>(view: &View<'a>) -> Parts<'a>
 pub fn spec_in(objects: &Objects, number: u32) -> Spec
     ensures { result ≡ spec_in objects.now number }
 {
-    match objects.spec(number) {
-        Some(spec) => spec,
-        None => Spec::Width(0),
-    }
+    objects.spec(number).unwrap_or(Spec::Width(0))
 }
 
 /// Whether a character of a string gives an element.
@@ -119,12 +116,7 @@ fn gives_element(parts: &Parts, ch: Ch) -> bool
 fn give_elements(parts: &Parts, text: &Text) -> bool
     ensures { result ≡ give_elements parts.now.table text.now.chars }
 {
-    for i in 0..text.len() {
-        if gives_element(parts, text.ch(i)) {
-            return true;
-        }
-    }
-    false
+    text.chars().iter().any(|ch| gives_element(parts, *ch))
 }
 
 /// Whether the string of a number gives any element.
@@ -183,10 +175,7 @@ pub fn inner_class(class: Class) -> Class
 fn has_element(role: MarkRole) -> bool
     ensures { result ≡ has_element role }
 {
-    match role {
-        MarkRole::Empty => false,
-        _ => true,
-    }
+    !matches!(role, MarkRole::Empty)
 }
 
 /// The piece of a character of this class.

@@ -72,6 +72,13 @@ impl Text {
         self.chars.at(i as usize)
     }
 
+    /// The characters. It costs one step.
+    pub fn chars(&self) -> &[Ch]
+        ensures { result.now ≡ self.now.chars }
+    {
+        self.chars.as_slice()
+    }
+
     /// The face at a place, counted from 0: that of the last run of faces that covers it, and the plain face where there is
     /// none. It costs a look at each run.
     pub fn face(&self, i: u32) -> Face
