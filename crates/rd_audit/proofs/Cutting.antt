@@ -1,6 +1,7 @@
 -- Pieces of bytes, as the code finds them.
-use Rattle.std.proofs.Common.{◌≡◌, ◌≢◌, ◌==◌, ℕ, zero, suc, ◌<◌, Bool, true, false, if◌then◌else◌, Option, None, Some, option_map, List, [], ◌∷◌, ◌++◌, length, get_or, take, drop, refl, sym, ap, ◌∙◌, subst, arith, Bor}
+use Rattle.std.proofs.Common.{◌≡◌, ◌≢◌, ◌==◌, ℕ, zero, suc, ◌+◌, ◌<◌, ◌≤◌, Bool, true, false, if◌then◌else◌, Option, None, Some, option_map, List, [], ◌∷◌, ◌++◌, length, get_or, take, drop, refl, sym, ap, ◌∙◌, subst, arith, Bor}
 use Rattle.std.specs.Prelude.{MatchOption}
+use Rattle.std.proofs.lemmas.Bool.{ne_eqb}
 use Rattle.std.proofs.lemmas.Bool.Decides.{Decides-eqb}
 use Rattle.rd_io.specs.Lines.{lines_of}
 use Rattle.rd_io.proofs.Cuts.{lines-whole, lines-rest, last-some}
@@ -34,12 +35,22 @@ stripped-is f s (Some x) m = stripped-behind f s x.now m
 
 -- ---- the last of a byte
 
-pub last-here : (byte i : ℕ) (bs : List ℕ) → i < length bs → get_or bs i 0 ≡ byte → cut_last byte (drop (suc i) bs) ≡ None
+-- bytes without it have no cut
+pub last-none : (byte : ℕ) (bs : List ℕ) → ((k : ℕ) → k < length bs → get_or bs k 0 ≢ byte) → None ≡ cut_last byte bs
+last-none byte [] none = refl
+last-none byte (b ∷ bs) none =
+    sym (ap (λ t. if t then Some ([], bs) else None) (ne_eqb b byte (none 0 (omega arith))))
+    ∙ ap (cut_last_or byte b bs) (last-none byte bs (λ k less. none (suc k) (omega (arith, less))))
+
+-- the cut stands at a place that has it, where no place behind does
+pub last-here : (byte i : ℕ) (bs : List ℕ) → i < length bs → get_or bs i 0 ≡ byte → ((k : ℕ) → i + 1 ≤ k → k < length bs → get_or bs k 0 ≢ byte)
     → Some (take i bs, drop 1 (drop i bs)) ≡ cut_last byte bs
 last-here byte i [] less found none = absurd (omega (arith, less))
 last-here byte zero (b ∷ bs) less found none =
-    sym (ap (cut_last_or byte b bs) none ∙ ap (λ t. if t then Some ([], bs) else None) ((Decides-eqb b byte).1 found))
-last-here byte (suc i) (b ∷ bs) less found none = ap (cut_last_or byte b bs) (last-here byte i bs (omega (arith, less)) found none)
+    sym (ap (λ t. if t then Some ([], bs) else None) ((Decides-eqb b byte).1 found))
+    ∙ ap (cut_last_or byte b bs) (last-none byte bs (λ k within. none (suc k) (omega arith) (omega (arith, within))))
+last-here byte (suc i) (b ∷ bs) less found none =
+    ap (cut_last_or byte b bs) (last-here byte i bs (omega (arith, less)) found (λ k more within. none (suc k) (omega (arith, more)) (omega (arith, within))))
 
 -- ---- lines
 

@@ -23,15 +23,9 @@ pub fn begins_with(front: &[u8], bytes: &[u8]) -> bool
 pub fn cut_last(byte: u8, bytes: &[u8]) -> Option<(&[u8], &[u8])>
     ensures { option_map (λ parts. (parts.0.now, parts.1.now)) result ≡ cut_last byte bytes.now }
 {
-    let mut end = bytes.len();
-    while end > 0 {
-        end -= 1;
-        if bytes[end] == byte {
-            let (front, back) = bytes.split_at(end);
-            return Some((front, back.split_at(1).1));
-        }
-    }
-    None
+    let end = bytes.iter().rposition(|b| *b == byte)?;
+    let (front, back) = bytes.split_at(end);
+    Some((front, back.split_at(1).1))
 }
 
 /// The first line of bytes and what stands behind it, and None exactly where there is no line.
