@@ -7,6 +7,7 @@ use Rattle.rd_base.specs.Faces.{Attributes}
 use Rattle.rd_base.specs.declared.cell.Cell.{Cell}
 use Rattle.rd_audit.specs.Runs.{with_face, faced}
 
+-- a walk over the columns of a run keeps what the whole is when it paints the next one
 pub paint-on : (k end : ℕ) (face : Attributes) (cell : Cell) (cells next whole : List Cell) → k < end → end ≤ length cells → slice_get cells k ≡ Some cell → next ≡ slice_set cells k (with_face face cell)
     → take k cells ++ faced (end - k) face (drop k cells) ≡ whole
     → take (k + 1) next ++ faced (end - (k + 1)) face (drop (k + 1) next) ≡ whole
