@@ -3,18 +3,13 @@ use Rattle.std.proofs.Common.{◌≡◌, Result, Ok, Err, refl, sym, ap, subst, 
 use Rattle.std.specs.Result.{IsErrAnd}
 use Rattle.serde_json.specs.View.{members_view}
 use Rattle.rd_script.specs.declared.fault.OpFault.{OpFault}
-use Rattle.rd_script.specs.declared.fault.OpFault.TheVariants.{NotJson, NotObject, Missing, NoSuchOp, BadField, Extra, Memory}
+use Rattle.rd_script.specs.declared.fault.OpFault.TheVariants.{Memory}
 use Rattle.rd_script.specs.Fields.{Fields, and_then, both, made, Asking, asked_too, IsRead, IsTaken}
 
 -- a fault stays what it is, whatever was to be made of an answer
 fault-stays : {A B : Type 0} (f : A → Result B OpFault) (e : OpFault) (said : Result A OpFault) → IsRead {T = A} (Err e) said → IsRead {T = B} (Err e) (and_then f said)
 fault-stays f Memory said h = tt
-fault-stays f NotJson said h = ap (and_then f) h
-fault-stays f NotObject said h = ap (and_then f) h
-fault-stays f (Missing key) said h = ap (and_then f) h
-fault-stays f NoSuchOp said h = ap (and_then f) h
-fault-stays f (BadField key) said h = ap (and_then f) h
-fault-stays f (Extra key) said h = ap (and_then f) h
+fault-stays f fault said h = ap (and_then f) h
 
 -- what is made of a pair, where its first part was read
 made-pair : {A B C : Type 0} (a : A) (make : A × B → C) (said : Result B OpFault) → and_then (λ x. Ok (make x)) (and_then (λ b. Ok (a, b)) said) ≡ and_then (λ b. Ok (make (a, b))) said
