@@ -62,21 +62,14 @@ refused-there s name how edit valid less refuses =
     let done : BufferValue → Result StateValue Refused = λ x. moving i how (replaced s i x (edit x.content)) in
     ap (λ o. with_found NoBuffer o done) at ∙ ap (λ r. moving i how (replaced s i b r)) (refuses b.content (valid.buffers.contents i b at).text)
 
--- so it is refused of the buffer that was found
-refused-found : (s t : StateValue) (e : Refused) (name : List ℕ) (i : ℕ) (how : Move) (edit : ContentValue → Result ContentValue Refused)
-    → e ≡ OutOfRange → t ≡ s → IsValid s → i ≡ number_of name t.buffers → i < length t.buffers
-    → ((c : ContentValue) → IsText c.text → edit c ≡ Err OutOfRange) → edited_moving s name how edit ≡ Err e
-refused-found s t e name i how edit out same valid found within every =
-    let less = subst (λ k. k < length t.buffers) found within in
-    let refused = refused-there t name how edit (subst IsValid (sym same) valid) less every in
-    ap (λ x. edited_moving x name how edit) (sym same) ∙ (refused ∙ ap (λ x. Err x) (sym out))
-
--- and an op that asks for the edit
+-- and so is an op that asks for it of the buffer that was found
 pub refuses-behind : (r : Result Effect Refused) (op : Op) (s t : StateValue) (e : Refused) (name : List ℕ) (i : ℕ) (how : Move) (edit : ContentValue → Result ContentValue Refused)
     → IsErr r → IsErrAnd r (λ x. x ≡ e) → e ≡ OutOfRange → t ≡ s → IsValid s → i ≡ number_of name t.buffers → i < length t.buffers
     → ((c : ContentValue) → IsText c.text → edit c ≡ Err OutOfRange) → step s op ≡ edited_moving s name how edit → Applies r op s s
 refuses-behind r op s t e name i how edit is and out same valid found within every asks =
-    refuses r op s s e is and refl (asks ∙ refused-found s t e name i how edit out same valid found within every)
+    let less = subst (λ k. k < length t.buffers) found within in
+    let refused = refused-there t name how edit (subst IsValid (sym same) valid) less every in
+    refuses r op s s e is and refl (asks ∙ (ap (λ x. edited_moving x name how edit) (sym same) ∙ (refused ∙ ap (λ x. Err x) (sym out))))
 
 -- a range is taken away or made the accessible one
 pub range-asks : (s : StateValue) (name : List ℕ) (from to : ℕ) (deletes : Bool) → step s (if deletes then Delete name from to else Narrow name from to)
