@@ -141,21 +141,17 @@ same-at s t i k edit b c e hb hc is =
       | inr p ↦ absurd (p.0 is)
     ]
 
-pub other-at : (s t : StateValue) (i k : ℕ) (edit : ContentValue → Result ContentValue Refused) (b c : BufferValue) → IsEditOf s t i edit → slice_get s.buffers k ≡ Some b → slice_get t.buffers k ≡ Some c
-    → k ≢ i → b ≡ c
-other-at s t i k edit b c e hb hc ne =
-    let after : slice_get (slice_set s.buffers i (holding e.buffer e.content)) k ≡ Some c = ap (λ (x : StateValue). slice_get x.buffers k) e.is ∙ hc in
-    elim (get-set s.buffers i k (holding e.buffer e.content) c after) [
-      | inl p ↦ absurd (ne p.0)
-      | inr p ↦ one-value (slice_get s.buffers k) b c hb p.1
-    ]
-
 -- what an edit leaves of the other buffers
 pub others-whole : (laws : LeaveLaws) (s t : StateValue) (i k : ℕ) (edit : ContentValue → Result ContentValue Refused) (b c : BufferValue) → IsEditOf s t i edit → slice_get s.buffers k ≡ Some b
     → slice_get t.buffers k ≡ Some c → k ≢ i → StaysWhole b.content s.objects c.content t.objects
 others-whole laws s t i k edit b c e hb hc ne =
+    let after : slice_get (slice_set s.buffers i (holding e.buffer e.content)) k ≡ Some c = ap (λ (x : StateValue). slice_get x.buffers k) e.is ∙ hc in
+    let same : b ≡ c = elim (get-set s.buffers i k (holding e.buffer e.content) c after) [
+      | inl p ↦ absurd (ne p.0)
+      | inr p ↦ one-value (slice_get s.buffers k) b c hb p.1
+    ] in
     subst (λ (o : ObjectLists). StaysWhole b.content s.objects c.content o) (ap (λ (x : StateValue). x.objects) e.is)
-    (subst (λ (x : BufferValue). StaysWhole b.content s.objects x.content s.objects) (other-at s t i k edit b c e hb hc ne) (whole laws s.objects b.content))
+    (subst (λ (x : BufferValue). StaysWhole b.content s.objects x.content s.objects) same (whole laws s.objects b.content))
 
 -- what an edit of a part leaves of its own buffer, and of the others
 pub part-stays : (laws : LeaveLaws) (s t : StateValue) (i head tail : ℕ) (added : ℤ) (edit : ContentValue → Result ContentValue Refused) → IsEditOf s t i edit
