@@ -1,10 +1,11 @@
 -- Lists by numbers: what stands under one, and the windows of a state.
-use Rattle.std.proofs.Common.{◌≡◌, ◌≢◌, ℕ, zero, suc, ◌+◌, ◌<◌, ◌⊎◌, inl, inr, ◌==◌, not, if◌then◌else◌, Option, None, Some, List, [], ◌∷◌, ◌++◌, length, map, set, subst, sym, ap, refl, ◌∙◌, arith}
-use Rattle.std.proofs.lemmas.Bool.{cases_eq, cond-false, cond-true, eq-eqb, ne_eqb, not_from_false, not_from_true}
-use Rattle.std.specs.Prelude.{slice_get, option_map, IsSome}
+use Rattle.std.proofs.Common.{◌≡◌, ◌≢◌, ℕ, zero, suc, ◌+◌, ◌<◌, ◌⊎◌, inl, inr, ◌==◌, not, if◌then◌else◌, Option, None, Some, List, [], ◌∷◌, ◌++◌, length, map, nat_lt, set, subst, sym, ap, refl, ◌∙◌, arith}
+use Rattle.std.proofs.lemmas.Bool.{cases_eq, cond-false, cond-true, eq-eqb, ltb-false, ne_eqb, not_from_false, not_from_true}
+use Rattle.std.proofs.lemmas.List.Sums.{prefix_len-le-length}
+use Rattle.std.specs.Prelude.{slice_get, option_map, position, IsSome}
 use Rattle.std.specs.List.{remove}
 use Rattle.std.specs.Option.{option_or}
-use Rattle.rd_base.proofs.Choices.{is_some-map}
+use Rattle.rd_base.proofs.Choices.{is_some-map, none-chosen}
 use Rattle.rd_state.specs.declared.window.WindowState.{WindowState}
 use Rattle.rd_state.proofs.Options.{one-value}
 use Rattle.rd_state.specs.Windows.{under, window_of, place_in, kept_as, becoming, with_window, without_window, AreApart}
@@ -26,10 +27,10 @@ becoming-here n f e rest h = cond-true (e.0 == n) _ _ (eq-eqb e.0 n h)
 becoming-there : (n : ℕ) (f : WindowState → Option WindowState) (e : NumberedWindow) (rest : List NumberedWindow) → e.0 ≢ n → becoming n f (e ∷ rest) ≡ e ∷ becoming n f rest
 becoming-there n f e rest h = cond-false (e.0 == n) _ _ (ne_eqb e.0 n h)
 
-place-here : (n : ℕ) (e : NumberedWindow) (rest : List NumberedWindow) → e.0 ≡ n → place_in n (e ∷ rest) ≡ 0
+place-here : {X : Type 0} (n : ℕ) (e : ℕ × X) (rest : List (ℕ × X)) → e.0 ≡ n → place_in n (e ∷ rest) ≡ 0
 place-here n e rest h = cond-false (not (e.0 == n)) (1 + place_in n rest) 0 (not_from_true (e.0 == n) (eq-eqb e.0 n h))
 
-place-there : (n : ℕ) (e : NumberedWindow) (rest : List NumberedWindow) → e.0 ≢ n → place_in n (e ∷ rest) ≡ 1 + place_in n rest
+place-there : {X : Type 0} (n : ℕ) (e : ℕ × X) (rest : List (ℕ × X)) → e.0 ≢ n → place_in n (e ∷ rest) ≡ 1 + place_in n rest
 place-there n e rest h = cond-true (not (e.0 == n)) (1 + place_in n rest) 0 (not_from_false (e.0 == n) (ne_eqb e.0 n h))
 
 -- ---- finding
@@ -82,12 +83,18 @@ found n (suc j) (d ∷ rest) is less = elim (cases_eq d.0 n) [
       (there.0, one-further n j d rest there.0 q there.1)
 ]
 
-pub absent : (n : ℕ) (ws : List NumberedWindow) → length ws ≡ place_in n ws → window_of n ws ≡ None
+absent : {X : Type 0} (n : ℕ) (es : List (ℕ × X)) → length es ≡ place_in n es → under n es ≡ None
 absent n [] h = refl
 absent n (e ∷ rest) h = elim (cases_eq e.0 n) [
   | inl p ↦ absurd (omega (arith, place-here n e rest p, h))
   | inr q ↦ under-there n e rest q ∙ absent n rest (omega (arith, place-there n e rest q, h))
 ]
+
+-- where no place is found nothing stands under the number
+pub nowhere : {X : Type 0} (n : ℕ) (es : List (ℕ × X)) → position (λ e. e.0 == n) es ≡ None → under n es ≡ None
+nowhere {X} n es h =
+    let past = ltb-false (place_in n es) (length es) (none-chosen (nat_lt (place_in n es) (length es)) (place_in n es) None h).0 in
+    absent n es (omega (arith, past, prefix_len-le-length (λ (e : ℕ × X). not (e.0 == n)) es))
 
 -- ---- a window that becomes another, or goes
 

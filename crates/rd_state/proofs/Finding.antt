@@ -1,23 +1,13 @@
 -- Windows found by number.
-use Rattle.std.proofs.Common.{◌≡◌, ℕ, ◌<◌, ◌==◌, not, None, Some, Result, Ok, List, length, nat_lt, set, get_or, refl, ap, subst, arith, sym, ◌∙◌}
-use Rattle.std.proofs.lemmas.Bool.{ltb-false}
-use Rattle.std.proofs.lemmas.List.Sums.{prefix_len-le-length}
+use Rattle.std.proofs.Common.{◌≡◌, ℕ, ◌<◌, Some, Result, Ok, List, length, set, get_or, refl, ap, subst, sym, ◌∙◌}
 use Rattle.std.proofs.lemmas.Option.{slice_get-get_or}
-use Rattle.std.specs.Prelude.{position}
-use Rattle.rd_base.proofs.Choices.{none-chosen}
 use Rattle.rd_state.specs.declared.refused.Refused.{Refused}
 use Rattle.rd_state.specs.declared.refused.Refused.TheVariants.{NoWindow}
 use Rattle.rd_state.specs.declared.window.WindowState.{WindowState}
 use Rattle.rd_state.specs.States.{StateValue}
 use Rattle.rd_state.specs.Steps.{with_found, in_window, changing, setting}
-use Rattle.rd_state.specs.Windows.{window_of, place_in, with_window}
-use Rattle.rd_state.proofs.ByNumber.{NumberedWindow, IsFound, found, absent}
-
--- where no place is found the window does not live
-pub nowhere : (number : ℕ) (ws : List NumberedWindow) → position (λ e. e.0 == number) ws ≡ None → window_of number ws ≡ None
-nowhere number ws h =
-    let past = ltb-false (place_in number ws) (length ws) (none-chosen (nat_lt (place_in number ws) (length ws)) (place_in number ws) None h).0 in
-    absent number ws (omega (arith, past, prefix_len-le-length (λ (e : NumberedWindow). not (e.0 == number)) ws))
+use Rattle.rd_state.specs.Windows.{place_in, with_window}
+use Rattle.rd_state.proofs.ByNumber.{NumberedWindow, IsFound, found}
 
 pub found-entry : (n i : ℕ) (ws : List NumberedWindow) (e : NumberedWindow) → i ≡ place_in n ws → i < length ws → e ≡ get_or ws i e → IsFound n i ws e
 found-entry n i ws e is less at =

@@ -15,9 +15,9 @@ under number (e ∷ rest) = if e.0 == number then Some e.1 else under number res
 abbrev pub window_of : ℕ → List (ℕ × WindowState) → Option WindowState
 window_of number windows = under number windows
 
--- the place of the window with a number, and the count of windows where it does not live
-abbrev pub place_in : ℕ → List (ℕ × WindowState) → ℕ
-place_in number windows = position_or_len (λ e. e.0 == number) windows
+-- the place of what stands under a number, and the count of entries where nothing does
+abbrev pub place_in : {X : Type 0} → ℕ → List (ℕ × X) → ℕ
+place_in number es = position_or_len (λ e. e.0 == number) es
 
 -- a window before others, where there is one
 abbrev pub kept_as : ℕ → Option WindowState → List (ℕ × WindowState) → List (ℕ × WindowState)

@@ -1,6 +1,6 @@
 use Rattle.std.proofs.Common.{◌==◌, sym, ◌∙◌}
 use Rattle.rd_state.specs.declared.refused.Refused.TheVariants.{NoWindow}
-use Rattle.rd_state.proofs.Finding.{nowhere}
+use Rattle.rd_state.proofs.ByNumber.{nowhere}
 use Rattle.rd_state.proofs.Options.{position-is, finds}
 use Rattle.rd_state.proofs.windows.find.Goals as goal
 
