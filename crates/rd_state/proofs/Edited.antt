@@ -18,7 +18,7 @@ use Rattle.rd_script.specs.Forms.{is_text_kind}
 use Rattle.rd_state.proofs.Contents.{put_on-within}
 use Rattle.rd_state.proofs.Tests.{is_accessible_range-means}
 use Rattle.rd_state.proofs.Within.{same-within}
-use Rattle.rd_state.proofs.Tables.{AreAlike, grown-content, shrunk-content, put-content}
+use Rattle.rd_state.proofs.Tables.{AreAlike, changed-content}
 
 accessible : (t : TextValue) (pos : ℕ) → IsAccessible t pos → is_accessible t pos ≡ true
 accessible t pos at = let a = at.0 in let b = at.1 in grind (arith, nat_tests)
@@ -39,7 +39,7 @@ pub insertion-is : (b c : BufferState) (pos : ℕ) (new : List ℕ) → IsWithin
 insertion-is b c pos new within at room same values overlays settings m =
     cond-true (is_accessible b.text pos) _ _ (accessible b.text pos at)
     ∙ (cond-true (has_room b.text new) _ _ (roomy b.text new room)
-    ∙ ap Ok (grown-content b c m pos new within same values overlays settings))
+    ∙ ap Ok (changed-content b c m (inserted b.text pos new) (λ f. opened f pos (length new)) _ _ within same values overlays settings))
 
 pub deletion-is : (b c : BufferState) (from to : ℕ) → IsWithin (props.meaning b) → IsAccessibleRange b.text from to
     → c.text ≡ deleted b.text from to → AreAlike (props.values_of c.spans) (closed (props.values_of b.spans) from to)
@@ -47,7 +47,7 @@ pub deletion-is : (b c : BufferState) (from to : ℕ) → IsWithin (props.meanin
     → (m : MarkValues) → deletion from to (content_of b m) ≡ Ok (content_of c m)
 deletion-is b c from to within at same values overlays settings m =
     cond-true (is_accessible_range b.text from to) _ _ (accessible-range b.text from to at)
-    ∙ ap Ok (shrunk-content b c m from to within same values overlays settings)
+    ∙ ap Ok (changed-content b c m (deleted b.text from to) (λ f. closed f from to) _ _ within same values overlays settings)
 
 pub putting-is : (o : ObjectLists) (b : BufferState) (spans : List (List (Option ℕ))) (m : MarkValues) (kind : Kind) (from to : ℕ) (value : Option ℕ) → IsWithin (props.meaning b)
     → is_accessible_range b.text from to ≡ true → is_value_made o kind value ≡ true
@@ -56,7 +56,7 @@ pub putting-is : (o : ObjectLists) (b : BufferState) (spans : List (List (Option
 putting-is o b spans m kind from to value within range made values =
     cond-true (is_accessible_range b.text from to) _ _ range
     ∙ (cond-true (is_value_made o kind value) _ _ made
-    ∙ ap Ok (put-content b spans m kind from to value within values))
+    ∙ ap Ok (changed-content b (record b { spans = spans }) m b.text (λ f. put_on f kind from to value) b.overlays b.settings within refl values refl refl))
 
 pub putting-within : (b : BufferState) (spans : List (List (Option ℕ))) (kind : Kind) (from to : ℕ) (value : Option ℕ) → IsText b.text → IsWithin (props.meaning b) → is_text_kind kind ≡ true
     → is_accessible_range b.text from to ≡ true → AreAlike (props.values_of spans) (put_on (props.values_of b.spans) kind from to value) → IsWithin (props.meaning (record b { spans = spans }))

@@ -1,21 +1,17 @@
 -- The values of text properties as lists, one value for each character, and what edits of a buffer make of what it holds.
-use Rattle.std.proofs.Common.{◌≡◌, ℕ, zero, suc, ◌+◌, ◌<◌, ◌≤◌, inl, inr, nat_lt, Option, None, Some, List, length, map, get_or, sym, ap, subst, refl, ◌∙◌, arith}
+use Rattle.std.proofs.Common.{◌≡◌, ℕ, zero, suc, ◌+◌, ◌<◌, ◌≤◌, inl, inr, Option, None, Some, List, length, map, get_or, sym, ap, subst, refl, ◌∙◌, arith}
 use Rattle.std.proofs.lemmas.Bool.{cases_lt}
 use Rattle.std.proofs.lemmas.List.{get_or_past}
 use Rattle.std.specs.FinMap as finite
-use Rattle.rd_text.specs.Texts.{TextValue, inserted, deleted}
+use Rattle.rd_text.specs.Texts.{TextValue}
 use Rattle.rd_base.specs.Settings.{SettingValues}
-use Rattle.rd_overlays.specs.declared.overlay.Kind.{Kind}
 use Rattle.rd_overlays.specs.declared.overlay.Overlay.{Overlay}
-use Rattle.rd_overlays.specs.Overlays.{slot_grown, slot_shrunk}
 use Rattle.rd_margins.specs.Marks.{MarkValues}
 use Rattle.rd_props.specs.Buffers as props
-use Rattle.rd_props.specs.Edits.{opened, closed, put_on}
 use Rattle.rd_props.specs.declared.state.BufferState.{BufferState}
 use Rattle.rd_state.specs.States.{ContentValue, listed, table, values_on, value_in, new_content, seen}
 use Rattle.rd_state.specs.Held.{content_of}
 use Rattle.rd_state.specs.Valid.{IsWithin}
-use Rattle.rd_state.specs.Edits.{marked_modified, grown, shrunk}
 
 -- ---- lists
 
@@ -97,7 +93,7 @@ new-content b m e f = λ i. record {
 }
 
 -- what is left after an edit
-changed-content : (b c : BufferState) (m : MarkValues) (text : TextValue) (change : (ℕ → ℕ → Option ℕ) → ℕ → ℕ → Option ℕ) (overlays : List (Option Overlay)) (settings : SettingValues)
+pub changed-content : (b c : BufferState) (m : MarkValues) (text : TextValue) (change : (ℕ → ℕ → Option ℕ) → ℕ → ℕ → Option ℕ) (overlays : List (Option Overlay)) (settings : SettingValues)
     → IsWithin (props.meaning b) → c.text ≡ text → AreAlike (props.values_of c.spans) (change (props.values_of b.spans)) → c.overlays ≡ overlays → c.settings ≡ settings
     → ◌≡◌ {A = ContentValue}
     (record { text = text; properties = values_on text (change (value_in (values_on b.text (props.values_of b.spans)))); overlays = overlays; settings = settings; marks = m }) (content_of c m)
@@ -106,26 +102,3 @@ changed-content b c m text change overlays settings within same values is set =
     let alike : AreAlike (props.values_of c.spans) (change f) = λ kind p. values kind p ∙ λ i. change (λ k q. sym (values-kept b within k q) i) kind p in
     let lists = values-alike text c.text (change f) (props.values_of c.spans) same alike in
     λ i. record { text = sym same i; properties = lists i; overlays = sym is i; settings = sym set i; marks = m }
-
--- after a text was put in
-pub grown-content : (b c : BufferState) (m : MarkValues) (pos : ℕ) (new : List ℕ) → IsWithin (props.meaning b) → c.text ≡ inserted b.text pos new
-    → AreAlike (props.values_of c.spans) (opened (props.values_of b.spans) pos (length new))
-    → c.overlays ≡ map (slot_grown pos (length new)) b.overlays → c.settings ≡ marked_modified (nat_lt 0 (length new)) b.settings
-    → grown (content_of b m) pos new ≡ content_of c m
-grown-content b c m pos new within same values overlays settings =
-    changed-content b c m (inserted b.text pos new) (λ f. opened f pos (length new)) _ _ within same values overlays settings
-
--- after a range was taken away
-pub shrunk-content : (b c : BufferState) (m : MarkValues) (from to : ℕ) → IsWithin (props.meaning b) → c.text ≡ deleted b.text from to
-    → AreAlike (props.values_of c.spans) (closed (props.values_of b.spans) from to)
-    → c.overlays ≡ map (slot_shrunk from to) b.overlays → c.settings ≡ marked_modified (nat_lt from to) b.settings
-    → shrunk (content_of b m) from to ≡ content_of c m
-shrunk-content b c m from to within same values overlays settings =
-    changed-content b c m (deleted b.text from to) (λ f. closed f from to) _ _ within same values overlays settings
-
--- after a property was put on a range
-pub put-content : (b : BufferState) (spans : List (List (Option ℕ))) (m : MarkValues) (kind : Kind) (from to : ℕ) (value : Option ℕ) → IsWithin (props.meaning b)
-    → AreAlike (props.values_of spans) (put_on (props.values_of b.spans) kind from to value)
-    → record (content_of b m) { properties = values_on b.text (put_on (value_in (values_on b.text (props.values_of b.spans))) kind from to value) } ≡ content_of (record b { spans = spans }) m
-put-content b spans m kind from to value within values =
-    changed-content b (record b { spans = spans }) m b.text (λ f. put_on f kind from to value) b.overlays b.settings within refl values refl refl
