@@ -1,28 +1,21 @@
 -- The values of text properties as lists, one value for each character, and what edits of a buffer make of what it holds.
-use Rattle.std.proofs.Common.{◌≡◌, ℕ, zero, suc, ◌+◌, ◌<◌, ◌≤◌, inl, inr, Option, None, Some, List, length, map, get_or, sym, ap, subst, refl, ◌∙◌, arith}
+use Rattle.std.proofs.Common.{◌≡◌, ℕ, zero, suc, ◌<◌, ◌≤◌, inl, inr, Option, None, Some, List, length, map, get_or, sym, ap, subst, refl, ◌∙◌, arith}
 use Rattle.std.proofs.lemmas.Bool.{cases_lt}
 use Rattle.std.proofs.lemmas.List.{get_or_past}
+use Rattle.std.proofs.lemmas.List.FromFn.{get_or-map-range_with_len, length-map-range_with_len}
 use Rattle.std.specs.FinMap as finite
+use Rattle.std.specs.List.{range_with_len}
 use Rattle.rd_text.specs.Texts.{TextValue}
 use Rattle.rd_base.specs.Settings.{SettingValues}
 use Rattle.rd_overlays.specs.declared.overlay.Overlay.{Overlay}
 use Rattle.rd_margins.specs.Marks.{MarkValues}
 use Rattle.rd_props.specs.Buffers as props
 use Rattle.rd_props.specs.declared.state.BufferState.{BufferState}
-use Rattle.rd_state.specs.States.{ContentValue, listed, table, values_on, value_in, new_content, seen}
+use Rattle.rd_state.specs.States.{ContentValue, table, values_on, value_in, new_content, seen}
 use Rattle.rd_state.specs.Held.{content_of}
 use Rattle.rd_state.specs.Valid.{IsWithin}
 
 -- ---- lists
-
-pub length-listed : (p n : ℕ) (f : ℕ → Option ℕ) → length (listed p n f) ≡ n
-length-listed p zero f = refl
-length-listed p (suc n) f = ap suc (length-listed (p + 1) n f)
-
-get-listed : (p n i : ℕ) (f : ℕ → Option ℕ) → i < n → get_or (listed p n f) i None ≡ f (p + i)
-get-listed p zero i f h = absurd (omega (arith, h))
-get-listed p (suc n) zero f h = let a : p ≡ p + zero = omega arith in ap f a
-get-listed p (suc n) (suc i) f h = let a : p + 1 + i ≡ p + suc i = omega arith in get-listed (p + 1) n i f (omega (arith, h)) ∙ ap f a
 
 pub table-same : (size : ℕ) (f g : ℕ → ℕ → Option ℕ) → ((kind p : ℕ) → f kind p ≡ g kind p) → table size f ≡ table size g
 table-same size f g e = λ i. table size (λ kind p. e kind p i)
@@ -40,11 +33,11 @@ none-there : {X : Type 0} (o : Option X) → ((v : X) → o ≡ Some v → ⊥) 
 none-there None h = refl
 none-there (Some v) h = absurd (h v refl)
 
-listed-value : (size : ℕ) (f : ℕ → Option ℕ) (i : ℕ) → ((v : ℕ) → f (suc i) ≡ Some v → suc i ≤ size) → get_or (listed 1 size f) i None ≡ f (suc i)
+listed-value : (size : ℕ) (f : ℕ → Option ℕ) (i : ℕ) → ((v : ℕ) → f (suc i) ≡ Some v → suc i ≤ size) → get_or (map f (range_with_len 1 size)) i None ≡ f (suc i)
 listed-value size f i h = elim (cases_lt i size) [
-  | inl within ↦ let a : 1 + i ≡ suc i = omega arith in get-listed 1 size i f within ∙ ap f a
+  | inl within ↦ get_or-map-range_with_len f 1 size i (suc i) None within (omega arith)
   | inr past ↦
-      get_or_past (listed 1 size f) i None (omega (arith, length-listed 1 size f))
+      get_or_past (map f (range_with_len 1 size)) i None (omega (arith, length-map-range_with_len f 1 size))
       ∙ sym (none-there (f (suc i)) (λ v e. omega (arith, h v e)))
 ]
 

@@ -1,8 +1,8 @@
 -- A state, as contracts see it: the buffers in order of making, the objects, the windows, and what belongs to the whole frame.
-use Rattle.std.specs.Prelude.{ℕ, zero, suc, ◌+◌, Bool, false, pos, get_or, Option, None, List, [], ◌∷◌, length, map, codes, String, string_bytes}
+use Rattle.std.specs.Prelude.{ℕ, zero, suc, Bool, false, pos, get_or, Option, None, List, [], ◌∷◌, length, map, codes, String, string_bytes}
 use Rattle.std.specs.Coded.{Coded, coded_ℕ}
 use Rattle.std.specs.FinMap as map
-use Rattle.std.specs.List.{position_or_len}
+use Rattle.std.specs.List.{position_or_len, range_with_len}
 use Rattle.std.specs.Str.{bytes_eq}
 use Rattle.std.specs.declared.alloc.Global.{Global}
 use Rattle.rd_base.specs.Settings as settings
@@ -17,14 +17,9 @@ use Rattle.rd_state.specs.declared.window.WindowState.{WindowState}
 
 -- ---- the values of text properties as lists
 
--- the values at so many positions from one on
-abbrev pub listed : ℕ → ℕ → (ℕ → Option ℕ) → List (Option ℕ)
-listed p zero values = []
-listed p (suc n) values = values p ∷ listed (p + 1) n values
-
 -- the values of the five text properties at the positions of a text of so many characters
 abbrev pub table : ℕ → (ℕ → ℕ → Option ℕ) → List (List (Option ℕ))
-table size values = map (λ kind. listed 1 size (values kind)) (0 ∷ 1 ∷ 2 ∷ 3 ∷ 4 ∷ [])
+table size values = map (λ kind. map (values kind) (range_with_len 1 size)) (0 ∷ 1 ∷ 2 ∷ 3 ∷ 4 ∷ [])
 
 -- the same of a text
 abbrev pub values_on : TextValue → (ℕ → ℕ → Option ℕ) → List (List (Option ℕ))
