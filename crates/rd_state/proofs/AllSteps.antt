@@ -157,12 +157,10 @@ step-valid laws s (ops.Wrap window mode) v form =
 step-valid laws s (ops.ModeLine window format) v form = mode_lining-valid laws.trees s window format v form.1
 step-valid laws s (ops.Scrolling margin conservatively) v form = framed-valid s margin conservatively s.echo s.shifting v form.0 form.1 v.echo
 step-valid laws s (ops.Echo text) v form = framed-valid s s.margin s.conservatively text s.shifting v v.margin v.conservatively form
-step-valid laws s (ops.Redisplay stop) v form = v
 step-valid laws s (ops.Shift on) v form = framed-valid s s.margin s.conservatively s.echo on v v.margin v.conservatively v.echo
-step-valid laws s (ops.Go window right) v form = v
-step-valid laws s (ops.Hit window row column) v form = v
 step-valid laws s (ops.Margin window numbers strings) v form = margining-valid laws.trees s window numbers strings v form.1 form.2
 step-valid laws s (ops.MarginPut name overlay string) v form = edited-valid s name (margin_putting s.objects overlay string) v (margin-keeps s.objects overlay string)
+step-valid laws s op v form = v
 
 -- ---- settling
 

@@ -119,13 +119,9 @@ widened-valid texts o c v = range-valid o c (widened c.text) v (texts.widened c.
 -- ---- properties
 
 text-place : (kind : Kind) → is_text_kind kind ≡ true → place_of kind < 5
-text-place kinds.Face h = omega arith
-text-place kinds.Display h = omega arith
-text-place kinds.Invisible h = omega arith
-text-place kinds.LinePrefix h = omega arith
-text-place kinds.WrapPrefix h = omega arith
 text-place kinds.Before h = absurd (cc)
 text-place kinds.After h = absurd (cc)
+text-place kind h = omega arith
 
 abbrev put_values : ContentValue → ℕ → ℕ → Kind → Option ℕ → props.BufferValue
 put_values c from to kind value = record (seen c) { properties = put_on (value_in c.properties) kind from to value }
@@ -163,10 +159,6 @@ put_on-within b from to kind value text within is at =
       overlays = within.overlays;
     }
 
-put-values-within : (c : ContentValue) (from to : ℕ) (kind : Kind) (value : Option ℕ) → IsText c.text → IsWithin (seen c) → is_text_kind kind ≡ true → IsAccessibleRange c.text from to
-    → IsWithin (put_values c from to kind value)
-put-values-within c from to kind value text within is at = put_on-within (seen c) from to kind value text within is at
-
 -- a buffer with another property on a range
 abbrev pub with_property : ContentValue → ℕ → ℕ → Kind → Option ℕ → ContentValue
 with_property c from to kind value = record c { properties = values_on c.text (put_on (value_in c.properties) kind from to value) }
@@ -175,7 +167,7 @@ pub put-is : (c : ContentValue) (from to : ℕ) (kind : Kind) (value : Option �
     → IsPut (seen c) (seen (with_property c from to kind value)) kind from to value
 put-is c from to kind value text within is at = record {
   text = refl;
-  properties = listed-alike (put_values c from to kind value) (put-values-within c from to kind value text within is at);
+  properties = listed-alike (put_values c from to kind value) (put_on-within (seen c) from to kind value text within is at);
   overlays = refl;
 }
 
@@ -187,16 +179,13 @@ pub value-made : (o : ObjectLists) (kind : Kind) (value : Option ℕ) → is_val
 value-made o kinds.Face value h v e = made-number (length o.faces) value v h e
 value-made o kinds.Display value h v e = made-number (length o.specs) value v h e
 value-made o kinds.Invisible value h v e = tt
-value-made o kinds.LinePrefix value h v e = made-number (length o.strings) value v h e
-value-made o kinds.WrapPrefix value h v e = made-number (length o.strings) value v h e
-value-made o kinds.Before value h v e = made-number (length o.strings) value v h e
-value-made o kinds.After value h v e = made-number (length o.strings) value v h e
+value-made o kind value h v e = made-number (length o.strings) value v h e
 
 pub put-valid : (made : MadeLaws) (o : ObjectLists) (c : ContentValue) (from to : ℕ) (kind : Kind) (value : Option ℕ) → IsContent o c → is_text_kind kind ≡ true
     → IsAccessibleRange c.text from to → is_value_made o kind value ≡ true → IsContent o (with_property c from to kind value)
 put-valid made o c from to kind value v is at numbered =
     still-valid o c (with_property c from to kind value) v refl refl v.text v.characters
-    (listed-within (put_values c from to kind value) (put-values-within c from to kind value v.text v.within is at))
+    (listed-within (put_values c from to kind value) (put_on-within (seen c) from to kind value v.text v.within is at))
     (made.put (seen c) (seen (with_property c from to kind value)) o kind from to value v.names v.names.settings (value-made o kind value numbered) (put-is c from to kind value v.text v.within is at))
 
 -- ---- overlays
@@ -214,12 +203,7 @@ overlays-valid o c overlays v within names = still-valid o c (with_overlays c ov
 
 no-value : (kind : Kind) (from to : ℕ) (priority : ℤ) (front rear : Bool) (v : ℕ) → value_of kind (Some (new_overlay from to priority front rear)) ≡ Some v → ⊥
 no-value kinds.Face from to priority front rear v h = cc
-no-value kinds.Display from to priority front rear v h = cc
-no-value kinds.Invisible from to priority front rear v h = cc
-no-value kinds.LinePrefix from to priority front rear v h = cc
-no-value kinds.WrapPrefix from to priority front rear v h = cc
-no-value kinds.Before from to priority front rear v h = cc
-no-value kinds.After from to priority front rear v h = cc
+no-value kind from to priority front rear v h = cc
 
 pub made-valid : (made : MadeLaws) (o : ObjectLists) (c : ContentValue) (from to : ℕ) (priority : ℤ) (front rear : Bool) → IsContent o c → is_range_of_all c.text from to ≡ true
     → IsRangeOfAll c.text from to → nat_le 65536 (length c.overlays) ≡ false → IsContent o (with_overlays c (c.overlays ++ Some (new_overlay from to priority front rear) ∷ []))

@@ -2,6 +2,7 @@
 use Rattle.std.proofs.Common.{◌≡◌, ℕ, zero, suc, ◌<◌, ◌≤◌, Bool, true, false, is_some, cond, Option, None, Some, List, [], ◌∷◌, ◌++◌, length, subst, sym, ap, refl, ◌∙◌, arith, length-append, IsTrue}
 use Rattle.std.proofs.lemmas.Bool.{ltb-true, ltb-false, leb-false}
 use Rattle.std.proofs.lemmas.List.Elements.{All-nil}
+use Rattle.std.proofs.lemmas.Option.{none-some}
 use Rattle.std.specs.Cmp.{nat_cmp_total}
 use Rattle.std.specs.FinMap as finite
 use Rattle.std.specs.FinMap.{get, get-insert, get-remove, get-empty}
@@ -29,7 +30,6 @@ use Rattle.rd_state.specs.Edits.{is_made, is_setting_made, margin_putting, setti
 use Rattle.rd_state.specs.Making.{unless_fault, spec_of}
 use Rattle.rd_state.specs.Steps.{with_objects, making}
 use Rattle.rd_state.proofs.Below.{MadeLaws}
-use Rattle.rd_state.proofs.ByNumber.{some-none}
 use Rattle.rd_state.proofs.Keeping.{buffers-appended, windows-appended}
 use Rattle.rd_state.proofs.StepParts.{making-if}
 use Rattle.rd_state.proofs.Stepping.{Keeps, text-kept}
@@ -44,31 +44,17 @@ number-made count None h = tt
 number-made count (Some n) h = ltb-true n count h
 
 with_settings-made : (o : ObjectLists) (value : Setting) (s : SettingValues) → is_setting_made o value ≡ true → SettingsMade o s → SettingsMade o (with_setting value s)
-with_settings-made o (setting.TabWidth n) s h v = record { table = v.table; line_prefix = v.line_prefix; wrap_prefix = v.wrap_prefix }
-with_settings-made o (setting.CtlArrow flag) s h v = record { table = v.table; line_prefix = v.line_prefix; wrap_prefix = v.wrap_prefix }
-with_settings-made o (setting.Direction direction) s h v = record { table = v.table; line_prefix = v.line_prefix; wrap_prefix = v.wrap_prefix }
-with_settings-made o (setting.Reorder flag) s h v = record { table = v.table; line_prefix = v.line_prefix; wrap_prefix = v.wrap_prefix }
 with_settings-made o (setting.Table number) s h v = record { table = number-made (length o.tables) number h; line_prefix = v.line_prefix; wrap_prefix = v.wrap_prefix }
-with_settings-made o (setting.Invisible invisible) s h v = record { table = v.table; line_prefix = v.line_prefix; wrap_prefix = v.wrap_prefix }
 with_settings-made o (setting.LinePrefix number) s h v = record { table = v.table; line_prefix = number-made (length o.strings) number h; wrap_prefix = v.wrap_prefix }
 with_settings-made o (setting.WrapPrefix number) s h v = record { table = v.table; line_prefix = v.line_prefix; wrap_prefix = number-made (length o.strings) number h }
-with_settings-made o (setting.Modified flag) s h v = record { table = v.table; line_prefix = v.line_prefix; wrap_prefix = v.wrap_prefix }
-with_settings-made o (setting.ReadOnly flag) s h v = record { table = v.table; line_prefix = v.line_prefix; wrap_prefix = v.wrap_prefix }
+with_settings-made o value s h v = record { table = v.table; line_prefix = v.line_prefix; wrap_prefix = v.wrap_prefix }
 
 abbrev IsTab : SettingValues → Type 0
 IsTab s = (1 ≤ s.tab_width) × (s.tab_width ≤ 32)
 
 with_setting-tab : (value : Setting) (s : SettingValues) → IsSettingInForm value → IsTab s → IsTab (with_setting value s)
 with_setting-tab (setting.TabWidth n) s form h = (form.0, form.1)
-with_setting-tab (setting.CtlArrow flag) s form h = h
-with_setting-tab (setting.Direction direction) s form h = h
-with_setting-tab (setting.Reorder flag) s form h = h
-with_setting-tab (setting.Table number) s form h = h
-with_setting-tab (setting.Invisible invisible) s form h = h
-with_setting-tab (setting.LinePrefix number) s form h = h
-with_setting-tab (setting.WrapPrefix number) s form h = h
-with_setting-tab (setting.Modified flag) s form h = h
-with_setting-tab (setting.ReadOnly flag) s form h = h
+with_setting-tab value s form h = h
 
 pub setting-keeps : (o : ObjectLists) (value : Setting) → IsSettingInForm value → Keeps o (λ p. p) (setting_putting o value)
 setting-keeps o value form c d v h =
@@ -159,12 +145,8 @@ no-margin k x h = let none = get-empty {X = ℕ} nat_cmp k in cc
 -- lists of nothing have no value
 none-in : (kind p : ℕ) → value_in (values_on no_text props.no_values) kind p ≡ None
 none-in kind zero = refl
-none-in zero (suc p) = refl
-none-in (suc zero) (suc p) = refl
-none-in (suc (suc zero)) (suc p) = refl
-none-in (suc (suc (suc zero))) (suc p) = refl
-none-in (suc (suc (suc (suc zero)))) (suc p) = refl
 none-in (suc (suc (suc (suc (suc kind))))) (suc p) = refl
+none-in kind (suc p) = refl
 
 empty-seen : seen new_content ≡ props.new_buffer
 empty-seen = λ i. record {
@@ -182,7 +164,7 @@ new-valid o = record {
   least_tab = omega arith;
   most_tab = omega arith;
   names = record {
-    properties = λ kind p value h. absurd (some-none value _ h (none-in (place_of kind) p));
+    properties = λ kind p value h. absurd (none-some value (sym (none-in (place_of kind) p) ∙ h));
     overlays = λ number value kind overlay h e. absurd (cc);
     settings = record { table = tt; line_prefix = tt; wrap_prefix = tt };
   };

@@ -340,14 +340,9 @@ outcome laws grow s (ops.ModeLine window format) v form =
     found (Quiet s) _ (window_of window s.windows) _
     (λ w lives. unless (Quiet s) (format_fault format) _
     (λ good. tree-outcome laws grow s window (λ old. record old { format = format }) (mode_tree s.tree window (is_some format)) (λ x. refl)))
-outcome laws grow s (ops.Scrolling margin conservatively) v form = unseen laws grow s _ refl refl refl
-outcome laws grow s (ops.Echo text) v form = unseen laws grow s _ refl refl refl
-outcome laws grow s (ops.Redisplay stop) v form = unseen laws grow s _ refl refl refl
-outcome laws grow s (ops.Shift on) v form = unseen laws grow s _ refl refl refl
-outcome laws grow s (ops.Go window right) v form = unseen laws grow s _ refl refl refl
-outcome laws grow s (ops.Hit window row column) v form = unseen laws grow s _ refl refl refl
 outcome laws grow s (ops.Margin window numbers strings) v form =
     found (Quiet s) _ (window_of window s.windows) _
     (λ w lives. tree-outcome laws grow s window (λ old. record old { numbers = numbers; strings = strings }) (margins_tree s.tree window (numbers + strings)) (λ x. refl))
 outcome laws grow s (ops.MarginPut name overlay string) v form =
     IfOk-weaker _ _ _ (λ t e. margin-outcome laws grow s t (number_of name s.buffers) overlay string e) (edited-is s name (margin_putting s.objects overlay string))
+outcome laws grow s op v form = unseen laws grow s _ refl refl refl

@@ -44,13 +44,9 @@ listed-value size f i h = elim (cases_lt i size) [
 pub value-in-table : (size : ℕ) (f : ℕ → ℕ → Option ℕ) → ((kind p v : ℕ) → f kind p ≡ Some v → kind < 5) → ((kind p v : ℕ) → f kind p ≡ Some v → 1 ≤ p)
     → ((kind p v : ℕ) → f kind p ≡ Some v → p ≤ size) → (kind p : ℕ) → value_in (table size f) kind p ≡ f kind p
 value-in-table size f kinds first last kind zero = sym (none-there (f kind zero) (λ v e. omega (arith, first kind zero v e)))
-value-in-table size f kinds first last zero (suc i) = listed-value size (f 0) i (last 0 (suc i))
-value-in-table size f kinds first last (suc zero) (suc i) = listed-value size (f 1) i (last 1 (suc i))
-value-in-table size f kinds first last (suc (suc zero)) (suc i) = listed-value size (f 2) i (last 2 (suc i))
-value-in-table size f kinds first last (suc (suc (suc zero))) (suc i) = listed-value size (f 3) i (last 3 (suc i))
-value-in-table size f kinds first last (suc (suc (suc (suc zero)))) (suc i) = listed-value size (f 4) i (last 4 (suc i))
 value-in-table size f kinds first last (suc (suc (suc (suc (suc k))))) (suc i) =
     sym (none-there (f (suc (suc (suc (suc (suc k))))) (suc i)) (λ v e. omega (arith, kinds (suc (suc (suc (suc (suc k))))) (suc i) v e)))
+value-in-table size f kinds first last kind (suc i) = listed-value size (f kind) i (last kind (suc i))
 
 -- ---- buffers
 
