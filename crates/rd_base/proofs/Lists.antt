@@ -1,10 +1,10 @@
 -- What holds of each element of a list, and what a list is from one of its places.
-use Rattle.std.proofs.Common.{◌≡◌, ◌≢◌, ◌⊎◌, ℕ, zero, suc, ◌+◌, ◌<◌, ◌≤◌, nat_le, nat_lt, ◌==◌, Bool, true, false, not, ◌&&◌, ◌||◌, List, [], ◌∷◌, ◌++◌, length, length-append, take, drop, get_or, None, Some, is_some, inl, inr, All, refl, sym, subst, ap, ap₂, cond, ◌∙◌, arith, map, set}
-use Rattle.std.specs.Prelude.{IfSome, slice_get}
+use Rattle.std.proofs.Common.{◌≡◌, ◌≢◌, ◌⊎◌, ℕ, zero, suc, ◌+◌, ◌-◌, ◌<◌, ◌≤◌, nat_le, nat_lt, ◌==◌, Bool, true, false, not, ◌&&◌, ◌||◌, List, [], ◌∷◌, ◌++◌, length, length-append, take, drop, get_or, None, Some, is_some, inl, inr, All, refl, sym, subst, ap, ap₂, cond, ◌∙◌, arith, map, set}
+use Rattle.std.specs.Prelude.{IfSome, slice_get, slice_range}
 use Rattle.std.specs.List.{AllByRecursion, count_by, find, list_any, position_or_len, range_with_len}
 use Rattle.std.proofs.lemmas.Bool.{cases_lt, ne_eqb}
 use Rattle.std.proofs.lemmas.Bool.Decides.{nat_tests}
-use Rattle.std.proofs.lemmas.List.{get_or_append_left, get_or_past, drop_more, drop_all, drop-set-lt, drop-drop, take_more}
+use Rattle.std.proofs.lemmas.List.{get_or_append_left, get_or_past, drop_more, drop_all, drop-set-lt, drop-drop, drop-take, take_more}
 use Rattle.std.proofs.lemmas.List.Folds.{find_at}
 use Rattle.std.proofs.lemmas.List.Sums.{passes_at_first, sum_by-append, sum_by-cons}
 use Rattle.std.proofs.Math.Seq.{drop-append_seam}
@@ -65,6 +65,12 @@ get-map f xs i y h = map-some f (slice_get xs i) y (sym (slice_get-map f xs i) �
 -- what heads the rest from a place stands there
 pub drop-cons : {X : Type 0} (xs : List X) (a : ℕ) (x : X) (rest : List X) → drop a xs ≡ x ∷ rest → (slice_get xs a ≡ Some x) × (drop (a + 1) xs ≡ rest)
 drop-cons {X} xs a x rest e = (sym (get-drop a xs a 0 (omega arith)) ∙ ap (λ (l : List X). slice_get l 0) e, sym (drop-drop 1 a xs) ∙ ap (drop 1) e)
+
+-- a range from a later place on
+pub range-from : (xs : List ℕ) (a n b : ℕ) → n ≤ b - a → slice_range xs (a + n) b ≡ drop n (slice_range xs a b)
+range-from xs a n b within =
+    let size : b - a ≡ n + (b - (a + n)) = omega arith in
+    sym (ap (λ (k : ℕ). drop n (take k (drop a xs))) size ∙ drop-take n (b - (a + n)) (drop a xs) ∙ ap (take (b - (a + n))) (drop-drop n a xs))
 
 -- the element at a place that lies within
 pub element-at : {X : Type 0} (xs : List X) (i : ℕ) → i < length xs → (x : X) × (slice_get xs i ≡ Some x)

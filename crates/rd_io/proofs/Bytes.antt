@@ -1,11 +1,12 @@
 -- Counts and known bytes of sources, sinks and files.
-use Rattle.std.proofs.Common.{◌≡◌, ℕ, ◌+◌, ◌-◌, ◌≤◌, inl, inr, List, [], ◌++◌, length, take, drop, Option, None, Some, refl, sym, ap, ◌∙◌, subst, append_assoc, arith, length-append}
+use Rattle.std.proofs.Common.{◌≡◌, ℕ, ◌+◌, ◌-◌, ◌≤◌, inl, inr, List, [], ◌++◌, length, take, drop, Option, None, Some, sym, ap, ◌∙◌, subst, append_assoc, arith, length-append}
 use Rattle.std.specs.Io.KnownBytes.{Appends, Keeps}
 use Rattle.std.proofs.KnownBytes.{Appends-trans, Appends-kept}
 use Rattle.std.specs.Prelude.{slice_range}
-use Rattle.std.proofs.lemmas.List.{drop-take, drop-drop, length-take, take-append-le}
+use Rattle.std.proofs.lemmas.List.{length-take, take-append-le}
 use Rattle.std.proofs.Common.{IfSome, Result, Ok, Err, take-append-drop}
 use Rattle.std.proofs.Math.Seq.{take-append_seam, take-append-add, drop-append_seam}
+use Rattle.rd_base.proofs.Lists.{range-from}
 use Rattle.rd_io.specs.Devices.{Rose, AppendsFront, Fetches, Writes}
 
 -- a call that failed after others did so for the whole
@@ -17,9 +18,7 @@ rose-after a b c p (inr q) = inr q
 pub range-skipped : (xs : List ℕ) (from to n : ℕ) (ys : List ℕ) → to ≤ length xs → slice_range xs from to ≡ ys → n ≤ length ys → slice_range xs (from + n) to ≡ drop n ys
 range-skipped xs from to n ys bound is p =
     let size : length ys ≤ to - from = rw (← is) (omega (arith, length-take {A = ℕ})) in
-    let room : n + (to - (from + n)) ≡ to - from = omega arith in
-    let all : slice_range xs from to ≡ take (n + (to - (from + n))) (drop from xs) = rw room refl in
-    sym (ap (drop n) (sym is ∙ all) ∙ drop-take n (to - (from + n)) (drop from xs) ∙ ap (take (to - (from + n))) (drop-drop n from xs))
+    range-from xs from n to (omega (arith, size, p)) ∙ ap (drop n) is
 
 -- a write that failed leaves a front
 pub front-stopped : (a b c : Option (List ℕ)) (bytes front rest : List ℕ) → bytes ≡ front ++ rest → Appends a b front → Keeps b c → AppendsFront a c bytes

@@ -3,9 +3,10 @@ use Rattle.std.proofs.Common.{◌≡◌, ℕ, ◌+◌, ◌-◌, ◌<◌, ◌≤�
 use Rattle.std.specs.List.{slice_split, position_or_len}
 use Rattle.std.proofs.lemmas.List.Sums.{prefix_len-le-length, fails_before_first}
 use Rattle.std.proofs.lemmas.Bool.{cases_lt}
-use Rattle.std.proofs.lemmas.List.{length-take-le, length-drop, length-replicate, get_or_append_left, get_or-append_right, get_or-replicate, take-take, drop-take, drop-drop, take_all}
+use Rattle.std.proofs.lemmas.List.{length-take-le, length-drop, length-replicate, get_or_append_left, get_or-append_right, get_or-replicate, take-take, take_all}
 use Rattle.std.proofs.lemmas.List.Splits.{slice_split_first, slice_split_none}
 use Rattle.std.specs.Option.{option_or}
+use Rattle.rd_base.proofs.Lists.{range-from}
 use Rattle.rd_text.specs.Texts.{TextValue, IsText, between, is_newline, next_newline}
 use Rattle.rd_ucd.specs.declared.spans.Span.{Span}
 use Rattle.rd_text.specs.Texts.{is_separator}
@@ -40,12 +41,9 @@ line_cut t from right begin end =
       more = λ less.
           let inside : i < length all = omega arith in
           let cut = slice_split_first is_newline all 0 inside in
-          let left : n ≡ (i + 1) + (n - (i + 1)) = omega arith in
+          let place : from - 1 + (i + 1) ≡ from + i + 1 - 1 = omega arith in
           let behind : drop (i + 1) all ≡ between t (from + i + 1) t.end =
-          ap (λ (k : ℕ). drop (i + 1) (take k rest)) left ∙ drop-take (i + 1) (n - (i + 1)) rest
-          ∙ ap (take (n - (i + 1))) (drop-drop (i + 1) (from - 1) t.text)
-          ∙ (let a : n - (i + 1) ≡ t.end - 1 - (from + i + 1 - 1) = omega arith in let b : from - 1 + (i + 1) ≡ from + i + 1 - 1 = omega arith in
-          ap (λ (k : ℕ). take k (drop (from - 1 + (i + 1)) t.text)) a ∙ ap (λ (k : ℕ). take (t.end - 1 - (from + i + 1 - 1)) (drop k t.text)) b) in
+          sym (range-from t.text (from - 1) (i + 1) (t.end - 1) (omega arith)) ∙ ap (λ (k : ℕ). take (t.end - 1 - k) (drop k t.text)) place in
           cut ∙ ap (λ (xs : List ℕ). xs ∷ slice_split is_newline (drop (i + 1) all)) (sym line) ∙ ap (λ (xs : List ℕ). between t from (from + i) ∷ slice_split is_newline xs) behind;
     }
 

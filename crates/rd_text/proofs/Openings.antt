@@ -1,9 +1,9 @@
 -- Where a search back along lines stops, and where paragraphs begin.
-use Rattle.std.proofs.Common.{◌≡◌, ℕ, zero, suc, ◌+◌, ◌-◌, ◌<◌, ◌≤◌, Bool, true, false, ◌&&◌, ◌||◌, List, [], ◌∷◌, ◌++◌, length, get_or, take, drop, inl, inr, refl, sym, ap, ◌∙◌, arith}
+use Rattle.std.proofs.Common.{◌≡◌, ℕ, zero, suc, ◌+◌, ◌-◌, ◌<◌, ◌≤◌, Bool, true, false, ◌&&◌, ◌||◌, List, [], ◌∷◌, ◌++◌, length, get_or, drop, inl, inr, refl, sym, ap, ◌∙◌, arith}
 use Rattle.std.specs.Prelude.{slice_range}
 use Rattle.std.proofs.lemmas.Bool.{cases_eq, eq-eqb, ne_eqb, and_parts, or_right}
-use Rattle.std.proofs.lemmas.List.{drop-take, drop-drop}
 use Rattle.std.proofs.lemmas.List.Edits.{get_or-between}
+use Rattle.rd_base.proofs.Lists.{range-from}
 use Rattle.rd_text.specs.Texts.{is_newline, is_blank}
 use Rattle.rd_text.specs.Stretches.{opens, closes, separated}
 use Rattle.rd_text.specs.Pieces.{IsOpening}
@@ -22,12 +22,6 @@ pub with_part : (xs : List ℕ) (from at to : ℕ) (piece : List ℕ) → IsLast
 with_part xs from at to piece is within =
     range_split xs (at - length piece) at to (omega arith) within ∙ ap (λ (ys : List ℕ). ys ++ slice_range xs at to) (sym is.same)
 
--- the range of a part that is cut
-cut_range : (xs : List ℕ) (a n b : ℕ) → a + n ≤ b → slice_range xs (a + n) b ≡ drop n (slice_range xs a b)
-cut_range xs a n b within =
-    let size : b - a ≡ n + (b - (a + n)) = omega arith in
-    sym (ap (λ (k : ℕ). drop n (take k (drop a xs))) size ∙ drop-take n (b - (a + n)) (drop a xs) ∙ ap (take (b - (a + n))) (drop-drop n a xs))
-
 pub opening_goes : (xs : List ℕ) (from at to : ℕ) (piece : List ℕ) → IsLastPiece xs from at piece → at ≤ to
     → (separated piece || (closes piece && opens (slice_range xs at to))) ≡ false → separated (slice_range xs at to) ≡ false
     → separated (slice_range xs (at - length piece) to) ≡ false
@@ -45,7 +39,7 @@ opening_found xs from at to n piece opened is within last some bound newline beg
     let start : ℕ = at - length piece in
     let part : slice_range xs (start + n) to ≡ drop n piece ++ slice_range xs at to
     = range_split xs (start + n) at to (omega arith) within
-    ∙ ap (λ (ys : List ℕ). ys ++ slice_range xs at to) (cut_range xs start n at (omega arith) ∙ ap (drop n) (sym is.same)) in
+    ∙ ap (λ (ys : List ℕ). ys ++ slice_range xs at to) (range-from xs start n at (omega arith) ∙ ap (drop n) (sym is.same)) in
     record {
       first = omega arith;
       last = omega arith;
