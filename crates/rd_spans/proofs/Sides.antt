@@ -148,16 +148,17 @@ has-top rs r value = rw (top-push rs r) refl
 pub opened-values : (rs : List ValueRun) (r : ValueRun) (value : Option ℕ) → same_value r.value value ≡ true → values_of (rs ++ r ∷ []) ≡ values_of rs ++ replicate (size_of (rs ++ r ∷ []) - size_of rs) value
 opened-values rs r value e = rw (reach-push 0 rs r, ← same_value-true r.value value e) (values-push 0 rs r)
 
+-- so many of one value, in two parts
+in-parts : (vs : List (Option ℕ)) (n m k : ℕ) (value : Option ℕ) → k ≡ n + m → vs ++ replicate k value ≡ (vs ++ replicate n value) ++ replicate m value
+in-parts vs n m k value is =
+    ap (λ (i : ℕ). vs ++ replicate i value) is
+    ∙ (ap (λ (ws : List (Option ℕ)). vs ++ ws) (sym (replicate-append-replicate n m value)) ∙ sym (append_assoc vs (replicate n value) (replicate m value)))
+
 pub longer-values : (old new : List ValueRun) (end n : ℕ) (value : Option ℕ) → values_of old ≡ values_of new ++ replicate (size_of old - size_of new) value → size_of new ≤ size_of old → end ≡ size_of old + n
     → values_of (new ++ record { end = end; value = value } ∷ []) ≡ values_of old ++ replicate n value
 longer-values old new end n value e less is =
-    let run : ValueRun = record { end = end; value = value } in
-    let long : end - size_of new ≡ (size_of old - size_of new) + n = omega arith in
-    values-push 0 new run
-    ∙ (ap (λ (m : ℕ). values_of new ++ replicate m value) long
-    ∙ (ap (λ (vs : List (Option ℕ)). values_of new ++ vs) (sym (replicate-append-replicate (size_of old - size_of new) n value))
-    ∙ (sym (append_assoc (values_of new) (replicate (size_of old - size_of new) value) (replicate n value))
-    ∙ ap (λ (vs : List (Option ℕ)). vs ++ replicate n value) (sym e))))
+    values-push 0 new (record { end = end; value = value })
+    ∙ (in-parts (values_of new) (size_of old - size_of new) n (end - size_of new) value (omega arith) ∙ ap (λ (vs : List (Option ℕ)). vs ++ replicate n value) (sym e))
 
 -- the search for a place
 pub size-below : (k : ℕ) (es : List ValueRun) (p : ℕ) → ((j : ℕ) (d : ValueRun) → j < length es → (slice_index_or es j d).end ≤ p) → k ≤ p → reach k es ≤ p
@@ -273,15 +274,12 @@ pub moved-values_of_both : (old rs to from_new to_new : List ValueRun) (r : Valu
 moved-values_of_both old rs to from_new to_new r rest moved e all from_values to_values =
     let a = values_of rs in
     let b = reverse (values_of to) in
-    let whole : values_of old ≡ a ++ (replicate rest r.value ++ replicate moved r.value) =
-    popped-values old rs r e ∙ ap (λ (vs : List (Option ℕ)). a ++ vs) (ap (λ (m : ℕ). replicate m r.value) (sym all) ∙ sym (replicate-append-replicate rest moved r.value)) in
+    let whole : values_of old ≡ (a ++ replicate rest r.value) ++ replicate moved r.value = popped-values old rs r e ∙ in-parts a rest moved (r.end - size_of rs) r.value (sym all) in
     let turned : reverse (values_of to_new) ≡ replicate moved r.value ++ b =
     ap reverse to_values ∙ (reverse-append (values_of to) (replicate moved r.value) ∙ ap (λ (vs : List (Option ℕ)). vs ++ b) (reverse-same moved r.value)) in
     ap (λ (vs : List (Option ℕ)). vs ++ reverse (values_of to_new)) from_values
     ∙ (ap (λ (vs : List (Option ℕ)). (a ++ replicate rest r.value) ++ vs) turned
-    ∙ (append_assoc a (replicate rest r.value) (replicate moved r.value ++ b)
-    ∙ (ap (λ (vs : List (Option ℕ)). a ++ vs) (sym (append_assoc (replicate rest r.value) (replicate moved r.value) b))
-    ∙ (sym (append_assoc a (replicate rest r.value ++ replicate moved r.value) b) ∙ ap (λ (vs : List (Option ℕ)). vs ++ b) (sym whole)))))
+    ∙ (sym (append_assoc (a ++ replicate rest r.value) (replicate moved r.value) b) ∙ ap (λ (vs : List (Option ℕ)). vs ++ b) (sym whole)))
 
 values_of_both-swap : (front back : List ValueRun) → values_of_both front back ≡ reverse (values_of_both back front)
 values_of_both-swap front back =
@@ -309,12 +307,10 @@ cut-values old rs new r end e h below is =
     let long : length (values_of new) ≡ size_of rs + (end - size_of rs) =
     ap length is ∙ (length-append (values_of rs) (replicate (end - size_of rs) r.value) ∙ omega (arith, size-values rs p.0, length-replicate (end - size_of rs) r.value)) in
     let more = replicate ((r.end - size_of rs) - (end - size_of rs)) r.value in
-    let split : r.end - size_of rs ≡ (end - size_of rs) + ((r.end - size_of rs) - (end - size_of rs)) = omega (arith, p.1.0, p.1.1) in
     let whole : values_of old ≡ values_of new ++ more =
     popped-values old rs r e
-    ∙ (ap (λ (m : ℕ). values_of rs ++ replicate m r.value) split
-    ∙ (ap (λ (vs : List (Option ℕ)). values_of rs ++ vs) (sym (replicate-append-replicate (end - size_of rs) ((r.end - size_of rs) - (end - size_of rs)) r.value))
-    ∙ (sym (append_assoc (values_of rs) (replicate (end - size_of rs) r.value) more) ∙ ap (λ (vs : List (Option ℕ)). vs ++ more) (sym is)))) in
+    ∙ (in-parts (values_of rs) (end - size_of rs) ((r.end - size_of rs) - (end - size_of rs)) (r.end - size_of rs) r.value (omega (arith, p.1.0, p.1.1))
+    ∙ ap (λ (vs : List (Option ℕ)). vs ++ more) (sym is)) in
     sym (ap (take end) whole ∙ take-append-le end (values_of new) more (omega arith))
 
 pub cut-whole : (new old : List ValueRun) (end : ℕ) → Rises 0 new → size_of new ≡ end → take end (values_of new) ≡ take end (values_of old) → values_of new ≡ take end (values_of old)
