@@ -27,8 +27,8 @@ use Rattle.rd_glyphs.specs.declared.shown.Shown.{Shown}
 use Rattle.rd_glyphs.specs.declared.shown.Shown.TheVariants.{Caret, Octal, Space, Mark, Itself}
 use Rattle.rd_glyphs.specs.Characters.{PartValues, AreSoundParts, HasOrigin, TakesColumns, ShowsColumns, IsShortElement, is_control, is_formatting, shown_as, mirrored, looks_of, element_of, glyph_elements, entry_of, own_looks, elements_by, elements_of, tab_of}
 use Rattle.rd_glyphs.specs.MarkRoles.{is_empty_entry}
-use Rattle.rd_glyphs.proofs.Measures.{character-measured, slot_or-is, shown-by, shown_as-measured, mirrored-measured, looks-measured, elements-measured}
-use Rattle.rd_glyphs.proofs.Short.{short_elements, short_glyphs, glyph_count}
+use Rattle.rd_glyphs.proofs.Measures.{character-measured, slot_or-is, shown-by, shown_as-measured, mirrored-measured, looks-measured}
+use Rattle.rd_glyphs.proofs.Short.{short_element, short_glyph}
 
 -- what holds of the elements of a character
 pub record AreOfCharacter (face : Attributes) (origin : Origin) (es : List Element) : Type 0 where
@@ -93,25 +93,20 @@ columns-few (e ∷ es) each =
     let rest = columns-few es each.1 in
     omega arith
 
-look-columns : (face : Attributes) (origin : Origin) (ls : List Look) → AllByRecursion TakesColumns ls → AllByRecursion (λ e. width_at_most e.extent ≤ 3) (map (element_of face origin) ls)
-look-columns face origin [] each = tt
-look-columns face origin (l ∷ ls) each = (each.0.1, look-columns face origin ls each.1)
-
-glyph-columns : (face : Attributes) (origin : Origin) (text : List Glyph) → AllByRecursion (λ g. g.width ≤ 3) text → AllByRecursion (λ e. width_at_most e.extent ≤ 3) (glyph_elements face origin text)
-glyph-columns face origin [] each = tt
-glyph-columns face origin (g ∷ gs) each = (each.0, glyph-columns face origin gs each.1)
-
 -- ---- elements
 
--- the elements of looks
-of-looks : (face : Attributes) (origin : Origin) (ls : List Look) → AllByRecursion TakesColumns ls → All IsMeasuredLook ls → length ls ≤ 4 → AreOfCharacter face origin (map (element_of face origin) ls)
-of-looks face origin ls columns measured few =
-    let same = length-map ls (element_of face origin) in
-    let sum = columns-few (map (element_of face origin) ls) (look-columns face origin ls columns) in
+-- the elements of a few things that put a look each
+of-each : {X : Type 0} (face : Attributes) (origin : Origin) (put : X → Look) (xs : List X) → All (λ x. TakesColumns (put x)) xs → All (λ x. IsMeasuredLook (put x)) xs → length xs ≤ 16
+    → AreOfCharacter face origin (map (λ x. element_of face origin (put x)) xs)
+of-each {X} face origin put xs columns measured few =
+    let made : X → Element = λ x. element_of face origin (put x) in
+    let same = length-map xs made in
+    let narrow = All-map (λ (e : Element). width_at_most e.extent ≤ 3) made xs (λ k d inside. (columns k d inside).1) in
+    let sum = columns-few (map made xs) (recursion_from_All (λ (e : Element). width_at_most e.extent ≤ 3) (map made xs) narrow) in
     record {
-      short = short_elements face origin ls (All-from_recursion TakesColumns ls columns);
-      measured = elements-measured face origin ls measured;
-      own = All-map (HasOrigin face origin) (element_of face origin) ls (λ k d inside. (refl, refl));
+      short = All-map IsShortElement made xs (λ k d inside. short_element face origin (put (slice_index_or xs k d)) (columns k d inside));
+      measured = All-map (λ (e : Element). IsMeasuredLook e.look) made xs measured;
+      own = All-map (HasOrigin face origin) made xs (λ k d inside. (refl, refl));
       count = omega arith;
       columns = omega arith;
     }
@@ -119,21 +114,12 @@ of-looks face origin ls columns measured few =
 -- the elements of a table's glyphs
 pub of-glyphs : (face : Attributes) (origin : Origin) (text : List Glyph) → IsTrue (is_glyph_text text) → AreOfCharacter face origin (glyph_elements face origin text)
 of-glyphs face origin text is =
+    let count : nat_le (length text) 16 ≡ true = search rules in
     let each : list_all is_glyph_character text ≡ true = search rules in
-    let put = λ (g : Glyph). element_of face origin (look.Glyph g) in
-    let same = length-map text put in
-    let count = glyph_count face origin text is in
-    let narrow : All (λ (g : Glyph). g.width ≤ 3) text = λ k d inside. glyph-narrow (slice_index_or text k d) (AllPass-from_list_all is_glyph_character text each k d inside) in
-    let sum = columns-few (glyph_elements face origin text) (glyph-columns face origin text (recursion_from_All (λ (g : Glyph). g.width ≤ 3) text narrow)) in
-    record {
-      short = short_glyphs face origin text is;
-      measured = All-map (λ (e : Element). IsMeasuredLook e.look) put text (λ k d inside. character-measured (slice_index_or text k d) (AllPass-from_list_all is_glyph_character text each k d inside));
-      own = All-map (HasOrigin face origin) put text (λ k d inside. (refl, refl));
-      count = count;
-      columns = omega arith;
-    } where
-      glyph-narrow : (g : Glyph) → is_glyph_character g ≡ true → g.width ≤ 3
-      glyph-narrow g is = grind (arith, nat_tests)
+    of-each face origin (λ (g : Glyph). look.Glyph g) text
+    (λ k d inside. short_glyph (slice_index_or text k d) (AllPass-from_list_all is_glyph_character text each k d inside))
+    (λ k d inside. character-measured (slice_index_or text k d) (AllPass-from_list_all is_glyph_character text each k d inside))
+    (grind (arith, nat_tests))
 
 entry-sound : (table : Option TableValue) (code : ℕ) → IfSome table (λ t. IsTable t) → IfSome (entry_of table code) (λ text. IsTrue (is_glyph_text text))
 entry-sound None code is = tt
@@ -152,7 +138,9 @@ of-character parts ch odd face origin is code = by-entry (entry_of parts.table c
         count = omega arith;
         columns = omega (arith, is.tab.1);
       }
-  by-tab false = of-looks face origin (own_looks parts ch odd) (own-columns parts ch odd is) (own-measured parts ch odd is code) (looks-count _ _ _).1
+  by-tab false =
+      let few : length (own_looks parts ch odd) ≤ 4 = (looks-count _ _ _).1 in
+      of-each face origin (λ (l : Look). l) (own_looks parts ch odd) (All-from_recursion TakesColumns (own_looks parts ch odd) (own-columns parts ch odd is)) (own-measured parts ch odd is code) (omega (arith, few))
 
   by-entry : (entry : Option (List Glyph)) → IfSome entry (λ text. IsTrue (is_glyph_text text)) → AreOfCharacter face origin (elements_by entry parts ch odd face origin)
   by-entry (Some text) own = of-glyphs face origin text own

@@ -1,11 +1,11 @@
 -- Glyphs as Unicode measures them.
-use Rattle.std.proofs.Common.{rules, ◌≡◌, ℕ, ◌+◌, ◌<◌, ◌≤◌, Bool, true, false, IsTrue, List, [], ◌∷◌, length, get_or, set, Option, Some, None, All, IfSome, refl, sym, subst, ap, map, ◌∙◌, ◌⊎◌, inl, inr, arith, tests, unwrap_or, replicate, length-set, get_or-set_same, get_or-set_other}
+use Rattle.std.proofs.Common.{rules, ◌≡◌, ℕ, ◌+◌, ◌<◌, ◌≤◌, Bool, true, false, IsTrue, List, [], ◌∷◌, length, get_or, set, Option, Some, None, All, IfSome, refl, sym, subst, ap, ◌∙◌, ◌⊎◌, inl, inr, arith, tests, unwrap_or, replicate, length-set, get_or-set_same, get_or-set_other}
 use Rattle.std.specs.Prelude.{◌-◌, ◌/◌, ◌%◌, ◌≢◌, ◌==◌, nat_le, nat_lt, ◌&&◌, if◌then◌else◌}
 use Rattle.std.specs.List.{list_all}
 use Rattle.std.proofs.lemmas.Bool.{and_parts, eqb-true}
 use Rattle.std.proofs.lemmas.Bool.Decides.{nat_tests}
 use Rattle.std.proofs.lemmas.List.Sums.{AllPass-from_list_all}
-use Rattle.std.proofs.lemmas.List.Elements.{All-map, All-cons}
+use Rattle.std.proofs.lemmas.List.Elements.{All-cons}
 use Rattle.rd_base.proofs.Lists.{all-one}
 use Rattle.unicode_width.specs.Width.{char_width, alone}
 use Rattle.rd_ucd.specs.declared.spans.Pair.{Pair}
@@ -22,18 +22,13 @@ use Rattle.rd_objects.proofs.Widths.{few-columns}
 use Rattle.rd_objects.specs.Tables.{TableValue, IsTable, HoldsGlyph, is_glyph_character, is_slot_glyph, slot_of}
 use Rattle.rd_objects.specs.declared.run.Slot.{Slot}
 use Rattle.rd_objects.specs.declared.run.Slot.TheVariants.{Truncation, Continuation, Escape, Control, Border}
-use Rattle.rd_base.specs.Faces.{Attributes}
-use Rattle.rd_base.specs.declared.element.Element.{Element}
-use Rattle.rd_base.specs.declared.element.Origin.{Origin}
-use Rattle.rd_base.specs.declared.element.Look.{Look}
 use Rattle.rd_base.specs.declared.element.Look.TheVariants as look
-use Rattle.rd_base.specs.Glyphs.{AreMeasured}
 use Rattle.rd_glyphs.specs.declared.mark_role.MarkRole.{MarkRole}
 use Rattle.rd_glyphs.specs.declared.shown.Shown.{Shown}
 use Rattle.rd_glyphs.specs.declared.shown.Shown.TheVariants.{Caret, Octal, Space, Mark, Itself}
 use Rattle.rd_glyphs.specs.MarkRoles.{mark_role_by, mark_role_of, base_of, mark_of, IsMark, IsMeasuredRole}
 use Rattle.rd_glyphs.specs.Marks.{marked_glyph}
-use Rattle.rd_glyphs.specs.Characters.{PartValues, is_control, is_formatting, caret, shown_as, turned, mirrored, on_blank, narrow, digit, looks_of, element_of, slot_or}
+use Rattle.rd_glyphs.specs.Characters.{PartValues, is_control, is_formatting, caret, shown_as, turned, mirrored, on_blank, narrow, digit, looks_of, slot_or}
 
 -- what is put for a character has the columns that Unicode gives it: a letter is printable, a mark takes none, and a character
 -- that is shown itself takes 1 to 3
@@ -199,9 +194,6 @@ looks-measured escape control Space e c s = all-one IsMeasuredLook look.Blank tt
 looks-measured escape control (Mark code) e c s = all-one IsMeasuredLook (look.Glyph (on_blank code)) (on_blank-measured code s.0 s.1)
 looks-measured escape control (Itself code width) e c s =
     all-one IsMeasuredLook (look.Glyph (single code width)) (single-measured code width s.0 s.1 s.2 s.3)
-
-pub elements-measured : (face : Attributes) (origin : Origin) (ls : List Look) → All IsMeasuredLook ls → AreMeasured (map (element_of face origin) ls)
-elements-measured face origin ls each = All-map (λ (e : Element). IsMeasuredLook e.look) (element_of face origin) ls each
 
 -- a slot's glyph of one column, or the one that stands for it
 pub record IsSlot (g : Glyph) : Type 0 where
