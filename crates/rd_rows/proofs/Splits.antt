@@ -20,37 +20,28 @@ pub record IsFront (xs es : List Element) : Type 0 where
   pub rest : List Element
   pub parts : es ≡ xs ++ rest
 
-fit-front : (shape : ShapeValues) (spot : Spot) (e : Element) (es : List Element) (b d : Bool) → fits shape spot e ≡ b → ends_row e.look ≡ d
-    → IsFront (fitting shape (behind spot (placed_at shape spot e)) es) es → IsFront (fitting shape spot (e ∷ es)) (e ∷ es)
-fit-front shape spot e es false d h k f = rw h (record { rest = e ∷ es; parts = refl })
-fit-front shape spot e es true true h k f = rw (h, k) (record { rest = es; parts = refl })
-fit-front shape spot e es true false h k f = rw (h, k) (record { rest = f.rest; parts = ap (λ xs. e ∷ xs) f.parts })
-
-fitting-front : (shape : ShapeValues) (spot : Spot) (es : List Element) → IsFront (fitting shape spot es) es
-fitting-front shape spot [] = record { rest = []; parts = refl }
-fitting-front shape spot (e ∷ es) = fit-front shape spot e es (fits shape spot e) (ends_row e.look) refl refl (fitting-front shape (behind spot (placed_at shape spot e)) es)
-
 first-front : (e : Element) (es xs : List Element) (d : Bool) → IsFront xs es → IsFront (e ∷ (if d then [] else xs)) (e ∷ es)
 first-front e es xs true f = record { rest = es; parts = refl }
 first-front e es xs false f = record { rest = f.rest; parts = ap (λ ys. e ∷ ys) f.parts }
 
+fitting-front : (shape : ShapeValues) (spot : Spot) (es : List Element) → IsFront (fitting shape spot es) es
+fitting-front shape spot [] = record { rest = []; parts = refl }
+fitting-front shape spot (e ∷ es) =
+    either (λ xs. IsFront xs (e ∷ es)) (fits shape spot e) _ []
+    (first-front e es _ (ends_row e.look) (fitting-front shape (behind spot (placed_at shape spot e)) es)) (record { rest = e ∷ es; parts = refl })
+
 -- a row has at most one end, behind which nothing stands in it
-
-fit-lines : (shape : ShapeValues) (spot : Spot) (e : Element) (es : List Element) (b d : Bool) → fits shape spot e ≡ b → ends_row e.look ≡ d
-    → (let xs = fitting shape (behind spot (placed_at shape spot e)) es in lines_in xs ≡ (if ends_some xs then 1 else 0))
-    → lines_in (fitting shape spot (e ∷ es)) ≡ (if ends_some (fitting shape spot (e ∷ es)) then 1 else 0)
-fit-lines shape spot e es false d h k f = rw h refl
-fit-lines shape spot e es true true h k f = rw (h, k) refl
-fit-lines shape spot e es true false h k f = rw (h, k) (let g = f in omega (arith, g))
-
-fitting-lines : (shape : ShapeValues) (spot : Spot) (es : List Element) → lines_in (fitting shape spot es) ≡ (if ends_some (fitting shape spot es) then 1 else 0)
-fitting-lines shape spot [] = refl
-fitting-lines shape spot (e ∷ es) = fit-lines shape spot e es (fits shape spot e) (ends_row e.look) refl refl (fitting-lines shape (behind spot (placed_at shape spot e)) es)
 
 first-lines : (e : Element) (xs : List Element) (d : Bool) → ends_row e.look ≡ d → lines_in xs ≡ (if ends_some xs then 1 else 0)
     → lines_in (e ∷ (if d then [] else xs)) ≡ (if ends_some (e ∷ (if d then [] else xs)) then 1 else 0)
 first-lines e xs true h f = rw h refl
 first-lines e xs false h f = rw h (let g = f in omega (arith, g))
+
+fitting-lines : (shape : ShapeValues) (spot : Spot) (es : List Element) → lines_in (fitting shape spot es) ≡ (if ends_some (fitting shape spot es) then 1 else 0)
+fitting-lines shape spot [] = refl
+fitting-lines shape spot (e ∷ es) =
+    either (λ xs. lines_in xs ≡ (if ends_some xs then 1 else 0)) (fits shape spot e) _ []
+    (first-lines e _ (ends_row e.look) refl (fitting-lines shape (behind spot (placed_at shape spot e)) es)) refl
 
 pub room-lines : (shape : ShapeValues) (spot : Spot) (e : Element) (es : List Element) → lines_in (room_for shape spot (e ∷ es)) ≡ (if ends_some (room_for shape spot (e ∷ es)) then 1 else 0)
 room-lines shape spot e es = first-lines e _ (ends_row e.look) refl (fitting-lines shape (behind spot (placed_at shape spot e)) es)
