@@ -1,5 +1,5 @@
 -- What stays valid where one part of a state becomes another.
-use Rattle.std.proofs.Common.{◌≡◌, ◌≢◌, ℕ, ◌<◌, ◌≤◌, inl, inr, ◌==◌, Bool, true, false, if◌then◌else◌, Some, List, [], ◌∷◌, ◌++◌, length, map, set, get_or, subst, sym, ap, refl, ◌∙◌, arith, length-append}
+use Rattle.std.proofs.Common.{◌≡◌, ◌≢◌, ◌⊎◌, ℕ, ◌<◌, ◌≤◌, inl, inr, ◌==◌, Bool, true, false, if◌then◌else◌, Some, List, [], ◌∷◌, ◌++◌, length, map, get_or, subst, sym, ap, refl, ◌∙◌, arith, length-append}
 use Rattle.std.proofs.lemmas.Bool.{eqb-true, eqb-false, cases_eq}
 use Rattle.std.proofs.lemmas.List.{length-set}
 use Rattle.std.proofs.lemmas.List.Sums.{fails_before_first}
@@ -18,7 +18,7 @@ use Rattle.rd_state.specs.declared.moves.Move.{Move}
 use Rattle.rd_state.specs.declared.window.WindowState.{WindowState}
 use Rattle.rd_state.specs.States.{BufferValue, ContentValue, new_buffer, new_content, number_of}
 use Rattle.rd_state.specs.Windows.{window_of, with_window, leaf_at, leaf_of}
-use Rattle.rd_state.specs.Valid.{most_buffers, AreToldByName, AreBuffers, IsContent, IsWindow, AreWindows}
+use Rattle.rd_state.specs.Valid.{most_buffers, AreBuffers, IsContent, IsWindow, AreWindows}
 use Rattle.rd_state.specs.Moves.{place_after, moved, moved_by, moved_in}
 use Rattle.rd_state.proofs.ByNumber.{NumberedWindow, Hands, each-entry, each-moved, each-with, window-each, apart-each, window-same, window-other, some-with, none-past, apart-becoming}
 use Rattle.rd_state.proofs.Options.{map-map}
@@ -29,32 +29,37 @@ use Rattle.rd_state.proofs.Options.{map-map}
 abbrev pub holding : BufferValue → ContentValue → BufferValue
 holding b content = record b { content = content }
 
-told-set : (bs : List BufferValue) (i : ℕ) (b c : BufferValue) → AreToldByName bs → slice_get bs i ≡ Some b → c.name ≡ b.name → AreToldByName (set bs i c)
-told-set bs i b c told at same j k x y hx hy e = elim (get-set bs i j c x hx) [
-  | inl p ↦ elim (get-set bs i k c y hy) [
-    | inl q ↦ p.0 ∙ sym q.0
-    | inr q ↦ p.0 ∙ told i k b y at q.1 (sym same ∙ (sym (ap (λ z. z.name) p.1) ∙ e))
-  ]
-  | inr p ↦ elim (get-set bs i k c y hy) [
-    | inl q ↦ told j i x b p.1 at (e ∙ (ap (λ z. z.name) q.1 ∙ same)) ∙ sym q.0
-    | inr q ↦ told j k x y p.1 q.1 e
-  ]
-]
+-- buffers of which each is an old one in its place, or the one at a place, which is good and has a name of its own
+buffers-with : (o : ObjectLists) (bs cs : List BufferValue) (i : ℕ) (c : BufferValue) → AreBuffers o bs → length cs ≤ most_buffers
+    → ((k : ℕ) (x : BufferValue) → slice_get cs k ≡ Some x → (slice_get bs k ≡ Some x) ⊎ ((k ≡ i) × (x ≡ c)))
+    → ((k : ℕ) (x : BufferValue) → slice_get bs k ≡ Some x → c.name ≡ x.name → i ≡ k) → IsTrue (is_buffer_name c.name) → IsContent o c.content → AreBuffers o cs
+buffers-with o bs cs i c v few from own name content = record {
+  few = few;
+  told = λ j k x y hx hy e. elim (from j x hx) [
+    | inl p ↦ elim (from k y hy) [
+      | inl q ↦ v.told j k x y p q e
+      | inr q ↦ sym (q.0 ∙ own j x p (sym (ap (λ z. z.name) q.1) ∙ sym e))
+    ]
+    | inr p ↦ elim (from k y hy) [
+      | inl q ↦ p.0 ∙ own k y q (sym (ap (λ z. z.name) p.1) ∙ e)
+      | inr q ↦ p.0 ∙ sym q.0
+    ]
+  ];
+  names = λ k x hx. elim (from k x hx) [
+    | inl p ↦ v.names k x p
+    | inr p ↦ subst (λ (z : BufferValue). IsTrue (is_buffer_name z.name)) (sym p.1) name
+  ];
+  contents = λ k x hx. elim (from k x hx) [
+    | inl p ↦ v.contents k x p
+    | inr p ↦ subst (λ (z : BufferValue). IsContent o z.content) (sym p.1) content
+  ];
+}
 
 pub buffers-replaced : (o : ObjectLists) (bs : List BufferValue) (i : ℕ) (b : BufferValue) (c : ContentValue) → AreBuffers o bs → slice_get bs i ≡ Some b → IsContent o c
     → AreBuffers o (slice_set bs i (holding b c))
-buffers-replaced o bs i b c v at new = record {
-  few = rw length-set v.few;
-  told = told-set bs i b (holding b c) v.told at refl;
-  names = λ k x hx. elim (get-set bs i k (holding b c) x hx) [
-    | inl p ↦ subst (λ (z : BufferValue). IsTrue (is_buffer_name z.name)) (sym p.1) (v.names i b at)
-    | inr p ↦ v.names k x p.1
-  ];
-  contents = λ k x hx. elim (get-set bs i k (holding b c) x hx) [
-    | inl p ↦ subst (λ (z : BufferValue). IsContent o z.content) (sym p.1) new
-    | inr p ↦ v.contents k x p.1
-  ];
-}
+buffers-replaced o bs i b c v at new =
+    buffers-with o bs (slice_set bs i (holding b c)) i (holding b c) v (rw length-set v.few)
+    (λ k x hx. elim (get-set bs i k (holding b c) x hx) [ inl p ↦ inr p | inr p ↦ inl p.1 ]) (λ k x h e. v.told i k b x at h e) (v.names i b at) new
 
 -- no buffer before the number has the name
 none_named : (name : List ℕ) (bs : List BufferValue) (k : ℕ) (b : BufferValue) → k < number_of name bs → slice_get bs k ≡ Some b → name ≡ b.name → ⊥
@@ -64,32 +69,11 @@ none_named name bs k b p at e =
     let no : bytes_eq name b.name ≡ false = ap (λ z. bytes_eq name z.name) (sym here) ∙ fails in
     grind (arith, bytes_eq-Decides name b.name, no, e)
 
-told-append : (bs : List BufferValue) (name : List ℕ) → AreToldByName bs → length bs ≤ number_of name bs → AreToldByName (bs ++ new_buffer name ∷ [])
-told-append bs name told free j k x y hx hy e = elim (get-end bs (new_buffer name) j x hx) [
-  | inl p ↦ elim (get-end bs (new_buffer name) k y hy) [
-    | inl q ↦ told j k x y p q e
-    | inr q ↦ absurd (none_named name bs j x (omega (arith, slice_get_within bs j x p, free)) p (sym (ap (λ z. z.name) q.1) ∙ sym e))
-  ]
-  | inr p ↦ elim (get-end bs (new_buffer name) k y hy) [
-    | inl q ↦ absurd (none_named name bs k y (omega (arith, slice_get_within bs k y q, free)) q (sym (ap (λ z. z.name) p.1) ∙ e))
-    | inr q ↦ p.0 ∙ sym q.0
-  ]
-]
-
 pub buffers-appended : (o : ObjectLists) (bs : List BufferValue) (name : List ℕ) → AreBuffers o bs → IsContent o new_content → IsTrue (is_buffer_name name)
     → length bs < most_buffers → length bs ≤ number_of name bs → AreBuffers o (bs ++ new_buffer name ∷ [])
-buffers-appended o bs name v new form room free = record {
-  few = omega (arith, room, length-append bs (new_buffer name ∷ []));
-  told = told-append bs name v.told free;
-  names = λ k x hx. elim (get-end bs (new_buffer name) k x hx) [
-    | inl p ↦ v.names k x p
-    | inr p ↦ subst (λ (z : BufferValue). IsTrue (is_buffer_name z.name)) (sym p.1) form
-  ];
-  contents = λ k x hx. elim (get-end bs (new_buffer name) k x hx) [
-    | inl p ↦ v.contents k x p
-    | inr p ↦ subst (λ (z : BufferValue). IsContent o z.content) (sym p.1) new
-  ];
-}
+buffers-appended o bs name v new form room free =
+    buffers-with o bs (bs ++ new_buffer name ∷ []) (length bs) (new_buffer name) v (omega (arith, room, length-append bs (new_buffer name ∷ [])))
+    (λ k x hx. get-end bs (new_buffer name) k x hx) (λ k x h e. absurd (none_named name bs k x (omega (arith, slice_get_within bs k x h, free)) h e)) form new
 
 -- ---- windows over other buffers
 
