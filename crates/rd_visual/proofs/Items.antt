@@ -1,5 +1,5 @@
 -- The item of a reading column.
-use Rattle.std.proofs.Common.{◌≡◌, ℕ, zero, suc, ◌≤◌, ◌&&◌, nat_le, nat_eq, Bool, true, false, not, cond, List, [], ◌∷◌, Option, None, Some, refl, ap, ◌∙◌, subst, arith}
+use Rattle.std.proofs.Common.{◌≡◌, ℕ, zero, suc, ◌≤◌, ◌&&◌, ◌⊎◌, inl, inr, nat_le, nat_eq, Bool, true, false, not, cond, List, [], ◌∷◌, Option, None, Some, refl, sym, ap, ◌∙◌, subst, arith}
 use Rattle.std.specs.Prelude.{count_by, find, slice_get}
 use Rattle.std.proofs.lemmas.Bool.{and_parts, eq-eqb}
 use Rattle.std.proofs.lemmas.Bool.Decides.{nat_tests}
@@ -18,30 +18,29 @@ pub record IsOneOf (p : Begin → Bool) (bs : List Begin) (b : Begin) : Type 0 w
   pub there : slice_get bs place ≡ Some b
   pub passes : p b ≡ true
 
-behind : (p : Begin → Bool) (x : Begin) (xs : List Begin) (b : Begin) → IsOneOf p xs b → IsOneOf p (x ∷ xs) b
-behind p x xs b one = record { place = suc one.place; there = one.there; passes = one.passes }
+-- of an item that is reached or not and of what is found behind it, the nearer one: the other where the item is not reached or stands before it
+nearer-one : (x : Begin) (r : Bool) (o : Option Begin) (b : Begin) → nearer (cond r (Some x) None) o ≡ Some b
+    → ((r ≡ true) × (x ≡ b)) ⊎ ((o ≡ Some b) × (r ≡ true → nat_le b.column x.column ≡ false))
+nearer-one x false o b e = inr (e, λ reached. absurd cc)
+nearer-one x true None b e = inl (refl, cc)
+nearer-one x true (Some o) b e = by (nat_le o.column x.column) refl e where
+  by : (q : Bool) → nat_le o.column x.column ≡ q → cond q (Some x) (Some o) ≡ Some b
+      → ((true ≡ true) × (x ≡ b)) ⊎ ((Some o ≡ Some b) × (true ≡ true → nat_le b.column x.column ≡ false))
+  by true le f = inl (refl, cc)
+  by false le f = inr (f, λ reached. let same : o ≡ b = cc in subst (λ (y : Begin). nat_le y.column x.column ≡ false) same le)
 
-first-of : (p : Begin → Bool) (x : Begin) (xs : List Begin) (b : Begin) → Some x ≡ Some b → p x ≡ true → IsOneOf p (x ∷ xs) b
-first-of p x xs b same passes = record { place = zero; there = same; passes = let e : x ≡ b = cc in subst (λ (y : Begin). p y ≡ true) e passes }
-
-one-of-two : (p : Begin → Bool) (x : Begin) (xs : List Begin) (o b : Begin) (q : Bool) → nat_le o.column x.column ≡ q → p x ≡ true → nearer (Some x) (Some o) ≡ Some b → IsOneOf p xs o → IsOneOf p (x ∷ xs) b
-one-of-two p x xs o b true le passes found one = first-of p x xs b (subst (λ (t : Bool). cond t (Some x) (Some o) ≡ Some b) le found) passes
-one-of-two p x xs o b false le passes found one =
-    let e : Some o ≡ Some b = subst (λ (t : Bool). cond t (Some x) (Some o) ≡ Some b) le found in
-    let same : o ≡ b = cc in
-    subst (IsOneOf p (x ∷ xs)) same (behind p x xs o one)
-
-member-cases : (column : ℕ) (x : Begin) (xs : List Begin) (b : Begin) (r : Bool) (o : Option Begin) → reaches column x ≡ r → item_at column xs ≡ o
-    → ((c : Begin) → item_at column xs ≡ Some c → IsOneOf (reaches column) xs c)
-    → nearer (cond r (Some x) None) o ≡ Some b → IsOneOf (reaches column) (x ∷ xs) b
-member-cases column x xs b false o here rest rec found = behind (reaches column) x xs b (rec b (rest ∙ found))
-member-cases column x xs b true None here rest rec found = first-of (reaches column) x xs b found here
-member-cases column x xs b true (Some o) here rest rec found = one-of-two (reaches column) x xs o b _ refl here found (rec o rest)
+-- an item that is not reached, or stands before what is found, takes nothing from it
+passed : (x b : Begin) (q : Bool) → (q ≡ true → nat_le b.column x.column ≡ false) → nearer (cond q (Some x) None) (Some b) ≡ Some b
+passed x b false before = refl
+passed x b true before = rw (before refl) refl
 
 -- it is an item of the row that covers a position and begins there or before
 pub item-member : (column : ℕ) (bs : List Begin) (b : Begin) → item_at column bs ≡ Some b → IsOneOf (reaches column) bs b
 item-member column [] b found = absurd cc
-item-member column (x ∷ xs) b found = member-cases column x xs b _ _ refl refl (λ c e. item-member column xs c e) found
+item-member column (x ∷ xs) b found = elim (nearer-one x (reaches column x) (item_at column xs) b found) [
+  | inl here ↦ record { place = zero; there = ap Some here.1; passes = ap (reaches column) (sym here.1) ∙ here.0 }
+  | inr rest ↦ let one = item-member column xs b rest.0 in record { place = suc one.place; there = one.there; passes = one.passes }
+]
 
 reaches-parts : (column : ℕ) (b : Begin) → reaches column b ≡ true → (covers_some b ≡ true) × (b.column ≤ column)
 reaches-parts column b h =
@@ -54,13 +53,6 @@ item-column column bs b found = reaches-parts column b (item-member column bs b 
 pub reaches-from : (column : ℕ) (b : Begin) → covers_some b ≡ true → b.column ≤ column → reaches column b ≡ true
 reaches-from column b some low = let le : nat_le b.column column ≡ true = grind (arith, nat_tests) in rw (some, le) refl
 
-reaches-less : (low column : ℕ) (b : Begin) (s : Bool) → covers_some b ≡ s → low ≤ column → reaches column b ≡ false → reaches low b ≡ false
-reaches-less low column b false some less out = rw some refl
-reaches-less low column b true some less out =
-    let above : nat_le b.column column ≡ false = subst (λ (t : Bool). (t && nat_le b.column column) ≡ false) some out in
-    let le : nat_le b.column low ≡ false = grind (arith, nat_tests) in
-    rw (some, le) refl
-
 nearer-first : (x : Begin) (o : Option Begin) → ((c : Begin) → o ≡ Some c → c.column ≤ x.column) → nearer (Some x) o ≡ Some x
 nearer-first x None low = refl
 nearer-first x (Some o) low = let less = low o refl in let le : nat_le o.column x.column ≡ true = grind (arith, nat_tests) in rw le refl
@@ -70,34 +62,16 @@ here-first column x xs some same =
     let here = reaches-from column x some (omega (arith, same)) in
     rw here (nearer-first x (item_at column xs) (λ c e. let low = (item-column column xs c e).1 in omega (arith, low, same)))
 
-again-two : (column : ℕ) (x : Begin) (xs : List Begin) (o b : Begin) (q : Bool) → nat_le o.column x.column ≡ q → covers_some x ≡ true → item_at o.column xs ≡ Some o
-    → nearer (Some x) (Some o) ≡ Some b → item_at b.column (x ∷ xs) ≡ Some b
-again-two column x xs o b true le some rest found =
-    let e : Some x ≡ Some b = subst (λ (t : Bool). cond t (Some x) (Some o) ≡ Some b) le found in
-    let same : x ≡ b = cc in
-    subst (λ (y : Begin). item_at y.column (x ∷ xs) ≡ Some y) same (here-first x.column x xs some refl)
-again-two column x xs o b false le some rest found =
-    let e : Some o ≡ Some b = subst (λ (t : Bool). cond t (Some x) (Some o) ≡ Some b) le found in
-    let same : o ≡ b = cc in
-    let here : reaches o.column x ≡ true = reaches-from o.column x some grind (arith, nat_tests) in
-    subst (λ (y : Begin). item_at y.column (x ∷ xs) ≡ Some y) same (rw (here, rest, le) refl)
-
-again-cases : (column : ℕ) (x : Begin) (xs : List Begin) (b : Begin) (r : Bool) (o : Option Begin) → reaches column x ≡ r → item_at column xs ≡ o
-    → ((c : Begin) → item_at column xs ≡ Some c → item_at c.column xs ≡ Some c)
-    → nearer (cond r (Some x) None) o ≡ Some b → item_at b.column (x ∷ xs) ≡ Some b
-again-cases column x xs b false o here rest rec found =
-    let whole : item_at column xs ≡ Some b = rest ∙ found in
-    let out = reaches-less b.column column x _ refl (item-column column xs b whole).1 here in
-    rw out (rec b whole)
-again-cases column x xs b true None here rest rec found =
-    let same : x ≡ b = cc in
-    subst (λ (y : Begin). item_at y.column (x ∷ xs) ≡ Some y) same (here-first x.column x xs (reaches-parts column x here).0 refl)
-again-cases column x xs b true (Some o) here rest rec found = again-two column x xs o b _ refl (reaches-parts column x here).0 (rec o rest) found
-
 -- the item of a reading column is that of its own column
 pub item-again : (column : ℕ) (bs : List Begin) (b : Begin) → item_at column bs ≡ Some b → item_at b.column bs ≡ Some b
 item-again column [] b found = absurd cc
-item-again column (x ∷ xs) b found = again-cases column x xs b _ _ refl refl (λ c e. item-again column xs c e) found
+item-again column (x ∷ xs) b found = elim (nearer-one x (reaches column x) (item_at column xs) b found) [
+  | inl here ↦ subst (λ (y : Begin). item_at y.column (x ∷ xs) ≡ Some y) here.1 (here-first x.column x xs (reaches-parts column x here.0).0 refl)
+  | inr rest ↦
+      let low = (item-column column xs b rest.0).1 in
+      ap (nearer (cond (reaches b.column x) (Some x) None)) (item-again column xs b rest.0)
+      ∙ passed x b (reaches b.column x) (λ reached. let parts = reaches-parts b.column x reached in rest.1 (reaches-from column x parts.0 (let less = parts.1 in omega (arith, less, low))))
+]
 
 -- counts
 
