@@ -78,15 +78,12 @@ item-again column (x ∷ xs) b found = elim (nearer-one x (reaches column x) (it
 pub found-none : (p : Begin → Bool) (bs : List Begin) → count_by p bs ≡ 0 → find p bs ≡ None
 found-none p bs none = none-of (find p bs) (is_some-found p bs ∙ opposite _ _ (none_counted p bs) ∙ ap not (eq-eqb (count_by p bs) 0 none))
 
-pass-behind : (column : ℕ) (x b : Begin) (q : Bool) → reaches column x ≡ q → begins_at column x ≡ false → b.column ≡ column → nearer (cond q (Some x) None) (Some b) ≡ Some b
-pass-behind column x b false here out same = refl
-pass-behind column x b true here out same =
+pass-behind : (column : ℕ) (x b : Begin) → begins_at column x ≡ false → b.column ≡ column → nearer (cond (reaches column x) (Some x) None) (Some b) ≡ Some b
+pass-behind column x b out same = passed x b (reaches column x) λ here.
     let parts = reaches-parts column x here in
-    let some = parts.0 in
-    let other : nat_eq x.column column ≡ false = subst (λ (t : Bool). (t && nat_eq x.column column) ≡ false) some out in
+    let other : nat_eq x.column column ≡ false = subst (λ (t : Bool). (t && nat_eq x.column column) ≡ false) parts.0 out in
     let low = parts.1 in
-    let le : nat_le b.column x.column ≡ false = grind (arith, nat_tests) in
-    rw le refl
+    grind (arith, nat_tests)
 
 -- the one item that begins in a reading column is that column's
 pub item-alone : (column : ℕ) (bs : List Begin) (k : ℕ) (b : Begin) → slice_get bs k ≡ Some b → covers_some b ≡ true → b.column ≡ column → count_by (begins_at column) bs ≤ 1 → item_at column bs ≡ Some b
@@ -98,4 +95,4 @@ item-alone column (x ∷ xs) (suc k) b there some same few =
     let equal : nat_eq b.column column ≡ true = grind (arith, nat_tests) in
     let passes : begins_at column b ≡ true = rw (some, equal) refl in
     let out = not-counted (begins_at column) x xs 1 few (place-counted (begins_at column) xs k b there passes) in
-    ap (nearer (cond (reaches column x) (Some x) None)) (item-alone column xs k b there some same (fewer (begins_at column) x xs 1 few)) ∙ pass-behind column x b _ refl out same
+    ap (nearer (cond (reaches column x) (Some x) None)) (item-alone column xs k b there some same (fewer (begins_at column) x xs 1 few)) ∙ pass-behind column x b out same
