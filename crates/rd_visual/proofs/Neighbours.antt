@@ -1,5 +1,5 @@
 -- Neighbours in a list of ranges.
-use Rattle.std.proofs.Common.{◌≡◌, ℕ, ◌+◌, ◌<◌, ◌≤◌, Bool, true, false, cond, if◌then◌else◌, List, [], ◌∷◌, ◌++◌, Option, None, Some, refl, sym, ap, subst, ◌∙◌, arith}
+use Rattle.std.proofs.Common.{◌≡◌, ℕ, ◌+◌, ◌<◌, ◌≤◌, ◌⊎◌, inl, inr, Bool, true, false, cond, if◌then◌else◌, List, [], ◌∷◌, ◌++◌, Option, None, Some, refl, sym, ap, subst, ◌∙◌, arith}
 use Rattle.std.specs.List.{AllByRecursion, count_by}
 use Rattle.std.proofs.lemmas.Bool.Decides.{nat_tests}
 use Rattle.rd_base.proofs.Lists.{count-append, count-cons}
@@ -7,6 +7,11 @@ use Rattle.std.proofs.lemmas.Bool.{cond-false}
 use Rattle.rd_matrix.proofs.Passing.{fewer, none-here, not-counted, place-counted}
 use Rattle.rd_visual.specs.Motion.{before, behind, holds, first, last, least}
 use Rattle.rd_visual.specs.declared.range.Range.{Range}
+
+-- where one was chosen, the test passed and it is this one, or it is what was left
+chosen-either : {X : Type 0} (b : Bool) (x y : X) (rest : Option X) → (if b then Some x else rest) ≡ Some y → ((b ≡ true) × (x ≡ y)) ⊎ ((b ≡ false) × (rest ≡ Some y))
+chosen-either true x y rest h = inl (refl, cc)
+chosen-either false x y rest h = inr (refl, h)
 
 -- each range has a position
 abbrev pub AreSome : List Range → Type 0
@@ -23,29 +28,19 @@ counted-behind pos r rs h = let e = count-cons (holds pos) r rs in omega (arith,
 
 -- the one that is found behind, and before, is one of the list
 
-behind-by : (b : Bool) (q : ℕ) (next : Range) (rs : List Range) (found : Option ℕ) → next.from < next.to → (if b then Some next.from else found) ≡ Some q
-    → (found ≡ Some q → 1 ≤ count_by (holds q) rs) → 1 ≤ count_by (holds q) (next ∷ rs)
-behind-by true q next rs found some h later = let same : next.from ≡ q = cc in subst (λ (k : ℕ). 1 ≤ count_by (holds k) (next ∷ rs)) same (counted-here next.from next rs (covers-first next some))
-behind-by false q next rs found some h later = counted-behind q next rs (later h)
-
 behind-one : (pos q : ℕ) (r : Range) (rs : List Range) → AreSome rs → behind pos (r ∷ rs) ≡ Some q → 1 ≤ count_by (holds q) rs
 behind-one pos q r [] some h = absurd cc
-behind-one pos q r (next ∷ rs) some h = behind-by (holds pos r) q next rs (behind pos (next ∷ rs)) some.0 h (λ e. behind-one pos q next rs some.1 e)
-
-before-by : (b : Bool) (pos q : ℕ) (r next : Range) (rs : List Range) (found : Option ℕ) → holds pos next ≡ b → r.from < r.to → (if b then Some r.from else found) ≡ Some q
-    → (found ≡ Some q → (1 ≤ count_by (holds q) (next ∷ rs)) × (1 ≤ count_by (holds pos) rs))
-    → (1 ≤ count_by (holds q) (r ∷ next ∷ rs)) × (1 ≤ count_by (holds pos) (next ∷ rs))
-before-by true pos q r next rs found e some h later =
-    let same : r.from ≡ q = cc in
-    (subst (λ (k : ℕ). 1 ≤ count_by (holds k) (r ∷ next ∷ rs)) same (counted-here r.from r (next ∷ rs) (covers-first r some)), counted-here pos next rs e)
-before-by false pos q r next rs found e some h later =
-    let both = later h in
-    (counted-behind q r (next ∷ rs) both.0, counted-behind pos next rs both.1)
+behind-one pos q r (next ∷ rs) some h = elim (chosen-either (holds pos r) next.from q (behind pos (next ∷ rs)) h) [
+  | inl here ↦ subst (λ (k : ℕ). 1 ≤ count_by (holds k) (next ∷ rs)) here.1 (counted-here next.from next rs (covers-first next some.0))
+  | inr later ↦ counted-behind q next rs (behind-one pos q next rs some.1 later.1)
+]
 
 pub before-one : (pos q : ℕ) (r : Range) (rs : List Range) → AreSome (r ∷ rs) → before pos (r ∷ rs) ≡ Some q → (1 ≤ count_by (holds q) (r ∷ rs)) × (1 ≤ count_by (holds pos) rs)
 before-one pos q r [] some h = absurd cc
-before-one pos q r (next ∷ rs) some h =
-    before-by (holds pos next) pos q r next rs (before pos (next ∷ rs)) refl some.0 h (λ e. before-one pos q next rs some.1 e)
+before-one pos q r (next ∷ rs) some h = elim (chosen-either (holds pos next) r.from q (before pos (next ∷ rs)) h) [
+  | inl here ↦ (subst (λ (k : ℕ). 1 ≤ count_by (holds k) (r ∷ next ∷ rs)) here.1 (counted-here r.from r (next ∷ rs) (covers-first r some.0)), counted-here pos next rs here.0)
+  | inr later ↦ let both = before-one pos q next rs some.1 later.1 in (counted-behind q r (next ∷ rs) both.0, counted-behind pos next rs both.1)
+]
 
 -- a step forward and a step backward
 
@@ -55,45 +50,36 @@ CoverOnce rs = (pos : ℕ) → count_by (holds pos) rs ≤ 1
 rest-once : (r : Range) (rs : List Range) → CoverOnce (r ∷ rs) → CoverOnce rs
 rest-once r rs once = λ pos. fewer (holds pos) r rs 1 (once pos)
 
-back-by : (b : Bool) (pos q : ℕ) (r next : Range) (rs : List Range) → holds pos r ≡ b → next.from < next.to → AreSome rs → CoverOnce (next ∷ rs)
-    → (if b then Some next.from else behind pos (next ∷ rs)) ≡ Some q → (behind pos (next ∷ rs) ≡ Some q → before q (next ∷ rs) ≡ least pos (next ∷ rs))
-    → before q (r ∷ next ∷ rs) ≡ (if b then Some r.from else least pos (next ∷ rs))
-back-by true pos q r next rs e some more once h later =
-    let same : next.from ≡ q = cc in
-    ap (λ (t : Bool). if t then Some r.from else before q (next ∷ rs)) (subst (λ (k : ℕ). holds k next ≡ true) same (covers-first next some))
-back-by false pos q r next rs e some more once h later =
-    let out = not-counted (holds q) next rs 1 (once q) (behind-one pos q next rs more h) in
-    ap (λ (t : Bool). if t then Some r.from else before q (next ∷ rs)) out ∙ later h
-
 pub back-again : (pos q : ℕ) (rs : List Range) → AreSome rs → CoverOnce rs → behind pos rs ≡ Some q → before q rs ≡ least pos rs
 back-again pos q [] some once h = absurd cc
 back-again pos q (r ∷ []) some once h = absurd cc
-back-again pos q (r ∷ next ∷ rs) some once h =
-    back-by (holds pos r) pos q r next rs refl some.1.0 some.1.1 (rest-once r (next ∷ rs) once) h
-    (λ e. back-again pos q (next ∷ rs) some.1 (rest-once r (next ∷ rs) once) e)
-
-on-by : (b : Bool) (pos q : ℕ) (r next : Range) (rs : List Range) → holds pos next ≡ b → r.from < r.to → AreSome (next ∷ rs) → CoverOnce (r ∷ next ∷ rs)
-    → (if b then Some r.from else before pos (next ∷ rs)) ≡ Some q → (before pos (next ∷ rs) ≡ Some q → behind q (next ∷ rs) ≡ least pos (next ∷ rs))
-    → behind q (r ∷ next ∷ rs) ≡ least pos (r ∷ next ∷ rs)
-on-by true pos q r next rs e some more once h later =
-    let same : r.from ≡ q = cc in
-    let here : holds q r ≡ true = subst (λ (k : ℕ). holds k r ≡ true) same (covers-first r some) in
-    let out = not-counted (holds pos) r (next ∷ rs) 1 (once pos) (counted-here pos next rs e) in
-    ap (λ (t : Bool). if t then Some next.from else behind q (next ∷ rs)) here
-    ∙ sym (ap (λ (t : Bool). if t then Some r.from else least pos (next ∷ rs)) out ∙ ap (λ (t : Bool). if t then Some next.from else least pos rs) e)
-on-by false pos q r next rs e some more once h later =
-    let both = before-one pos q next rs more h in
-    let out = not-counted (holds q) r (next ∷ rs) 1 (once q) both.0 in
-    let other-one = not-counted (holds pos) r (next ∷ rs) 1 (once pos) (counted-behind pos next rs both.1) in
-    ap (λ (t : Bool). if t then Some next.from else behind q (next ∷ rs)) out ∙ later h
-    ∙ sym (ap (λ (t : Bool). if t then Some r.from else least pos (next ∷ rs)) other-one)
+back-again pos q (r ∷ next ∷ rs) some once h = elim (chosen-either (holds pos r) next.from q (behind pos (next ∷ rs)) h) [
+  | inl here ↦
+      ap (λ (t : Bool). if t then Some r.from else before q (next ∷ rs)) (subst (λ (k : ℕ). holds k next ≡ true) here.1 (covers-first next some.1.0))
+      ∙ sym (ap (λ (t : Bool). if t then Some r.from else least pos (next ∷ rs)) here.0)
+  | inr later ↦
+      let tail-once = rest-once r (next ∷ rs) once in
+      let out = not-counted (holds q) next rs 1 (tail-once q) (behind-one pos q next rs some.1.1 later.1) in
+      ap (λ (t : Bool). if t then Some r.from else before q (next ∷ rs)) out ∙ back-again pos q (next ∷ rs) some.1 tail-once later.1
+      ∙ sym (ap (λ (t : Bool). if t then Some r.from else least pos (next ∷ rs)) later.0)
+]
 
 pub on-again : (pos q : ℕ) (rs : List Range) → AreSome rs → CoverOnce rs → before pos rs ≡ Some q → behind q rs ≡ least pos rs
 on-again pos q [] some once h = absurd cc
 on-again pos q (r ∷ []) some once h = absurd cc
-on-again pos q (r ∷ next ∷ rs) some once h =
-    on-by (holds pos next) pos q r next rs refl some.0 some.1 once h
-    (λ e. on-again pos q (next ∷ rs) some.1 (rest-once r (next ∷ rs) once) e)
+on-again pos q (r ∷ next ∷ rs) some once h = elim (chosen-either (holds pos next) r.from q (before pos (next ∷ rs)) h) [
+  | inl here ↦
+      let own : holds q r ≡ true = subst (λ (k : ℕ). holds k r ≡ true) here.1 (covers-first r some.0) in
+      let out = not-counted (holds pos) r (next ∷ rs) 1 (once pos) (counted-here pos next rs here.0) in
+      ap (λ (t : Bool). if t then Some next.from else behind q (next ∷ rs)) own
+      ∙ sym (ap (λ (t : Bool). if t then Some r.from else least pos (next ∷ rs)) out ∙ ap (λ (t : Bool). if t then Some next.from else least pos rs) here.0)
+  | inr later ↦
+      let both = before-one pos q next rs some.1 later.1 in
+      let out = not-counted (holds q) r (next ∷ rs) 1 (once q) both.0 in
+      let other-one = not-counted (holds pos) r (next ∷ rs) 1 (once pos) (counted-behind pos next rs both.1) in
+      ap (λ (t : Bool). if t then Some next.from else behind q (next ∷ rs)) out ∙ on-again pos q (next ∷ rs) some.1 (rest-once r (next ∷ rs) once) later.1
+      ∙ sym (ap (λ (t : Bool). if t then Some r.from else least pos (next ∷ rs)) other-one)
+]
 
 -- seams: the ranges of earlier blocks, of one block, and of later ones
 
