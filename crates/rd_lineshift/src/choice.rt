@@ -1,5 +1,5 @@
 //! Which shift is taken.
-ghost use Rattle.std.specs.Prelude.{◌≡◌, ◌+◌, ◌-◌, ◌<◌, ◌≤◌, length, map, pos, neg_ℤ, Some, IfSome};
+ghost use Rattle.std.specs.Prelude.{◌≡◌, ◌+◌, ◌-◌, ◌<◌, ◌≤◌, length, map, pos, neg_ℤ, Some, IfSome, if◌then◌else◌};
 ghost use Rattle.std.specs.List.{flat_map};
 ghost use Rattle.rd_term.specs.Pictures.{blank_row, width_of};
 ghost use Rattle.rd_update.specs.Laws.{IsSound};
@@ -97,8 +97,8 @@ fn cheapest_of(numbers: &Numbered, bands: &[Band]) -> Option<Priced>
     for i in 0..bands.len() {
         let band = bands[i];
         for by in 1..band.height {
-            best = cheaper(best, upward(numbers, band, by));
-            best = cheaper(best, downward(numbers, band, by));
+            best = cheaper(best, moved(numbers, band, by, true));
+            best = cheaper(best, moved(numbers, band, by, false));
         }
     }
     best
@@ -114,35 +114,25 @@ fn cheaper(best: Option<Priced>, other: Priced) -> Option<Priced>
     }
 }
 
-/// The shift of a band up by so many rows: the rows behind its first ones stand from its top on, and blank ones at its end.
-fn upward(numbers: &Numbered, band: Band, by: u32) -> Priced
-    requires length { length numbers.now.old.items ≡ length numbers.now.new.items }
-    requires few { length numbers.now.new.items ≤ FRAME_ROWS }
-    requires band { band.top + band.height ≤ length numbers.now.new.items }
-    requires by { by < band.height }
-    ensures shift { result.shift ≡ shift_by band (pos by) }
-    ensures cost { result.cost ≡ number_cost numbers.now.old.items numbers.now.new.items numbers.now.blank (shift_by band (pos by)) }
-    ensures bound { result.cost ≤ FRAME_ROWS }
-{
-    let (top, free) = (band.top, band.top + (band.height - by));
-    Priced {
-        shift: shift_by(band, by as i64),
-        cost: unlike_moved(numbers, band, by, top + by, top, free),
-    }
-}
-
-/// The shift of a band down by so many rows: its first rows stand behind blank ones, which stand from its top on.
-fn downward(numbers: &Numbered, band: Band, by: u32) -> Priced
+/// The shift of a band by so many rows, up or else down: those of its rows that stay stand from its top on and blank ones behind them,
+/// or the blank ones from its top on.
+fn moved(numbers: &Numbered, band: Band, by: u32, up: bool) -> Priced
     requires length { length numbers.now.old.items ≡ length numbers.now.new.items }
     requires few { length numbers.now.new.items ≤ FRAME_ROWS }
     requires band { band.top + band.height ≤ length numbers.now.new.items }
     requires some { 1 ≤ by }
     requires by { by < band.height }
-    ensures shift { result.shift ≡ shift_by band (neg_ℤ (pos by)) }
-    ensures cost { result.cost ≡ number_cost numbers.now.old.items numbers.now.new.items numbers.now.blank (shift_by band (neg_ℤ (pos by))) }
+    ensures shift { result.shift ≡ shift_by band (if up then pos by else neg_ℤ (pos by)) }
+    ensures cost { result.cost ≡ number_cost numbers.now.old.items numbers.now.new.items numbers.now.blank (shift_by band (if up then pos by else neg_ℤ (pos by))) }
     ensures bound { result.cost ≤ FRAME_ROWS }
 {
-    let top = band.top;
+    let (top, free) = (band.top, band.top + (band.height - by));
+    if up {
+        return Priced {
+            shift: shift_by(band, by as i64),
+            cost: unlike_moved(numbers, band, by, top + by, top, free),
+        };
+    }
     Priced {
         shift: shift_by(band, -(by as i64)),
         cost: unlike_moved(numbers, band, by, top, top + by, top),
