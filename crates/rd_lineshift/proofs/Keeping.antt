@@ -1,17 +1,12 @@
 -- The new current screen of an update that may begin with a shift.
-use Rattle.std.proofs.Common.{◌≡◌, ℕ, true, List, length, Option, None, Some, subst, ◌∙◌, arith, All}
+use Rattle.std.proofs.Common.{◌≡◌, ℕ, true, List, length, Option, None, Some, subst, ◌∙◌, arith}
 use Rattle.std.specs.Prelude.{IfSome}
-use Rattle.rd_base.proofs.Colours.{blanks-coloured, plain-coloured}
-use Rattle.rd_base.proofs.Rows.{blanks-whole}
-use Rattle.rd_base.specs.Cells.{IsColoured}
-use Rattle.rd_base.specs.Faces.{plain}
-use Rattle.rd_base.specs.Glyphs.{IsRowAfter}
-use Rattle.rd_base.specs.declared.cell.Cell.{Cell}
 use Rattle.rd_term.specs.Pictures.{Picture, IsScreen, blank_row, width_of}
 use Rattle.rd_update.specs.Laws.{IsSound}
 use Rattle.rd_update.specs.Plans.{HaveOneSize}
 use Rattle.rd_update.specs.Updates.{update}
 use Rattle.rd_term.proofs.Shapes.{grid-width}
+use Rattle.rd_update.proofs.Soundness.{sound-again}
 use Rattle.rd_lineshift.specs.Choices.{AreWithin, choice}
 use Rattle.rd_lineshift.specs.Laws.{IsShift}
 use Rattle.rd_lineshift.specs.Plans.{after_shift, shifted_update, shifting}
@@ -52,14 +47,8 @@ pub shifted-sound : (s : Shift) (screen : Picture) → IsScreen screen → IsSou
 shifted-sound s screen p sound fits =
     let v = width_of screen.rows in
     let size = shifted-sized s screen p fits in
-    record {
-      whole = record {
-        glyphs = shifted-all (λ (row : List Cell). IsRowAfter 0 row) s (blank_row v) screen.rows (blanks-whole v plain) sound.whole.glyphs;
-        row = omega (arith, size.0, sound.whole.row);
-        column = omega (arith, size.1, sound.whole.column);
-      };
-      colours = shifted-all (λ (row : List Cell). All IsColoured row) s (blank_row v) screen.rows (blanks-coloured v plain plain-coloured) sound.colours;
-    }
+    sound-again screen (shifted s screen) (λ P one. shifted-all P s (blank_row v) screen.rows (one v)) sound
+    (omega (arith, size.0, sound.whole.row)) (omega (arith, size.1, sound.whole.column))
 
 pub after-sound : (current : Option Picture) (target : Picture) (taken : Option Shift) → HaveOneSize current target → IfSome current (λ screen. IsScreen screen × IsSound screen)
     → IfSome taken (λ s. IsShift (length target.rows) s) → IfSome (after_shift taken current) (λ screen. IsSound screen)

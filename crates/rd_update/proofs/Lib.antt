@@ -8,7 +8,7 @@ mod Rows
 pub mod Sequences
 mod Showing
 pub mod Sizes
-mod Soundness
+pub mod Soundness
 pub mod Spans
 mod Telling
 mod Texts

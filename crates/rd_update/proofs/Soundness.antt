@@ -68,18 +68,20 @@ size-kept current target limit h =
 
 -- ---- soundness
 
+-- a picture of the rows of a sound one and of blank ones, with its cursor on them
+pub sound-again : (old new : Picture) → ((P : List Cell → Type 0) → ((n : ℕ) → P (blank_row n)) → All P old.rows → All P new.rows) → IsSound old
+    → new.row < length new.rows → new.column < width_of new.rows → IsSound new
+sound-again old new each sound row column = record {
+  whole = record { glyphs = each (λ cells. IsRowAfter 0 cells) (λ n. blanks-whole n plain) sound.whole.glyphs; row = row; column = column };
+  colours = each (λ cells. All IsColoured cells) (λ n. blanks-coloured n plain plain-coloured) sound.colours;
+}
+
 start-sound : (current : Option Picture) (target : Picture) → HaveOneSize current target → IfSome current (λ screen. IsSound screen) → IsSound target → IsSound (start current target)
 start-sound None target h p t =
     let w = start-width None target h in
     let n = start-length None target h in
-    record {
-      whole = record {
-        glyphs = All-map (λ row. IsRowAfter 0 row) (λ (row : List Cell). blank_row (length row)) target.rows (λ k d lt. blanks-whole (length (get_or target.rows k d)) plain);
-        row = omega (arith, n, t.whole.row);
-        column = omega (arith, w, t.whole.column);
-      };
-      colours = All-map (λ row. All IsColoured row) (λ (row : List Cell). blank_row (length row)) target.rows (λ k d lt. blanks-coloured (length (get_or target.rows k d)) plain plain-coloured);
-    }
+    sound-again target (start None target) (λ P one _. All-map P (λ (row : List Cell). blank_row (length row)) target.rows (λ k d lt. one (length (get_or target.rows k d)))) t
+    (omega (arith, n, t.whole.row)) (omega (arith, w, t.whole.column))
 start-sound (Some screen) target h p t = p
 
 pub sound-kept : (current : Option Picture) (target : Picture) (limit : Option ℕ) → HaveOneSize current target → IfSome current (λ screen. IsSound screen) → IsSound target → IsSound (update current target limit).screen
