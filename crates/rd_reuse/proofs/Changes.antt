@@ -1,5 +1,5 @@
 -- Changes that are none, and that may be of anything.
-use Rattle.std.proofs.Common.{◌≡◌, ℕ, true, ◌&&◌, ◌==◌, ℤ, ap, ◌∙◌}
+use Rattle.std.proofs.Common.{◌≡◌, true, ◌&&◌, ◌==◌}
 use Rattle.std.proofs.lemmas.Bool.{and_parts, eqb-true}
 use Rattle.std.proofs.lemmas.Bool.Decides.{Decides-int_eq}
 use Rattle.std.specs.Ordering.{int_eq}
@@ -11,9 +11,7 @@ same-parts : (a b : Change) → ((a.head == b.head) && (a.tail == b.tail) && int
 same-parts a b e =
     let both = and_parts ((a.head == b.head) && (a.tail == b.tail)) (int_eq a.added b.added) e in
     let places = and_parts (a.head == b.head) (a.tail == b.tail) both.0 in
-    ap (λ (x : ℕ). record { head = x; tail = a.tail; added = a.added }) (eqb-true a.head b.head places.0)
-    ∙ (ap (λ (x : ℕ). record { head = b.head; tail = x; added = a.added }) (eqb-true a.tail b.tail places.1)
-    ∙ ap (λ (x : ℤ). record { head = b.head; tail = b.tail; added = x }) ((Decides-int_eq a.added b.added).0 both.1))
+    λ i. record { head = eqb-true a.head b.head places.0 i; tail = eqb-true a.tail b.tail places.1 i; added = (Decides-int_eq a.added b.added).0 both.1 i }
 
 pub none-is : (c : Change) → is_none c ≡ true → c ≡ none
 none-is c e = same-parts c none e

@@ -1,5 +1,5 @@
 -- Shapes that are the same.
-use Rattle.std.proofs.Common.{◌≡◌, ℕ, ◌==◌, ◌&&◌, true, refl, ap, ◌∙◌}
+use Rattle.std.proofs.Common.{◌≡◌, ◌==◌, ◌&&◌, true, refl}
 use Rattle.std.proofs.lemmas.Bool.{and_from, and_parts, eq-eqb, eqb-true}
 use Rattle.rd_base.specs.declared.settings.Wrap.{Wrap}
 use Rattle.rd_base.specs.declared.settings.Wrap.TheVariants.{Truncate, Continue, Word}
@@ -16,17 +16,11 @@ same-wrap Word Truncate e = cc
 same-wrap Word Continue e = cc
 same-wrap Word Word e = refl
 
-equal-shapes : (a b : ShapeValues) → a.width ≡ b.width → a.wrap ≡ b.wrap → a.hscroll ≡ b.hscroll → a ≡ b
-equal-shapes a b width wrap hscroll =
-    ap (λ (x : ℕ). record { width = x; wrap = a.wrap; hscroll = a.hscroll }) width
-    ∙ (ap (λ (x : Wrap). record { width = b.width; wrap = x; hscroll = a.hscroll }) wrap
-    ∙ ap (λ (x : ℕ). record { width = b.width; wrap = b.wrap; hscroll = x }) hscroll)
-
 pub same-shape : (a b : ShapeValues) → is_same_shape a b ≡ true → a ≡ b
 same-shape a b e =
     let both = and_parts ((a.width == b.width) && (a.hscroll == b.hscroll)) (is_same_wrap a.wrap b.wrap) e in
     let numbers = and_parts (a.width == b.width) (a.hscroll == b.hscroll) both.0 in
-    equal-shapes a b (eqb-true a.width b.width numbers.0) (same-wrap a.wrap b.wrap both.1) (eqb-true a.hscroll b.hscroll numbers.1)
+    λ i. record { width = eqb-true a.width b.width numbers.0 i; wrap = same-wrap a.wrap b.wrap both.1 i; hscroll = eqb-true a.hscroll b.hscroll numbers.1 i }
 
 wrap-itself : (a : Wrap) → is_same_wrap a a ≡ true
 wrap-itself Truncate = refl
