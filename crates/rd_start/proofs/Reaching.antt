@@ -23,18 +23,11 @@ use Rattle.rd_start.proofs.Rows.{rows_around}
 
 pub strip-same : (m : SourceValues) (sweep sweep' : Sweep) (bs bs' : List Block) (ls ls' : List StripRow) (at at' : ℕ) → sweep' ≡ sweep → bs' ≡ bs → ls' ≡ ls → at' ≡ at
     → IsStripOf m sweep bs ls at → IsStripOf m sweep' bs' ls' at'
-strip-same m sweep sweep' bs bs' ls ls' at at' e f g i h =
-    subst (λ (x : Sweep). IsStripOf m x bs' ls' at') (sym e)
-    (subst (λ (x : List Block). IsStripOf m sweep x ls' at') (sym f)
-    (subst (λ (x : List StripRow). IsStripOf m sweep bs x at') (sym g)
-    (subst (λ x. IsStripOf m sweep bs ls x) (sym i) h)))
+strip-same m sweep sweep' bs bs' ls ls' at at' e f g i h = rw (e, f, g, i) h
 
 pub paid-same : (kind : ℕ → Bool) (base : ℕ) (m : SourceValues) (sweep sweep' : Sweep) (bs bs' : List Block) (at at' steps : ℕ) → sweep' ≡ sweep → bs' ≡ bs → at' ≡ at
     → IsPaidOf kind base m sweep bs at steps → IsPaidOf kind base m sweep' bs' at' steps
-paid-same kind base m sweep sweep' bs bs' at at' steps e f i h =
-    subst (λ (x : Sweep). IsPaidOf kind base m x bs' at' steps) (sym e)
-    (subst (λ (x : List Block). IsPaidOf kind base m sweep x at' steps) (sym f)
-    (subst (λ x. IsPaidOf kind base m sweep bs x steps) (sym i) h))
+paid-same kind base m sweep sweep' bs bs' at at' steps e f i h = rw (e, f, i) h
 
 -- a strip that began as another, with n steps, and grows at an edge until it reaches so far
 pub record Grown (edge : Edge) (m : SourceValues) (old s : Strip) (n steps count : ℕ) : Type 0 where
