@@ -1,16 +1,18 @@
 -- Places in joined lists, searches there, and what holds of all of one.
-use Rattle.std.proofs.Common.{◌≡◌, ℕ, zero, suc, ◌+◌, ◌-◌, ◌<◌, ◌≤◌, inl, inr, Bool, true, false, cond, not, eqb, leb, ltb, List, [], ◌∷◌, ◌++◌, length, map, Option, None, Some, refl, sym, ap, ap₂, ◌∙◌, arith, zero-add}
+use Rattle.std.proofs.Common.{◌≡◌, ℕ, zero, suc, ◌+◌, ◌-◌, ◌<◌, ◌≤◌, inl, inr, Bool, true, false, cond, not, eqb, leb, ltb, List, [], ◌∷◌, ◌++◌, length, map, get_or, Option, None, Some, refl, sym, ap, ap₂, ◌∙◌, arith, zero-add}
 use Rattle.std.proofs.Math.Nat.{add-suc, add-zero}
 use Rattle.std.proofs.Math.Numerals.{add-one}
-use Rattle.std.proofs.lemmas.Bool.{cases_Bool, le-ltb, leb-true, lt-ltb, or_parts}
+use Rattle.std.proofs.lemmas.Bool.{cases_Bool, le-ltb, lt-ltb, or_parts}
 use Rattle.std.specs.List.{All, AllByRecursion, find, flat_map, fold, list_any, position, position_or_len, count_by}
 use Rattle.std.proofs.lemmas.List.{append-nil, length-map}
 use Rattle.std.proofs.lemmas.List.Elements.{All-append, All-nil, All-tail}
 use Rattle.std.proofs.lemmas.Bool.Decides.{nat_tests}
-use Rattle.std.proofs.lemmas.List.Folds.{find-append, prefix_len-append}
+use Rattle.std.proofs.lemmas.List.Folds.{find-append, list_any_none, prefix_len-append}
 use Rattle.std.specs.Option.{option_or}
+use Rattle.rd_base.proofs.Choices.{either, none-of}
+use Rattle.rd_base.proofs.Lists.{all-one, is_some-found}
 use Rattle.rd_matrix.proofs.Passing.{first-inside, none-counted}
-use Rattle.rd_start.specs.Starts.{around, both_at}
+use Rattle.rd_start.specs.Starts.{above_at, around, both_at}
 
 -- what holds of all that each element gives
 pub all-flat : {X Y : Type 0} (P : Y → Type 0) (f : X → List Y) (xs : List X) → All (λ (x : X). All P (f x)) xs → All P (flat_map f xs)
@@ -73,19 +75,23 @@ find-far p row far (suc more) x e =
     ∙ (find-append p (around row (far + more)) (both_at row (suc (far + more)))
     ∙ ap (λ o. option_or o (find p (both_at row (suc (far + more))))) (find-far p row far more x e))
 
-find-neither : (p : ℕ → Bool) (row far : ℕ) → (far ≤ row → p (row - far) ≡ false) → p (row + far) ≡ false → find p (both_at row far) ≡ None
-find-neither p row far lesser here =
-    elim (cases_Bool (leb far row)) [
-      | inl there ↦ let low = leb-true far row there in rw there (rw (lesser low) (rw here refl))
-      | inr there ↦ rw there (rw here refl)
-    ]
+-- one of the rows at most so far from a row
+abbrev pub IsAround : ℕ → ℕ → ℕ → Type 0
+IsAround row far x = (row ≤ x + far) × (x ≤ row + far)
+
+-- each row that is searched round one is at most so far from it
+pub around-each : (row far : ℕ) → All (IsAround row far) (around row far)
+around-each row zero = all-one (IsAround row zero) row (omega arith, omega arith)
+around-each row (suc far) =
+    let Near = IsAround row (suc far) in
+    let above = either (All Near) (leb (suc far) row) ((row - suc far) ∷ []) [] (all-one Near (row - suc far) (omega arith, omega arith)) (All-nil Near) in
+    All-append Near (around row far) (both_at row (suc far)) (λ k d below. let near = around-each row far k d below in (omega (arith, near.0), omega (arith, near.1)))
+    (All-append Near (above_at row (suc far)) ((row + suc far) ∷ []) above (all-one Near (row + suc far) (omega arith, omega arith)))
 
 pub find-none : (p : ℕ → Bool) (row far : ℕ) → ((k : ℕ) → row ≤ k + far → k ≤ row + far → p k ≡ false) → find p (around row far) ≡ None
-find-none p row zero none = let here = none row (omega arith) (omega arith) in rw here refl
-find-none p row (suc far) none =
-    find-append p (around row far) (both_at row (suc far))
-    ∙ (ap (λ o. option_or o (find p (both_at row (suc far)))) (find-none p row far (λ k low high. none k (omega arith) (omega arith)))
-    ∙ find-neither p row (suc far) (λ low. none (row - suc far) (omega arith) (omega arith)) (none (row + suc far) (omega arith) (omega arith)))
+find-none p row far none =
+    none-of (find p (around row far))
+    (is_some-found p (around row far) ∙ list_any_none p (around row far) (λ k d below. let near = around-each row far k d below in none (get_or (around row far) k d) near.0 near.1))
 
 -- the place of the first element that passes
 pub position-mapped : {X Y : Type 0} (p : Y → Bool) (f : X → Y) (xs : List X) → position p (map f xs) ≡ position (λ x. p (f x)) xs

@@ -1,10 +1,10 @@
 -- The rows in view from a new start are near the window.
-use Rattle.std.proofs.Common.{◌≡◌, ℕ, zero, suc, ◌+◌, ◌-◌, ◌<◌, ◌≤◌, ◌⊎◌, inl, inr, Bool, true, leb, ltb, List, [], ◌∷◌, length, Option, None, Some, refl, sym, ap, ◌∙◌, subst, arith}
+use Rattle.std.proofs.Common.{◌≡◌, ℕ, ◌+◌, ◌<◌, ◌≤◌, ◌⊎◌, inl, inr, Bool, true, leb, ltb, List, [], ◌∷◌, length, Option, None, Some, IfSome, refl, ap, arith}
 use Rattle.std.specs.List.{find, list_any, range_with_len}
-use Rattle.std.specs.Option.{option_or, unwrap_or}
+use Rattle.std.specs.Option.{unwrap_or}
 use Rattle.std.proofs.lemmas.Bool.{and_parts, cases_Bool, leb-true, ltb-true}
-use Rattle.std.proofs.lemmas.List.Folds.{Any-from_list_any, find-append, list_any-from_Any}
-use Rattle.rd_base.proofs.Choices.{or-some}
+use Rattle.std.proofs.lemmas.List.Folds.{Any-from_list_any, list_any-from_Any}
+use Rattle.rd_base.proofs.Lists.{found-each}
 use Rattle.rd_matrix.proofs.Counting.{costs-if}
 use Rattle.rd_matrix.specs.Rows.{blocks_with}
 use Rattle.rd_matrix.specs.Sources.{SourceValues, costs_of}
@@ -17,62 +17,22 @@ use Rattle.rd_rows.specs.Rows.{RowMeaning}
 use Rattle.rd_rows.specs.Shapes.{ShapeValues}
 use Rattle.rd_start.specs.Chosen.{places_of}
 use Rattle.rd_start.specs.Near.{is_near, near_costs}
-use Rattle.rd_start.specs.Starts.{Places, around, both_at, centred, following, scrolled, start_of, suits}
+use Rattle.rd_start.specs.Starts.{Places, around, centred, following, scrolled, start_of, suits}
 use Rattle.rd_start.specs.declared.wanted.Wanted.{Wanted}
-use Rattle.rd_start.proofs.Lists.{find-first}
+use Rattle.rd_start.proofs.Lists.{IsAround, around-each, find-first}
 use Rattle.rd_start.proofs.NearRows.{forced-near, moving-near, point-near, view-near}
 use Rattle.rd_window.specs.Views.{start_row}
 
--- one of the rows at most so far from a row
-abbrev pub IsAround : ℕ → ℕ → ℕ → Type 0
-IsAround row far x = (row ≤ x + far) × (x ≤ row + far)
-
-one-found : (p : ℕ → Bool) (y x : ℕ) → find p (y ∷ []) ≡ Some x → y ≡ x
-one-found p y x e =
-    elim (cases_Bool (p y)) [
-      | inl passes ↦ let there : find p (y ∷ []) ≡ Some y = rw passes refl in cc
-      | inr fails ↦ let none : find p (y ∷ []) ≡ None = rw fails refl in absurd cc
-    ]
-
-both-found : (p : ℕ → Bool) (row far x : ℕ) → find p (both_at row far) ≡ Some x → IsAround row far x
-both-found p row far x e =
-    elim (cases_Bool (leb far row)) [
-      | inl there ↦
-          let low = leb-true far row there in
-          let pieces : find p (both_at row far) ≡ option_or (find p ((row - far) ∷ [])) (find p ((row + far) ∷ [])) = rw there (find-append p ((row - far) ∷ []) ((row + far) ∷ [])) in
-          elim (or-some (find p ((row - far) ∷ [])) (find p ((row + far) ∷ [])) x (sym pieces ∙ e)) as (λ _. IsAround row far x) [
-            | inl above ↦ let same = one-found p (row - far) x above in (omega (arith, low, same), omega (arith, low, same))
-            | inr below ↦ let same = one-found p (row + far) x below in (omega (arith, same), omega (arith, same))
-          ]
-      | inr none ↦
-          let pieces : find p (both_at row far) ≡ find p ((row + far) ∷ []) = rw none refl in
-          let same = one-found p (row + far) x (sym pieces ∙ e) in
-          (omega (arith, same), omega (arith, same))
-    ]
-
--- what is found among the rows at most so far from a row is one of them
-pub around-found : (p : ℕ → Bool) (row far x : ℕ) → find p (around row far) ≡ Some x → IsAround row far x
-around-found p row zero x e = let same = one-found p row x e in (omega (arith, same), omega (arith, same))
-around-found p row (suc far) x e =
-    elim (or-some (find p (around row far)) (find p (both_at row (suc far))) x (sym (find-append p (around row far) (both_at row (suc far))) ∙ e)) as (λ _. IsAround row (suc far) x) [
-      | inl nearer ↦
-          let rest = around-found p row far x nearer in
-          let low = rest.0 in
-          let high = rest.1 in
-          (omega (arith, low), omega (arith, high))
-      | inr here ↦ both-found p row (suc far) x here
-    ]
-
-follows-one : (w : Wanted) (at : Places) (o : Option ℕ) → find (suits w at) (around at.old w.conservatively) ≡ o
-    → IsAround at.old w.conservatively (following w at) ⊎ (following w at ≡ centred w at)
-follows-one w at None e = inr (ap (λ o. unwrap_or o (centred w at)) e)
-follows-one w at (Some x) e =
-    let same : following w at ≡ x = ap (λ o. unwrap_or o (centred w at)) e in
-    inl (subst (IsAround at.old w.conservatively) (sym same) (around-found (suits w at) at.old w.conservatively x e))
+-- what holds of what is found holds of the value that is taken, unless nothing is found
+found-or : (P : ℕ → Type 0) (o : Option ℕ) (x : ℕ) → IfSome o P → P (unwrap_or o x) ⊎ (unwrap_or o x ≡ x)
+found-or P None x holds = inr refl
+found-or P (Some y) x holds = inl holds
 
 -- the start of a window that follows point is at most so far from the old one as it may be moved, or brings point to the middle
 follows : (w : Wanted) (at : Places) → IsAround at.old w.conservatively (following w at) ⊎ (following w at ≡ centred w at)
-follows w at = follows-one w at (find (suits w at) (around at.old w.conservatively)) refl
+follows w at =
+    let near = found-each (IsAround at.old w.conservatively) (suits w at) (around at.old w.conservatively) (around-each at.old w.conservatively) in
+    found-or (IsAround at.old w.conservatively) (find (suits w at) (around at.old w.conservatively)) (centred w at) near
 
 -- each row in view from the new start is near
 pub start-near : (w : Wanted) (at : Places) (k : ℕ) → start_of w at ≤ k → k < start_of w at + w.height → is_near w at k ≡ true
