@@ -1,4 +1,6 @@
 //! Whether the last layout of a window is still right.
+ghost use Rattle.std.specs.Prelude.{◌≡◌, if◌then◌else◌};
+ghost use Rattle.rd_start.specs.Starts.{margin_of};
 
 use crate::layout::Layout;
 use rd_base::Anchor;
@@ -7,13 +9,13 @@ use rd_rows::Shape;
 use rd_start::{Chosen, Wanted, is_inside, margin_of};
 
 impl Layout {
-    ghost use Rattle.std.specs.Prelude.{◌≡◌, ◌<◌, if◌then◌else◌, Some, [], length};
+    ghost use Rattle.std.specs.Prelude.{◌≡◌, ◌<◌, Some, [], length};
     ghost use Rattle.rd_matrix.specs.Blocks.{IsWithin};
     ghost use Rattle.rd_matrix.specs.Entries.{shown_entries};
     ghost use Rattle.rd_matrix.specs.Sources.{IsSource, SourceValues};
     ghost use Rattle.rd_rows.specs.Shapes.{IsShape};
     ghost use Rattle.rd_start.specs.Chosen.{anchor_at, places_of};
-    ghost use Rattle.rd_start.specs.Starts.{margin_of, suits};
+    ghost use Rattle.rd_start.specs.Starts.{suits};
     ghost use Rattle.rd_window.specs.Layouts.{Stands, StandsUnchanged, is_current, older_rows, rests};
 
     /// Whether it is still a window's layout, whose start suits point: then the cursor alone moves. It reads the layout alone, at no
@@ -49,8 +51,8 @@ impl Layout {
         let Some((row, _)) = self.matrix.cursor(wanted.point) else {
             return false;
         };
-        let above = self.wanted_above(wanted);
-        let below = self.wanted_below(wanted);
+        let above = wanted_beside(self.top, wanted);
+        let below = wanted_beside(self.bottom, wanted);
         is_inside(
             wanted.height as usize,
             above as usize,
@@ -58,20 +60,6 @@ impl Layout {
             0,
             row as usize,
         )
-    }
-
-    /// The rows that are wanted above point's.
-    fn wanted_above(&self, wanted: Wanted) -> u32
-        ensures { result ≡ (if self.now.top then 0 else margin_of wanted) }
-    {
-        if self.top { 0 } else { margin_of(wanted) }
-    }
-
-    /// The rows that are wanted below point's.
-    fn wanted_below(&self, wanted: Wanted) -> u32
-        ensures { result ≡ (if self.now.bottom then 0 else margin_of wanted) }
-    {
-        if self.bottom { 0 } else { margin_of(wanted) }
     }
 
     /// Its rows, where it has a shape, and else those of another matrix, which has none.
@@ -100,4 +88,11 @@ impl Layout {
             point: wanted.point,
         }
     }
+}
+
+/// The rows that are wanted between point's and an edge of the view: none where the text ends there.
+fn wanted_beside(ends: bool, wanted: Wanted) -> u32
+    ensures { result ≡ (if ends then 0 else margin_of wanted) }
+{
+    if ends { 0 } else { margin_of(wanted) }
 }

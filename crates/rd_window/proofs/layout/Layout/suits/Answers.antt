@@ -22,5 +22,5 @@ returns c = λ m source is within height stands.
     let shown = point-shown w source is at.old l.height (row, c.in-Some.field-0-1) (sym (ap (cursor_in w.point) stands.rows) ∙ (sym c.cursor.ensures ∙ c.in-Some.is)) in
     let inside = shown.2 in
     c.is_inside.ensures
-    ∙ (ap₂ (λ (a b : ℕ). is_inside w.height a b 0 row) c.wanted_above-above.ensures c.wanted_below-below.ensures
+    ∙ (ap₂ (λ (a b : ℕ). is_inside w.height a b 0 row) c.wanted_beside-above.ensures c.wanted_beside-below.ensures
     ∙ suits-shown w at row (if l.top then 0 else margin_of w) (if l.bottom then 0 else margin_of w) shown.0 (omega (arith, inside)) (above-known w l at.old stands.top) (below-known w l at.count at.old height stands.bottom))
