@@ -7,7 +7,7 @@ use Rattle.rd_io.specs.Devices.{AppendsFront, Rose}
 use Rattle.rd_io.specs.declared.traits.Failed.{Failed}
 use Rattle.rd_layout.specs.Copies.{redisplayed as redisplayed_session, without_copies}
 use Rattle.rd_layout.specs.Facts.{facts_of}
-use Rattle.rd_layout.specs.Redisplays.{update_of, outcome_of}
+use Rattle.rd_layout.specs.Redisplays.{IsSent, update_of, outcome_of}
 use Rattle.rd_layout.specs.Sessions.{SessionValue}
 use Rattle.rd_run.specs.Ends.{Sunk, sunk}
 use Rattle.rd_run.specs.Reports.{no_memory_line, shown_line, stopped_line}
@@ -45,50 +45,40 @@ abbrev pub sent_lines : Bool → Option ℕ → Bool → ℕ → ℕ → Session
 sent_lines dumps generated done number rows v =
     if is_some generated then [] else if done then shown_line number rows ++ dump_lines dumps v.current (facts_of v) else stopped_line number rows
 
-pub shown-lines : (dumps : Bool) (generated : Option ℕ) (done : Bool) (number rows : ℕ) (v : SessionValue) → done ≡ true
-    → (if is_some generated then [] else shown_line number rows ++ dump_lines dumps v.current (facts_of v)) ≡ sent_lines dumps generated done number rows v
-shown-lines dumps generated done number rows v e = ap (λ d. sent_lines dumps generated d number rows v) (sym e)
-
-pub stopped-lines : (dumps : Bool) (generated : Option ℕ) (done : Bool) (number rows : ℕ) (v : SessionValue) → done ≡ false
-    → (if is_some generated then [] else stopped_line number rows) ≡ sent_lines dumps generated done number rows v
-stopped-lines dumps generated done number rows v e = ap (λ d. sent_lines dumps generated d number rows v) (sym e)
-
-pub counts-as : (shown : ℕ) (done d : Bool) → done ≡ d → (if d then shown + 1 else shown) ≡ (if done then shown + 1 else shown)
-counts-as shown done d e = ap (λ x. if x then shown + 1 else shown) (sym e)
-
 -- where the run stands may be said otherwise
 pub acts-next : (result : Result Unit Halt) (does : Bool → Effect) (next same : Standing) (screen report : Sunk) → next ≡ same → Acts result does same screen report → Acts result does next screen report
 acts-next result does next same screen report e h = subst (λ n. Acts result does n screen report) (sym e) h
 
-told-same : (law : CopyLaw) (dumps : Bool) (generated : Option ℕ) (number rows : ℕ) (old new : SessionValue) (stop : Option ℕ) → without_copies new ≡ redisplayed_session old stop → rows ≡ (update_of old stop).rows
-    → sent_lines dumps generated (update_of old stop).done number rows new
+told-same : (law : CopyLaw) (dumps : Bool) (generated : Option ℕ) (number rows : ℕ) (done : Bool) (old new : SessionValue) (stop : Option ℕ) → without_copies new ≡ redisplayed_session old stop
+    → rows ≡ (update_of old stop).rows → (update_of old stop).done ≡ done
+    → sent_lines dumps generated done number rows new
     ≡ told_of (record { files = old.files; dumps = dumps; generated = generated }) number (update_of old stop) (redisplayed_session old stop)
-told-same law dumps generated number rows old new stop same count =
-    let u = update_of old stop in
+told-same law dumps generated number rows done old new stop same count whole =
     let current : new.current ≡ (redisplayed_session old stop).current = ap (λ (v : SessionValue). v.current) same in
     let facts : facts_of new ≡ facts_of (redisplayed_session old stop) = sym (law new) ∙ ap facts_of same in
-    λ i. if is_some generated then [] else if u.done then shown_line number (count i) ++ dump_lines dumps (current i) (facts i) else stopped_line number (count i)
+    let is : done ≡ (update_of old stop).done = sym whole in
+    λ i. if is_some generated then [] else if is i then shown_line number (count i) ++ dump_lines dumps (current i) (facts i) else stopped_line number (count i)
 
 -- it was sent as far as it goes, and the report was told of it or broke
-pub sent-acts : (law : CopyLaw) (answer : Result Unit Failed) (result : Result Unit Halt) (dumps : Bool) (generated : Option ℕ) (lines shown seen : ℕ) (old new : SessionValue) (stop : Option ℕ) (rows : ℕ)
-    (s0 s1 r0 r1 : Option (List ℕ)) (m0 m1 n0 n1 : ℕ) → IsTold answer result → without_copies new ≡ redisplayed_session old stop → new.files ≡ old.files → rows ≡ (update_of old stop).rows
-    → Appends s0 s1 (update_of old stop).bytes → seen ≡ (if (update_of old stop).done then shown + 1 else shown)
-    → Prints r0 r1 n0 n1 (sent_lines dumps generated (update_of old stop).done (lines + 1) rows new) answer → OnErr answer (generated ≡ None)
-    → Acts result (λ starved. if starved then unshown (stand dumps generated lines shown old) else redisplayed (stand dumps generated lines shown old) stop) (stand dumps generated (lines + 1) seen new)
-    (sunk s0 s1 m0 m1) (sunk r0 r1 n0 n1)
-sent-acts law (Ok x) result dumps generated lines shown seen old new stop rows s0 s1 r0 r1 m0 m1 n0 n1 told same files count sent counts prints read =
+pub sent-acts : (law : CopyLaw) (answer : Result Unit Failed) (result : Result Unit Halt) (dumps : Bool) (generated : Option ℕ) (lines shown : ℕ) (old new : SessionValue) (stop : Option ℕ) (rows : ℕ) (done : Bool)
+    (s0 s1 r0 r1 : Option (List ℕ)) (m0 m1 n0 n1 : ℕ) → IsTold answer result → without_copies new ≡ redisplayed_session old stop → IsSent rows done stop old new s0 s1
+    → Prints r0 r1 n0 n1 (sent_lines dumps generated done (lines + 1) rows new) answer → OnErr answer (generated ≡ None)
+    → Acts result (λ starved. if starved then unshown (stand dumps generated lines shown old) else redisplayed (stand dumps generated lines shown old) stop)
+    (stand dumps generated (lines + 1) (if done then shown + 1 else shown) new) (sunk s0 s1 m0 m1) (sunk r0 r1 n0 n1)
+sent-acts law (Ok x) result dumps generated lines shown old new stop rows done s0 s1 r0 r1 m0 m1 n0 n1 told same h prints read =
     let place = stand dumps generated lines shown old in
-    let next = stand dumps generated (lines + 1) seen new in
+    let next = stand dumps generated (lines + 1) (if done then shown + 1 else shown) new in
+    let counts : next.shown ≡ (redisplayed place stop).now.shown = ap (λ d. if d then shown + 1 else shown) (sym h.whole) in
     let now : next ≡ (redisplayed place stop).now =
-    λ i. record { mode = record { files = files i; dumps = dumps; generated = generated }; session = same i; lines = lines + 1; shown = counts i } in
+    λ i. record { mode = record { files = h.files i; dumps = dumps; generated = generated }; session = same i; lines = lines + 1; shown = counts i } in
     subst (λ (r : Result Unit Halt). Acts r (λ starved. if starved then unshown place else redisplayed place stop) next (sunk s0 s1 m0 m1) (sunk r0 r1 n0 n1)) (sym told)
-    (false, refl, now, sent, subst (Appends r0 r1) (told-same law dumps generated (lines + 1) rows old new stop same count) prints.whole)
-sent-acts law (Err x) result dumps generated lines shown seen old new stop rows s0 s1 r0 r1 m0 m1 n0 n1 told same files count sent counts prints read =
+    (false, refl, now, h.bytes, subst (Appends r0 r1) (told-same law dumps generated (lines + 1) rows done old new stop same h.count h.whole) prints.whole)
+sent-acts law (Err x) result dumps generated lines shown old new stop rows done s0 s1 r0 r1 m0 m1 n0 n1 told same h prints read =
     let place = stand dumps generated lines shown old in
-    let next = stand dumps generated (lines + 1) seen new in
-    let front = subst (AppendsFront r0 r1) (told-same law dumps generated (lines + 1) rows old new stop same count) prints.front in
+    let next = stand dumps generated (lines + 1) (if done then shown + 1 else shown) new in
+    let front = subst (AppendsFront r0 r1) (told-same law dumps generated (lines + 1) rows done old new stop same h.count h.whole) prints.front in
     subst (λ (r : Result Unit Halt). Acts r (λ starved. if starved then unshown place else redisplayed place stop) next (sunk s0 s1 m0 m1) (sunk r0 r1 n0 n1)) (sym told)
-    (false, is-sent (update_of old stop), sent, record { rose = prints.failed; front = front }, inl read)
+    (false, is-sent (update_of old stop), h.bytes, record { rose = prints.failed; front = front }, inl read)
 
 -- it found no memory
 pub starved-acts : (answer : Result Unit Failed) (result : Result Unit Halt) (dumps : Bool) (generated : Option ℕ) (lines shown : ℕ) (old new : SessionValue) (stop : Option ℕ)

@@ -1,8 +1,6 @@
 use Rattle.std.proofs.Common.{◌+◌, true, false}
-use Rattle.rd_dump.proofs.Writing.{prints-as}
-use Rattle.rd_layout.specs.Redisplays.{update_of}
 use Rattle.rd_player.specs.Acts.{standing}
-use Rattle.rd_player.proofs.Acting.{acts-next, broke-acts, counts-as, sent-acts, shown-lines, stand, starved-acts, stopped-lines}
+use Rattle.rd_player.proofs.Acting.{acts-next, broke-acts, sent-acts, stand, starved-acts}
 use Rattle.rd_player.proofs.act.Playing.show.Goals as goal
 
 pub returns-in-Shown-clause-acts : goal.returns-in-Shown-clause-acts
@@ -10,21 +8,17 @@ returns-in-Shown-clause-acts g c =
     let self = c.args.self.now in
     let new = c.redisplay.new.self in
     let h = c.in-Shown.ensures.redisplayed in
-    let u = update_of self.session c.args.stop in
     acts-next c.told.result _ (standing c.tell_shown.new.self) (stand self.dumps self.generated (self.lines + 1) (self.shown + 1) new) _ _ c.tell_shown.ensures.same
-    (sent-acts c.copies_change_no_op.ensures.facts c.tell_shown.result c.told.result self.dumps self.generated self.lines self.shown (self.shown + 1) self.session new c.args.stop c.in-Shown.rows _ _ _ _ _ _ _ _ c.told.ensures
-    (c.sent_redisplays_are_determined.ensures c.in-Shown.rows true c.args.stop self.session new _ _ h) h.files h.count h.bytes (counts-as self.shown u.done true h.whole)
-    (prints-as _ _ _ _ _ _ c.tell_shown.result (shown-lines self.dumps self.generated u.done (self.lines + 1) c.in-Shown.rows new h.whole) c.tell_shown.ensures.printed) c.tell_shown.ensures.read)
+    (sent-acts c.copies_change_no_op.ensures.facts c.tell_shown.result c.told.result self.dumps self.generated self.lines self.shown self.session new c.args.stop c.in-Shown.rows true _ _ _ _ _ _ _ _ c.told.ensures
+    (c.sent_redisplays_are_determined.ensures c.in-Shown.rows true c.args.stop self.session new _ _ h) h c.tell_shown.ensures.printed c.tell_shown.ensures.read)
 
 pub returns-in-Stopped-clause-acts : goal.returns-in-Stopped-clause-acts
 returns-in-Stopped-clause-acts g c =
     let self = c.args.self.now in
     let new = c.redisplay.new.self in
     let h = c.in-Stopped.ensures.redisplayed in
-    let u = update_of self.session c.args.stop in
-    sent-acts c.copies_change_no_op.ensures.facts c.tell_stopped.result c.told-in-Stopped.result self.dumps self.generated self.lines self.shown self.shown self.session new c.args.stop c.in-Stopped.rows _ _ _ _ _ _ _ _ c.told-in-Stopped.ensures
-    (c.sent_redisplays_are_determined.ensures c.in-Stopped.rows false c.args.stop self.session new _ _ h) h.files h.count h.bytes (counts-as self.shown u.done false h.whole)
-    (prints-as _ _ _ _ _ _ c.tell_stopped.result (stopped-lines self.dumps self.generated u.done (self.lines + 1) c.in-Stopped.rows new h.whole) c.tell_stopped.ensures.printed) c.tell_stopped.ensures.read
+    sent-acts c.copies_change_no_op.ensures.facts c.tell_stopped.result c.told-in-Stopped.result self.dumps self.generated self.lines self.shown self.session new c.args.stop c.in-Stopped.rows false _ _ _ _ _ _ _ _ c.told-in-Stopped.ensures
+    (c.sent_redisplays_are_determined.ensures c.in-Stopped.rows false c.args.stop self.session new _ _ h) h c.tell_stopped.ensures.printed c.tell_stopped.ensures.read
 
 pub returns-in-NoMemory-clause-acts : goal.returns-in-NoMemory-clause-acts
 returns-in-NoMemory-clause-acts g c =
