@@ -3,9 +3,9 @@ use Rattle.std.proofs.Common.{◌≡◌, ℕ, ◌+◌, ◌<◌, ◌≤◌, false
 use Rattle.std.proofs.Math.Seq.{take-length}
 use Rattle.std.proofs.lemmas.List.{length-take-le, take_more}
 use Rattle.rd_generate.specs.Generated.{hundreds, script, shown}
-use Rattle.rd_run.specs.Ends.{AreAll, AreFirstOf, AreScript, Drawn, IsTaken, Sunk, done_of, drawn, lines_in, summary, sunk}
+use Rattle.rd_run.specs.Ends.{AreAll, AreFirstOf, AreScript, Drawn, IsTaken, Sunk, drawn, lines_in, summary, sunk}
 use Rattle.rd_run.specs.Given.{Given, IsMode}
-use Rattle.rd_run.specs.Runs.{Input, Mode, Standing, effect, opened, run, input_of}
+use Rattle.rd_run.specs.Runs.{Input, Mode, Standing, effect, opened, input_of}
 use Rattle.rd_run.specs.declared.status.Status.TheVariants as statuses
 use Rattle.rd_run.proofs.Inputs.{lines-push}
 use Rattle.rd_player.specs.Acts.{Acts, Places, halted_by, summary_of}
@@ -13,7 +13,7 @@ use Rattle.rd_player.specs.declared.halt.Halt.{Halt}
 use Rattle.rd_player.specs.declared.halt.Ending.{Ending}
 use Rattle.rd_player.specs.declared.halt.Ending.TheVariants as endings
 use Rattle.rd_player.specs.declared.halt.Summary.{Summary}
-use Rattle.rd_player.proofs.Running.{HasRun, Halts, halts-at, has-begun, has-run}
+use Rattle.rd_player.proofs.Running.{HasRun, Halts, all-ran, halts-at, has-begun, has-run}
 use Rattle.std.proofs.KnownBytes.{Appends-nil}
 
 -- so many lines of the script were run
@@ -89,23 +89,10 @@ no-memory given mode number left s p q m n c begun made =
     let taken : IsTaken mode.generated [] [] = subst (λ x. IsTaken x [] []) (sym made) (refl, refl) in
     ([], ((begun, (refl, taken)), refl, Appends-nil s, Appends-nil p), same)
 
-summed : (o : Option ℕ) (number : ℕ) (now : Standing) (s : Summary) → o ≡ Some number → summary_of s ≡ summary now → done_of o now ≡ summary_of s
-summed o number now s e told = ap (λ x. done_of x now) e ∙ sym told
-
 -- all lines were run
 pub makes-done : (given : Given) (mode : Mode) (number : ℕ) (lines : List (List ℕ)) (i : ℕ) (left : Option (List ℕ)) (q : ℕ) (s : Summary) (place : Standing) (screen report : Sunk) (c0 c1 : ℕ)
     → IsMode given mode → mode.generated ≡ Some number → lines ≡ script number → i ≡ length lines → Making mode lines i place screen report c0 c1 → summary_of s ≡ summary place
     → Halts (endings.Sums s) given mode [] (drawn left q q) screen report c0 c1
 makes-done given mode number lines i left q s place screen report c0 c1 begun made is over h told =
-    let k = h.1.ran in
     let all : AreAll (Some number) h.0 [] left = (h.1.made ∙ ap (λ n. take n lines) over ∙ take-length lines ∙ is, refl) in
-    let last : summary_of s ≡ summary (run (opened mode) h.0).now = told ∙ ap summary (sym k.stands) in (
-      h.0,
-      (
-        (begun, (k.whole, subst (λ x. AreAll x h.0 [] left) (sym made) all)),
-        summed mode.generated number (run (opened mode) h.0).now s made last,
-        k.sent,
-        k.told,
-      ),
-      k.spent,
-    )
+    (h.0, all-ran given mode (Some number) h.0 [] (drawn left q q) place screen report c0 c1 (summary_of s) begun made h.1.ran all (sym told), h.1.ran.spent)

@@ -5,9 +5,10 @@ use Rattle.std.proofs.KnownBytes.{Appends-nil, Appends-trans}
 use Rattle.std.proofs.lemmas.List.{length_push}
 use Rattle.rd_base.proofs.Choices.{either}
 use Rattle.rd_io.proofs.Bytes.{rose-after}
-use Rattle.rd_run.specs.Ends.{Drawn, drawn, Sunk, sunk, Took, Broke, AreScript, IsTaken, allowed_in, lines_in, IsBad, IsInHand}
+use Rattle.rd_run.specs.Ends.{Drawn, drawn, Sunk, sunk, Took, Broke, AreAll, AreScript, Comes, IsTaken, allowed_in, done_of, last_in, lines_in, sent_in, told_in, IsBad, IsInHand}
 use Rattle.rd_run.specs.Given.{Given, IsMode}
 use Rattle.rd_run.specs.Runs.{Mode, Input, Standing, Effect, World, opened, run, after, effect, is_sent, redisplayed, unshown, input_of}
+use Rattle.rd_run.specs.declared.status.Status.TheVariants.{Done}
 use Rattle.rd_run.proofs.Effects.{effect-is, effects-pair}
 use Rattle.rd_run.proofs.Inputs.{lines-push, run-push, run_line-goes}
 use Rattle.rd_player.specs.Acts.{Acts, ComesTo, IsToldOf, Places, SpentBy, halted_by}
@@ -91,6 +92,15 @@ has-run mode inputs line place next s0 s1 s2 p0 p1 p2 m0 m1 m2 n0 n1 n2 c0 c1 c2
       told = subst (Appends p0 p2) (sym (ap (λ (x : World). x.told) world)) (Appends-trans p0 p1 p2 w.told e.told k.told a.4);
       spent = let before = k.spent in omega (arith, effect-allows place line a.0);
     }
+
+-- ---- how a run ends
+
+-- what comes of a run over all lines of its script
+pub all-ran : (given : Given) (mode : Mode) (o : Option ℕ) (inputs : List Input) (bytes : List ℕ) (source : Drawn) (place : Standing) (screen report : Sunk) (c0 c1 : ℕ) (line : List ℕ) → IsMode given mode
+    → mode.generated ≡ o → HasRun mode inputs place screen report c0 c1 → AreAll o inputs bytes source.left → done_of o place ≡ line
+    → Comes given (Some mode) Done inputs bytes source × (last_in (Some mode) Done inputs ≡ line) × Took screen (sent_in (Some mode) inputs) × Took report (told_in (Some mode) inputs)
+all-ran given mode o inputs bytes source place screen report c0 c1 line begun is k all last =
+    ((begun, (k.whole, subst (λ x. AreAll x inputs bytes source.left) (sym is) all)), ap (λ x. done_of x (run (opened mode) inputs).now) is ∙ (ap (done_of o) k.stands ∙ last), k.sent, k.told)
 
 -- ---- how a run halts
 
