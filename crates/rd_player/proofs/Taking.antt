@@ -7,10 +7,9 @@ use Rattle.rd_io.specs.Lines.{Reading, Answers, Cause}
 use Rattle.rd_io.proofs.Bytes.{rose-after}
 use Rattle.rd_io.specs.declared.lines.LineFault.{LineFault}
 use Rattle.rd_io.specs.declared.lines.LineFault.TheVariants as reader
-use Rattle.rd_run.specs.Ends.{AreAll, AreInLimits, AreScript, Drawn, GoesOn, IsPast, IsTaken, Sunk, done_of, drawn, lines_in, sunk}
+use Rattle.rd_run.specs.Ends.{AreAll, AreInLimits, AreScript, Drawn, GoesOn, IsPast, IsTaken, Sunk, drawn, lines_in, sunk}
 use Rattle.rd_run.specs.Given.{Given, IsMode}
-use Rattle.rd_run.specs.Reports.{last_line}
-use Rattle.rd_run.specs.Runs.{Input, Mode, Standing, effect, opened, run, input_of}
+use Rattle.rd_run.specs.Runs.{Input, Mode, Standing, effect, opened, input_of}
 use Rattle.rd_run.specs.declared.status.Status.TheVariants as statuses
 use Rattle.rd_run.proofs.Inputs.{lines-length, lines-push}
 use Rattle.rd_player.specs.Acts.{Acts, ComesTo, Places, SpentBy, ended_by, halted_by}
@@ -18,7 +17,7 @@ use Rattle.rd_player.specs.declared.halt.Halt.{Halt}
 use Rattle.rd_player.specs.declared.halt.Ending.{Ending}
 use Rattle.rd_player.specs.declared.halt.Ending.TheVariants as endings
 use Rattle.rd_player.proofs.Reading.{HasRead, read-line, line-given, in-limits, are-first, read-over, come}
-use Rattle.rd_player.proofs.Running.{HasRun, halts-at, has-begun, has-run}
+use Rattle.rd_player.proofs.Running.{HasRun, all-ran, halts-at, has-begun, has-run}
 
 pub record IsRunning (mode : Mode) (inputs : List Input) (bytes : List ℕ) (l0 l1 : Option (List ℕ)) (r : Reading) (place : Standing) (screen report : Sunk) (c0 c1 : ℕ) : Type 0 where
   pub read : HasRead (lines_in inputs) bytes l0 l1 r
@@ -99,10 +98,6 @@ no-memory given mode l s p q m n c begun read =
     let same : c ≤ c + 0 = omega arith in
     ([], [], Consumes-nil l, ((begun, (refl, taken mode.generated [] [] read ([], (none, (tt, refl))))), refl, Appends-nil s, Appends-nil p), same)
 
--- the last line of a script that is read
-last-done : (o : Option ℕ) (now place : Standing) → o ≡ None → now ≡ place → done_of o now ≡ last_line statuses.Done place.lines
-last-done o now place e stands = ap (λ x. done_of x now) e ∙ ap (λ (x : Standing). last_line statuses.Done x.lines) stands
-
 -- no line is left
 pub ends-done : (given : Given) (mode : Mode) (l0 l1 l2 : Option (List ℕ)) (q0 q1 : ℕ) (old new : Reading) (place : Standing) (screen report : Sunk) (c0 c1 : ℕ) → IsMode given mode → mode.generated ≡ None
     → Running mode l0 l1 old place screen report c0 c1 → (old.ended ≡ true → l2 ≡ l1)
@@ -111,18 +106,8 @@ pub ends-done : (given : Given) (mode : Mode) (l0 l1 l2 : Option (List ℕ)) (q0
 ends-done given mode l0 l1 l2 q0 q1 old new place screen report c0 c1 begun read h same p =
     let k = h.2 in
     let o = read-over (lines_in h.0) h.1 p.0 l0 l1 l2 old new k.read p.1 same p.2 in
-    let all : AreAll None h.0 (h.1 ++ p.0) l2 = (in-limits (lines_in h.0) h.1 l0 l1 old k.read, o.1, o.2) in (
-      h.0,
-      h.1 ++ p.0,
-      o.0,
-      (
-        (begun, (k.ran.whole, subst (λ x. AreAll x h.0 (h.1 ++ p.0) l2) (sym read) all)),
-        last-done mode.generated (run (opened mode) h.0).now place read k.ran.stands,
-        k.ran.sent,
-        k.ran.told,
-      ),
-      k.ran.spent,
-    )
+    let all : AreAll None h.0 (h.1 ++ p.0) l2 = (in-limits (lines_in h.0) h.1 l0 l1 old k.read, o.1, o.2) in
+    (h.0, h.1 ++ p.0, o.0, all-ran given mode None h.0 (h.1 ++ p.0) (drawn l2 q0 q1) place screen report c0 c1 _ begun read k.ran all refl, k.ran.spent)
 
 -- a line may still begin behind so many
 may-begin : (given n : ℕ) (rest : List ℕ) → given ≡ n → (given < 1000000) ⊎ (rest ≡ []) → (n < 1000000) ⊎ (rest ≡ [])
