@@ -1,10 +1,8 @@
 -- Last layouts, found by the numbers of their windows and exchanged.
-use Rattle.std.proofs.Common.{◌≡◌, ◌≢◌, inl, inr, ℕ, zero, suc, ◌<◌, ◌==◌, Bool, None, Some, List, [], ◌∷◌, length, set, get_or, nat_lt, sym, refl, ◌∙◌, arith}
-use Rattle.std.proofs.lemmas.Bool.{cases_eq, eqb-false, eqb-true, ltb-false}
+use Rattle.std.proofs.Common.{◌≡◌, ◌≢◌, inl, inr, ℕ, zero, suc, ◌<◌, ◌==◌, Bool, Some, List, [], ◌∷◌, length, set, get_or, sym, ◌∙◌, arith}
+use Rattle.std.proofs.lemmas.Bool.{cases_eq, eqb-false, eqb-true}
 use Rattle.std.proofs.lemmas.List.Quantifiers.{position-Some}
-use Rattle.std.proofs.lemmas.List.Sums.{fails_before_first}
-use Rattle.std.specs.List.{position, position_or_len}
-use Rattle.rd_base.proofs.Choices.{none-chosen}
+use Rattle.std.specs.List.{position}
 use Rattle.rd_window.specs.declared.layout.Layout.{Layout}
 use Rattle.rd_layout.specs.Sessions.{layout_of}
 use Rattle.rd_layout.proofs.Known.{Last}
@@ -18,10 +16,6 @@ at-place n i [] less here before = absurd (omega (arith, less))
 at-place n zero (e ∷ es) less here before = under-here n e es here
 at-place n (suc i) (e ∷ es) less here before =
     under-there n e es (before 0 (omega arith)) ∙ at-place n i es (omega (arith, less)) here (λ k lower. before (suc k) (omega arith))
-
-nowhere : (n : ℕ) (es : List Last) → ((k : ℕ) → k < length es → (get_or es k nobody).0 ≢ n) → layout_of n es ≡ None
-nowhere n [] none = refl
-nowhere n (e ∷ es) none = under-there n e es (none 0 (omega arith)) ∙ nowhere n es (λ k less. none (suc k) (omega arith))
 
 abbrev pub is_of : ℕ → Last → Bool
 is_of n e = e.0 == n
@@ -37,11 +31,6 @@ found n i es at =
     let p = position-Some (is_of n) es i nobody at in
     let number = eqb-true (get_or es i nobody).0 n p.1 in
     record { inside = p.0; number = number; layout = at-place n i es p.0 number (λ k lower. eqb-false (get_or es k nobody).0 n (p.2 k lower)) }
-
-pub absent : (n : ℕ) (es : List Last) → position (is_of n) es ≡ None → layout_of n es ≡ None
-absent n es at =
-    let past = ltb-false (position_or_len (is_of n) es) (length es) (none-chosen (nat_lt (position_or_len (is_of n) es) (length es)) (position_or_len (is_of n) es) None at).0 in
-    nowhere n es (λ k less. eqb-false (get_or es k nobody).0 n (fails_before_first (is_of n) es k nobody (omega (arith, past, less))))
 
 -- ---- exchanging
 

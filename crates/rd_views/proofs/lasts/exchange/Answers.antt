@@ -3,8 +3,9 @@ use Rattle.std.proofs.lemmas.List.{get_or_read}
 use Rattle.rd_window.specs.declared.layout.Layout.{Layout}
 use Rattle.rd_layout.specs.Sessions.{layout_of}
 use Rattle.rd_layout.proofs.Known.{Last}
+use Rattle.rd_state.proofs.ByNumber.{nowhere}
 use Rattle.rd_views.specs.Layings.{nobody}
-use Rattle.rd_views.proofs.Finding.{absent, found, others-stay}
+use Rattle.rd_views.proofs.Finding.{found, others-stay}
 use Rattle.rd_views.proofs.lasts.exchange.Goals as goal
 
 pub returns-in-Some : goal.returns-in-Some
@@ -22,4 +23,4 @@ returns-in-Some c =
 
 pub returns-in_default-clause-taken : goal.returns-in_default-clause-taken
 returns-in_default-clause-taken c =
-    sym (ap (λ (o : Option Layout). unwrap_or o c.args.layout.now) (absent c.args.window c.args.layouts.now (sym c.find.ensures ∙ c.in_default.is)))
+    sym (ap (λ (o : Option Layout). unwrap_or o c.args.layout.now) (nowhere c.args.window c.args.layouts.now (sym c.find.ensures ∙ c.in_default.is)))

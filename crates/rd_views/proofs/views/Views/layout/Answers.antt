@@ -3,8 +3,9 @@ use Rattle.std.proofs.lemmas.List.{get_or_read}
 use Rattle.std.specs.List.{position}
 use Rattle.rd_layout.specs.Sessions.{SessionValue, layout_of}
 use Rattle.rd_layout.proofs.Known.{Last}
+use Rattle.rd_state.proofs.ByNumber.{nowhere}
 use Rattle.rd_views.specs.Layings.{nobody}
-use Rattle.rd_views.proofs.Finding.{absent, found, is_of}
+use Rattle.rd_views.proofs.Finding.{found, is_of}
 use Rattle.rd_views.proofs.views.Views.layout.Goals as goal
 
 pub returns-in-Some : goal.returns-in-Some
@@ -21,4 +22,4 @@ returns-in-None c =
     let n = c.args.window in
     let es = c.self.inside.layouts.items in
     let at : c.find.result ≡ position (is_of n) es = subst (λ (xs : List Last). c.find.result ≡ position (is_of n) xs) c.as_slice.ensures.value c.find.ensures in
-    sym (absent n es (sym at ∙ c.in-None.is)) ∙ ap (λ (v : SessionValue). layout_of n v.layouts) c.self.view_is
+    sym (nowhere n es (sym at ∙ c.in-None.is)) ∙ ap (λ (v : SessionValue). layout_of n v.layouts) c.self.view_is
