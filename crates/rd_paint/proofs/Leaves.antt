@@ -1,6 +1,7 @@
 -- The windows of a state in leaf order, and their views.
 use Rattle.std.proofs.Common.{◌≡◌, ℕ, ◌<◌, ◌≤◌, Option, None, Some, List, length, sym, ap, subst, ◌∙◌, arith}
 use Rattle.std.proofs.lemmas.List.{length-map}
+use Rattle.std.proofs.lemmas.Option.{none-some}
 use Rattle.std.specs.Option.{MatchOption}
 use Rattle.std.specs.Prelude.{option_map, slice_get}
 use Rattle.rd_base.proofs.Choices.{map-some}
@@ -9,7 +10,6 @@ use Rattle.rd_state.specs.States.{BufferValue, StateValue}
 use Rattle.rd_state.specs.Valid.{IsValid}
 use Rattle.rd_state.specs.Windows.{window_of}
 use Rattle.rd_state.specs.declared.window.WindowState.{WindowState}
-use Rattle.rd_state.proofs.ByNumber.{some-none}
 use Rattle.rd_state.proofs.Leaves.{placed-window}
 use Rattle.rd_tree.specs.Calls.{Configuration, frame_of}
 use Rattle.rd_tree.specs.Windows.{placed, window_at}
@@ -43,12 +43,12 @@ module _ (laws : LeafLaws) (s : StateValue) (valid : IsValid s) where
 
   -- a window of the frame lives, and shows a buffer that was made
   pub lives : (p : Placed) → place_of p.number s ≡ Some p → window_of p.number s.windows ≡ None → ⊥
-  lives p at none = let w = placed-window s p.number p valid at in some-none w.0 (window_of p.number s.windows) w.1 none
+  lives p at none = let w = placed-window s p.number p valid at in none-some w.0 (sym none ∙ w.1)
 
   pub shows-buffer : (number : ℕ) (w : WindowState) → window_of number s.windows ≡ Some w → None ≡ option_map painted_of (slice_get s.buffers w.buffer) → ⊥
   shows-buffer number w at none =
       let b = element-at s.buffers w.buffer (laws.found s number w valid at).made in
-      some-none (painted_of b.0) (option_map painted_of (slice_get s.buffers w.buffer)) (ap (option_map painted_of) b.1) (sym none)
+      none-some (painted_of b.0) (none ∙ ap (option_map painted_of) b.1)
 
   pub is-leaf : (i : ℕ) (p : Placed) (w : WindowState) (content : BufferValue) → slice_get (places s) i ≡ Some p → place_of p.number s ≡ Some p
       → Some w ≡ window_of p.number s.windows → Some content ≡ option_map painted_of (slice_get s.buffers w.buffer) → IsLeaf s i p w content

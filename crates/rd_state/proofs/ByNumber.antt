@@ -2,6 +2,7 @@
 use Rattle.std.proofs.Common.{◌≡◌, ◌≢◌, ℕ, zero, suc, ◌+◌, ◌<◌, ◌⊎◌, inl, inr, ◌==◌, not, if◌then◌else◌, Option, None, Some, List, [], ◌∷◌, ◌++◌, length, map, nat_lt, set, subst, sym, ap, refl, ◌∙◌, arith}
 use Rattle.std.proofs.lemmas.Bool.{cases_eq, cond-false, cond-true, eq-eqb, ltb-false, ne_eqb, not_from_false, not_from_true}
 use Rattle.std.proofs.lemmas.List.Sums.{prefix_len-le-length}
+use Rattle.std.proofs.lemmas.Option.{none-some}
 use Rattle.std.specs.Prelude.{slice_get, option_map, position, IsSome}
 use Rattle.std.specs.List.{remove}
 use Rattle.std.specs.Option.{option_or}
@@ -118,15 +119,11 @@ window-past n m f (e ∷ rest) ne = elim (cases_eq e.0 n) [
 pub window-other : (n m : ℕ) (f : WindowState → WindowState) (ws : List NumberedWindow) → m ≢ n → window_of m (with_window n f ws) ≡ window_of m ws
 window-other n m f ws ne = window-past n m (λ w. Some (f w)) ws ne
 
-pub some-none : {X : Type 0} (x : X) (o : Option X) → o ≡ Some x → o ≡ None → ⊥
-some-none x None h k = cc
-some-none x (Some y) h k = cc
-
 -- none comes
 pub none-past : (n m : ℕ) (f : WindowState → Option WindowState) (ws : List NumberedWindow) → window_of m ws ≡ None → window_of m (becoming n f ws) ≡ None
 none-past n m f [] h = refl
 none-past n m f (e ∷ rest) h =
-    let other : e.0 ≢ m = λ p. some-none e.1 (window_of m (e ∷ rest)) (under-here m e rest p) h in
+    let other : e.0 ≢ m = λ p. none-some e.1 (sym h ∙ under-here m e rest p) in
     let further : window_of m rest ≡ None = sym (under-there m e rest other) ∙ h in
     elim (cases_eq e.0 n) [
       | inl p ↦ ap (window_of m) (becoming-here n f e rest p) ∙ (kept-past e.0 m (f e.1) rest other ∙ further)
@@ -185,7 +182,7 @@ window-end m (x ∷ rest) e = elim (cases_eq x.0 m) [
 pub apart-end : (ws : List NumberedWindow) (e : NumberedWindow) → AreApart ws → window_of e.0 ws ≡ None → AreApart (ws ++ e ∷ [])
 apart-end [] e h none = (refl, tt)
 apart-end (x ∷ rest) e h none =
-    let other : x.0 ≢ e.0 = λ p. some-none x.1 (window_of e.0 (x ∷ rest)) (under-here e.0 x rest p) none in
+    let other : x.0 ≢ e.0 = λ p. none-some x.1 (sym none ∙ under-here e.0 x rest p) in
     let further : window_of e.0 rest ≡ None = sym (under-there e.0 x rest other) ∙ none in
     let past : (if e.0 == x.0 then Some e.1 else None) ≡ None = cond-false (e.0 == x.0) (Some e.1) None (ne_eqb e.0 x.0 (λ p. other (sym p))) in (
       window-end x.0 rest e ∙ (ap (λ (o : Option WindowState). option_or o (if e.0 == x.0 then Some e.1 else None)) h.0 ∙ past),
@@ -261,7 +258,7 @@ module _ (R : ℕ → WindowState → WindowState → Type 0) (stays : (number :
   -- where one goes
   pub each-without : (n : ℕ) (ws : List NumberedWindow) → AreApart ws → Each R ws (without_window n ws)
   each-without n ws apart number w v h k = elim (cases_eq number n) [
-    | inl p ↦ absurd (some-none v (window_of n (without_window n ws)) (ap (λ (m : ℕ). window_of m (without_window n ws)) (sym p) ∙ k) (window-gone n ws apart))
+    | inl p ↦ absurd (none-some v (sym (window-gone n ws apart) ∙ (ap (λ (m : ℕ). window_of m (without_window n ws)) (sym p) ∙ k)))
     | inr q ↦ stays-found number ws w v h (sym (window-past n number (λ x. None) ws q) ∙ k)
   ]
 
@@ -274,7 +271,7 @@ window-at n (x ∷ rest) zero e apart h is =
     let same : x ≡ e = cc in
     under-here n x rest (ap (λ (y : NumberedWindow). y.0) same ∙ is) ∙ ap (λ (y : NumberedWindow). Some y.1) same
 window-at n (x ∷ rest) (suc k) e apart h is = elim (cases_eq x.0 n) [
-  | inl p ↦ absurd (some-none e.1 (window_of n rest) (window-at n rest k e apart.1 h is) (ap (λ (m : ℕ). window_of m rest) (sym p) ∙ apart.0))
+  | inl p ↦ absurd (none-some e.1 (sym (ap (λ (m : ℕ). window_of m rest) (sym p) ∙ apart.0) ∙ window-at n rest k e apart.1 h is))
   | inr q ↦ under-there n x rest q ∙ window-at n rest k e apart.1 h is
 ]
 
@@ -284,7 +281,7 @@ window-at n (x ∷ rest) (suc k) e apart h is = elim (cases_eq x.0 n) [
 pub some-before : (n : ℕ) (ws us : List NumberedWindow) → (window_of n ws ≡ None → window_of n us ≡ None) → (w : WindowState) × (window_of n us ≡ Some w) → (u : WindowState) × (window_of n ws ≡ Some u)
 some-before n ws us none l = by (window_of n ws) refl where
   by : (o : Option WindowState) → window_of n ws ≡ o → (u : WindowState) × (window_of n ws ≡ Some u)
-  by None is = absurd (some-none l.0 (window_of n us) l.1 (none is))
+  by None is = absurd (none-some l.0 (sym (none is) ∙ l.1))
   by (Some u) is = (u, is)
 
 -- what holds of a window that lives is handed on as something else

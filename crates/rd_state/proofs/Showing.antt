@@ -4,7 +4,7 @@ use Rattle.std.proofs.lemmas.Bool.{cases_eq, eqb-false, ltb-true, ltb-false, con
 use Rattle.std.proofs.lemmas.Bool.Decides.{nat_tests}
 use Rattle.std.specs.Int.{int_max}
 use Rattle.std.proofs.lemmas.Int.{ints}
-use Rattle.std.proofs.lemmas.Option.{slice_get_within}
+use Rattle.std.proofs.lemmas.Option.{none-some, slice_get_within}
 use Rattle.std.specs.Option.{option_or}
 use Rattle.std.specs.Prelude.{slice_get, option_map, IsSome, IfOk, IfSome}
 use Rattle.rd_base.proofs.Lists.{get-end}
@@ -25,7 +25,7 @@ use Rattle.rd_state.specs.Windows.{AreApart, window_of, with_window, without_win
 use Rattle.rd_state.specs.Valid.{IsWindow, AreWindows, IsGoodFormat, IsValid}
 use Rattle.rd_state.specs.Steps.{in_window, changing, on_tree, splitting, removing, showing, placing, held, format_fault, mode_lining, margining}
 use Rattle.rd_state.proofs.Below.{TreeLaws}
-use Rattle.rd_state.proofs.ByNumber.{NumberedWindow, Hands, each-entry, each-without, window-end, apart-end, window-gone, window-past, none-past, apart-becoming, get-window, some-none}
+use Rattle.rd_state.proofs.ByNumber.{NumberedWindow, Hands, each-entry, each-without, window-end, apart-end, window-gone, window-past, none-past, apart-becoming, get-window}
 use Rattle.rd_state.proofs.Keeping.{window-placed, windows-changed}
 use Rattle.rd_state.proofs.Leaves.{Leaf, leaf-resized, leaf-same, leaf-other, split-same, split-other, split-new, removed-same, removed-other, heir-held, is_some-leaf, unmade}
 use Rattle.rd_state.proofs.StepParts.{found, unless, tree-if, treed-if, placing-if}
@@ -211,7 +211,7 @@ split-windows : (s : StateValue) (d : Configuration) (number : ℕ) (side : Side
 split-windows s d number side size w copy v valid is found leaf new =
     let made = s.tree.made in
     let fresh = unmade s made v (omega arith) in
-    let other : number ≢ made = λ p. absurd (some-none w (window_of made s.windows) (ap (λ (k : ℕ). window_of k s.windows) (sym p) ∙ found) fresh) in
+    let other : number ≢ made = λ p. absurd (none-some w (sym fresh ∙ (ap (λ (k : ℕ). window_of k s.windows) (sym p) ∙ found))) in
     record {
       tree = valid;
       leaves = λ k. elim (cases_eq k made) [
