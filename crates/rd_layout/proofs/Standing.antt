@@ -79,11 +79,15 @@ edited_moving-moves effect s name how edit loud =
     edited_moving-if (Moves false effect s) s name how edit
     (λ b c at is. inside effect s _ _ (contents-set effect s.buffers i b c at (inl loud)) (turned-moved effect s.tree.made s.windows i how loud))
 
--- where a window becomes another, beside a tree in which no count of windows fell
+-- where windows became others, beside a tree in which no count of windows fell
+turned-moves : (effect : Effect) (s : StateValue) (d : Configuration) (ws : List NumberedWindow) (k : ℕ) → Grows s.tree d → Turned effect s.tree.made s.windows ws
+    → Moves false effect s (record s { tree = d; windows = ws; selected = k })
+turned-moves effect s d ws k grows turned = record { size = λ _. (refl, refl); made = grows; contents = contents-same effect s.buffers; windows = turned }
+
+-- where a window becomes another, beside such a tree
 with-moves : (effect : Effect) (s : StateValue) (d : Configuration) (n : ℕ) (f : WindowState → WindowState) → Grows s.tree d → ((w : WindowState) → Quiet effect n w.buffer → Same w (f w))
     → Leads effect s (changing n f (Ok (record s { tree = d })))
-with-moves effect s d n f grows good =
-    record { size = λ _. (refl, refl); made = grows; contents = contents-same effect s.buffers; windows = turned-with effect s.tree.made s.windows n f good }
+with-moves effect s d n f grows good = turned-moves effect s d _ s.selected grows (turned-with effect s.tree.made s.windows n f good)
 
 -- a step that makes objects
 objects-moves : (s : StateValue) (r : Result ObjectLists Refused) → Leads Nothing s (with_objects s r)
@@ -165,21 +169,12 @@ moves s (ops.AddTable entries truncation continuation escape control ellipsis bo
 moves s (ops.Split window side size) =
     found (Moves false Nothing s) _ (window_of window s.windows) _
     (λ w lives. tree-if (Moves false Nothing s) (split_tree s.tree window side size) _
-    (λ d is. record {
-      size = λ _. (refl, refl);
-      made = subst (Grows s.tree) (split-means s.tree d window side size is).3 (omega arith);
-      contents = contents-same Nothing s.buffers;
-      windows = turned-end Nothing s.windows (s.tree.made, record w { forced = false; pending = pos 0 });
-    }))
+    (λ d is. turned-moves Nothing s d _ _ (subst (Grows s.tree) (split-means s.tree d window side size is).3 (omega arith))
+    (turned-end Nothing s.windows (s.tree.made, record w { forced = false; pending = pos 0 }))))
 moves s (ops.Remove window) =
     found (Moves false Nothing s) _ (window_of window s.windows) _
     (λ w lives. tree-if (Moves false Nothing s) (remove_tree s.tree window) _
-    (λ d is. record {
-      size = λ _. (refl, refl);
-      made = subst (Grows s.tree) (remove-means s.tree d window is).2 (omega arith);
-      contents = contents-same Nothing s.buffers;
-      windows = turned-without Nothing s.tree.made s.windows window;
-    }))
+    (λ d is. turned-moves Nothing s d _ _ (subst (Grows s.tree) (remove-means s.tree d window is).2 (omega arith)) (turned-without Nothing s.tree.made s.windows window)))
 moves s (ops.Select window) =
     found (Moves false Nothing s) _ (window_of window s.windows) _ (λ w lives. stays Nothing s (record s { selected = window }) refl refl refl refl refl)
 moves s (ops.Show window name) =
