@@ -161,6 +161,12 @@ module _ (laws : SendLaws) (files : Data) (s : StateValue) (valid : IsValid s) w
 
 -- ---- the session
 
+-- a redisplay whose bytes are not known is sent where the windows have new layouts
+pub sent-anew : (old : SessionValue) (stop : Option ℕ) (files : Data) (s : StateValue) (layouts : List Last) → files ≡ old.files → s ≡ (laid_out old.files old.state).state
+    → AreLaidOut old (places old.state) layouts
+    → IsSent (update_of old stop).rows (update_of old stop).done stop old (record { files = files; state = s; current = Some (update_of old stop).screen; layouts = layouts }) None None
+sent-anew old stop files s layouts a b laid = record { files = a; state = b; current = refl; layouts = laid; bytes = tt; count = refl; whole = refl }
+
 module _ (laws : SendLaws) (rows : ℕ) (done : Bool) (stop : Option ℕ) (old new : SessionValue) (before after : Option (List ℕ)) (session : IsSession old) (sent : IsSent rows done stop old new before after)
     (size : IsOfSize old.state.width old.state.height (laid_out old.files old.state).picture) (sound : IsSound (laid_out old.files old.state).picture) where
   abbrev s : StateValue

@@ -20,6 +20,7 @@ use Rattle.rd_layout.specs.Sessions.{SessionValue}
 use Rattle.rd_layout.specs.Since.{IsSession}
 use Rattle.rd_layout.specs.Windows.{of_place, of_window, place_of, places, view_in, wanted_of, window_shape, window_source}
 use Rattle.rd_layout.proofs.Placed.{all-places}
+use Rattle.rd_layout.proofs.Sending.{sent-anew}
 
 -- what the layers below say of the places of a frame's windows, and of redisplays
 pub record LeadLaws : Type 0 where
@@ -78,17 +79,7 @@ all-laid v (p ∷ ps) h = one-laid v p ps (flat_map (of_place (fresh_layout v.fi
 
 -- ---- the session
 
-sent : (laws : LeadLaws) (v : SessionValue) (stop : Option ℕ) → IsSession v → IsSent (update_of v stop).rows (update_of v stop).done stop (bare v) (redisplayed v stop) None None
-sent laws v stop h = record {
-  files = refl;
-  state = refl;
-  current = refl;
-  layouts = all-laid v (places v.state) (all-live laws.places v.state h.state);
-  bytes = tt;
-  count = refl;
-  whole = refl;
-}
-
 pub leads-on : (laws : LeadLaws) (v : SessionValue) (stop : Option ℕ) → IsSession v → IsSession (redisplayed v stop)
 leads-on laws v stop h =
-    laws.lead (update_of v stop).rows (update_of v stop).done stop (bare v) (redisplayed v stop) None None (bare-session v h) (sent laws v stop h)
+    laws.lead (update_of v stop).rows (update_of v stop).done stop (bare v) (redisplayed v stop) None None (bare-session v h)
+    (sent-anew (bare v) stop v.files (redisplayed v stop).state (redisplayed v stop).layouts refl refl (all-laid v (places v.state) (all-live laws.places v.state h.state)))
