@@ -39,6 +39,17 @@ pub record FromStart (classes : List Span) (t : TextValue) (start : ℕ) : Type 
   pub none : start ≡ t.begin → last ≡ 0
   pub rest : (p : ℕ) → start ≤ p → p ≤ t.end → text_level classes t p ≡ get_or (levels_of classes last false (rows t start)) (p - start) 0
 
+-- no line that begins up to the end of a position's line goes beyond that end
+ends_within : (t : TextValue) (right : IsText t) (pos from : ℕ) → t.begin ≤ pos → pos ≤ t.end → t.begin ≤ from → from ≤ next_newline t pos → next_newline t from ≤ next_newline t pos
+ends_within t right pos from low high at upto = elim (cases_lt (next_newline t pos) (next_newline t from)) [
+  | inr fine ↦ fine
+  | inl past ↦
+      let c = line_cut t from right at (let h = (line_cut t pos right low high).within in omega arith) in
+      let h = c.within in
+      let here = next_at t right pos low high (omega arith) in
+      clash _ here (next_before t right from (next_newline t pos) at (omega arith) (omega arith) past (omega arith))
+]
+
 module _ (classes : List Span) (t : TextValue) (right : IsText t) where
   abbrev from_begin : Reached classes t t.begin
   from_begin = record { last = 0; inside = false; rest = λ p low high. refl }
@@ -147,17 +158,6 @@ module _ (classes : List Span) (t : TextValue) (right : IsText t) where
   module _ (pos place start : ℕ) (low : t.begin ≤ pos) (high : pos ≤ t.end) (from_low : t.begin ≤ place) (within : place ≤ next_newline t pos) (begins : IsParagraphStart t place start)
       (no_ink : (k : ℕ) → place < k → k < next_newline t pos → is_ink (get_or t.text (k - 1) 0) ≡ false)
       (ink : (place ≡ t.begin) ⊎ ((place < next_newline t pos) × (is_ink (get_or t.text (place - 1) 0) ≡ true))) where
-    -- no line that ends up to the end of the position's line goes beyond it
-    ends_within : (from p : ℕ) → t.begin ≤ from → from ≤ p → p ≤ next_newline t pos → next_newline t from ≤ next_newline t pos
-    ends_within from p at order p_high = elim (cases_lt (next_newline t pos) (next_newline t from)) [
-      | inr fine ↦ fine
-      | inl past ↦
-          let c = line_cut t from right at (let h = (line_cut t pos right low high).within in omega arith) in
-          let h = c.within in
-          let here = next_at t right pos low high (omega arith) in
-          clash _ here (next_before t right from (next_newline t pos) at (omega arith) (omega arith) past (omega arith))
-    ]
-
     -- a line of blanks alone lies behind the place
     past_place : (from : ℕ) → start ≤ from → IsLineStart t from → from ≤ t.end → next_newline t from < t.end → is_separator (between t from (next_newline t from)) ≡ true → place < next_newline t from + 1
     past_place from at line high' more blank = elim (cases_lt place (next_newline t from + 1)) [
@@ -181,7 +181,7 @@ module _ (classes : List Span) (t : TextValue) (right : IsText t) where
     blank_behind from p at order p_high past =
         let e_high = (line_cut t pos right low high).within in
         let c = line_cut t from right at (omega arith) in
-        let ends = ends_within from p at order p_high in
+        let ends = ends_within t right pos from low high at (omega arith) in
         let c_order = c.order in
         let c_within = c.within in
         all_blank t right from (next_newline t from) at c_order c_within
@@ -301,17 +301,10 @@ module _ (classes : List Span) (t : TextValue) (right : IsText t) where
 -- the end of a line is its own
 pub ends_itself : (t : TextValue) (right : IsText t) (pos : ℕ) → t.begin ≤ pos → pos ≤ t.end → next_newline t pos ≡ next_newline t (next_newline t pos)
 ends_itself t right pos low high =
-    let to = next_newline t pos in
     let c = line_cut t pos right low high in
     let order = c.order in
-    let within = c.within in
-    let d = line_cut t to right (omega arith) within in
-    let d_order = d.order in
-    let d_within = d.within in
-    elim (cases_lt to (next_newline t to)) [
-      | inr same ↦ omega arith
-      | inl past ↦ clash _ (next_at t right pos low high (omega arith)) (next_before t right to to (omega arith) within (omega arith) past (omega arith))
-    ]
+    let d = line_cut t (next_newline t pos) right (omega arith) c.within in
+    omega (arith, d.order, ends_within t right pos (next_newline t pos) low high (omega arith) (omega arith))
 
 -- the end of a position's line, and the place behind the last character before it that is no blank
 pub line_bounds : (t : TextValue) (right : IsText t) (pos to : ℕ) → t.begin ≤ pos → pos ≤ t.end → to ≡ next_newline t pos
