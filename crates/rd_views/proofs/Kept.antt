@@ -1,5 +1,5 @@
 -- A session stays one where what laying out all windows gave is kept.
-use Rattle.std.proofs.Common.{◌≡◌, ℕ, Bool, Option, None, Some, List, sym, refl, subst, subst₂, ◌∙◌}
+use Rattle.std.proofs.Common.{◌≡◌, ℕ, Bool, Option, None, List, sym, refl, subst, subst₂, ◌∙◌}
 use Rattle.rd_layout.specs.Laws.{PlaceLaws}
 use Rattle.rd_layout.specs.Redisplays.{AreLaidOut, IsSent, update_of}
 use Rattle.rd_layout.specs.Screens.{laid_out, settled_state}
@@ -8,6 +8,7 @@ use Rattle.rd_layout.specs.Since.{IsSession}
 use Rattle.rd_layout.specs.Windows.{places}
 use Rattle.rd_layout.proofs.Known.{Last}
 use Rattle.rd_layout.proofs.Placed.{placed-at}
+use Rattle.rd_layout.proofs.Sending.{sent-anew}
 use Rattle.rd_state.specs.States.{StateValue}
 use Rattle.rd_tree.specs.Calls.{frame_of}
 use Rattle.rd_ucd.specs.Data.{Data}
@@ -32,16 +33,7 @@ pub adopted : LeadOn → (old : SessionValue) (files : Data) (s : StateValue) (l
     → AreLaidOut old (places old.state) layouts → IsSession (unknown files s layouts)
 adopted law old files s layouts session files_stay state laid =
     let u = update_of old None in
-    let sent : SessionValue = record { files = files; state = s; current = Some u.screen; layouts = layouts } in
-    let shown = law u.rows u.done None old sent None None session (record {
-      files = files_stay;
-      state = state;
-      current = refl;
-      layouts = laid;
-      bytes = tt;
-      count = refl;
-      whole = refl;
-    }) in
+    let shown = law u.rows u.done None old _ None None session (sent-anew old None files s layouts files_stay state laid) in
     record { state = shown.state; screen = tt; made = shown.made; layouts = shown.layouts }
 
 module _ (law : PlaceLaws) (v : SessionValue) (session : IsSession v) (xs : List LaidWindow) (es : List Last) (desired : AreDesired v (places v.state) xs es) where
