@@ -1,5 +1,5 @@
 -- What is kept of a stretch, character by character and part by part.
-use Rattle.std.proofs.Common.{◌≡◌, ℕ, zero, suc, ◌+◌, ◌-◌, ◌<◌, ltb, length, get_or, None, arith, Bool, true, false, not, ◌&&◌, ◌||◌, List, [], ◌∷◌, ◌++◌, refl, sym, ap, ◌∙◌}
+use Rattle.std.proofs.Common.{◌≡◌, ℕ, zero, suc, ◌-◌, ◌<◌, ltb, length, get_or, None, arith, Bool, true, false, not, ◌&&◌, ◌||◌, List, [], ◌∷◌, ◌++◌, refl, sym, ap, ◌∙◌}
 use Rattle.std.specs.List.{list_all, list_any, position, position_or_len, suffix_len}
 use Rattle.std.proofs.lemmas.List.Sums.{position_or_len_is, suffix_len_is, prefix_len-le-length, suffix_len-le-length}
 use Rattle.std.proofs.lemmas.Bool.{ltb-false, or_parts}
