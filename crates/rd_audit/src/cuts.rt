@@ -19,7 +19,8 @@ pub fn begins_with(front: &[u8], bytes: &[u8]) -> bool
     stripped(front, bytes).is_some()
 }
 
-/// What stands before the last of a byte, and what stands behind it.
+/// What stands before the last of a byte, and what stands behind it. None exactly where it stands nowhere. It looks at each byte from
+/// the end up to that one.
 pub fn cut_last(byte: u8, bytes: &[u8]) -> Option<(&[u8], &[u8])>
     ensures { option_map (λ parts. (parts.0.now, parts.1.now)) result ≡ cut_last byte bytes.now }
 {

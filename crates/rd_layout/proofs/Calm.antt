@@ -1,4 +1,4 @@
--- What it is that an effect tells no change: what is seen of a buffer, and of a window its buffer and its start.
+-- What it means that an effect tells no change: the same is seen of a buffer, and a window keeps its buffer and its start.
 use Rattle.std.proofs.Common.{◌≡◌, ◌⊎◌, inl, inr, ℕ, ◌+◌, ◌-◌, ◌<◌, ◌==◌, ◌&&◌, ◌||◌, Bool, true, false, if◌then◌else◌, nat_le, min, max, pos, ◌+ℤ◌, is_some, Option, None, Some, List, [], ◌∷◌, ◌++◌, map, set, sym, ap, refl, subst, ◌∙◌, arith}
 use Rattle.std.proofs.lemmas.Bool.{cases_eq, eqb-true, cond-false, cond-true, eq-eqb, ne_eqb, and_parts}
 use Rattle.std.proofs.lemmas.Option.{slice_get_within}

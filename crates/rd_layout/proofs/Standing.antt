@@ -36,8 +36,8 @@ use Rattle.rd_layout.proofs.Calm.{Contents, Kept, Loud, Quiet, Same, Turned, con
 abbrev Grows : Configuration → Configuration → Type 0
 Grows c d = c.made ≤ d.made
 
--- a state from which a step led to another one: the frame has the size that it had, unless the op is that of the frame, and of what the
--- effect tells no change nothing else is seen
+-- a state from which a step led to another one: the frame has the size that it had, unless the op is that of the frame; no count of
+-- windows falls, none that was made before comes to live, and of what the effect tells no change nothing else is seen
 pub record Moves (framed : Bool) (effect : Effect) (s t : StateValue) : Type 0 where
   pub size : framed ≡ false → (t.width ≡ s.width) × (t.height ≡ s.height)
   pub made : s.tree.made ≤ t.tree.made

@@ -25,7 +25,7 @@ use Rattle.rd_items.specs.declared.item.ItemKind.{ItemKind}
 use Rattle.rd_items.specs.declared.item.ItemKind.TheVariants as item
 use Rattle.rd_stack.specs.Strings.{part_by, string_parts}
 use Rattle.rd_stack.specs.Shown.{ellipsis_glyphs, space_elements, kind_elements, put_part, put_string, put_text, display_elements}
-use Rattle.rd_stack.specs.Lines.{put_shown}
+use Rattle.rd_stack.specs.Lines.{put_kind}
 use Rattle.rd_stack.specs.declared.part.Place.{Place}
 use Rattle.rd_stack.specs.declared.part.Part.{Part}
 use Rattle.rd_stack.specs.declared.part.Shown.{Shown as ShownPart}
@@ -116,5 +116,5 @@ module _ (s : Scene) (base : ℕ) (origin : Origin) (F : Attributes → Type 0) 
 
   -- ---- items
 
-  pub item-each : (k : ItemKind) (overlay odd : Bool) (face : Attributes) → (is_ender_kind k ≡ true → P (element_of face origin look.LineEnd)) → F face → Each (put_shown kind_elements s base k overlay odd face origin)
+  pub item-each : (k : ItemKind) (overlay odd : Bool) (face : Attributes) → (is_ender_kind k ≡ true → P (element_of face origin look.LineEnd)) → F face → Each (put_kind kind_elements s base k overlay odd face origin)
   item-each k overlay odd face end h = kind-each look.LineEnd (put_text kind_elements s base overlay origin face) k odd face end (λ n. text-each overlay n face h) h

@@ -22,7 +22,7 @@ use Rattle.rd_items.proofs.Ended.{Ended, ended}
 use Rattle.rd_items.specs.declared.item.Item.{Item}
 use Rattle.rd_items.specs.declared.item.ItemKind.{ItemKind}
 use Rattle.rd_items.specs.declared.item.ItemKind.TheVariants as item
-use Rattle.rd_stack.specs.Lines.{origin_of, item_class, item_code, item_turns, line_of_items, put_shown, put_turn, put_item}
+use Rattle.rd_stack.specs.Lines.{origin_of, item_class, item_code, item_turns, line_of_items, put_kind, put_turn, put_item}
 use Rattle.rd_stack.specs.Shown.{kind_elements}
 use Rattle.rd_stack.proofs.Ends.{IsOpen, item-open}
 use Rattle.rd_stack.proofs.Lists.{each-flat}
@@ -48,7 +48,7 @@ ender-last law s base items e =
     (subst (λ cs. ComesLast (turned cs) (length fronts)) (sym classes) (law s.brackets s.parts.settings.reorder base fronts (map item_code items)))
 
 module _ (s : Scene) (base : ℕ) where
-  kind-ends : (k : ItemKind) (overlay odd : Bool) (face : Attributes) (origin : Origin) → is_ender_kind k ≡ true → put_shown kind_elements s base k overlay odd face origin ≡ element_of face origin look.LineEnd ∷ []
+  kind-ends : (k : ItemKind) (overlay odd : Bool) (face : Attributes) (origin : Origin) → is_ender_kind k ≡ true → put_kind kind_elements s base k overlay odd face origin ≡ element_of face origin look.LineEnd ∷ []
   kind-ends item.Ender overlay odd face origin is = refl
   kind-ends (item.Char c) overlay odd face origin is = absurd (let q : false ≡ true = is in cc)
   kind-ends (item.Marked g) overlay odd face origin is = absurd (let q : false ≡ true = is in cc)

@@ -18,8 +18,8 @@ use Rattle.rd_levels.specs.Turns.{turns_of}
 use Rattle.rd_levels.specs.declared.turn.Turn.{Turn}
 
 -- what an item shows, in this face, at an odd level or not; for a string a flag says whether it is an overlay's
-abbrev pub put_shown : {X : Type 0} → Putting X → Scene → ℕ → ItemKind → Bool → Bool → Attributes → Origin → List X
-put_shown put s base k overlay odd face origin = put look.LineEnd (put_text put s base overlay origin face) s k odd face origin
+abbrev pub put_kind : {X : Type 0} → Putting X → Scene → ℕ → ItemKind → Bool → Bool → Attributes → Origin → List X
+put_kind put s base k overlay odd face origin = put look.LineEnd (put_text put s base overlay origin face) s k odd face origin
 
 -- an item's number, and the offsets of its range from the block's start
 abbrev pub origin_of : ℕ → Item → Origin
@@ -28,7 +28,7 @@ origin_of k item = record { item = k; from = item.from; to = item.to }
 -- an item of a block, of the number that its turn gives
 abbrev pub put_turn : {X : Type 0} → Putting X → Scene → ℕ → Turn → Option Item → List X
 put_turn put s base turn None = []
-put_turn put s base turn (Some item) = put_shown put s base item.kind item.overlay turn.odd item.face (origin_of turn.index item)
+put_turn put s base turn (Some item) = put_kind put s base item.kind item.overlay turn.odd item.face (origin_of turn.index item)
 
 abbrev pub put_item : {X : Type 0} → Putting X → Scene → ℕ → List Item → Turn → List X
 put_item put s base items turn = put_turn put s base turn (slice_get items turn.index)

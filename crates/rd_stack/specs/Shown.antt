@@ -1,4 +1,4 @@
--- The elements of what an item or a part of a string shows, and of strings.
+-- What an item or a part of a string shows, and strings: as elements, and by the same definitions as the steps of a walk.
 use Rattle.std.specs.Prelude.{ℕ, if◌then◌else◌, Bool, true, false, List, [], ◌∷◌, replicate, slice_get, Option, None, Some, unwrap_or, ◌≡◌, All}
 use Rattle.std.specs.List.{flat_map}
 use Rattle.rd_base.specs.Cells.{HasColours, single}
@@ -51,13 +51,14 @@ kind_elements end string s kind.Ender odd face origin = element_of face origin e
 abbrev pub put_part : {X : Type 0} → Putting X → (Attributes → Option TextValue → List X) → Scene → Origin → Shown → List X
 put_part put inner s origin x = put look.RowEnd (inner x.face) s x.kind x.odd x.face origin
 
--- a string that stands over a face, in a line of this base, of which the own display runs are used or not; by what is put for strings
--- that its parts show. A number that names no string stands for the empty one
+-- a string over a face, in a line of this base; a flag says whether its own display runs are used. What is put for a string that one of
+-- these runs names, over the face there, is given. A number that names no string stands for the empty one
 abbrev pub put_string : {X : Type 0} → Putting X → (Attributes → Option TextValue → List X) → Scene → ℕ → Bool → Origin → Attributes → Option TextValue → List X
 put_string put inner s base replaced origin under None = []
 put_string put inner s base replaced origin under (Some text) = flat_map (put_part put inner s origin) (string_parts s base replaced text under)
 
--- a string that a part of an overlay's string shows, which is a display string; a part of a display string shows none
+-- what is put for a string that a display run names: in an overlay's string (true) that display string, and in a display string (false)
+-- nothing, since its own runs are not used
 abbrev pub put_inner : {X : Type 0} → Putting X → Scene → ℕ → Bool → Origin → Attributes → Option TextValue → List X
 put_inner put s base true origin face text = put_string put (λ over other. []) s base false origin face text
 put_inner put s base false origin face text = []

@@ -4,7 +4,6 @@ use Rattle.std.specs.Prelude.{ℕ, Bool, List, [], ◌∷◌, ◌++◌, slice_ge
 use Rattle.std.specs.List.{flat_map}
 use Rattle.rd_base.specs.Faces.{Attributes}
 use Rattle.rd_base.specs.declared.element.Element.{Element}
-use Rattle.rd_base.specs.declared.element.Look.TheVariants as look
 use Rattle.rd_base.specs.declared.element.Origin.{Origin}
 use Rattle.rd_objects.specs.Texts.{TextValue}
 use Rattle.rd_items.specs.Pieces.{Scene}

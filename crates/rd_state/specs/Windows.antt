@@ -19,7 +19,7 @@ window_of number windows = under number windows
 abbrev pub place_in : {X : Type 0} → ℕ → List (ℕ × X) → ℕ
 place_in number es = position_or_len (λ e. e.0 == number) es
 
--- a window before others, where there is one
+-- a window under a number before others, where there is one
 abbrev pub kept_as : ℕ → Option WindowState → List (ℕ × WindowState) → List (ℕ × WindowState)
 kept_as number None rest = rest
 kept_as number (Some w) rest = (number, w) ∷ rest

@@ -18,7 +18,8 @@ pub record IsOneOf (p : Begin → Bool) (bs : List Begin) (b : Begin) : Type 0 w
   pub there : slice_get bs place ≡ Some b
   pub passes : p b ≡ true
 
--- of an item that is reached or not and of what is found behind it, the nearer one: the other where the item is not reached or stands before it
+-- of an item that is reached or not and of what is found behind it, the nearer one: the other where the item is not reached or stands
+-- before it
 nearer-one : (x : Begin) (r : Bool) (o : Option Begin) (b : Begin) → nearer (cond r (Some x) None) o ≡ Some b
     → ((r ≡ true) × (x ≡ b)) ⊎ ((o ≡ Some b) × (r ≡ true → nat_le b.column x.column ≡ false))
 nearer-one x false o b e = inr (e, λ reached. absurd cc)

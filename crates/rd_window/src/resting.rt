@@ -90,7 +90,7 @@ impl Layout {
     }
 }
 
-/// The rows that are wanted between point's and an edge of the view: none where the text ends there.
+/// The rows that are wanted between point's and an edge of the view: none where the text goes no further there.
 fn wanted_beside(ends: bool, wanted: Wanted) -> u32
     ensures { result ≡ (if ends then 0 else margin_of wanted) }
 {
