@@ -52,6 +52,22 @@ back-same a b c d p q ha hb hc hd same low was e =
       | inr l ↦ values_of_both-past c d p hc hd l ∙ sym (values_of_both-past a b q ha hb (omega arith))
     ]
 
+-- the front was filled with a value from one position on
+filled : (c d : List ValueRun) (front : List (Option ℕ)) (from n : ℕ) (value : Option ℕ) (new : ℕ → Option ℕ) (p : ℕ) → Rises 0 c → size_of c ≡ from + n → length front ≡ from
+    → values_of c ≡ front ++ replicate n value → (p < from → value_at front p ≡ new p) → (from ≤ p → p < from + n → value ≡ new p)
+    → (from + n ≤ p → value_at (values_of_both c d) p ≡ new p) → value_at (values_of_both c d) p ≡ new p
+filled c d front from n value new p h size long e before here behind =
+    elim (cases_lt p (from + n)) [
+      | inl less ↦
+          values_of_both-front c d p h (omega arith)
+          ∙ (ap (λ (vs : List (Option ℕ)). value_at vs p) e
+          ∙ (elim (cases_lt p from) [
+            | inl l ↦ get_or_append_left front (replicate n value) None p (omega arith) ∙ before l
+            | inr l ↦ get_or-append_right front (replicate n value) from p None long l ∙ (get_or-replicate n (p - from) value None (omega arith) ∙ here l less)
+          ]))
+      | inr past ↦ behind past
+    ]
+
 -- a value is put: the front is filled up to the end of its range
 pub put-filled : (a b c d : List ValueRun) (from to : ℕ) (value : Option ℕ) → AtGap a b from → from < to → Rises 0 c → size_of c ≡ to
     → values_of c ≡ (values_of a ++ replicate (from - size_of a) None) ++ replicate (to - from) value → IsCut b d (to - from)
@@ -61,24 +77,11 @@ put-filled a b c d from to value g some h long e k p =
     let front = values_of a ++ replicate (from - size_of a) none in
     let size : length front ≡ from =
     omega (arith, g.gap, size-values a g.front_rises, length-append (values_of a) (replicate (from - size_of a) none), length-replicate (from - size_of a) none) in
-    let filled = ap (λ (vs : List (Option ℕ)). value_at vs p) e in
-    elim (cases_lt p from) [
-      | inl l ↦
-          values_of_both-front c d p h (omega arith)
-          ∙ (filled
-          ∙ (get_or_append_left front (replicate (to - from) value) None p (omega arith)
-          ∙ (nothing-more (values_of a) (from - size_of a) None p refl ∙ (sym (before-gap a b from p g l) ∙ sym (put-low (values_of_both a b) from to value p l)))))
-      | inr l ↦ elim (cases_lt p to) [
-        | inl m ↦
-            values_of_both-front c d p h (omega arith)
-            ∙ (filled
-            ∙ (get_or-append_right front (replicate (to - from) value) from p None size l
-            ∙ (get_or-replicate (to - from) (p - from) value None (omega arith) ∙ sym (put-here (values_of_both a b) from to value p l m))))
-        | inr m ↦
-            back-same a b c d p p g.front_rises g.back_rises h k.rises (cut-value b d (to - from) k) (omega arith) (omega (arith, g.gap)) (omega (arith, g.gap, k.size))
-            ∙ sym (put-high (values_of_both a b) from to value p l m)
-      ]
-    ]
+    filled c d front from (to - from) value (values_put (value_at (values_of_both a b)) from to value) p h (omega arith) size e
+    (λ l. nothing-more (values_of a) (from - size_of a) None p refl ∙ (sym (before-gap a b from p g l) ∙ sym (put-low (values_of_both a b) from to value p l)))
+    (λ l m. sym (put-here (values_of_both a b) from to value p l (omega arith)))
+    (λ m. back-same a b c d p p g.front_rises g.back_rises h k.rises (cut-value b d (to - from) k) (omega arith) (omega (arith, g.gap)) (omega (arith, g.gap, k.size))
+    ∙ sym (put-high (values_of_both a b) from to value p (omega arith) (omega arith)))
 
 pub put-nothing : (a b d : List ValueRun) (from to : ℕ) → AtGap a b from → from < to → IsCut b d (to - from) → size_of d ≡ 0 → (p : ℕ) → value_at (values_of a) p ≡ values_put (value_at (values_of_both a b)) from to None p
 put-nothing a b d from to g some k none p =
@@ -109,24 +112,12 @@ close-values a b d from to g some k p =
 pub open-values : (a b c : List ValueRun) (pos n : ℕ) → AtGap a b pos → 0 < size_of b → Rises 0 c → size_of c ≡ size_of a + n → values_of c ≡ values_of a ++ replicate n None → (p : ℕ) → value_at (values_of_both c b) p ≡ values_opened (value_at (values_of_both a b)) pos n p
 open-values a b c pos n g some h long e p =
     let ha = g.front_rises in
-    let size : length (values_of a) ≡ size_of a = size-values a ha in
     let at : size_of a ≡ pos = omega (arith, g.gap) in
-    elim (cases_lt p pos) [
-      | inl l ↦
-          values_of_both-front c b p h (omega arith)
-          ∙ (ap (λ (vs : List (Option ℕ)). value_at vs p) e
-          ∙ (nothing-more (values_of a) n None p refl ∙ (sym (before-gap a b pos p g l) ∙ opened-before (value_at (values_of_both a b)) pos n p l)))
-      | inr l ↦ elim (cases_lt p (pos + n)) [
-        | inl m ↦
-            values_of_both-front c b p h (omega arith)
-            ∙ (ap (λ (vs : List (Option ℕ)). value_at vs p) e
-            ∙ (get_or-append_right (values_of a) (replicate n None) (size_of a) p None size (omega arith)
-            ∙ (get_or-replicate n (p - size_of a) None None (omega arith) ∙ sym (open-here (values_of_both a b) pos n p l m))))
-        | inr m ↦
-            back-same a b c b p (p - n) ha g.back_rises h g.back_rises (λ i l. refl) (omega arith) (omega arith) (omega arith)
-            ∙ opened-behind (value_at (values_of_both a b)) pos n (p - n) p (omega arith) (omega arith)
-      ]
-    ]
+    filled c b (values_of a) pos n None (values_opened (value_at (values_of_both a b)) pos n) p h (omega arith) (omega (arith, size-values a ha)) e
+    (λ l. sym (before-gap a b pos p g l) ∙ opened-before (value_at (values_of_both a b)) pos n p l)
+    (λ l m. sym (open-here (values_of_both a b) pos n p l m))
+    (λ m. back-same a b c b p (p - n) ha g.back_rises h g.back_rises (λ i l. refl) (omega arith) (omega arith) (omega arith)
+    ∙ opened-behind (value_at (values_of_both a b)) pos n (p - n) p (omega arith) (omega arith))
 
 pub open-nothing : (a b : List ValueRun) (pos n : ℕ) → AtGap a b pos → size_of b ≡ 0 → (p : ℕ) → value_at (values_of_both a b) p ≡ values_opened (value_at (values_of_both a b)) pos n p
 open-nothing a b pos n g none p =
