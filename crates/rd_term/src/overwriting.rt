@@ -14,10 +14,7 @@ fn is_later(row: &ListOf<Option<Cell>>, column: usize) -> bool
     requires { column < length row.now }
     ensures { result ≡ is_later (slice_index_or row.now column None) }
 {
-    match row.as_slice()[column] {
-        Some(Cell::Rest) => true,
-        _ => false,
-    }
+    matches!(row.as_slice()[column], Some(Cell::Rest))
 }
 
 /// Makes the columns unknown that are left of characters which have a column from one to before another.

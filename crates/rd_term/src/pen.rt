@@ -9,12 +9,7 @@ use rd_base::Face;
 pub fn is_rendition(n: u32) -> bool
     ensures { result ≡ is_rendition n }
 {
-    match n {
-        0 | 1 | 4 | 7 => true,
-        30..=37 => true,
-        40..=47 => true,
-        _ => false,
-    }
+    matches!(n, 0 | 1 | 4 | 7 | 30..=37 | 40..=47)
 }
 
 /// Whether each number changes a pen.
