@@ -3,26 +3,7 @@ use Rattle.std.proofs.Common.{◌≡◌, ℕ, zero, suc, ◌+◌, ◌-◌, ◌<�
 use Rattle.std.proofs.lemmas.Bool.{cases_lt, cases_eq}
 use Rattle.rd_order.specs.Places.{AreHigh, BeginsLow, IsRun, Turns, Moves, Comes}
 
--- each place of level k or above lies in a maximal run
-start_of : (f : ℕ → ℕ) (k q : ℕ) → k ≤ f q → (a : ℕ) × (a ≤ q) × AreHigh f k a (suc q) × BeginsLow f k a
-start_of f k zero h =
-    let high : AreHigh f k 0 1 = λ p from to. let e : 0 ≡ p = omega arith in subst (λ (x : ℕ). k ≤ f x) e h in
-    (0, omega arith, high, λ p e. absurd (omega arith))
-start_of f k (suc q) h =
-    elim (cases_lt (f q) k) [
-      | inl low ↦
-          let high : AreHigh f k (suc q) (suc (suc q)) = λ p from to. let e : suc q ≡ p = omega arith in subst (λ (x : ℕ). k ≤ f x) e h in
-          let before : BeginsLow f k (suc q) = λ p e. let e' : q ≡ p = omega arith in subst (λ (x : ℕ). f x < k) e' low in
-          (suc q, omega arith, high, before)
-      | inr more ↦
-          let rest = start_of f k q more in
-          let high : AreHigh f k rest.0 (suc (suc q)) = λ p from to. elim (cases_lt p (suc q)) [
-            | inl less ↦ rest.2 p from less
-            | inr last ↦ let e : suc q ≡ p = omega arith in subst (λ (x : ℕ). k ≤ f x) e h
-          ] in
-          (rest.0, let le : rest.0 ≤ q = rest.1 in omega arith, high, rest.3)
-    ]
-
+-- each place of level k or above lies in a maximal run: where that ends, and, looking back, where it starts
 end_of : (f : ℕ → ℕ) (n k q left : ℕ) → suc q + left ≡ n → k ≤ f q
     → (b : ℕ) × (q < b) × (b ≤ n) × AreHigh f k q b × (b < n → f b < k)
 end_of f n k q zero e h =
@@ -42,6 +23,17 @@ end_of f n k q (suc left) e h =
           ] in
           (rest.0, omega arith, rest.2, high, rest.4)
     ]
+
+start_of : (f : ℕ → ℕ) (k q : ℕ) → k ≤ f q → (a : ℕ) × (a ≤ q) × AreHigh f k a (suc q) × BeginsLow f k a
+start_of f k q h =
+    let here : q ≡ q - 0 = omega arith in
+    let back = end_of (λ p. f (q - p)) (suc q) k 0 q (omega arith) (subst (λ (x : ℕ). k ≤ f x) here h) in
+    let some : 0 < back.0 = back.1 in
+    let high : AreHigh f k (suc q - back.0) (suc q) = λ p from to.
+    let turned : q - (q - p) ≡ p = omega arith in subst (λ (x : ℕ). k ≤ f x) turned (back.3 (q - p) (omega arith) (omega arith)) in
+    let before : BeginsLow f k (suc q - back.0) = λ p at.
+    let turned : q - back.0 ≡ p = omega arith in subst (λ (x : ℕ). f x < k) turned (back.4 (omega arith)) in
+    (suc q - back.0, omega arith, high, before)
 
 pub run_of : (f : ℕ → ℕ) (n k q : ℕ) → q < n → k ≤ f q → (a : ℕ) × (b : ℕ) × IsRun f n k a b × (a ≤ q) × (q < b)
 run_of f n k q within h =

@@ -1,5 +1,5 @@
 -- One step of the walk.
-use Rattle.std.proofs.Common.{◌≡◌, ℕ, zero, suc, ◌+◌, ◌-◌, ◌%◌, ◌==◌, ◌<◌, ◌≤◌, if◌then◌else◌, inl, inr, List, length, get_or, Some, None, refl, sym, ap, subst, ◌∙◌, arith}
+use Rattle.std.proofs.Common.{◌≡◌, ℕ, zero, suc, ◌+◌, ◌-◌, ◌%◌, ◌==◌, ◌<◌, ◌≤◌, if◌then◌else◌, inl, inr, List, length, get_or, Some, None, refl, sym, ap, subst, subst₂, ◌∙◌, arith}
 use Rattle.std.specs.Prelude.{slice_get}
 use Rattle.std.proofs.lemmas.Bool.{cases_lt, cases_eq}
 use Rattle.std.proofs.lemmas.Bool.Decides.{nat_tests}
@@ -9,28 +9,29 @@ use Rattle.rd_order.specs.Places.{AreHigh, BeginsLow, IsRun, Comes, IsNextTo, Is
 use Rattle.rd_order.proofs.Places.{same_run, comes_of, Comes-within, Comes-source}
 use Rattle.rd_order.proofs.Reversals.{l2_visual_order-length, l2_visual_order-comes, highest-bounds}
 
+-- the same with equal numbers
+moved : (f : ℕ → ℕ) (n base p : ℕ) {m k q r : ℕ} → m ≡ k → q ≡ r → Comes f n base m p q → Comes f n base k p r
+moved f n base p same at c = subst₂ (λ (i x : ℕ). Comes f n base i p x) same at c
+
 -- levels above a place's own leave it
 climb : (f : ℕ → ℕ) (n base m j p q : ℕ) → f q ≤ base + m → Comes f n base m p q → Comes f n base (j + m) p q
-climb f n base m zero p q low c = let C : ℕ → Type 0 = λ k. Comes f n base k p q in let e : m ≡ 0 + m = omega arith in subst C e c
+climb f n base m zero p q low c = moved f n base p (omega arith) refl c
 climb f n base m (suc j) p q low c =
-    let C : ℕ → Type 0 = λ k. Comes f n base k p q in
-    let e : suc (j + m) ≡ suc j + m = omega arith in
-    let next : Comes f n base (suc (j + m)) p q = (q, climb f n base m j p q low c, inl (let l : f q < base + suc (j + m) = omega arith in l, refl)) in
-    subst C e next
+    let all : suc (j + m) ≡ suc j + m = omega arith in
+    moved f n base p all refl (q, climb f n base m j p q low c, inl (omega arith, refl))
 
 unmoved : (f : ℕ → ℕ) (n base m p q : ℕ) → f q < base + suc m → Comes f n base (suc m) p q → Comes f n base m p q
-unmoved f n base m p q low (r, c, inl still) = let C : ℕ → Type 0 = λ i. Comes f n base m p i in subst C (sym still.1) c
+unmoved f n base m p q low (r, c, inl still) = moved f n base p refl (sym still.1) c
 unmoved f n base m p q low (r, c, inr t) =
     let from = t.from in let to = t.to in let image = t.image in
     let high = t.run.high q (omega arith) (omega arith) in
     absurd (omega arith)
 
 descend : (f : ℕ → ℕ) (n base m j p q : ℕ) → f q ≤ base + m → Comes f n base (j + m) p q → Comes f n base m p q
-descend f n base m zero p q low c = let C : ℕ → Type 0 = λ k. Comes f n base k p q in let e : 0 + m ≡ m = omega arith in subst C e c
+descend f n base m zero p q low c = moved f n base p (omega arith) refl c
 descend f n base m (suc j) p q low c =
-    let C : ℕ → Type 0 = λ k. Comes f n base k p q in
-    let e : suc j + m ≡ suc (j + m) = omega arith in
-    descend f n base m j p q low (let below = subst C e c in unmoved f n base (j + m) p q (omega arith) below)
+    let all : suc j + m ≡ suc (j + m) = omega arith in
+    descend f n base m j p q low (unmoved f n base (j + m) p q (omega arith) (moved f n base p all refl c))
 
 -- the reversals above a level at q and those from it on are all of them
 all-reversals : (base m q : ℕ) (levels : List ℕ) → (0 < m → base + m ≤ get_or levels q 0) → q < length levels → (highest levels - base - m) + m ≡ highest levels - base
@@ -47,8 +48,7 @@ pub shows : (base m p q : ℕ) (levels : List ℕ) → (0 < m → base + m ≤ g
 shows base m p q levels high low within c =
     let f : ℕ → ℕ = λ i. get_or levels i 0 in
     let total = highest levels - base in
-    let C : ℕ → Type 0 = λ k. Comes f (length levels) base k p q in
-    let whole = subst C (all-reversals base m q levels high within) (climb f (length levels) base m (total - m) p q low c) in
+    let whole = moved f (length levels) base p (all-reversals base m q levels high within) refl (climb f (length levels) base m (total - m) p q low c) in
     let p_within = Comes-source f (length levels) base m p q c within in
     let size = l2_visual_order-length base levels in
     slice_get-get_or (l2_visual_order base levels) p 0 (omega arith) ∙ ap Some (l2_visual_order-comes base levels p q p_within whole)
@@ -67,9 +67,7 @@ placed base p q levels at =
     let there = l2_visual_order-comes base levels p found.0 p_within found.1 in
     let said = slice_get-get_or (l2_visual_order base levels) p 0 inside in
     let whole_at : Some q ≡ Some found.0 = sym at ∙ said ∙ ap Some there in
-    let same : found.0 ≡ q = cc in
-    let C : ℕ → Type 0 = λ i. Comes f n base total p i in
-    (p_within, subst C same found.1)
+    (p_within, moved f n base p refl (cc) found.1)
 
 -- what the order gives is an index of the line
 pub gives-within : (base p q : ℕ) (levels : List ℕ) → slice_get (l2_visual_order base levels) p ≡ Some q → (p < length levels) × (q < length levels)
@@ -83,9 +81,8 @@ pub known : (base p q : ℕ) (levels : List ℕ) (m : ℕ) → get_or levels q 0
 known base p q levels m low high at =
     let f : ℕ → ℕ = λ i. get_or levels i 0 in
     let total = highest levels - base in
-    let D : ℕ → Type 0 = λ k. Comes f (length levels) base k p q in
-    let e = sym (all-reversals base m q levels high (gives-within base p q levels at).1) in
-    descend f (length levels) base m (total - m) p q low (subst D e (placed base p q levels at).1)
+    let all = sym (all-reversals base m q levels high (gives-within base p q levels at).1) in
+    descend f (length levels) base m (total - m) p q low (moved f (length levels) base p all refl (placed base p q levels at).1)
 
 -- the neighbour in the same run stands at the next place
 pub beside : (f : ℕ → ℕ) (n base m p q r : ℕ) → IsNextTo m q r → q < n → r < n → (0 < m → base + m ≤ f q) → (0 < m → base + m ≤ f r)
@@ -130,11 +127,7 @@ AreRuns f n base m j a b = (i : ℕ) → m < i → i ≤ m + j → IsRun f n (ba
 -- entering the runs
 pub enter : (f : ℕ → ℕ) (n base m j p q r a b : ℕ) → AreRuns f n base m j a b → a ≤ q → q < b → IsTurnedBy j a b q r
     → Comes f n base m p q → Comes f n base (j + m) p r
-enter f n base m zero p q r a b runs from to turn c =
-    let C : ℕ → ℕ → Type 0 = λ k i. Comes f n base k p i in
-    let e : m ≡ 0 + m = omega arith in
-    let e' : q ≡ r = sym (turn.even refl) in
-    subst (λ (k : ℕ). C k r) e (subst (λ (i : ℕ). C m i) e' c)
+enter f n base m zero p q r a b runs from to turn c = moved f n base p (omega arith) (sym (turn.even refl)) c
 enter f n base m (suc j) p q r a b runs from to turn c =
     let even = turn.even in let odd = turn.odd in
     let s = a + b - suc r in
@@ -142,11 +135,9 @@ enter f n base m (suc j) p q r a b runs from to turn c =
     let r_from = r_in.0 in let r_to = r_in.1 in
     let before : IsTurnedBy j a b q s = record { even = λ e. omega arith; odd = λ e. omega arith } in
     let below = enter f n base m j p q s a b (λ i more less. runs i more (omega arith)) from to before c in
-    let e : suc (j + m) ≡ suc j + m = omega arith in
+    let all : suc (j + m) ≡ suc j + m = omega arith in
     let run : IsRun f n (base + suc (j + m)) a b = runs (suc (j + m)) (omega arith) (omega arith) in
-    let step : Comes f n base (suc (j + m)) p r = (s, below, inr (record { a = a; b = b; run = run; from = omega arith; to = omega arith; image = omega arith })) in
-    let C : ℕ → Type 0 = λ k. Comes f n base k p r in
-    subst C e step
+    moved f n base p all refl (s, below, inr (record { a = a; b = b; run = run; from = omega arith; to = omega arith; image = omega arith }))
 
 -- one turn back
 came : (f : ℕ → ℕ) (n k a b q : ℕ) → IsRun f n k a b → a ≤ q → q < b → (base m p : ℕ) → base + suc m ≡ k → Comes f n base (suc m) p q
@@ -158,24 +149,17 @@ came f n k a b q run from to base m p e (r, c, inr t) =
     let t_run : IsRun f n k t.a t.b = subst (λ (l : ℕ). IsRun f n l t.a t.b) e t.run in
     let one = same_run f n k a b t.a t.b q run t_run from to (omega arith) (omega arith) in
     let e1 = one.0 in let e2 = one.1 in
-    let at : r ≡ a + b - suc q = omega arith in
-    let C : ℕ → Type 0 = λ i. Comes f n base m p i in
-    subst C at c
+    moved f n base p refl (omega arith) c
 
 -- leaving the runs
 pub leave : (f : ℕ → ℕ) (n base m j p q r a b : ℕ) → AreRuns f n base m j a b → a ≤ q → q < b → IsTurnedBy j a b q r
     → Comes f n base (j + m) p q → Comes f n base m p r
-leave f n base m zero p q r a b runs from to turn c =
-    let C : ℕ → ℕ → Type 0 = λ k i. Comes f n base k p i in
-    let e : 0 + m ≡ m = omega arith in
-    let e' : q ≡ r = sym (turn.even refl) in
-    subst (λ (i : ℕ). C m i) e' (subst (λ (k : ℕ). C k q) e c)
+leave f n base m zero p q r a b runs from to turn c = moved f n base p (omega arith) (sym (turn.even refl)) c
 leave f n base m (suc j) p q r a b runs from to turn c =
     let even = turn.even in let odd = turn.odd in
-    let e : suc j + m ≡ suc (j + m) = omega arith in
-    let C : ℕ → Type 0 = λ k. Comes f n base k p q in
+    let all : suc j + m ≡ suc (j + m) = omega arith in
     let run : IsRun f n (base + suc (j + m)) a b = runs (suc (j + m)) (omega arith) (omega arith) in
-    let back = came f n (base + suc (j + m)) a b q run from to base (j + m) p refl (subst C e c) in
+    let back = came f n (base + suc (j + m)) a b q run from to base (j + m) p refl (moved f n base p all refl c) in
     let before : IsTurnedBy j a b (a + b - suc q) r = record { even = λ e. omega arith; odd = λ e. omega arith } in
     leave f n base m j p (a + b - suc q) r a b (λ i more less. runs i more (omega arith)) (omega arith) (omega arith) before back
 
@@ -202,26 +186,23 @@ pub entered : (f : ℕ → ℕ) (n base level lowest a b p q r : ℕ) → base �
     → a ≤ q → q < b → IsTurnedBy (lowest - level) a b q r → Comes f n base (level - base) p q → Comes f n base (lowest - base) p r
 entered f n base level lowest a b p q r up rise run high from to turn c =
     let runs = runs-between f n base level lowest a b up rise run.order run.within high run.before run.after in
-    let e : (lowest - level) + (level - base) ≡ lowest - base = omega arith in
-    let C : ℕ → Type 0 = λ m. Comes f n base m p r in
-    subst C e (enter f n base (level - base) (lowest - level) p q r a b runs from to turn c)
+    let all : (lowest - level) + (level - base) ≡ lowest - base = omega arith in
+    moved f n base p all refl (enter f n base (level - base) (lowest - level) p q r a b runs from to turn c)
 
 -- the runs that are left at once: those from a level down to the highest level beside them
 pub left_at : (f : ℕ → ℕ) (n base level outer a b p q r : ℕ) → base ≤ outer → outer < level → IsRun f n level a b → BeginsLow f (outer + 1) a
     → (b < n → f b < outer + 1) → a ≤ q → q < b → IsTurnedBy (level - outer) a b q r → Comes f n base (level - base) p q → Comes f n base (outer - base) p r
 left_at f n base level outer a b p q r up fall run low_before low_after from to turn c =
     let runs = runs-between f n base outer level a b up fall run.order run.within run.high low_before low_after in
-    let e : level - base ≡ (level - outer) + (outer - base) = omega arith in
-    let C : ℕ → Type 0 = λ m. Comes f n base m p q in
-    leave f n base (outer - base) (level - outer) p q r a b runs from to turn (subst C e c)
+    let all : level - base ≡ (level - outer) + (outer - base) = omega arith in
+    leave f n base (outer - base) (level - outer) p q r a b runs from to turn (moved f n base p all refl c)
 
 -- at the end of the line in the direction of the base nothing is left
 pub last : (base m p q : ℕ) (levels : List ℕ) → m ≡ 0 → Comes (λ i. get_or levels i 0) (length levels) base m p q
     → IsBeside (λ i. get_or levels i 0) (length levels) base m q None → slice_get (l2_visual_order base levels) (p + 1) ≡ None
 last base m p q levels e c none =
     let size = l2_visual_order-length base levels in
-    let C : ℕ → Type 0 = λ k. Comes (λ i. get_or levels i 0) (length levels) base k p q in
-    let at : q ≡ p = subst C e c in
+    let at : q ≡ p = moved (λ i. get_or levels i 0) (length levels) base p e refl c in
     let past : length levels ≤ suc q = elim (cases_lt (suc q) (length levels)) [
       | inl less ↦
           let even : m % 2 ≡ 0 = omega arith in
