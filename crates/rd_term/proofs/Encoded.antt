@@ -1,5 +1,5 @@
 -- The bytes of a character, read by a terminal that stands between two sequences.
-use Rattle.std.proofs.Common.{◌≡◌, ℕ, ◌+◌, ◌*◌, ◌/◌, ◌%◌, ◌<◌, ◌≤◌, ◌==◌, Bool, true, false, nat_lt, nat_le, List, [], ◌∷◌, Option, Some, refl, sym, ap, ◌∙◌, arith, inl, inr}
+use Rattle.std.proofs.Common.{◌≡◌, ◌≢◌, ℕ, ◌+◌, ◌*◌, ◌/◌, ◌%◌, ◌<◌, ◌≤◌, ◌==◌, Bool, true, false, nat_lt, nat_le, List, [], ◌∷◌, Option, Some, refl, sym, ap, ◌∙◌, arith, inl, inr}
 use Rattle.std.specs.Char.{encode_utf8}
 use Rattle.std.proofs.lemmas.Bool.{cases_lt, cases_eq, le-ltb, ne_eqb}
 use Rattle.std.proofs.lemmas.Bool.Decides.{nat_tests}
@@ -112,61 +112,44 @@ module _ (region : Option (ℕ × ℕ)) (rows : Rows) (cursor : Option (ℕ × �
       (ne_eqb (192 + code / 64) 27 (λ e. omega arith)) (le-ltb (192 + code / 64) 128 (omega arith)) (begun-two (code / 64) m n)
       (le-ltb (128 + code % 64) 128 (omega arith)) (le-ltb 191 (128 + code % 64) (omega arith)) (omega arith)
 
-  fed-three : (code bits low high : ℕ)
-      → code < 65536 → bits ≡ code / 4096 → begun (224 + code / 4096) ≡ read bits 2 low high → low ≤ 128 + code / 64 % 64 → 128 + code / 64 % 64 ≤ high
+  -- three bytes and four, by the bits that the first gives: with none set and with the most set the second has other bounds
+  by-bits : (base n due least last most second : ℕ) {P : Type 0}
+      → begun (base + 0) ≡ read 0 due least 191 → begun (base + last) ≡ read last due 128 most → (1 ≤ n → n ≢ last → begun (base + n) ≡ read n due 128 191)
+      → (n ≡ 0 → least ≤ second) → (n ≡ last → second ≤ most) → 128 ≤ second → second ≤ 191
+      → ((bits low high : ℕ) → bits ≡ n → begun (base + n) ≡ read bits due low high → low ≤ second → second ≤ high → P) → P
+  by-bits base n due least last most second first end between above below low high made = elim (cases_eq n 0) [
+    | inl zero ↦ made 0 least 191 (sym zero) (ap (λ m. begun (base + m)) zero ∙ first) (above zero) high
+    | inr some ↦ elim (cases_eq n last) [
+      | inl is ↦ made last 128 most (sym is) (ap (λ m. begun (base + m)) is ∙ end) low (below is)
+      | inr not ↦ made n 128 191 refl (between (omega arith) not) low high
+    ]
+  ]
+
+  fed-three : (code : ℕ) → is_scalar code ≡ true → 2048 ≤ code → code < 65536
       → Fed code ((224 + code / 4096) ∷ (128 + code / 64 % 64) ∷ (128 + code % 64) ∷ [])
-  fed-three code bits low high most e b l h =
-      three-fed code (224 + code / 4096) (128 + code / 64 % 64) (128 + code % 64) bits low high
+  fed-three code scalar low high =
+      let few : code / 4096 < 16 = omega arith in
+      let last : code / 4096 ≡ 13 → code < 55296 = λ is. elim (cases_lt code 55296) [ inl h ↦ h | inr h ↦ absurd (omega (arith, scalar-high code scalar h, is)) ] in
+      by-bits 224 (code / 4096) 2 160 13 159 (128 + code / 64 % 64) refl refl
+      (λ some differ. begun-three (code / 4096) some few (ne_eqb (code / 4096) 13 differ))
+      (λ is. omega (arith, is)) (λ is. omega (arith, is, last is)) (omega arith) (omega arith)
+      (λ bits least most is b l h. three-fed code (224 + code / 4096) (128 + code / 64 % 64) (128 + code % 64) bits least most
       (ne_eqb (224 + code / 4096) 27 (λ e. omega arith)) (le-ltb (224 + code / 4096) 128 (omega arith)) b
-      (le-ltb (128 + code / 64 % 64) low l) (le-ltb high (128 + code / 64 % 64) h)
-      (le-ltb (128 + code % 64) 128 (omega arith)) (le-ltb 191 (128 + code % 64) (omega arith)) (omega arith)
+      (le-ltb (128 + code / 64 % 64) least l) (le-ltb most (128 + code / 64 % 64) h)
+      (le-ltb (128 + code % 64) 128 (omega arith)) (le-ltb 191 (128 + code % 64) (omega arith)) (omega (arith, is)))
 
-  fed-four : (code bits low high : ℕ)
-      → code < 1114112 → bits ≡ code / 262144 → begun (240 + code / 262144) ≡ read bits 3 low high → low ≤ 128 + code / 4096 % 64 → 128 + code / 4096 % 64 ≤ high
+  fed-four : (code : ℕ) → 65536 ≤ code → code < 1114112
       → Fed code ((240 + code / 262144) ∷ (128 + code / 4096 % 64) ∷ (128 + code / 64 % 64) ∷ (128 + code % 64) ∷ [])
-  fed-four code bits low high most e b l h =
-      four-fed code (240 + code / 262144) (128 + code / 4096 % 64) (128 + code / 64 % 64) (128 + code % 64) bits low high
+  fed-four code low high =
+      let few : code / 262144 < 5 = omega arith in
+      by-bits 240 (code / 262144) 3 144 4 143 (128 + code / 4096 % 64) refl refl
+      (λ some differ. begun-four (code / 262144) some (omega (arith, few, differ)))
+      (λ is. omega (arith, is)) (λ is. omega (arith, is)) (omega arith) (omega arith)
+      (λ bits least most is b l h. four-fed code (240 + code / 262144) (128 + code / 4096 % 64) (128 + code / 64 % 64) (128 + code % 64) bits least most
       (ne_eqb (240 + code / 262144) 27 (λ e. omega arith)) (le-ltb (240 + code / 262144) 128 (omega arith)) b
-      (le-ltb (128 + code / 4096 % 64) low l) (le-ltb high (128 + code / 4096 % 64) h)
+      (le-ltb (128 + code / 4096 % 64) least l) (le-ltb most (128 + code / 4096 % 64) h)
       (le-ltb (128 + code / 64 % 64) 128 (omega arith)) (le-ltb 191 (128 + code / 64 % 64) (omega arith))
-      (le-ltb (128 + code % 64) 128 (omega arith)) (le-ltb 191 (128 + code % 64) (omega arith)) (omega arith)
-
-  -- three bytes, by the bounds of the second
-  fed-three-all : (code : ℕ) → is_scalar code ≡ true → 2048 ≤ code → code < 65536
-      → Fed code ((224 + code / 4096) ∷ (128 + code / 64 % 64) ∷ (128 + code % 64) ∷ [])
-  fed-three-all code scalar low high = elim (cases_eq (code / 4096) 0) [
-    | inl zero ↦
-        let b : begun (224 + code / 4096) ≡ read 0 2 160 191 = rw zero refl in
-        fed-three code 0 160 191 high (sym zero) b (omega (arith, zero)) (omega arith)
-    | inr some ↦ elim (cases_eq (code / 4096) 13) [
-      | inl last ↦
-          let b : begun (224 + code / 4096) ≡ read 13 2 128 159 = rw last refl in
-          let below : code < 55296 = elim (cases_lt code 55296) [ inl h ↦ h | inr h ↦ absurd (omega (arith, scalar-high code scalar h, last)) ] in
-          fed-three code 13 128 159 high (sym last) b (omega arith) (omega (arith, last, below))
-      | inr not ↦
-          let one : 1 ≤ code / 4096 = omega (arith, some) in
-          let few : code / 4096 < 16 = omega arith in
-          let differ : (code / 4096 == 13) ≡ false = grind (arith, nat_tests) in
-          fed-three code (code / 4096) 128 191 high refl (begun-three (code / 4096) one few differ) (omega arith) (omega arith)
-    ]
-  ]
-
-  fed-four-all : (code : ℕ) → 65536 ≤ code → code < 1114112
-      → Fed code ((240 + code / 262144) ∷ (128 + code / 4096 % 64) ∷ (128 + code / 64 % 64) ∷ (128 + code % 64) ∷ [])
-  fed-four-all code low high = elim (cases_eq (code / 262144) 0) [
-    | inl zero ↦
-        let b : begun (240 + code / 262144) ≡ read 0 3 144 191 = rw zero refl in
-        fed-four code 0 144 191 high (sym zero) b (omega (arith, zero)) (omega arith)
-    | inr some ↦ elim (cases_eq (code / 262144) 4) [
-      | inl last ↦
-          let b : begun (240 + code / 262144) ≡ read 4 3 128 143 = rw last refl in
-          fed-four code 4 128 143 high (sym last) b (omega arith) (omega (arith, last))
-      | inr not ↦
-          let one : 1 ≤ code / 262144 = omega (arith, some) in
-          let few : code / 262144 < 4 = omega (arith, not) in
-          fed-four code (code / 262144) 128 191 high refl (begun-four (code / 262144) one few) (omega arith) (omega arith)
-    ]
-  ]
+      (le-ltb (128 + code % 64) 128 (omega arith)) (le-ltb 191 (128 + code % 64) (omega arith)) (omega (arith, is)))
 
   pub encoded_fed : (code : ℕ) → is_scalar code ≡ true → (code == 27) ≡ false → Fed code (encode_utf8 code)
   unfolding encode_utf8
@@ -184,12 +167,12 @@ module _ (region : Option (ℕ × ℕ)) (rows : Rows) (cursor : Option (ℕ × �
             let f : nat_lt code 128 ≡ false = grind (arith, nat_tests) in
             let g : nat_lt code 2048 ≡ false = grind (arith, nat_tests) in
             let t : nat_lt code 65536 ≡ true = grind (arith, nat_tests) in
-            rw (f, g, t) (fed-three-all code scalar more three)
+            rw (f, g, t) (fed-three code scalar more three)
         | inr four ↦
             let f : nat_lt code 128 ≡ false = grind (arith, nat_tests) in
             let g : nat_lt code 2048 ≡ false = grind (arith, nat_tests) in
             let h : nat_lt code 65536 ≡ false = grind (arith, nat_tests) in
-            rw (f, g, h) (fed-four-all code four (scalar-most code scalar))
+            rw (f, g, h) (fed-four code four (scalar-most code scalar))
       ]
     ]
   ]
