@@ -97,15 +97,16 @@ absent-at : (cs : List Class) (ls : List ℕ) (ks : List Link) (bs : List Bool) 
     → Absent (Some p) (gathered b i cs ls ks bs)
 absent-at cs ls ks bs b i j p at h = absent-from cs ls ks bs b i p (λ k e. let same : k ≡ j = omega (arith, at, e) in ap (λ n. get_or bs n false) same ∙ h)
 
--- one sequence begins there, and from then on goes on from elsewhere
-record Present (b i p : ℕ) (cs : List Class) (ls : List ℕ) (ks : List Link) (bs after : List Bool) : Type 0 where
-  others : gathered b i cs ls ks after ≡ others_seq (Some p) (gathered b i cs ls ks bs)
-  indexes : rest_indexes (Some p) (gathered b i cs ls ks bs) ≡ chain i (Some p) ks
-  ends : (e : Class) → rest_end e (Some p) (gathered b i cs ls ks bs) ≡ chain_end e i (Some p) ks
+-- what follows an item goes on from it
+record Goes (b i : ℕ) (f next : Option ℕ) (cs : List Class) (ls : List ℕ) (ks : List Link) (bs after : List Bool) : Type 0 where
+  others : gathered b i cs ls ks after ≡ others_seq f (gathered b i cs ls ks bs)
+  indexes : rest_indexes f (gathered b i cs ls ks bs) ≡ chain i next ks
+  ends : (e : Class) → rest_end e f (gathered b i cs ls ks bs) ≡ chain_end e i next ks
 
+-- one sequence begins there, and from then on goes on from elsewhere
 present : (cs : List Class) (ls : List ℕ) (ks : List Link) (bs : List Bool) (b i j p : ℕ) → p ≡ i + j
     → length ls ≡ length cs → length ks ≡ length cs → j < length cs → get_or bs j false ≡ true
-    → Present b i p cs ls ks bs (set bs j false)
+    → Goes b i (Some p) (Some p) cs ls ks bs (set bs j false)
 present [] ls ks bs b i j p at same_ls same_ks within h = absurd (omega arith)
 present (c ∷ cs) [] ks bs b i j p at same_ls same_ks within h = absurd (omega arith)
 present (c ∷ cs) (l ∷ ls) [] bs b i j p at same_ls same_ks within h = absurd (omega arith)
@@ -122,12 +123,6 @@ present (c ∷ cs) (l ∷ ls) (k ∷ ks) (false ∷ bs) b i (suc j) p at same_ls
     let e : (p == i) ≡ false = ne_eqb p i (λ q. omega arith) in
     let r = present cs ls ks bs (if is_removed c then b else l) (i + 1) j p (omega arith) (omega arith) (omega arith) (omega arith) h in
     record { others = r.others; indexes = rw e r.indexes; ends = λ t. rw e (r.ends t) }
-
--- what follows an item goes on from it
-record Goes (b i : ℕ) (f next : Option ℕ) (cs : List Class) (ls : List ℕ) (ks : List Link) (bs after : List Bool) : Type 0 where
-  others : gathered b i cs ls ks after ≡ others_seq f (gathered b i cs ls ks bs)
-  indexes : rest_indexes f (gathered b i cs ls ks bs) ≡ chain i next ks
-  ends : (e : Class) → rest_end e f (gathered b i cs ls ks bs) ≡ chain_end e i next ks
 
 abbrev pub Within : ℕ → ℕ → Option ℕ → Type 0
 Within i n None = Unit {0}
