@@ -28,7 +28,6 @@ use Rattle.rd_glyphs.specs.declared.shown.Shown.TheVariants.{Caret, Octal, Space
 use Rattle.rd_glyphs.specs.Characters.{PartValues, AreSoundParts, HasOrigin, TakesColumns, ShowsColumns, IsShortElement, is_control, is_formatting, shown_as, mirrored, looks_of, element_of, glyph_elements, entry_of, own_looks, elements_by, elements_of, tab_of}
 use Rattle.rd_glyphs.specs.MarkRoles.{is_empty_entry}
 use Rattle.rd_glyphs.proofs.Measures.{character-measured, slot_or-is, shown-by, shown_as-measured, mirrored-measured, looks-measured}
-use Rattle.rd_glyphs.proofs.Short.{short_element, short_glyph}
 
 -- what holds of the elements of a character
 pub record AreOfCharacter (face : Attributes) (origin : Origin) (es : List Element) : Type 0 where
@@ -94,6 +93,17 @@ columns-few (e ∷ es) each =
     omega arith
 
 -- ---- elements
+
+-- the element of a look that takes columns is short
+short_element : (face : Attributes) (origin : Origin) (l : Look) → TakesColumns l → IsShortElement (element_of face origin l)
+short_element face origin (look.Glyph g) takes = ((refl, takes.0, takes.1), takes)
+short_element face origin look.Blank takes = (_, takes)
+short_element face origin look.RowEnd takes = grind arith
+short_element face origin look.LineEnd takes = grind arith
+
+-- a table's glyph takes columns
+short_glyph : (g : Glyph) → is_glyph_character g ≡ true → TakesColumns (look.Glyph g)
+short_glyph g is = grind (arith, nat_tests)
 
 -- the elements of a few things that put a look each
 of-each : {X : Type 0} (face : Attributes) (origin : Origin) (put : X → Look) (xs : List X) → All (λ x. TakesColumns (put x)) xs → All (λ x. IsMeasuredLook (put x)) xs → length xs ≤ 16

@@ -42,10 +42,7 @@ fn caret(code: u32) -> u32
 fn is_pop(class: Class) -> bool
     ensures { result ≡ is_pop class }
 {
-    match class {
-        Class::PDI => true,
-        _ => false,
-    }
+    matches!(class, Class::PDI)
 }
 
 /// Whether this only steers the order of a line.
