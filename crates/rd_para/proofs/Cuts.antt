@@ -1,5 +1,5 @@
 -- Lines of a text, as the code finds them.
-use Rattle.std.proofs.Common.{◌≡◌, ℕ, ◌+◌, ◌-◌, ◌<◌, ◌≤◌, inl, inr, Bool, not, if◌then◌else◌, List, [], ◌∷◌, length, get_or, take, drop, replicate, Option, None, sym, ap, subst, ◌∙◌, arith}
+use Rattle.std.proofs.Common.{◌≡◌, ℕ, ◌+◌, ◌-◌, ◌<◌, ◌≤◌, inl, inr, Bool, not, if◌then◌else◌, List, [], ◌∷◌, length, get_or, take, drop, replicate, Option, None, sym, ap, ◌∙◌, arith}
 use Rattle.std.specs.List.{slice_split, position_or_len}
 use Rattle.std.proofs.lemmas.List.Sums.{prefix_len-le-length, fails_before_first}
 use Rattle.std.proofs.lemmas.Bool.{cases_lt}
@@ -78,6 +78,3 @@ some_line t from to cut = elim (cases_lt to t.end) [
   | inl less ↦ (slice_split is_newline (between t (to + 1) t.end), cut.more less)
   | inr past ↦ let within = cut.within in ([], cut.last (omega arith))
 ]
-
-pub line_cut_at : (t : TextValue) (from to : ℕ) → IsText t → t.begin ≤ from → from ≤ t.end → to ≡ next_newline t from → IsCut t from to
-line_cut_at t from to right begin end e = let C : ℕ → Type 0 = λ k. IsCut t from k in subst C (sym e) (line_cut t from right begin end)

@@ -7,10 +7,10 @@ use Rattle.std.proofs.lemmas.List.Sums.{suffix_len_is}
 use Rattle.std.specs.Option.{option_or}
 use Rattle.rd_text.specs.Texts.{TextValue, IsText, between, is_newline, is_ink, is_separator, next_newline, prev_newline, prev_ink, IsLineStart, EndsSeparator, IsParagraphStart}
 use Rattle.rd_text.proofs.Characters.{clash, blank_else, blank_not_ink, newline_not_ink}
-use Rattle.rd_text.proofs.Searches.{next_before, next_at, ink_after, ink_at, prev_ink_bound, between_at, between_size, all_blank, some_ink, blank_at}
+use Rattle.rd_text.proofs.Searches.{next_bound, next_before, next_at, ink_after, ink_at, prev_ink_bound, between_at, between_size, all_blank, some_ink, blank_at}
 use Rattle.rd_ucd.specs.declared.spans.Span.{Span}
 use Rattle.rd_para.specs.Paragraphs.{line_level, decided, level_by, levels_of, text_level}
-use Rattle.rd_para.proofs.Cuts.{line_cut, line_cut_at, some_line, levels_here, levels_next}
+use Rattle.rd_para.proofs.Cuts.{line_cut, some_line, levels_here, levels_next}
 
 -- the lines from a position on
 abbrev pub rows : TextValue → ℕ → List (List ℕ)
@@ -44,8 +44,8 @@ ends_within : (t : TextValue) (right : IsText t) (pos from : ℕ) → t.begin �
 ends_within t right pos from low high at upto = elim (cases_lt (next_newline t pos) (next_newline t from)) [
   | inr fine ↦ fine
   | inl past ↦
-      let c = line_cut t from right at (let h = (line_cut t pos right low high).within in omega arith) in
-      let h = c.within in
+      let (order, last) = next_bound t right pos low high in
+      let (from_order, from_last) = next_bound t right from at (omega arith) in
       let here = next_at t right pos low high (omega arith) in
       clash _ here (next_before t right from (next_newline t pos) at (omega arith) (omega arith) past (omega arith))
 ]
@@ -60,9 +60,7 @@ module _ (classes : List Span) (t : TextValue) (right : IsText t) where
       → text_level classes t p ≡ level_by classes r.last r.inside (between t from (next_newline t from)) lines
   line_is from r low high p at within lines cut =
       let to = next_newline t from in
-      let c = line_cut t from right low high in
-      let order = c.order in
-      let inside = c.within in
+      let (order, inside) = next_bound t right from low high in
       let size = between_size t right from to low order inside in
       r.rest p at (omega arith)
       ∙ levels_here classes r.last r.inside (between t from to) lines (rows t from) (p - from) cut (omega arith)
@@ -108,8 +106,7 @@ module _ (classes : List Span) (t : TextValue) (right : IsText t) where
   reach (suc n) from to room r begins low less high newline = elim (cases_lt (to - 1) (next_newline t from)) [
     | inl past ↦ clash _ newline (next_before t right from (to - 1) low (omega arith) (omega arith) past (omega arith))
     | inr found ↦
-        let c = line_cut t from right low (omega arith) in
-        let order = c.order in
+        let (order, inside) = next_bound t right from low (omega arith) in
         elim (cases_lt (next_newline t from + 1) to) [
           | inl before ↦ reach n (next_newline t from + 1) to (omega arith) (step from r low (omega arith) (omega arith))
               (inr (omega arith, ap (λ (k : ℕ). is_newline (get_or t.text k 0)) (let e : next_newline t from + 1 - 1 - 1 ≡ next_newline t from - 1 = omega arith in e) ∙ next_at t right from low (omega arith) (omega arith)))
@@ -156,6 +153,7 @@ module _ (classes : List Span) (t : TextValue) (right : IsText t) where
   -- a paragraph, from its start up to the line of a position: `place` is the last character up to that line's end that is
   -- neither newline nor blank, or the beginning
   module _ (pos place start : ℕ) (low : t.begin ≤ pos) (high : pos ≤ t.end) (from_low : t.begin ≤ place) (within : place ≤ next_newline t pos) (begins : IsParagraphStart t place start)
+      (first : t.begin ≤ start) (reaches : start ≤ place) (line_within : next_newline t pos ≤ t.end)
       (no_ink : (k : ℕ) → place < k → k < next_newline t pos → is_ink (get_or t.text (k - 1) 0) ≡ false)
       (ink : (place ≡ t.begin) ⊎ ((place < next_newline t pos) × (is_ink (get_or t.text (place - 1) 0) ≡ true))) where
     -- a line of blanks alone lies behind the place
@@ -164,9 +162,7 @@ module _ (classes : List Span) (t : TextValue) (right : IsText t) where
       | inl fine ↦ fine
       | inr past ↦
           let to = next_newline t from in
-          let first = begins.first in
-          let c = line_cut t from right (omega arith) high' in
-          let order = c.order in
+          let (order, inside) = next_bound t right from (omega arith) high' in
           let back : to + 1 - 1 ≡ to = omega arith in
           absurd (begins.last (to + 1) (omega arith) past (record {
             start = from;
@@ -179,12 +175,9 @@ module _ (classes : List Span) (t : TextValue) (right : IsText t) where
 
     blank_behind : (from p : ℕ) → t.begin ≤ from → from ≤ p → p ≤ next_newline t pos → place < from → is_separator (between t from (next_newline t from)) ≡ true
     blank_behind from p at order p_high past =
-        let e_high = (line_cut t pos right low high).within in
-        let c = line_cut t from right at (omega arith) in
         let ends = ends_within t right pos from low high at (omega arith) in
-        let c_order = c.order in
-        let c_within = c.within in
-        all_blank t right from (next_newline t from) at c_order c_within
+        let (to_order, inside) = next_bound t right from at (omega arith) in
+        all_blank t right from (next_newline t from) at to_order inside
         (λ k lo hi. blank_else (get_or t.text (k - 1) 0) (next_before t right from k at (omega arith) lo hi (omega arith)) (no_ink k (omega arith) (omega arith)))
 
     -- a line has one level, where those behind it keep that
@@ -194,8 +187,6 @@ module _ (classes : List Span) (t : TextValue) (right : IsText t) where
         → get_or (levels_of classes level (not (is_separator (between t from (next_newline t from)))) (rows t (next_newline t from + 1))) (p - (next_newline t from + 1)) 0 ≡ level)
         → get_or (levels_of classes last inside (rows t from)) (p - from) 0 ≡ level
     on_line from p last level inside at line order p_high one behind =
-        let e_high = (line_cut t pos right low high).within in
-        let first = begins.first in
         let to = next_newline t from in
         let c = line_cut t from right (omega arith) (omega arith) in
         let c_order = c.order in
@@ -223,14 +214,10 @@ module _ (classes : List Span) (t : TextValue) (right : IsText t) where
 
     stays : (n from p : ℕ) (level : ℕ) (inside : Bool) → t.end < from + n → start ≤ from → IsLineStart t from → from ≤ p → p ≤ next_newline t pos → (inside ≡ true) ⊎ (place < from)
         → get_or (levels_of classes level inside (rows t from)) (p - from) 0 ≡ level
-    stays zero from p level inside room at line order p_high kind =
-        let e_high = (line_cut t pos right low high).within in
-        absurd (omega arith)
+    stays zero from p level inside room at line order p_high kind = absurd (omega arith)
     stays (suc n) from p level inside room at line order p_high kind =
-        let e_high = (line_cut t pos right low high).within in
-        let first = begins.first in
         let to = next_newline t from in
-        let c_order = (line_cut t from right (omega arith) (omega arith)).order in
+        let (to_order, to_last) = next_bound t right from (omega arith) (omega arith) in
         let text = between t from to in
         on_line from p level level inside at line order p_high (λ lines _. elim kind [
           | inl is ↦ ap (λ (b : Bool). if is_separator text || b then level else unwrap_or (decided classes (text ∷ lines)) 0) is
@@ -252,19 +239,14 @@ module _ (classes : List Span) (t : TextValue) (right : IsText t) where
     -- where its first line is blank there is no other character
     no_text : is_separator (between t start (next_newline t start)) ≡ true → start ≡ t.begin
     no_text blank =
-        let first = begins.first in
-        let b_order = begins.order in
-        let e_high = (line_cut t pos right low high).within in
         let to = next_newline t start in
-        let c = line_cut t start right first (omega arith) in
-        let c_order = c.order in
-        let c_within = c.within in
+        let (order, inside) = next_bound t right start first (omega arith) in
         elim ink [
           | inl is ↦ omega arith
           | inr some ↦
               let some_at = some.0 in
               elim (cases_lt place to) [
-                | inl inner ↦ clash _ some.1 (blank_not_ink (get_or t.text (place - 1) 0) (blank_at t right start to place first b_order inner c_within blank))
+                | inl inner ↦ clash _ some.1 (blank_not_ink (get_or t.text (place - 1) 0) (blank_at t right start to place first reaches inner inside blank))
                 | inr outer ↦ elim (cases_lt to t.end) [
                   | inr last ↦ absurd (omega arith)
                   | inl more ↦
@@ -278,13 +260,9 @@ module _ (classes : List Span) (t : TextValue) (right : IsText t) where
     -- each position from the start up to the end of the position's line has the level that the paragraph's lines give
     pub level_is : (p : ℕ) → start ≤ p → p ≤ next_newline t pos → text_level classes t p ≡ unwrap_or (decided classes (rows t start)) 0
     level_is p at p_high =
-        let e_high = (line_cut t pos right low high).within in
-        let first = begins.first in
-        let b_order = begins.order in
         let f = from_start start (omega arith) begins.begins in
         let to = next_newline t start in
-        let c = line_cut t start right first (omega arith) in
-        let c_order = c.order in
+        let (order, inside) = next_bound t right start first (omega arith) in
         let text = between t start to in
         let whole : ℕ = unwrap_or (decided classes (rows t start)) 0 in
         f.rest p at (omega arith) ∙ on_line start p f.last whole false (omega arith) begins_line at p_high (λ lines cut. elim (cases_Bool (is_separator text)) [
@@ -301,19 +279,16 @@ module _ (classes : List Span) (t : TextValue) (right : IsText t) where
 -- the end of a line is its own
 pub ends_itself : (t : TextValue) (right : IsText t) (pos : ℕ) → t.begin ≤ pos → pos ≤ t.end → next_newline t pos ≡ next_newline t (next_newline t pos)
 ends_itself t right pos low high =
-    let c = line_cut t pos right low high in
-    let order = c.order in
-    let d = line_cut t (next_newline t pos) right (omega arith) c.within in
-    omega (arith, d.order, ends_within t right pos (next_newline t pos) low high (omega arith) (omega arith))
+    let (order, last) = next_bound t right pos low high in
+    omega (arith, (next_bound t right (next_newline t pos) (omega arith) last).0, ends_within t right pos (next_newline t pos) low high (omega arith) (omega arith))
 
 -- the end of a position's line, and the place behind the last character before it that is no blank
 pub line_bounds : (t : TextValue) (right : IsText t) (pos to : ℕ) → t.begin ≤ pos → pos ≤ t.end → to ≡ next_newline t pos
     → (pos ≤ to) × (to ≤ t.end) × (t.begin ≤ prev_ink t to) × (prev_ink t to ≤ to)
 line_bounds t right pos to low high is =
-    let c = line_cut_at t pos to right low high is in
-    let order = c.order in
-    let ink = prev_ink_bound t right to (omega arith) c.within in
-    (order, c.within, ink.0, ink.1)
+    let (order, last) = next_bound t right pos low high in
+    let ink = prev_ink_bound t right to (omega arith) (omega arith) in
+    (omega arith, omega arith, ink.0, ink.1)
 
 -- the start of a paragraph, by the places that the code finds, stands before the position
 pub start_before : (t : TextValue) (right : IsText t) (pos ink place start : ℕ) → t.begin ≤ pos → pos ≤ t.end → ink ≡ prev_ink t (next_newline t pos) → place ≡ max t.begin (ink - 1)
@@ -337,7 +312,7 @@ paragraph_is classes t right pos ink place start low high ink_is place_is begins
     let first = right.first in
     let to = next_newline t pos in
     let (order, within, ink_low, ink_high) = line_bounds t right pos to low high refl in
-    level_is classes t right pos place start low high (omega arith) (omega arith) begins
+    level_is classes t right pos place start low high (omega arith) (omega arith) begins begins.first begins.order within
     (λ k past before. ink_after t right to k (omega arith) within (omega arith) (omega arith) before)
     (elim (cases_lt t.begin (prev_ink t to)) [
       | inl some ↦

@@ -6,8 +6,7 @@ use Rattle.rd_ucd.specs.declared.spans.Span.{Span}
 use Rattle.rd_para.specs.Paragraphs.{decided}
 use Rattle.rd_para.specs.Known.{IsKnown}
 use Rattle.rd_para.specs.declared.paragraph.Paragraph.{Paragraph}
-use Rattle.rd_para.proofs.Cuts.{line_cut}
-use Rattle.rd_text.proofs.Searches.{next_at}
+use Rattle.rd_text.proofs.Searches.{next_bound, next_at}
 use Rattle.rd_para.proofs.Walks.{NextLine, next_line_is, ends_itself, rows}
 use Rattle.rd_para.proofs.level.next_line.Goals as goal
 use Rattle.rd_para.proofs.level.next_line.Goals.{then-prev_ink-from-via-then-prev_ink-from, then-prev_ink-from-via-else-prev_ink-from+then-prev_newline-prev_ink}
@@ -24,9 +23,7 @@ behind : (classes : List Span) (t : TextValue) (right : IsText t) (p : Paragraph
 behind classes t right p to known more is =
     let first = known.first in
     let order = known.order in
-    let cut = line_cut t (p.to + 1) right (omega arith) (omega arith) in
-    let cut_order = cut.order in
-    let within = cut.within in
+    let (to_order, within) = next_bound t right (p.to + 1) (omega arith) (omega arith) in
     record {
       begin = omega arith;
       order = omega arith;

@@ -1,9 +1,9 @@
-use Rattle.std.proofs.Common.{◌≡◌, ◌+◌, ◌<◌, ℕ, Bool, true, false, if◌then◌else◌, List, [], ◌∷◌, Option, None, Some, refl, sym, ap, ◌∙◌, arith}
+use Rattle.std.proofs.Common.{◌≡◌, ◌+◌, ◌<◌, ℕ, Bool, true, false, if◌then◌else◌, List, [], ◌∷◌, Option, None, Some, refl, sym, ap, subst, ◌∙◌, arith}
 use Rattle.std.specs.Prelude.{unwrap_or}
 use Rattle.std.specs.Option.{option_or}
 use Rattle.rd_text.specs.Texts.{between, is_separator}
 use Rattle.rd_para.specs.Paragraphs.{line_level, decided}
-use Rattle.rd_para.proofs.Cuts.{IsCut, line_cut_at, some_line, decided_from}
+use Rattle.rd_para.proofs.Cuts.{IsCut, line_cut, some_line, decided_from}
 use Rattle.rd_para.proofs.Walks.{rows}
 use Rattle.rd_para.proofs.level.paragraph_level.Goals as goal
 use Rattle.rd_para.proofs.level.paragraph_level.Goals.{After-next_newline-to}
@@ -12,7 +12,9 @@ abbrev line : goal.After-next_newline-to → List ℕ
 line c = between c.args.text.now c.lines.from c.next_newline-to.result
 
 cut : (c : goal.After-next_newline-to) → IsCut c.args.text.now c.lines.from c.next_newline-to.result
-cut c = let inv = c.lines.invariant in line_cut_at c.args.text.now c.lines.from c.next_newline-to.result inv.text inv.begin inv.end c.next_newline-to.ensures
+cut c =
+    let inv = c.lines.invariant in
+    subst (IsCut c.args.text.now c.lines.from) (sym c.next_newline-to.ensures) (line_cut c.args.text.now c.lines.from inv.text inv.begin inv.end)
 
 -- what the line says is the level of the whole paragraph
 told : (c : goal.After-next_newline-to) (lines : List (List ℕ)) (blank : Bool) (level : Option ℕ) → rows c.args.text.now c.lines.from ≡ line c ∷ lines → is_separator (line c) ≡ blank
