@@ -2,7 +2,7 @@
 use Rattle.std.proofs.Common.{◌≡◌, ℕ, zero, suc, ◌-◌, Bool, true, false, ◌||◌, List, [], ◌∷◌, length, take, drop, set, replicate, Option, None, Some, IfSome, refl, sym, ap, ap₂, subst, ◌∙◌}
 use Rattle.std.specs.List.{AllByRecursion as Each}
 use Rattle.std.specs.Prelude.{if◌then◌else◌}
-use Rattle.std.proofs.lemmas.List.{length-set}
+use Rattle.std.proofs.lemmas.List.{length-map, length-set}
 use Rattle.rd_base.proofs.Choices.{either, if-else}
 use Rattle.rd_base.proofs.Lists.{each-take, each-drop}
 use Rattle.rd_base.specs.declared.class.Class.{Class}
@@ -218,10 +218,6 @@ w2-length : (strong : Class) (cs : List Class) → length (w2 strong cs) ≡ len
 w2-length strong [] = refl
 w2-length strong (c ∷ cs) = ap (λ n. suc n) (w2-length (strong_after strong c) cs)
 
-w3-length : (cs : List Class) → length (w3 cs) ≡ length cs
-w3-length [] = refl
-w3-length (c ∷ cs) = ap (λ n. suc n) (w3-length cs)
-
 w4-length : (before : Class) (cs : List Class) → length (w4 before cs) ≡ length cs
 w4-length before [] = refl
 w4-length before (c ∷ cs) = ap (λ n. suc n) (w4-length c cs)
@@ -230,18 +226,15 @@ w5-length : (en : Bool) (cs : List Class) → length (w5 en cs) ≡ length cs
 w5-length en [] = refl
 w5-length en (c ∷ cs) = ap (λ n. suc n) (w5-length (is_en (w5_terminators (en || w5_comes_en cs) c)) cs)
 
-w6-length : (cs : List Class) → length (w6 cs) ≡ length cs
-w6-length [] = refl
-w6-length (c ∷ cs) = ap (λ n. suc n) (w6-length cs)
-
 w7-length : (strong : Class) (cs : List Class) → length (w7 strong cs) ≡ length cs
 w7-length strong [] = refl
 w7-length strong (c ∷ cs) = ap (λ n. suc n) (w7-length (strong_after strong c) cs)
 
 pub weak-length : (sos : Class) (cs : List Class) → length (weak_types sos cs) ≡ length cs
 weak-length sos cs =
-    w7-length sos (w6 (w5 false (w4 ON (w3 (w2 sos (w1 sos cs)))))) ∙ w6-length (w5 false (w4 ON (w3 (w2 sos (w1 sos cs))))) ∙ w5-length false (w4 ON (w3 (w2 sos (w1 sos cs))))
-    ∙ w4-length ON (w3 (w2 sos (w1 sos cs))) ∙ w3-length (w2 sos (w1 sos cs)) ∙ w2-length sos (w1 sos cs) ∙ w1-length sos cs
+    w7-length sos (w6 (w5 false (w4 ON (w3 (w2 sos (w1 sos cs))))))
+    ∙ length-map (w5 false (w4 ON (w3 (w2 sos (w1 sos cs))))) w6_remaining_separators ∙ w5-length false (w4 ON (w3 (w2 sos (w1 sos cs))))
+    ∙ w4-length ON (w3 (w2 sos (w1 sos cs))) ∙ length-map (w2 sos (w1 sos cs)) w3_arabic_letters ∙ w2-length sos (w1 sos cs) ∙ w1-length sos cs
 
 both-length : (side : Option Class) (a b : ℕ) (ts : List Class) → length (sides.put_both side a b ts) ≡ length ts
 both-length None a b ts = refl

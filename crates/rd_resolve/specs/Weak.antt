@@ -1,6 +1,6 @@
 -- The weak types (UAX 9, rules W1 to W7). Each rule says what becomes of one type, by what the rule looks at around it; w1 to w7 are
 -- the rules' passes, each over the types of a whole isolating run sequence.
-use Rattle.std.specs.Prelude.{Bool, true, false, ◌||◌, List, [], ◌∷◌}
+use Rattle.std.specs.Prelude.{Bool, true, false, ◌||◌, List, [], ◌∷◌, map}
 use Rattle.rd_base.specs.declared.class.Class.{Class}
 use Rattle.rd_base.specs.declared.class.Class.TheVariants.{L, R, AL, EN, ES, ET, AN, CS, NSM, ON, LRI, RLI, FSI, PDI}
 
@@ -42,8 +42,7 @@ w3_arabic_letters c = c
 
 -- W3 over a sequence
 abbrev pub w3 : List Class → List Class
-w3 [] = []
-w3 (c ∷ cs) = w3_arabic_letters c ∷ w3 cs
+w3 cs = map w3_arabic_letters cs
 
 -- W4: one ES between two EN becomes EN, and one CS between two numbers of one type becomes that type
 abbrev pub w4_separators : Class → Class → Class → Class
@@ -92,8 +91,7 @@ w6_remaining_separators c = c
 
 -- W6 over a sequence
 abbrev pub w6 : List Class → List Class
-w6 [] = []
-w6 (c ∷ cs) = w6_remaining_separators c ∷ w6 cs
+w6 cs = map w6_remaining_separators cs
 
 -- W7: EN becomes L where the last strong type before it is L
 abbrev pub w7_latin_numbers : Class → Class → Class

@@ -199,10 +199,7 @@ fn w5_terminators(beside: bool, class: Class) -> Class
 fn is_en(class: Class) -> bool
     ensures { result ≡ is_en class }
 {
-    match class {
-        Class::EN => true,
-        _ => false,
-    }
+    matches!(class, Class::EN)
 }
 
 /// W6: a separator or terminator that W4 and W5 left becomes ON.
