@@ -4,6 +4,7 @@ use Rattle.std.specs.Prelude.{count_by, slice_get}
 use Rattle.std.specs.List.{flat_map}
 use Rattle.std.proofs.lemmas.Bool.Decides.{nat_tests}
 use Rattle.rd_base.specs.Lists.{Follow}
+use Rattle.rd_base.proofs.Choices.{one-at-most}
 use Rattle.rd_base.proofs.Lists.{count-append, count-cons, each-append, follow-once}
 use Rattle.rd_ucd.specs.Data.{Data}
 use Rattle.rd_objects.specs.Things.{ObjectLists}
@@ -67,10 +68,6 @@ stand-follow from to (r ∷ rs) stand = let at = stand.0 in let some = stand.1 i
 stand-count : (pos from to : ℕ) (rs : List Range) → StandBetween from to rs → count_by (holds pos) rs ≡ cond (holds pos (record { from = from; to = to })) 1 0
 stand-count pos from to rs stand = (follow-once (λ (r : Range). r.from) (λ (r : Range). r.to) pos from to rs (stand-follow from to rs stand)).1
 
-few-by : (b : Bool) (n : ℕ) → n ≡ cond b 1 0 → n ≤ 1
-few-by true n e = omega (arith, e)
-few-by false n e = omega (arith, e)
-
 -- the ranges of a block that its items tile
 module _ (s : BufferValue) (objects : ObjectLists) (files : Data) (b : Block) (tiles : IsTiled s objects files b) where
   pub ranges-stand : StandBetween b.start b.end (ordered_ranges s objects files b)
@@ -122,7 +119,7 @@ module _ (s : BufferValue) (objects : ObjectLists) (files : Data) (are : AreTile
       all-count pos ∙ ap (λ (t : Bool). cond t 1 0) here
 
   pub at-most : (pos : ℕ) → count_by (holds pos) (all_ranges s objects files) ≤ 1
-  at-most pos = few-by (holds pos (record { from = s.text.begin; to = s.text.end + 1 })) (count_by (holds pos) (all_ranges s objects files)) (all-count pos)
+  at-most pos = omega (arith, all-count pos, one-at-most (holds pos (record { from = s.text.begin; to = s.text.end + 1 })))
 
   pub tiled-block : (b : Block) → IsAmong (blocks_in files.classes s) b → IsTiled s objects files b
   tiled-block b among = are.tiled objects files b (among-block files.classes s are.listed b among)
