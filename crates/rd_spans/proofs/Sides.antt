@@ -3,7 +3,7 @@ use Rattle.std.proofs.Common.{◌≡◌, ℕ, zero, suc, ◌+◌, ◌-◌, ◌<�
 use Rattle.std.specs.Prelude.{is_some, min, nat_lt, nat_eq, slice_get, slice_index_or, reverse}
 use Rattle.std.proofs.lemmas.Bool.Decides.{nat_tests}
 use Rattle.std.proofs.lemmas.Bool.{eqb-true, eq-eqb, lt-ltb, le-ltb, cases_lt}
-use Rattle.std.proofs.lemmas.List.{replicate-append-replicate, length-replicate, take_all, length-reverse, reverse-append, get_or_append_left, get_or-append_right, get_or-replicate, get_or_past, get_or-reverse, take-append-le, reverse-reverse, length_push}
+use Rattle.std.proofs.lemmas.List.{replicate-append-replicate, replicate_more, length-replicate, take_all, length-reverse, reverse-append, get_or_append_left, get_or-append_right, get_or-replicate, get_or_past, get_or-reverse, take-append-le, reverse-reverse, length_push}
 use Rattle.rd_spans.specs.declared.run.ValueRun.{ValueRun}
 use Rattle.rd_spans.specs.Values.{value_at, IsTrimmed}
 use Rattle.rd_spans.specs.Sides.{values_from, values_of, Rises, reach, size_of, value_in, top, same_value, has_value, meet, needs, values_of_both, AreMoved, IsLighter, GapMoved}
@@ -262,12 +262,8 @@ moved-needs old rs to from_new to_new r rest moved e some none from_count from_t
 reverse-same : (n : ℕ) (a : Option ℕ) → reverse (replicate n a) ≡ replicate n a
 reverse-same zero a = refl
 reverse-same (suc n) a =
-    let before : 1 + n ≡ suc n = omega arith in
-    let behind : n + 1 ≡ suc n = omega arith in
-    let one : replicate 1 a ++ replicate n a ≡ replicate (suc n) a = replicate-append-replicate 1 n a ∙ ap (λ (m : ℕ). replicate m a) before in
-    let more : replicate n a ++ replicate 1 a ≡ replicate (suc n) a = replicate-append-replicate n 1 a ∙ ap (λ (m : ℕ). replicate m a) behind in
-    ap reverse (sym one)
-    ∙ (reverse-append (replicate 1 a) (replicate n a) ∙ (ap (λ (vs : List (Option ℕ)). vs ++ reverse (replicate 1 a)) (reverse-same n a) ∙ more))
+    let more : n + 1 ≡ suc n = omega arith in
+    reverse-append (a ∷ []) (replicate n a) ∙ ap (λ (vs : List (Option ℕ)). vs ++ a ∷ []) (reverse-same n a) ∙ replicate_more n a ∙ ap (λ (m : ℕ). replicate m a) more
 
 pub moved-values_of_both : (old rs to from_new to_new : List ValueRun) (r : ValueRun) (rest moved : ℕ) → old ≡ rs ++ r ∷ [] → rest + moved ≡ r.end - size_of rs
     → values_of from_new ≡ values_of rs ++ replicate rest r.value → values_of to_new ≡ values_of to ++ replicate moved r.value → values_of_both from_new to_new ≡ values_of_both old to
