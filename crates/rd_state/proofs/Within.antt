@@ -1,5 +1,5 @@
 -- Overlays and values of properties that lie in a text, and still do after an edit of it.
-use Rattle.std.proofs.Common.{◌≡◌, ◌⊎◌, ℕ, ◌+◌, ◌-◌, ◌<◌, ◌≤◌, ◌++◌, inl, inr, ◌==◌, ◌&&◌, ◌||◌, Bool, true, false, if◌then◌else◌, nat_lt, nat_le, Option, None, Some, List, [], ◌∷◌, length, map, set, sym, ap, subst, refl, ◌∙◌, arith, length-append}
+use Rattle.std.proofs.Common.{◌≡◌, ℕ, ◌+◌, ◌-◌, ◌<◌, ◌≤◌, ◌++◌, inl, inr, ◌==◌, ◌&&◌, ◌||◌, Bool, true, false, if◌then◌else◌, nat_lt, nat_le, Option, None, Some, List, [], ◌∷◌, length, map, set, sym, ap, subst, refl, ◌∙◌, arith, length-append}
 use Rattle.std.proofs.lemmas.Bool.{leb-false}
 use Rattle.std.proofs.lemmas.Bool.Decides.{nat_tests}
 use Rattle.std.proofs.lemmas.List.{length-map, length-set}
@@ -58,6 +58,21 @@ shrunk-in size from to o one h within is =
 
 -- ---- buffers
 
+-- a buffer whose values came from another's and lie in its text where they lay in that one's, and whose overlays are that one's, changed
+came-within : (b c : props.BufferValue) (change : Overlay → Overlay) → IsWithin b
+    → ((kind p value : ℕ) → c.properties kind p ≡ Some value
+    → (q : ℕ) × (b.properties kind q ≡ Some value) × (1 ≤ q → q ≤ length b.text.text → (1 ≤ p) × (p ≤ length c.text.text)))
+    → ((o : Overlay) → IsOverlayIn (length b.text.text) o → IsOverlayIn (length c.text.text) (change o))
+    → c.overlays ≡ map (slot_changed change) b.overlays → IsWithin c
+came-within b c change within came stays overlays = record {
+  kinds = λ kind p value h. let was = came kind p value h in within.kinds kind was.0 value was.1;
+  first = λ kind p value h. let was = came kind p value h in (was.2 (within.first kind was.0 value was.1) (within.last kind was.0 value was.1)).0;
+  last = λ kind p value h. let was = came kind p value h in (was.2 (within.first kind was.0 value was.1) (within.last kind was.0 value was.1)).1;
+  few = subst (λ xs. length xs ≤ 65536) (sym overlays) (rw length-map within.few);
+  overlays = subst (AreIn (length c.text.text)) (sym overlays)
+      (changed-each (IsOverlayIn (length c.text.text)) change b.overlays (λ k o at. stays o (within.overlays k o at)));
+}
+
 -- a buffer with characters put in
 pub grown-within : (b c : props.BufferValue) (pos : ℕ) (new : List ℕ) → IsText b.text → IsWithin b → IsAccessible b.text pos
     → c.text ≡ inserted b.text pos new → ((kind p : ℕ) → c.properties kind p ≡ opened b.properties pos (length new) kind p)
@@ -66,22 +81,11 @@ grown-within b c pos new text within at same values overlays =
     let n = length new in
     let last = text.last in
     let size : length c.text.text ≡ length b.text.text + n = ap (λ t. length t.text) same ∙ length-grown b.text.text new (pos - 1) (omega (arith, at.1)) in
-    let came : (kind p value : ℕ) → c.properties kind p ≡ Some value → (q : ℕ) × (b.properties kind q ≡ Some value) × (q ≤ p) × (p ≤ q + n)
-    = λ kind p value h. opened-from (b.properties kind) pos n p value (sym (values kind p) ∙ h) in
-    record {
-      kinds = λ kind p value h. within.kinds kind (came kind p value h).0 value (came kind p value h).1;
-      first = λ kind p value h.
-          let from = came kind p value h in
-          let one = within.first kind from.0 value from.1 in
-          omega (arith, from.2, one);
-      last = λ kind p value h.
-          let from = came kind p value h in
-          let most = within.last kind from.0 value from.1 in
-          omega (arith, from.3, most, size);
-      few = subst (λ xs. length xs ≤ 65536) (sym overlays) (rw length-map within.few);
-      overlays = subst (λ s. AreIn s c.overlays) (sym size) (subst (AreIn (length b.text.text + n)) (sym overlays)
-          (changed-each (IsOverlayIn (length b.text.text + n)) (grown pos n) b.overlays (λ k o at. grown-in (length b.text.text) pos n o (within.overlays k o at))));
-    }
+    came-within b c (grown pos n) within
+    (λ kind p value h.
+    let from = opened-from (b.properties kind) pos n p value (sym (values kind p) ∙ h) in
+    (from.0, from.1, λ one most. (omega (arith, from.2, one), omega (arith, from.3, most, size))))
+    (λ o is. subst (λ s. IsOverlayIn s (grown pos n o)) (sym size) (grown-in (length b.text.text) pos n o is)) overlays
 
 -- a buffer with a range taken away
 pub shrunk-within : (b c : props.BufferValue) (from to : ℕ) → IsText b.text → IsWithin b → IsAccessibleRange b.text from to
@@ -97,23 +101,15 @@ shrunk-within b c from to text within at same values overlays =
     let most : to ≤ length b.text.text + 1 = omega arith in
     let cut = length-gap b.text.text (from - 1) (to - 1) (omega arith) (omega arith) in
     let size : length c.text.text ≡ length b.text.text - (to - from) = ap (λ t. length t.text) same ∙ omega (arith, cut) in
-    let came : (kind p value : ℕ) → c.properties kind p ≡ Some value → (q : ℕ) × (b.properties kind q ≡ Some value) × (((q ≡ p) × (p < from)) ⊎ ((q ≡ p + (to - from)) × (from ≤ p)))
-    = λ kind p value h. closed-from (b.properties kind) from to p value (sym (values kind p) ∙ h) in
-    record {
-      kinds = λ kind p value h. let was = came kind p value h in within.kinds kind was.0 value was.1;
-      first = λ kind p value h.
-          let was = came kind p value h in
-          let least = within.first kind was.0 value was.1 in
-          elim was.2 [ inl before ↦ omega (arith, before.0, least) | inr behind ↦ omega (arith, behind.1, one) ];
-      last = λ kind p value h.
-          let was = came kind p value h in
-          let last = within.last kind was.0 value was.1 in
-          elim was.2 [ inl before ↦ omega (arith, before.1, ordered, most, size) | inr behind ↦ omega (arith, behind.0, last, size) ];
-      few = subst (λ xs. length xs ≤ 65536) (sym overlays) (rw length-map within.few);
-      overlays = subst (λ s. AreIn s c.overlays) (sym size) (subst (AreIn (length b.text.text - (to - from))) (sym overlays)
-          (changed-each (IsOverlayIn (length b.text.text - (to - from))) (shrunk from to) b.overlays
-          (λ k o at. shrunk-in (length b.text.text) from to o one ordered most (within.overlays k o at))));
-    }
+    came-within b c (shrunk from to) within
+    (λ kind p value h.
+    let was = closed-from (b.properties kind) from to p value (sym (values kind p) ∙ h) in
+    let stays : 1 ≤ was.0 → was.0 ≤ length b.text.text → (1 ≤ p) × (p ≤ length c.text.text) = λ least last. elim was.2 [
+      | inl before ↦ (omega (arith, before.0, least), omega (arith, before.1, ordered, most, size))
+      | inr behind ↦ (omega (arith, behind.1, one), omega (arith, behind.0, last, size))
+    ] in
+    (was.0, was.1, stays))
+    (λ o is. subst (λ s. IsOverlayIn s (shrunk from to o)) (sym size) (shrunk-in (length b.text.text) from to o one ordered most is)) overlays
 
 -- a buffer whose characters, values and overlays are the same
 pub same-within : (b c : props.BufferValue) → IsWithin b → c.text.text ≡ b.text.text → ((kind p : ℕ) → c.properties kind p ≡ b.properties kind p)
