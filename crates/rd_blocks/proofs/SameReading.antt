@@ -66,27 +66,23 @@ module _ (old : BufferValue) (made : ObjectLists) (new : BufferValue) (objects :
     length-of : suc from ≤ to → to ≡ from + suc (to - suc from)
     length-of some = omega arith
 
+    -- where the same is seen from a position on
+    reads-by : (x : ℕ) → ((p q : ℕ) → x ≤ p → p + from ≡ q + x → q < to → IsSame old made p new objects q) → reading old made x ≡ reading new objects from
+    reads-by x same = same-reading (to - suc from) x from to (length-of block.some) (record { same = same; goes = inside-goes; ends = last-ends })
+
     -- before the change
     pub reads-before : to ≤ c.head → reading old made from ≡ reading new objects from
     reads-before below =
-        same-reading (to - suc from) from from to (length-of block.some) (record {
-          same = λ p q a e b.
-              let here : q ≡ p = omega arith in
-              let first = block.first in
-              let last = block.last in
-              subst (λ (r : ℕ). IsSame old made r new objects q) here (unchanged.before q (omega arith) (omega arith) (inr (omega arith)));
-          goes = inside-goes;
-          ends = last-ends;
-        })
+        reads-by from (λ p q a e b.
+        let here : q ≡ p = omega arith in
+        let first = block.first in
+        let last = block.last in
+        subst (λ (r : ℕ). IsSame old made r new objects q) here (unchanged.before q (omega arith) (omega arith) (inr (omega arith))))
 
     -- behind the change
     pub reads-behind : (x : ℕ) → c.tail ≤ from → pos from -ℤ pos x ≡ c.added → reading old made x ≡ reading new objects from
     reads-behind x above moved =
-        same-reading (to - suc from) x from to (length-of block.some) (record {
-          same = λ p q a e b.
-              let first = block.first in
-              let last = block.last in
-              unchanged.behind p q (omega arith) (omega arith) (omega (arith, ints, moved, e)) (inr (omega arith));
-          goes = inside-goes;
-          ends = last-ends;
-        })
+        reads-by x (λ p q a e b.
+        let first = block.first in
+        let last = block.last in
+        unchanged.behind p q (omega arith) (omega arith) (omega (arith, ints, moved, e)) (inr (omega arith)))
