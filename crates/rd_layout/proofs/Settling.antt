@@ -85,7 +85,7 @@ module _ (laws : ViewLaws) (files : Data) (s : StateValue) (valid : IsValid s) w
   settled-window number w (Some place) there window =
       let v = view_in files s w place in
       let both = chosen-accessible number w place there window in
-      placed-keeps s.buffers w v.point v.anchor false window (λ b at. subst (λ (c : ContentValue). IsAccessible c.text v.point) (ap content_in at) both.1)
+      placed-keeps s.buffers w w.buffer v.point v.anchor false window window.made (λ b at. subst (λ (c : ContentValue). IsAccessible c.text v.point) (ap content_in at) both.1)
       (λ b at. subst (λ (c : ContentValue). IsAccessible c.text v.anchor.pos) (ap content_in at) both.0)
 
   abbrev pub settled : ℕ → WindowState → WindowState

@@ -169,7 +169,7 @@ pub settled-valid : (s : StateValue) (number : ℕ) (anchor : Anchor) (point : �
     → IsValid (settled s number anchor point)
 settled-valid s number anchor point v at =
     set-valid s number (λ old. record old { anchor = anchor; point = point; forced = false; pending = pos 0 }) v (λ w. refl)
-    (λ w found old. placed-keeps s.buffers w point anchor false old (λ b h. (at w b found h).1) (λ b h. (at w b found h).0))
+    (λ w found old. placed-keeps s.buffers w w.buffer point anchor false old old.made (λ b h. (at w b found h).1) (λ b h. (at w b found h).0))
 
 -- ---- the opening
 

@@ -77,11 +77,11 @@ buffers-appended o bs name v new form room free =
 
 -- ---- windows over other buffers
 
--- a window of buffers is one of others, with its point and the beginning of its view at positions that are accessible there
-pub window-placed : (bs cs : List BufferValue) (w : WindowState) (place : ℕ) (anchor : Anchor) → IsWindow bs w → w.buffer < length cs
-    → ((c : BufferValue) → slice_get cs w.buffer ≡ Some c → IsAccessible c.content.text place)
-    → ((c : BufferValue) → slice_get cs w.buffer ≡ Some c → IsAccessible c.content.text anchor.pos) → IsWindow cs (record w { point = place; anchor = anchor })
-window-placed bs cs w place anchor v made point start = record {
+-- a window of buffers is one of others where it shows one of those, with its point and the beginning of its view at positions that are accessible there
+pub window-placed : (bs cs : List BufferValue) (w : WindowState) (buffer place : ℕ) (anchor : Anchor) → IsWindow bs w → buffer < length cs
+    → ((c : BufferValue) → slice_get cs buffer ≡ Some c → IsAccessible c.content.text place)
+    → ((c : BufferValue) → slice_get cs buffer ≡ Some c → IsAccessible c.content.text anchor.pos) → IsWindow cs (record w { buffer = buffer; point = place; anchor = anchor })
+window-placed bs cs w buffer place anchor v made point start = record {
   made = made;
   point = point;
   anchor = start;
@@ -98,7 +98,7 @@ pub window-over : (bs cs : List BufferValue) (w : WindowState) → length bs ≤
     → IsWindow bs w → IsWindow cs w
 window-over bs cs w more old v =
     let made = v.made in
-    window-placed bs cs w w.point w.anchor v (omega arith)
+    window-placed bs cs w w.buffer w.point w.anchor v (omega arith)
     (λ c h. let o = old c h in o.2 w.point (v.point o.0 o.1))
     (λ c h. let o = old c h in o.2 w.anchor.pos (v.anchor o.0 o.1))
 
@@ -140,7 +140,7 @@ moved-window bs i b d how w true e at keep v =
       | inl q ↦ subst (λ (z : BufferValue). IsAccessible z.content.text (place_after how p)) (sym q.1) (keep p a)
       | inr q ↦ absurd (q.0 same)
     ] in
-    window-placed bs (slice_set bs i (holding b d)) w (place_after how w.point) (record { pos = place_after how w.anchor.pos; row = w.anchor.row }) v (rw length-set v.made)
+    window-placed bs (slice_set bs i (holding b d)) w w.buffer (place_after how w.point) (record { pos = place_after how w.anchor.pos; row = w.anchor.row }) v (rw length-set v.made)
     (at_new w.point (v.point b here)) (at_new w.anchor.pos (v.anchor b here))
 moved-window bs i b d how w false e at keep v =
     let other = eqb-false w.buffer i e in

@@ -79,7 +79,7 @@ none-pending = refl
 
 pub point-keeps : (bs : List BufferValue) (place : ℕ) (w : WindowState) → IsWindow bs w → ((b : BufferValue) → slice_get bs w.buffer ≡ Some b → IsAccessible b.content.text place)
     → IsWindow bs (record w { point = place })
-point-keeps bs place w v at = window-placed bs bs w place w.anchor v v.made at v.anchor
+point-keeps bs place w v at = window-placed bs bs w w.buffer place w.anchor v v.made at v.anchor
 
 -- another window of the same buffer with the same positions
 pub look-keeps : (bs : List BufferValue) (w x : WindowState) → x.buffer ≡ w.buffer → x.point ≡ w.point → x.anchor ≡ w.anchor → IsTrue (is_near_zero (pos PENDING_ROWS) x.pending)
@@ -95,17 +95,17 @@ look-keeps bs w x buffer point anchor pending hscroll format numbers strings v =
   strings = strings;
 }
 
--- another point and start in the same buffer, with no rows to go
-pub placed-keeps : (bs : List BufferValue) (w : WindowState) (point : ℕ) (anchor : Anchor) (forced : Bool) → IsWindow bs w
-    → ((b : BufferValue) → slice_get bs w.buffer ≡ Some b → IsAccessible b.content.text point) → ((b : BufferValue) → slice_get bs w.buffer ≡ Some b → IsAccessible b.content.text anchor.pos)
-    → IsWindow bs (record w { point = point; anchor = anchor; forced = forced; pending = pos 0 })
-placed-keeps bs w point anchor forced v at from =
-    let placed : WindowState = record w { point = point; anchor = anchor } in
-    look-keeps bs placed (record placed { forced = forced; pending = pos 0 }) refl refl refl none-pending v.hscroll v.format v.numbers v.strings (window-placed bs bs w point anchor v v.made at from)
+-- another point and start, in any buffer, with no rows to go
+pub placed-keeps : (bs : List BufferValue) (w : WindowState) (buffer point : ℕ) (anchor : Anchor) (forced : Bool) → IsWindow bs w → buffer < length bs
+    → ((b : BufferValue) → slice_get bs buffer ≡ Some b → IsAccessible b.content.text point) → ((b : BufferValue) → slice_get bs buffer ≡ Some b → IsAccessible b.content.text anchor.pos)
+    → IsWindow bs (record w { buffer = buffer; point = point; anchor = anchor; forced = forced; pending = pos 0 })
+placed-keeps bs w buffer point anchor forced v made at from =
+    let placed : WindowState = record w { buffer = buffer; point = point; anchor = anchor } in
+    look-keeps bs placed (record placed { forced = forced; pending = pos 0 }) refl refl refl none-pending v.hscroll v.format v.numbers v.strings (window-placed bs bs w buffer point anchor v made at from)
 
 pub start-keeps : (bs : List BufferValue) (place row : ℕ) (w : WindowState) → IsWindow bs w → ((b : BufferValue) → slice_get bs w.buffer ≡ Some b → IsAccessible b.content.text place)
     → IsWindow bs (record w { anchor = record { pos = place; row = row }; forced = true; pending = pos 0 })
-start-keeps bs place row w v at = placed-keeps bs w w.point (record { pos = place; row = row }) true v v.point at
+start-keeps bs place row w v at = placed-keeps bs w w.buffer w.point (record { pos = place; row = row }) true v v.made v.point at
 
 held-above : (t : Bool) (n : ℕ) → nat_lt n 1000000000 ≡ t → IsTrue (is_near_zero (pos 1000000000) (int_max (negsuc 999999999) (cond t (pos n) (pos 1000000000))))
 held-above true n h = let less = ltb-true n 1000000000 h in grind (arith, ints, nat_tests)
@@ -131,16 +131,7 @@ shown-keeps s i b w v at old =
     let ordered = text.ordered in
     let here : (x : BufferValue) → slice_get s.buffers i ≡ Some x → IsAccessible x.content.text b.content.text.begin
     = λ x hx. subst (λ (z : BufferValue). IsAccessible z.content.text b.content.text.begin) (one-value (slice_get s.buffers i) b x at hx) (omega arith, ordered) in
-    record {
-      made = slice_get_within s.buffers i b at;
-      point = here;
-      anchor = here;
-      pending = none-pending;
-      hscroll = old.hscroll;
-      format = old.format;
-      numbers = old.numbers;
-      strings = old.strings;
-    }
+    placed-keeps s.buffers w i b.content.text.begin (record { pos = b.content.text.begin; row = 0 }) false old (slice_get_within s.buffers i b at) here here
 
 pub showing-valid : (s : StateValue) (number : ℕ) (name : List ℕ) → IsValid s → IfOk (showing s number name) IsValid
 showing-valid s number name v =
