@@ -2,6 +2,7 @@
 use Rattle.std.proofs.Common.{◌≡◌, ℕ, ◌+◌, ◌-◌, ◌<◌, ◌≤◌, ◌==◌, ◌&&◌, ◌++◌, ◌⊎◌, inl, inr, Bool, true, false, if◌then◌else◌, nat_lt, nat_le, ℤ, Option, None, Some, List, [], ◌∷◌, length, take, drop, subst, sym, refl, ◌∙◌, arith, IsTrue}
 use Rattle.std.proofs.lemmas.Bool.{leb-true, ltb-true, eqb-true, cond-false, le-ltb}
 use Rattle.std.proofs.lemmas.List.Elements.{All-append, All-take, All-drop}
+use Rattle.std.specs.FinMap.{get}
 use Rattle.std.specs.Prelude.{IfSome}
 use Rattle.rd_base.specs.Chars.{is_code}
 use Rattle.rd_base.specs.Settings.{SettingValues}
@@ -57,17 +58,17 @@ settings-kept o s t a b d h = record {
   wrap_prefix = subst (λ (x : Option ℕ). IfSome x (λ number. number < length o.strings)) (sym d) h.wrap_prefix;
 }
 
--- what a buffer holds is valid with other characters, values and overlays, where these are and its tab stops and margin strings are the same
-still-valid : (o : ObjectLists) (c d : ContentValue) → IsContent o c → d.settings.tab_width ≡ c.settings.tab_width → d.marks ≡ c.marks
-    → IsText d.text → AreCodes d.text.text → IsWithin (seen d) → AreMade (seen d) o → IsContent o d
-still-valid o c d v tab marks text characters within names = record {
+-- what a buffer holds is valid with other characters, values, overlays and margin strings, where these are and its tab stops are the same
+pub still-valid : (o p : ObjectLists) (c d : ContentValue) → IsContent o c → d.settings.tab_width ≡ c.settings.tab_width
+    → IsText d.text → AreCodes d.text.text → IsWithin (seen d) → AreMade (seen d) p → ((overlay string : ℕ) → get d.marks overlay ≡ Some string → string < length p.strings) → IsContent p d
+still-valid o p c d v tab text characters within names marks = record {
   text = text;
   characters = characters;
   within = within;
   least_tab = rw tab v.least_tab;
   most_tab = rw tab v.most_tab;
   names = names;
-  marks = rw marks v.marks;
+  marks = marks;
 }
 
 pub grown-valid : (texts : TextLaws) (made : MadeLaws) (o : ObjectLists) (c : ContentValue) (pos : ℕ) (new : List ℕ) → IsContent o c → AreCodes new → IsAccessible c.text pos
@@ -76,10 +77,10 @@ grown-valid texts made o c pos new v codes at room =
     let code = λ (x : ℕ). IsTrue (is_code x) in
     let first = All-append code (take (pos - 1) c.text.text) new (All-take code (pos - 1) c.text.text v.characters) codes in
     let settings = settings-kept o c.settings (marked_modified (nat_lt 0 (length new)) c.settings) refl refl refl v.names.settings in
-    still-valid o c (grown c pos new) v refl refl (texts.inserted c.text pos new v.text at room)
+    still-valid o o c (grown c pos new) v refl (texts.inserted c.text pos new v.text at room)
     (All-append code (take (pos - 1) c.text.text ++ new) (drop (pos - 1) c.text.text) first (All-drop code (pos - 1) c.text.text v.characters))
     (listed-within (seen_grown c pos new) (opened-within c pos new v.text v.within at))
-    (made.inserted (seen c) (seen (grown c pos new)) o pos new v.names settings (grown-is c pos new v.text v.within at))
+    (made.inserted (seen c) (seen (grown c pos new)) o pos new v.names settings (grown-is c pos new v.text v.within at)) v.marks
 
 -- ---- deletion
 
@@ -97,18 +98,18 @@ pub shrunk-valid : (texts : TextLaws) (made : MadeLaws) (o : ObjectLists) (c : C
 shrunk-valid texts made o c from to v at =
     let code = λ (x : ℕ). IsTrue (is_code x) in
     let settings = settings-kept o c.settings (marked_modified (nat_lt from to) c.settings) refl refl refl v.names.settings in
-    still-valid o c (shrunk c from to) v refl refl (texts.deleted c.text from to v.text at)
+    still-valid o o c (shrunk c from to) v refl (texts.deleted c.text from to v.text at)
     (All-append code (take (from - 1) c.text.text) (drop (to - 1) c.text.text) (All-take code (from - 1) c.text.text v.characters) (All-drop code (to - 1) c.text.text v.characters))
     (listed-within (seen_shrunk c from to) (closed-within c from to v.text v.within at))
-    (made.deleted (seen c) (seen (shrunk c from to)) o from to v.names settings (shrunk-is c from to v.text v.within at))
+    (made.deleted (seen c) (seen (shrunk c from to)) o from to v.names settings (shrunk-is c from to v.text v.within at)) v.marks
 
 -- ---- the accessible range
 
 range-valid : (o : ObjectLists) (c : ContentValue) (t : TextValue) → IsContent o c → IsText t → t.text ≡ c.text.text → IsContent o (record c { text = t })
 range-valid o c t v text same =
-    still-valid o c (record c { text = t }) v refl refl text (subst AreCodes (sym same) v.characters)
+    still-valid o o c (record c { text = t }) v refl text (subst AreCodes (sym same) v.characters)
     (same-within (seen c) (seen (record c { text = t })) v.within same (λ kind p. refl) refl)
-    (record { properties = v.names.properties; overlays = v.names.overlays; settings = v.names.settings })
+    (record { properties = v.names.properties; overlays = v.names.overlays; settings = v.names.settings }) v.marks
 
 pub narrowed-valid : (texts : TextLaws) (o : ObjectLists) (c : ContentValue) (from to : ℕ) → IsContent o c → IsRangeOfAll c.text from to → IsContent o (record c { text = narrowed c.text from to })
 narrowed-valid texts o c from to v at = range-valid o c (narrowed c.text from to) v (texts.narrowed c.text from to v.text at) refl
@@ -184,9 +185,9 @@ value-made o kind value h v e = made-number (length o.strings) value v h e
 pub put-valid : (made : MadeLaws) (o : ObjectLists) (c : ContentValue) (from to : ℕ) (kind : Kind) (value : Option ℕ) → IsContent o c → is_text_kind kind ≡ true
     → IsAccessibleRange c.text from to → is_value_made o kind value ≡ true → IsContent o (with_property c from to kind value)
 put-valid made o c from to kind value v is at numbered =
-    still-valid o c (with_property c from to kind value) v refl refl v.text v.characters
+    still-valid o o c (with_property c from to kind value) v refl v.text v.characters
     (listed-within (put_values c from to kind value) (put_on-within (seen c) from to kind value v.text v.within is at))
-    (made.put (seen c) (seen (with_property c from to kind value)) o kind from to value v.names v.names.settings (value-made o kind value numbered) (put-is c from to kind value v.text v.within is at))
+    (made.put (seen c) (seen (with_property c from to kind value)) o kind from to value v.names v.names.settings (value-made o kind value numbered) (put-is c from to kind value v.text v.within is at)) v.marks
 
 -- ---- overlays
 
@@ -199,7 +200,7 @@ overlays-are c overlays = record { text = refl; properties = λ kind p. refl; ov
 
 overlays-valid : (o : ObjectLists) (c : ContentValue) (overlays : List (Option Overlay)) → IsContent o c → IsWithin (seen (with_overlays c overlays)) → AreMade (seen (with_overlays c overlays)) o
     → IsContent o (with_overlays c overlays)
-overlays-valid o c overlays v within names = still-valid o c (with_overlays c overlays) v refl refl v.text v.characters within names
+overlays-valid o c overlays v within names = still-valid o o c (with_overlays c overlays) v refl v.text v.characters within names v.marks
 
 no-value : (kind : Kind) (from to : ℕ) (priority : ℤ) (front rear : Bool) (v : ℕ) → value_of kind (Some (new_overlay from to priority front rear)) ≡ Some v → ⊥
 no-value kinds.Face from to priority front rear v h = cc

@@ -30,6 +30,7 @@ use Rattle.rd_state.specs.Edits.{is_made, is_setting_made, margin_putting, setti
 use Rattle.rd_state.specs.Making.{unless_fault, spec_of}
 use Rattle.rd_state.specs.Steps.{with_objects, making}
 use Rattle.rd_state.proofs.Below.{MadeLaws}
+use Rattle.rd_state.proofs.Contents.{still-valid}
 use Rattle.rd_state.proofs.Keeping.{buffers-appended, windows-appended}
 use Rattle.rd_state.proofs.StepParts.{making-if}
 use Rattle.rd_state.proofs.Stepping.{Keeps, text-kept}
@@ -89,15 +90,8 @@ pub margin-keeps : (o : ObjectLists) (number : ℕ) (string : Option ℕ) → Ke
 margin-keeps o number string c d v h =
     let new : ContentValue = record c { marks = marked c.marks number string } in
     let m = both-ok (is_some (overlay_at c.overlays number)) (is_made (length o.strings) string) new NoObject NoOverlay d h in
-    text-kept o c new d m.2 refl (record {
-      text = v.text;
-      characters = v.characters;
-      within = v.within;
-      least_tab = v.least_tab;
-      most_tab = v.most_tab;
-      names = v.names;
-      marks = margin-made (length o.strings) c.marks number string m.1 v.marks;
-    })
+    text-kept o c new d m.2 refl
+    (still-valid o o c new v refl v.text v.characters v.within v.names (margin-made (length o.strings) c.marks number string m.1 v.marks))
 
 -- ---- objects
 
@@ -107,15 +101,7 @@ longer old new (more, is) = omega (arith, ap length is, length-append old more)
 content-extended : (made : MadeLaws) (o p : ObjectLists) (c : ContentValue) → Extends o p → IsContent o c → IsContent p c
 content-extended made o p c more v =
     let size = longer o.strings p.strings more.strings in
-    record {
-      text = v.text;
-      characters = v.characters;
-      within = v.within;
-      least_tab = v.least_tab;
-      most_tab = v.most_tab;
-      names = made.extended (seen c) o p v.names more;
-      marks = λ k x h. let old = v.marks k x h in omega arith;
-    }
+    still-valid o p c c v refl v.text v.characters v.within (made.extended (seen c) o p v.names more) (λ k x h. let old = v.marks k x h in omega arith)
 
 -- other objects, that go on from those that there were
 pub objects-valid : (made : MadeLaws) (s : StateValue) (fault : Option ObjectFault) (added : ObjectLists) → IsValid s → (fault ≡ None → AreObjects added) → (fault ≡ None → IsClosed added)
