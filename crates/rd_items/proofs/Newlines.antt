@@ -18,6 +18,9 @@ use Rattle.rd_items.specs.declared.alike_range.AlikeRange.{AlikeRange}
 abbrev pub AreInside : BufferValue → ℕ → ℕ → Type 0
 AreInside s from to = (q : ℕ) → from ≤ q → q < to → is_shown_newline s q ≡ false
 
+pub none-inside : (s : BufferValue) (p : ℕ) → AreInside s p p
+none-inside s p = λ q a b. absurd (omega arith)
+
 -- a range that goes on with another
 pub both-inside : (s : BufferValue) (from middle to : ℕ) → AreInside s from middle → AreInside s middle to → AreInside s from to
 both-inside s from middle to first last = λ q a b. by-place q a b (split q middle) where
@@ -36,6 +39,20 @@ one-inside s p none = λ q a b. by-place q (same q a b) where
   by-place : (q : ℕ) → q ≡ p → is_shown_newline s q ≡ false
   by-place q e = rw e none
 
+-- where a search on for a shown newline has come: to a newline or the end
+pub record ComesOn (s : BufferValue) (end pos newline : ℕ) : Type 0 where
+  pub ordered : pos ≤ newline
+  pub within : newline ≤ end
+  pub inside : AreInside s pos newline
+  pub ends : newline < end → ends_line (accessible_char s.text newline) ≡ true
+
+-- and where a search back has come: right behind a newline, or to the beginning
+pub record ComesBack (s : BufferValue) (begin pos from : ℕ) : Type 0 where
+  pub ordered : from ≤ pos
+  pub within : begin ≤ from
+  pub inside : AreInside s from pos
+  pub ends : begin < from → ends_line (accessible_char s.text (from - 1)) ≡ true
+
 module _ (s : BufferValue) (right : IsText s.text) where
   -- the character of an accessible position
   here : (q : ℕ) → s.text.begin ≤ q → q < s.text.end → accessible_char s.text q ≡ Some (get_or s.text.text (q - 1) 0)
@@ -52,28 +69,29 @@ module _ (s : BufferValue) (right : IsText s.text) where
       let ends : ends_line (accessible_char s.text q) ≡ false = ap ends_line (here q low high) ∙ none in
       and_right _ _ (and_right _ _ ends)
 
-  -- none stands before the next newline
-  pub next-inside : (from : ℕ) → s.text.begin ≤ from → from ≤ s.text.end → AreInside s from (next_newline s.text from)
-  next-inside from low high = λ q a b.
-      let bound = next_bound s.text right from low high in
-      not-newline q (omega arith) (omega arith) (next_before s.text right from q low high a b (omega arith))
+  -- the next newline, of a search that has come so far on
+  pub next-newline : (pos from end : ℕ) → s.text.begin ≤ pos → pos ≤ from → from ≤ s.text.end → end ≡ s.text.end → AreInside s pos from → ComesOn s end pos (next_newline s.text from)
+  next-newline pos from end low order high last before =
+      let bound = next_bound s.text right from (omega arith) high in
+      record {
+        ordered = omega arith;
+        within = omega arith;
+        inside = both-inside s pos from (next_newline s.text from) before
+            (λ q a b. not-newline q (omega arith) (omega arith) (next_before s.text right from q (omega arith) high a b (omega arith)));
+        ends = λ inside. ap ends_line (here (next_newline s.text from) (omega arith) (omega arith)) ∙ next_at s.text right from (omega arith) high (omega arith);
+      }
 
-  pub next-newline : (from : ℕ) → s.text.begin ≤ from → from ≤ s.text.end → next_newline s.text from < s.text.end → ends_line (accessible_char s.text (next_newline s.text from)) ≡ true
-  next-newline from low high inside =
-      let bound = next_bound s.text right from low high in
-      ap ends_line (here (next_newline s.text from) (omega arith) inside) ∙ next_at s.text right from low high inside
-
-  -- none stands behind the last newline before a position
-  pub prev-inside : (pos : ℕ) → s.text.begin ≤ pos → pos ≤ s.text.end → AreInside s (prev_newline s.text pos) pos
-  prev-inside pos low high = λ q a b.
-      let bound = prev_bound s.text right pos low high in
-      not-newline q (omega arith) (omega arith) (prev_after s.text right pos q low high a b)
-
-  -- it is a newline
-  pub prev-newline : (pos : ℕ) → s.text.begin ≤ pos → pos ≤ s.text.end → s.text.begin < prev_newline s.text pos → ends_line (accessible_char s.text (prev_newline s.text pos - 1)) ≡ true
-  prev-newline pos low high some =
-      let bound = prev_bound s.text right pos low high in
-      ap ends_line (here (prev_newline s.text pos - 1) (omega arith) (omega arith)) ∙ prev_at s.text right pos low high some
+  -- the last newline before, of a search that has come so far back
+  pub prev-newline : (pos from begin : ℕ) → s.text.begin ≤ from → from ≤ pos → pos ≤ s.text.end → begin ≡ s.text.begin → AreInside s from pos → ComesBack s begin pos (prev_newline s.text from)
+  prev-newline pos from begin low order high first behind =
+      let bound = prev_bound s.text right from low (omega arith) in
+      record {
+        ordered = omega arith;
+        within = omega arith;
+        inside = both-inside s (prev_newline s.text from) from pos
+            (λ q a b. not-newline q (omega arith) (omega arith) (prev_after s.text right from q low (omega arith) a b)) behind;
+        ends = λ some. ap ends_line (here (prev_newline s.text from - 1) (omega arith) (omega arith)) ∙ prev_at s.text right from low (omega arith) (omega arith);
+      }
 
 -- a range that is replaced or hidden has no shown newline
 closed-inside : (s : BufferValue) (o : ObjectLists) (range : AlikeRange) → IsAlikeRange s o range → is_open range.showing ≡ false → AreInside s range.from range.until
@@ -81,19 +99,12 @@ closed-inside s o range is closed = λ q a b.
     let here : is_open (showing_at s o q) ≡ false = ap is_open (is.alike q a b) ∙ closed in
     and_right _ _ (and_left _ _ here)
 
--- one step on, over a range that is replaced or hidden
-pub step-on : (s : BufferValue) (o : ObjectLists) (range : AlikeRange) (pos newline : ℕ) → IsText s.text → IsAlikeRange s o range → range.from ≡ newline → newline < range.until → range.until ≤ s.text.end → s.text.begin ≤ pos → pos ≤ newline → is_open range.showing ≡ false → AreInside s pos newline → AreInside s pos (next_newline s.text range.until)
-step-on s o range pos newline right is from some within low order closed inside =
-    let over = rw from at (closed-inside s o range is closed) in
-    let there = next-inside s right range.until (omega arith) within in
-    both-inside s pos newline (next_newline s.text range.until) inside (both-inside s newline range.until (next_newline s.text range.until) over there)
+-- a range that is replaced or hidden, behind a search on, and before a search back
+pub step-on : (s : BufferValue) (o : ObjectLists) (range : AlikeRange) (pos newline : ℕ) → IsAlikeRange s o range → range.from ≡ newline → is_open range.showing ≡ false → AreInside s pos newline → AreInside s pos range.until
+step-on s o range pos newline is from closed inside = both-inside s pos newline range.until inside (rw from at (closed-inside s o range is closed))
 
--- one step back, over such a range
-pub step-back : (s : BufferValue) (o : ObjectLists) (range : AlikeRange) (from pos : ℕ) → IsText s.text → IsAlikeRange s o range → range.until ≡ from → s.text.begin ≤ range.from → range.from < from → from ≤ pos → pos ≤ s.text.end → is_open range.showing ≡ false → AreInside s from pos → AreInside s (prev_newline s.text range.from) pos
-step-back s o range from pos right is until low some order high closed inside =
-    let over = rw until at (closed-inside s o range is closed) in
-    let there = prev-inside s right range.from low (omega arith) in
-    both-inside s (prev_newline s.text range.from) range.from pos there (both-inside s range.from from pos over inside)
+pub step-back : (s : BufferValue) (o : ObjectLists) (range : AlikeRange) (from pos : ℕ) → IsAlikeRange s o range → range.until ≡ from → is_open range.showing ≡ false → AreInside s from pos → AreInside s range.from pos
+step-back s o range from pos is until closed inside = both-inside s range.from from pos (rw until at (closed-inside s o range is closed)) inside
 
 -- a newline that is neither replaced nor hidden
 pub open-newline : (s : BufferValue) (o : ObjectLists) (range : AlikeRange) (newline : ℕ) → IsAlikeRange s o range → range.from ≤ newline → newline < range.until → newline < s.text.end → is_open range.showing ≡ true → ends_line (accessible_char s.text newline) ≡ true → is_shown_newline s newline ≡ true
