@@ -32,6 +32,7 @@ use Rattle.rd_state.proofs.Keeping.{holding, buffers-replaced, windows-replaced,
 use Rattle.rd_state.proofs.StepParts.{with_content, edited-if, edited_moving-if}
 use Rattle.rd_state.proofs.Tests.{is_accessible-means, is_accessible_range-means, is_range_of_all-means}
 use Rattle.rd_state.proofs.WithParts.{with_parts}
+use Rattle.rd_state.proofs.Within.{place-moves}
 
 -- ---- texts
 
@@ -45,12 +46,6 @@ pub raw-codes : (bytes : List ℕ) → All IsRawByte bytes → AreCodes (raw_tex
 raw-codes bytes h =
     All-map (λ (x : ℕ). IsTrue (is_code x)) (λ byte. 1114112 + byte) bytes
     (All-weaker IsRawByte (λ byte. IsTrue (is_code (1114112 + byte))) raw-code bytes h)
-
--- ---- positions
-
-place-moves : (t : Bool) (low high p n : ℕ) → low ≤ p → p ≤ high → (low ≤ (if t then p + n else p)) × ((if t then p + n else p) ≤ high + n)
-place-moves true low high p n a b = (omega arith, omega arith)
-place-moves false low high p n a b = (omega arith, omega arith)
 
 -- ---- one buffer
 
@@ -103,7 +98,9 @@ pub insertion-keeps : (texts : TextLaws) (made : MadeLaws) (o : ObjectLists) (po
 insertion-keeps texts made o pos new codes c d v h =
     let m = insertion-means pos new c d h in (
       subst (IsContent o) m.2 (grown-valid texts made o c pos new v codes m.0 m.1),
-      λ p a. subst (λ (x : ContentValue). IsAccessible x.text (point_after_insertion pos (length new) p)) m.2 (place-moves (nat_lt pos p) c.text.begin c.text.end p (length new) a.0 a.1),
+      λ p a.
+          let moves = place-moves (nat_lt pos p) p (length new) in
+          subst (λ (x : ContentValue). IsAccessible x.text (point_after_insertion pos (length new) p)) m.2 (omega (arith, moves.0, a.0), omega (arith, moves.1, a.1)),
     )
 
 pub deletion-means : (from to : ℕ) (c d : ContentValue) → deletion from to c ≡ Ok d → IsAccessibleRange c.text from to × (shrunk c from to ≡ d)

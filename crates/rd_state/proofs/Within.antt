@@ -37,7 +37,7 @@ slot-fits size pos n (Some o) room h =
 pub all-fit : (slots : List (Option Overlay)) (size pos n : ℕ) → size + 1 + n < 4294967296 → AreIn size slots → AllFit pos n slots
 all-fit slots size pos n room h number slot at = slot-fits size pos n slot room (λ o is. h number o (ap live at ∙ is))
 
-place-moves : (t : Bool) (p n : ℕ) → (p ≤ (if t then p + n else p)) × ((if t then p + n else p) ≤ p + n)
+pub place-moves : (t : Bool) (p n : ℕ) → (p ≤ (if t then p + n else p)) × ((if t then p + n else p) ≤ p + n)
 place-moves true p n = (omega arith, omega arith)
 place-moves false p n = (omega arith, omega arith)
 
