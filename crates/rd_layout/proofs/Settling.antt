@@ -10,7 +10,7 @@ use Rattle.rd_frame.specs.Panes.{has_border}
 use Rattle.rd_matrix.specs.Blocks.{IsWithin}
 use Rattle.rd_props.specs.Buffers as props
 use Rattle.rd_rows.specs.Shapes.{IsShape}
-use Rattle.rd_state.specs.States.{BufferValue, ContentValue, StateValue, seen}
+use Rattle.rd_state.specs.States.{ContentValue, StateValue, seen}
 use Rattle.rd_state.specs.Valid.{AreWindows, IsContent, IsValid, IsWindow}
 use Rattle.rd_state.specs.Windows.{content_in, leaf_of, shown_content, window_of}
 use Rattle.rd_state.specs.declared.window.WindowState.{WindowState}
