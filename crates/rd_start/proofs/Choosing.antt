@@ -11,6 +11,7 @@ use Rattle.rd_start.specs.Chosen.{anchor_at, chosen_of, first_positions, forced_
 use Rattle.rd_start.specs.Starts.{Places, around, centred, following, is_in_view, scrolled, start_of, suits}
 use Rattle.rd_start.specs.Strips.{span_of}
 use Rattle.rd_start.specs.declared.span.Span.{Span}
+use Rattle.rd_start.specs.declared.strip.PointSide.{PointSide}
 use Rattle.rd_start.specs.declared.strip.PointSide.TheVariants.{Above, Below, Within}
 use Rattle.rd_start.specs.declared.wanted.Chosen.{Chosen}
 use Rattle.rd_start.specs.declared.wanted.Wanted.{Wanted}
@@ -73,23 +74,26 @@ forced-none w (p ∷ ps) shown above e = absurd cc
 pub point-kept : (w : Wanted) (start row : ℕ) (view : List EntryMeaning) → None ≡ span_of (first_positions view) → w.point ≡ forced_point w start row view
 point-kept w start row view e = forced-none w (first_positions view) (is_in_view w.height start row) (ltb row start) e
 
-pub point-shown : (w : Wanted) (start row : ℕ) (view : List EntryMeaning) → Sees Within start w.height row → w.point ≡ forced_point w start row view
-point-shown w start row view sees =
+-- point where a view spans something, by the side of it on which point's row is
+abbrev pub point_by : PointSide → Wanted → Span → ℕ
+point_by Above w span = span.first
+point_by Within w span = w.point
+point_by Below w span = span.last
+
+pub point-spanned : (there : PointSide) (w : Wanted) (start row : ℕ) (view : List EntryMeaning) (span : Span) → Some span ≡ span_of (first_positions view) → 1 ≤ w.height
+    → Sees there start w.height row → point_by there w span ≡ forced_point w start row view
+point-spanned Within w start row view span e some sees =
     let low = sees.0 in
     let high = sees.1 in
     let t = shown start w.height row low high in
     sym (ap (λ b. forced_to w (first_positions view) b (ltb row start)) t)
-
-pub point-above : (w : Wanted) (start row : ℕ) (view : List EntryMeaning) (span : Span) → Some span ≡ span_of (first_positions view) → Sees Above start w.height row → span.first ≡ forced_point w start row view
-point-above w start row view span e low =
+point-spanned Above w start row view span e some low =
     let ps = first_positions view in
     let t = hidden-above start w.height row low in
     let u = lt-ltb row start low in
     let least = span_of-least ps ∙ ap (option_map (λ (s : Span). s.first)) (sym e) in
     sym (ap (λ b. forced_to w ps b (ltb row start)) t ∙ (ap (forced_to w ps false) u ∙ ap (λ o. unwrap_or o w.point) least))
-
-pub point-below : (w : Wanted) (start row : ℕ) (view : List EntryMeaning) (span : Span) → Some span ≡ span_of (first_positions view) → 1 ≤ w.height → Sees Below start w.height row → span.last ≡ forced_point w start row view
-point-below w start row view span e some high =
+point-spanned Below w start row view span e some high =
     let ps = first_positions view in
     let t = hidden-below start w.height row high in
     let u = le-ltb row start (omega (arith, high)) in
