@@ -1,7 +1,7 @@
 -- The list of the blocks of a text.
 use Rattle.std.proofs.Common.{◌≡◌, ◌⊎◌, inl, inr, ℕ, ◌+◌, ◌-◌, ◌<◌, ◌≤◌, Bool, true, false, List, [], ◌∷◌, Some, None, refl, sym, ap, subst, ◌∙◌, arith}
 use Rattle.std.specs.Prelude.{zero, suc, slice_get, if◌then◌else◌}
-use Rattle.std.proofs.lemmas.Bool.{both_ways}
+use Rattle.std.proofs.lemmas.Bool.{both_ways, cases_lt}
 use Rattle.std.proofs.lemmas.Option.{same_Some}
 use Rattle.rd_props.specs.Buffers.{BufferValue}
 use Rattle.rd_items.specs.Readings.{ends_block}
@@ -50,15 +50,12 @@ record Holds (bs : List (ℕ × ℕ)) (p : ℕ) : Type 0 where
 
 holding : (from to p : ℕ) (bs : List (ℕ × ℕ)) → Adjoin from to bs → from ≤ p → p < to → Holds bs p
 holding from to p [] all low high = absurd (omega arith)
-holding from to p (b ∷ bs) all low high = by-place (split p b.1) (λ above. holding b.1 to p bs all.2 above high) where
-  split : (p q : ℕ) → (p < q) ⊎ (q ≤ p)
-  split p q = grind arith
-
-  by-place : (p < b.1) ⊎ (b.1 ≤ p) → (b.1 ≤ p → Holds bs p) → Holds (b ∷ bs) p
-  by-place (inl below) later = record { place = 0; block = b; found = refl; first = omega (arith, all.0); last = below }
-  by-place (inr above) later =
-      let rest = later above in
+holding from to p (b ∷ bs) all low high = elim (cases_lt p b.1) [
+  | inl below ↦ record { place = 0; block = b; found = refl; first = omega (arith, all.0); last = below }
+  | inr above ↦
+      let rest = holding b.1 to p bs all.2 above high in
       record { place = suc rest.place; block = rest.block; found = rest.found; first = rest.first; last = rest.last }
+]
 
 -- ---- blocks that hold one position are one
 

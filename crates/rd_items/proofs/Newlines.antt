@@ -1,7 +1,7 @@
 -- Shown newlines, and what the searches for newlines tell of them.
-use Rattle.std.proofs.Common.{◌≡◌, ◌⊎◌, inl, inr, ℕ, ◌-◌, ◌<◌, ◌≤◌, true, false, get_or, Some, ap, ◌∙◌, arith}
+use Rattle.std.proofs.Common.{◌≡◌, inl, inr, ℕ, ◌-◌, ◌<◌, ◌≤◌, true, false, get_or, Some, ap, ◌∙◌, arith}
 use Rattle.std.specs.Prelude.{suc, nat_lt, nat_le}
-use Rattle.std.proofs.lemmas.Bool.{and_from, and_left, and_right}
+use Rattle.std.proofs.lemmas.Bool.{and_from, and_left, and_right, cases_lt}
 use Rattle.std.proofs.lemmas.Bool.Decides.{nat_tests}
 use Rattle.std.proofs.lemmas.Option.{slice_get-get_or}
 use Rattle.rd_text.specs.Texts.{IsText, is_newline, next_newline, prev_newline}
@@ -23,21 +23,10 @@ none-inside s p = λ q a b. absurd (omega arith)
 
 -- a range that goes on with another
 pub both-inside : (s : BufferValue) (from middle to : ℕ) → AreInside s from middle → AreInside s middle to → AreInside s from to
-both-inside s from middle to first last = λ q a b. by-place q a b (split q middle) where
-  split : (q middle : ℕ) → (q < middle) ⊎ (middle ≤ q)
-  split q middle = grind arith
-
-  by-place : (q : ℕ) → from ≤ q → q < to → (q < middle) ⊎ (middle ≤ q) → is_shown_newline s q ≡ false
-  by-place q a b (inl below) = first q a below
-  by-place q a b (inr above) = last q above b
+both-inside s from middle to first last = λ q a b. elim (cases_lt q middle) [ inl below ↦ first q a below | inr above ↦ last q above b ]
 
 pub one-inside : (s : BufferValue) (p : ℕ) → is_shown_newline s p ≡ false → AreInside s p (suc p)
-one-inside s p none = λ q a b. by-place q (same q a b) where
-  same : (q : ℕ) → p ≤ q → q < suc p → q ≡ p
-  same q a b = omega arith
-
-  by-place : (q : ℕ) → q ≡ p → is_shown_newline s q ≡ false
-  by-place q e = rw e none
+one-inside s p none = λ q a b. let here : q ≡ p = omega arith in rw here none
 
 -- where a search on for a shown newline has come: to a newline or the end
 pub record ComesOn (s : BufferValue) (end pos newline : ℕ) : Type 0 where
