@@ -1,7 +1,7 @@
 -- How far the reading of a block goes.
-use Rattle.std.proofs.Common.{◌≡◌, ◌⊎◌, inl, inr, ℕ, ◌+◌, ◌-◌, ◌<◌, ◌≤◌, Bool, true, false, List, [], ◌∷◌, length, refl, sym, ap, ◌∙◌, arith}
+use Rattle.std.proofs.Common.{◌≡◌, inl, inr, ℕ, ◌+◌, ◌-◌, ◌<◌, ◌≤◌, Bool, true, false, List, [], ◌∷◌, length, refl, sym, ap, ◌∙◌, arith}
 use Rattle.std.specs.Prelude.{zero, suc}
-use Rattle.std.proofs.lemmas.Bool.{cond-true, cond-false}
+use Rattle.std.proofs.lemmas.Bool.{cases_lt, cond-true, cond-false}
 use Rattle.rd_props.specs.Buffers.{BufferValue}
 use Rattle.rd_base.specs.declared.settings.Invisible.{Invisible}
 use Rattle.rd_objects.specs.Things.{ObjectLists}
@@ -23,33 +23,27 @@ record IsRest (s : BufferValue) (p to : ℕ) : Type 0 where
   inside : (q : ℕ) → p ≤ q → suc q < to → is_shown_newline s q ≡ false
   ends : EndsBlock s to
 
-reach-by : (s : BufferValue) (o : ObjectLists) (n p to : ℕ) → p + suc n ≡ s.text.end → IsRest s p to → (IsRest s (suc p) to → suc p + length (reading_from s o n (suc p)) ≡ to) → (to ≡ suc p) ⊎ (suc p < to) → p + length (reading_from s o (suc n) p) ≡ to
-reach-by s o n p to far rest later (inl here) =
-    let one = read-one s o n p (block-ends s o p to here rest.ends) in
-    omega arith
-reach-by s o n p to far rest later (inr more) =
-    let goes : ends_block s p ≡ false = sym (newline-ends s p (omega arith)) ∙ rest.inside p (omega arith) more in
-    let one = read-more s o n p goes in
-    let left : IsRest s (suc p) to = record { some = more; last = rest.last; inside = λ q a b. rest.inside q (omega arith) b; ends = rest.ends } in
-    let all = later left in
-    omega arith
-
 reach : (s : BufferValue) (o : ObjectLists) (n p to : ℕ) → p + n ≡ s.text.end → IsRest s p to → p + length (reading_from s o n p) ≡ to
 reach s o zero p to far rest = omega (arith, rest.some, rest.last)
-reach s o (suc n) p to far rest = reach-by s o n p to far rest (reach s o n (suc p) to (omega arith)) (split rest.some) where
-  split : p < to → (to ≡ suc p) ⊎ (suc p < to)
-  split some = grind arith
+reach s o (suc n) p to far rest = elim (cases_lt (suc p) to) [
+  | inl more ↦
+      let goes : ends_block s p ≡ false = sym (newline-ends s p (omega arith)) ∙ rest.inside p (omega arith) more in
+      let one = read-more s o n p goes in
+      let left : IsRest s (suc p) to = record { some = more; last = rest.last; inside = λ q a b. rest.inside q (omega arith) b; ends = rest.ends } in
+      let all = reach s o n (suc p) to (omega arith) left in
+      omega arith
+  | inr least ↦
+      let some = rest.some in
+      let one = read-one s o n p (block-ends s o p to (omega arith) rest.ends) in
+      omega arith
+]
 
 -- the reading of a block has one entry for each of its positions
 pub block-read : (s : BufferValue) (o : ObjectLists) (from to : ℕ) → IsBlock s from to → from + length (reading s o from) ≡ to
 block-read s o from to block =
-    let rest : IsRest s from to = record { some = block.some; last = block.last; inside = block.inside; ends = block.ends } in
-    by-place (order from s.text.end to block.some block.last) rest where
-      order : (from end to : ℕ) → from < to → to ≤ end + 1 → from ≤ end
-      order from end to a b = omega arith
-
-      by-place : from ≤ s.text.end → IsRest s from to → from + length (reading s o from) ≡ to
-      by-place within rest = reach s o (s.text.end - from) from to (omega arith) rest
+    let some = block.some in
+    let last = block.last in
+    reach s o (s.text.end - from) from to (omega arith) (record { some = some; last = last; inside = block.inside; ends = block.ends })
 
 -- what is read of a block ends with its ender, and has none before
 reading-cons : (setting : Invisible) (e : Seen) (es : List Seen) → is_ender setting e ≡ false → IsReading setting es → IsReading setting (e ∷ es)
