@@ -68,12 +68,12 @@ composed-size rows_of (Split Right size first second) rect h f =
     let a = composed-size rows_of first (first_part Right size rect) h.0 (filled_first rows_of Right size first second rect f) in
     let b = composed-size rows_of second (second_part Right size rect) h.1 (filled_second rows_of Right size first second rect f) in
     beside-size size (rect.width - size) rect.width rect.height (composed rows_of first (first_part Right size rect)) (composed rows_of second (second_part Right size rect))
-    (omega (arith, room_within Right size first second rect h)) a b
+    (omega (arith, (room_within Right size first second rect h).0)) a b
 composed-size rows_of (Split Below size first second) rect h f =
     let a = composed-size rows_of first (first_part Below size rect) h.0 (filled_first rows_of Below size first second rect f) in
     let b = composed-size rows_of second (second_part Below size rect) h.1 (filled_second rows_of Below size first second rect f) in
     below-size rect.width size (rect.height - size) rect.height (composed rows_of first (first_part Below size rect)) (composed rows_of second (second_part Below size rect))
-    (omega (arith, room_within Below size first second rect h)) a b
+    (omega (arith, (room_within Below size first second rect h).0)) a b
 
 -- a row of both parts
 row_of_both : {C : Type 0} (rows_of : Placed → List (List C)) (size : ℕ) (first second : Windows) (rect : Rect) (row : ℕ) → HasRoom (Split Right size first second) rect → FillTheirRectangles rows_of (placed (Split Right size first second) rect)

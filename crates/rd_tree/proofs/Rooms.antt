@@ -55,16 +55,16 @@ room_first_parts (Split Right size first second) rect h =
 room_first_parts (Split Below size first second) rect h =
     ((room_needs first (first_part Below size rect) h.0).1, room_first_parts first (first_part Below size rect) h.0, room_first_parts second (second_part Below size rect) h.1)
 
--- a first part lies within the split rectangle
-pub room_within : (side : Side) (size : ℕ) (first second : Windows) (rect : Rect) → HasRoom (Split side size first second) rect → size ≤ along side rect
+-- a first part lies within the split rectangle, and keeps its size where the rectangle is shared anew
+pub room_within : (side : Side) (size : ℕ) (first second : Windows) (rect : Rect) → HasRoom (Split side size first second) rect → (size ≤ along side rect) × (first_size side size second rect ≡ size)
 room_within Right size first second rect h =
     let b = room_needs second (second_part Right size rect) h.1 in
     let c = columns-some second in
-    omega arith
+    (omega arith, omega arith)
 room_within Below size first second rect h =
     let b = room_needs second (second_part Below size rect) h.1 in
     let c = rows-some second in
-    omega arith
+    (omega arith, omega arith)
 
 parts-in_frame : (side : Side) (size : ℕ) (rect : Rect) → InFrame rect → size ≤ along side rect → InFrame (first_part side size rect) × InFrame (second_part side size rect)
 parts-in_frame Right size rect h w = ((omega arith, h.1), (omega arith, h.1))
@@ -79,7 +79,7 @@ pub parts_lie : {windows : Windows} {side : Side} {size : ℕ} {first second : W
 parts_lie {windows} {side} {size} {first} {second} {n} rect is room inside count =
     let h = rw is at room in
     let fewer = parts-fewer first second n (rw is at count) in
-    let framed = parts-in_frame side size rect inside (room_within side size first second rect h) in
+    let framed = parts-in_frame side size rect inside (room_within side size first second rect h).0 in
     ((fewer.0, (h.0, framed.0)), (fewer.1, (h.1, framed.1)))
 
 -- what each part of a split rectangle that has room needs is met in the whole rectangle

@@ -18,7 +18,7 @@ use Rattle.rd_tree.specs.declared.placed.Placed.{Placed}
 use Rattle.rd_tree.specs.Windows.{Windows, Window, Split, columns_for, rows_for, first_part, second_part, HasRoom, first_size, resized, leaves, placed, window_at, holds, replaced, is_leaf_of, is_single, sibling, removed, times}
 use Rattle.rd_tree.specs.Calls.{Configuration, IsValid, frame_of, rect_of_placed}
 use Rattle.rd_tree.specs.Places.{is_from, lies_in, windows_with, AllHaveRoom, in_place_of, replaced_first, without, is_among, IsWithin, StandsIn, LiesIn}
-use Rattle.rd_tree.proofs.Rooms.{rows_for-some, room_needs, room_within, of_number-append}
+use Rattle.rd_tree.proofs.Rooms.{rows_for-some, room_within, of_number-append}
 use Rattle.rd_tree.proofs.Keeping.{found_held, placed_among, by_way}
 
 -- a place in a range that is cut is in one of the two parts
@@ -36,10 +36,10 @@ and_bit_of false a b c e = refl
 parts_hold : (column row : ℕ) (side : Side) (size : ℕ) (first second : Windows) (rect : Rect) → HasRoom (Split side size first second) rect → bit_of (lies_in column row (first_part side size rect)) + bit_of (lies_in column row (second_part side size rect)) ≡ bit_of (lies_in column row rect)
 parts_hold column row Right size first second rect h =
     bit_of-and (is_from rect.x size column) (is_from (rect.x + size) (rect.width - size) column) (is_from rect.x rect.width column) (is_from rect.y rect.height row)
-    (is_from-cut rect.x size rect.width column (room_within Right size first second rect h))
+    (is_from-cut rect.x size rect.width column (room_within Right size first second rect h).0)
 parts_hold column row Below size first second rect h =
     and_bit_of (is_from rect.x rect.width column) (is_from rect.y size row) (is_from (rect.y + size) (rect.height - size) row) (is_from rect.y rect.height row)
-    (is_from-cut rect.y size rect.height row (room_within Below size first second rect h))
+    (is_from-cut rect.y size rect.height row (room_within Below size first second rect h).0)
 
 -- each cell of the rectangle lies in one window, and no other cell does
 pub one_window : (windows : Windows) (rect : Rect) → HasRoom windows rect → (column row : ℕ) → windows_with column row (placed windows rect) ≡ bit_of (lies_in column row rect)
@@ -102,21 +102,11 @@ resized_leaves (Split side size first second) rect =
     let new = first_size side size second rect in
     rw (resized_leaves first (first_part side new rect), resized_leaves second (second_part side new rect)) refl
 
-same_size : (side : Side) (size : ℕ) (first second : Windows) (rect : Rect) → HasRoom (Split side size first second) rect → first_size side size second rect ≡ size
-same_size Right size first second rect h =
-    let b = room_needs second (second_part Right size rect) h.1 in
-    let w = room_within Right size first second rect h in
-    omega arith
-same_size Below size first second rect h =
-    let b = room_needs second (second_part Below size rect) h.1 in
-    let w = room_within Below size first second rect h in
-    omega arith
-
 -- sharing the same rectangle anew changes nothing
 pub resized_same_place : (windows : Windows) (rect : Rect) → HasRoom windows rect → resized windows rect ≡ windows
 resized_same_place (Window number mode margins) rect h = refl
 resized_same_place (Split side size first second) rect h =
-    rw (same_size side size first second rect h, resized_same_place first (first_part side size rect) h.0, resized_same_place second (second_part side size rect) h.1) refl
+    rw ((room_within side size first second rect h).1, resized_same_place first (first_part side size rect) h.0, resized_same_place second (second_part side size rect) h.1) refl
 
 -- a window is one of those whose numbers are listed
 pub held_among : (n : ℕ) (windows : Windows) → holds n windows ≡ is_among n (leaves windows)

@@ -8,7 +8,7 @@ find-requires t c =
     rw (c.deref.ensures, c.first_part.ensures) (parts_lie c.args.rect (ap shape c.in-Split.is) c.requires.room c.requires.inside c.decreases).0
 
 pub second_part-requires-clause-within : goal.second_part-requires-clause-within
-second_part-requires-clause-within t c = room_within _ _ _ _ c.args.rect (rw c.in-Split.is at c.requires.room)
+second_part-requires-clause-within t c = (room_within _ _ _ _ c.args.rect (rw c.in-Split.is at c.requires.room)).0
 
 pub find-requires-in-None : goal.find-requires-in-None
 find-requires-in-None t c =

@@ -16,7 +16,7 @@ remove-requires t c =
     rw (c.deref_mut-then-holds.ensures.value, c.first_part.ensures) (parts_lie c.args.rect (ap shape c.in-Split.is) c.requires.room c.requires.inside c.decreases).0
 
 pub second_part-requires-clause-within : goal.second_part-requires-clause-within
-second_part-requires-clause-within t c = room_within _ _ _ _ c.args.rect (rw c.in-Split.is at c.requires.room)
+second_part-requires-clause-within t c = (room_within _ _ _ _ c.args.rect (rw c.in-Split.is at c.requires.room)).0
 
 pub remove-requires-else-holds : goal.remove-requires-else-holds
 remove-requires-else-holds t c =
