@@ -16,7 +16,7 @@ use Rattle.rd_tree.specs.declared.side.Side.{Side}
 use Rattle.rd_tree.specs.declared.side.Side.TheVariants.{Below, Right}
 use Rattle.rd_tree.specs.declared.placed.Placed.{Placed}
 use Rattle.rd_tree.specs.Windows.{Windows, Window, Split, HasRoom, first_part, second_part, placed}
-use Rattle.rd_tree.specs.Places.{is_from, lies_in, windows_with}
+use Rattle.rd_tree.specs.Places.{is_from, lies_in, windows_with, IsWithin}
 use Rattle.rd_tree.specs.Compositions.{beside, composed, cell_at, HasSize, FillTheirRectangles, IsHeld}
 use Rattle.rd_tree.proofs.Rooms.{room_within}
 use Rattle.rd_tree.proofs.Standing.{in_one, one_window, stands_listed}
@@ -75,26 +75,6 @@ composed-size rows_of (Split Below size first second) rect h f =
     below-size rect.width size (rect.height - size) rect.height (composed rows_of first (first_part Below size rect)) (composed rows_of second (second_part Below size rect))
     (omega (arith, (room_within Below size first second rect h).0)) a b
 
--- a row of both parts
-row_of_both : {C : Type 0} (rows_of : Placed → List (List C)) (size : ℕ) (first second : Windows) (rect : Rect) (row : ℕ) → HasRoom (Split Right size first second) rect → FillTheirRectangles rows_of (placed (Split Right size first second) rect)
-    → row_at (composed rows_of (Split Right size first second) rect) row ≡ row_at (composed rows_of first (first_part Right size rect)) row ++ row_at (composed rows_of second (second_part Right size rect)) row
-row_of_both rows_of size first second rect row h f =
-    let a = composed-size rows_of first (first_part Right size rect) h.0 (filled_first rows_of Right size first second rect f) in
-    let b = composed-size rows_of second (second_part Right size rect) h.1 (filled_second rows_of Right size first second rect f) in
-    beside-row (composed rows_of first (first_part Right size rect)) (composed rows_of second (second_part Right size rect)) row (a.0 ∙ sym b.0)
-
-row_of_top : {C : Type 0} (rows_of : Placed → List (List C)) (size : ℕ) (first second : Windows) (rect : Rect) (row : ℕ) → HasRoom (Split Below size first second) rect → FillTheirRectangles rows_of (placed (Split Below size first second) rect) → row < size
-    → row_at (composed rows_of (Split Below size first second) rect) row ≡ row_at (composed rows_of first (first_part Below size rect)) row
-row_of_top rows_of size first second rect row h f p =
-    let a = composed-size rows_of first (first_part Below size rect) h.0 (filled_first rows_of Below size first second rect f) in
-    get_or_append_left (composed rows_of first (first_part Below size rect)) (composed rows_of second (second_part Below size rect)) [] row (omega (arith, a.0))
-
-row_of_rest : {C : Type 0} (rows_of : Placed → List (List C)) (size : ℕ) (first second : Windows) (rect : Rect) (row : ℕ) → HasRoom (Split Below size first second) rect → FillTheirRectangles rows_of (placed (Split Below size first second) rect) → size ≤ row
-    → row_at (composed rows_of (Split Below size first second) rect) row ≡ row_at (composed rows_of second (second_part Below size rect)) (row - size)
-row_of_rest rows_of size first second rect row h f p =
-    let a = composed-size rows_of first (first_part Below size rect) h.0 (filled_first rows_of Below size first second rect f) in
-    get_or-append_right (composed rows_of first (first_part Below size rect)) (composed rows_of second (second_part Below size rect)) size row [] a.0 p
-
 -- where a cell that lies in a rectangle is
 lies_where : (column row : ℕ) (rect : Rect) → lies_in column row rect ≡ true → (rect.x ≤ column) × (column < rect.x + rect.width) × (rect.y ≤ row) × (row < rect.y + rect.height)
 lies_where column row rect e =
@@ -110,6 +90,31 @@ lies_where column row rect e =
 row_size : {C : Type 0} (width height row : ℕ) (rows : List (List C)) → HasSize width height rows → row < height → length (row_at rows row) ≡ width
 row_size width height row rows s p = All-get_or (λ r. length r ≡ width) rows row [] (omega (arith, s.0)) s.1
 
+-- a cell of a split rectangle is that of the part in which a window stands that holds it
+parts-cell : {C : Type 0} (rows_of : Placed → List (List C)) (side : Side) (size : ℕ) (first second : Windows) (rect : Rect) (column row : ℕ) (window : Placed) → HasRoom (Split side size first second) rect → FillTheirRectangles rows_of (placed (Split side size first second) rect) → lies_in column row window.rect ≡ true
+    → let a = first_part side size rect in
+    let b = second_part side size rect in
+    let cell = cell_at (column - rect.x) (row - rect.y) (composed rows_of (Split side size first second) rect) in
+    (IsWithin window.rect a → cell ≡ cell_at (column - a.x) (row - a.y) (composed rows_of first a)) × (IsWithin window.rect b → cell ≡ cell_at (column - b.x) (row - b.y) (composed rows_of second b))
+parts-cell {C = C} rows_of Right size first second rect column row window h f l =
+    let at = lies_where column row window.rect l in
+    let lefts = composed rows_of first (first_part Right size rect) in
+    let rights = composed rows_of second (second_part Right size rect) in
+    let a = composed-size rows_of first (first_part Right size rect) h.0 (filled_first rows_of Right size first second rect f) in
+    let b = composed-size rows_of second (second_part Right size rect) h.1 (filled_second rows_of Right size first second rect f) in
+    let both = ap (λ (r : List C). slice_get r (column - rect.x)) (beside-row lefts rights (row - rect.y) (a.0 ∙ sym b.0)) in
+    let wide : row - rect.y < rect.height → length (row_at lefts (row - rect.y)) ≡ size = row_size size rect.height (row - rect.y) lefts a in
+    (λ within. both ∙ get-first (row_at lefts (row - rect.y)) (row_at rights (row - rect.y)) (column - rect.x) (omega (arith, wide (omega arith))),
+    λ within. both ∙ get-second (row_at lefts (row - rect.y)) (row_at rights (row - rect.y)) (column - rect.x) (column - (rect.x + size)) (omega (arith, wide (omega arith))))
+parts-cell {C = C} rows_of Below size first second rect column row window h f l =
+    let at = lies_where column row window.rect l in
+    let tops = composed rows_of first (first_part Below size rect) in
+    let rests = composed rows_of second (second_part Below size rect) in
+    let a = composed-size rows_of first (first_part Below size rect) h.0 (filled_first rows_of Below size first second rect f) in
+    let same : IsWithin window.rect (second_part Below size rect) → (row - rect.y) - size ≡ row - (rect.y + size) = λ within. omega arith in
+    (λ within. ap (λ (r : List C). slice_get r (column - rect.x)) (get_or_append_left tops rests [] (row - rect.y) (omega (arith, a.0))),
+    λ within. ap (λ (r : List C). slice_get r (column - rect.x)) (get_or-append_right tops rests size (row - rect.y) [] a.0 (omega arith) ∙ ap (row_at rests) (same within)))
+
 -- each cell is that of the window that holds it
 pub composed-cell : {C : Type 0} (rows_of : Placed → List (List C)) (windows : Windows) (rect : Rect) (column row i : ℕ) (window : Placed) → HasRoom windows rect → FillTheirRectangles rows_of (placed windows rect) → slice_get (placed windows rect) i ≡ Some window → lies_in column row window.rect ≡ true
     → cell_at (column - rect.x) (row - rect.y) (composed rows_of windows rect) ≡ cell_at (column - window.rect.x) (row - window.rect.y) (rows_of window)
@@ -117,43 +122,13 @@ composed-cell rows_of (Window number mode margins) rect column row zero window h
     let s : record { number = number; mode = mode; margins = margins; rect = rect } ≡ window = cc in
     rw (← s) refl
 composed-cell rows_of (Window number mode margins) rect column row (suc i) window h f e l = absurd (cc)
-composed-cell {C = C} rows_of (Split Right size first second) rect column row i window h f e l =
-    let a = first_part Right size rect in
-    let b = second_part Right size rect in
-    let at = lies_where column row window.rect l in
-    let lefts = composed rows_of first a in
-    let rights = composed rows_of second b in
-    let sizes = composed-size rows_of first a h.0 (filled_first rows_of Right size first second rect f) in
-    let both = row_of_both rows_of size first second rect (row - rect.y) h f in
+composed-cell rows_of (Split side size first second) rect column row i window h f e l =
+    let a = first_part side size rect in
+    let b = second_part side size rect in
+    let parts = parts-cell rows_of side size first second rect column row window h f l in
     elim (in_one (placed first a) (placed second b) i window e) [
-      | inl p ↦
-          let w = (stands_listed first a p.0 window h.0 p.1).0 in
-          let wide : length (row_at lefts (row - rect.y)) ≡ size = row_size size rect.height (row - rect.y) lefts sizes (omega arith) in
-          ap (λ (r : List C). slice_get r (column - rect.x)) both
-          ∙ (get-first (row_at lefts (row - rect.y)) (row_at rights (row - rect.y)) (column - rect.x) (omega arith)
-          ∙ composed-cell rows_of first a column row p.0 window h.0 (filled_first rows_of Right size first second rect f) p.1 l)
-      | inr p ↦
-          let w = (stands_listed second b p.0 window h.1 p.1).0 in
-          let wide : length (row_at lefts (row - rect.y)) ≡ size = row_size size rect.height (row - rect.y) lefts sizes (omega arith) in
-          ap (λ (r : List C). slice_get r (column - rect.x)) both
-          ∙ (get-second (row_at lefts (row - rect.y)) (row_at rights (row - rect.y)) (column - rect.x) (column - (rect.x + size)) (omega arith)
-          ∙ composed-cell rows_of second b column row p.0 window h.1 (filled_second rows_of Right size first second rect f) p.1 l)
-    ]
-composed-cell {C = C} rows_of (Split Below size first second) rect column row i window h f e l =
-    let a = first_part Below size rect in
-    let b = second_part Below size rect in
-    let at = lies_where column row window.rect l in
-    elim (in_one (placed first a) (placed second b) i window e) [
-      | inl p ↦
-          let w = (stands_listed first a p.0 window h.0 p.1).0 in
-          ap (λ (r : List C). slice_get r (column - rect.x)) (row_of_top rows_of size first second rect (row - rect.y) h f (omega arith))
-          ∙ composed-cell rows_of first a column row p.0 window h.0 (filled_first rows_of Below size first second rect f) p.1 l
-      | inr p ↦
-          let w = (stands_listed second b p.0 window h.1 p.1).0 in
-          let same : (row - rect.y) - size ≡ row - (rect.y + size) = omega arith in
-          ap (λ (r : List C). slice_get r (column - rect.x)) (row_of_rest rows_of size first second rect (row - rect.y) h f (omega arith))
-          ∙ (ap (λ (n : ℕ). cell_at (column - rect.x) n (composed rows_of second b)) same
-          ∙ composed-cell rows_of second b column row p.0 window h.1 (filled_second rows_of Below size first second rect f) p.1 l)
+      | inl p ↦ parts.0 (stands_listed first a p.0 window h.0 p.1).0 ∙ composed-cell rows_of first a column row p.0 window h.0 (filled_first rows_of side size first second rect f) p.1 l
+      | inr p ↦ parts.1 (stands_listed second b p.0 window h.1 p.1).0 ∙ composed-cell rows_of second b column row p.0 window h.1 (filled_second rows_of side size first second rect f) p.1 l
     ]
 
 -- one of the windows holds each cell
