@@ -111,8 +111,5 @@ fn goes_on(old: &[Cell], new: &[Cell], column: usize) -> bool
 fn is_rest(cell: &Cell) -> bool
     ensures { result ≡ is_rest cell.now }
 {
-    match cell {
-        Cell::Rest => true,
-        _ => false,
-    }
+    matches!(cell, Cell::Rest)
 }
