@@ -126,8 +126,5 @@ fn colour(alloc: Global, asked: &mut Asked, key: &'static str) -> Result<u8, OpF
         least: 0,
         greatest: 7,
     };
-    match optional(alloc, asked, key, &colours)? {
-        Some(colour) => Ok(colour as u8),
-        None => Ok(8),
-    }
+    Ok(defaulted(alloc, asked, key, &colours, 8)? as u8)
 }

@@ -128,8 +128,5 @@ fn read_overlay_put(alloc: Global, asked: &mut Asked) -> Result<Op, OpFault>
 fn is_text_kind(kind: Kind) -> bool
     ensures { result ≡ is_text_kind kind }
 {
-    match kind {
-        Kind::Before | Kind::After => false,
-        _ => true,
-    }
+    !matches!(kind, Kind::Before | Kind::After)
 }
