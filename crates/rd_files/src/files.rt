@@ -84,10 +84,7 @@ fn read_judged<F: Files, T: Drop, J: FnOnce(Global, &[u8]) -> Result<T, UcdFault
     ensures never_falls { (file : List ℕ) → F.faults files.old file ≤ F.faults files.new file }
 {
     let bytes = read_bytes(alloc, files, name, file)?;
-    match judge(alloc, &bytes) {
-        Ok(values) => Ok(values),
-        Err(fault) => Err(fault_of(file, fault)),
-    }
+    judge(alloc, &bytes).map_err(|fault| fault_of(file, fault))
 }
 
 /// Reads a file whole, without judging it.
