@@ -8,12 +8,13 @@ use Rattle.rd_base.specs.Cells.{row_at}
 use Rattle.rd_term.specs.Pictures.{with_cells, written_over}
 use Rattle.rd_tree.specs.declared.placed.Placed.{Placed}
 use Rattle.rd_tree.specs.declared.rect.Rect.{Rect}
+use Rattle.rd_tree.specs.declared.side.Side.{Side}
 use Rattle.rd_tree.specs.declared.side.Side.TheVariants.{Below, Right}
 use Rattle.rd_tree.specs.Windows.{Windows, Window, Split, HasRoom, first_part, second_part, placed}
 use Rattle.rd_tree.specs.Calls.{frame}
 use Rattle.rd_tree.specs.Compositions.{beside, composed, HasSize, FillTheirRectangles}
 use Rattle.rd_tree.proofs.Composing.{composed-size, filled_first, filled_second}
-use Rattle.rd_tree.proofs.Rooms.{room_within}
+use Rattle.rd_tree.proofs.Standing.{parts_within}
 use Rattle.rd_frame.specs.Paints.{laid_over, with_rectangle, painted, with_echo}
 
 -- ---- a row
@@ -173,41 +174,35 @@ painted-both : {C : Type 0} (rows_of : Placed → List (List C)) (first second :
 painted-both rows_of [] second rows = refl
 painted-both rows_of (window ∷ first) second rows = painted-both rows_of first second (with_rectangle window.rect (rows_of window) rows)
 
+-- the second part of a split rectangle, laid over the first
+parts-laid : {C : Type 0} (rows_of : Placed → List (List C)) (side : Side) (size : ℕ) (first second : Windows) (rect : Rect) (rows : List (List C)) → HasRoom (Split side size first second) rect → FillTheirRectangles rows_of (placed (Split side size first second) rect) → AreWide rect.x rows
+    → let a = first_part side size rect in
+    let b = second_part side size rect in
+    laid_at b.y b.x (composed rows_of second b) (laid_at a.y a.x (composed rows_of first a) rows) ≡ laid_at rect.y rect.x (composed rows_of (Split side size first second) rect) rows
+parts-laid rows_of Right size first second rect rows h f wide =
+    let lefts = composed rows_of first (first_part Right size rect) in
+    let rights = composed rows_of second (second_part Right size rect) in
+    let left_size = composed-size rows_of first (first_part Right size rect) h.0 (filled_first rows_of Right size first second rect f) in
+    let right_size = composed-size rows_of second (second_part Right size rect) h.1 (filled_second rows_of Right size first second rect f) in
+    at-beside rect.y rect.x (rect.x + size) size lefts rights rows refl (left_size.0 ∙ sym right_size.0) (recursion_from_All (λ row. length row ≡ size) lefts left_size.1) wide
+parts-laid rows_of Below size first second rect rows h f wide =
+    let top_size = composed-size rows_of first (first_part Below size rect) h.0 (filled_first rows_of Below size first second rect f) in
+    at-below rect.y (rect.y + size) rect.x (composed rows_of first (first_part Below size rect)) (composed rows_of second (second_part Below size rect)) rows (omega (arith, top_size.0))
+
 -- windows that are painted in order show what they compose
 pub painted-composed : {C : Type 0} (rows_of : Placed → List (List C)) (windows : Windows) (rect : Rect) (rows : List (List C)) → HasRoom windows rect → FillTheirRectangles rows_of (placed windows rect) → AreWide (rect.x + rect.width) rows
     → painted rows_of (placed windows rect) rows ≡ laid_at rect.y rect.x (composed rows_of windows rect) rows
 painted-composed rows_of (Window number mode margins) rect rows h f wide = at-rectangle rect.y rect.x (rows_of (record { number = number; mode = mode; margins = margins; rect = rect })) rows
-painted-composed rows_of (Split Right size first second) rect rows h f wide =
-    let a = first_part Right size rect in
-    let b = second_part Right size rect in
-    let within = room_within Right size first second rect h in
-    let lefts = composed rows_of first a in
-    let rights = composed rows_of second b in
-    let left_size = composed-size rows_of first a h.0 (filled_first rows_of Right size first second rect f) in
-    let right_size = composed-size rows_of second b h.1 (filled_second rows_of Right size first second rect f) in
-    let one : painted rows_of (placed first a) rows ≡ laid_at rect.y rect.x lefts rows
-    = painted-composed rows_of first a rows h.0 (filled_first rows_of Right size first second rect f) (narrower (rect.x + rect.width) (rect.x + size) rows (omega arith) wide) in
-    let two : painted rows_of (placed second b) (laid_at rect.y rect.x lefts rows) ≡ laid_at rect.y (rect.x + size) rights (laid_at rect.y rect.x lefts rows)
-    = painted-composed rows_of second b (laid_at rect.y rect.x lefts rows) h.1 (filled_second rows_of Right size first second rect f)
-    (at-wide (rect.x + size + (rect.width - size)) rect.y rect.x lefts rows (narrower (rect.x + rect.width) (rect.x + size + (rect.width - size)) rows (omega arith) wide)) in
+painted-composed rows_of (Split side size first second) rect rows h f wide =
+    let a = first_part side size rect in
+    let b = second_part side size rect in
+    let within = parts_within side size first second rect h in
+    let laid = laid_at a.y a.x (composed rows_of first a) rows in
     painted-both rows_of (placed first a) (placed second b) rows
-    ∙ (ap (painted rows_of (placed second b)) one
-    ∙ (two
-    ∙ at-beside rect.y rect.x (rect.x + size) size lefts rights rows refl (left_size.0 ∙ sym right_size.0) (recursion_from_All (λ row. length row ≡ size) lefts left_size.1) (narrower (rect.x + rect.width) rect.x rows (omega arith) wide)))
-painted-composed rows_of (Split Below size first second) rect rows h f wide =
-    let a = first_part Below size rect in
-    let b = second_part Below size rect in
-    let tops = composed rows_of first a in
-    let rests = composed rows_of second b in
-    let top_size = composed-size rows_of first a h.0 (filled_first rows_of Below size first second rect f) in
-    let one : painted rows_of (placed first a) rows ≡ laid_at rect.y rect.x tops rows
-    = painted-composed rows_of first a rows h.0 (filled_first rows_of Below size first second rect f) wide in
-    let two : painted rows_of (placed second b) (laid_at rect.y rect.x tops rows) ≡ laid_at (rect.y + size) rect.x rests (laid_at rect.y rect.x tops rows)
-    = painted-composed rows_of second b (laid_at rect.y rect.x tops rows) h.1 (filled_second rows_of Below size first second rect f) (at-wide (rect.x + rect.width) rect.y rect.x tops rows wide) in
-    painted-both rows_of (placed first a) (placed second b) rows
-    ∙ (ap (painted rows_of (placed second b)) one
-    ∙ (two
-    ∙ at-below rect.y (rect.y + size) rect.x tops rests rows (let n = top_size.0 in omega arith)))
+    ∙ (ap (painted rows_of (placed second b)) (painted-composed rows_of first a rows h.0 (filled_first rows_of side size first second rect f) (narrower (rect.x + rect.width) (a.x + a.width) rows within.0.1 wide))
+    ∙ (painted-composed rows_of second b laid h.1 (filled_second rows_of side size first second rect f)
+    (at-wide (b.x + b.width) a.y a.x (composed rows_of first a) rows (narrower (rect.x + rect.width) (b.x + b.width) rows within.1.1 wide))
+    ∙ parts-laid rows_of side size first second rect rows h f (narrower (rect.x + rect.width) rect.x rows (omega arith) wide)))
 
 -- ---- a whole screen
 

@@ -103,17 +103,19 @@ parts-cell {C = C} rows_of Right size first second rect column row window h f l 
     let a = composed-size rows_of first (first_part Right size rect) h.0 (filled_first rows_of Right size first second rect f) in
     let b = composed-size rows_of second (second_part Right size rect) h.1 (filled_second rows_of Right size first second rect f) in
     let both = ap (λ (r : List C). slice_get r (column - rect.x)) (beside-row lefts rights (row - rect.y) (a.0 ∙ sym b.0)) in
-    let wide : row - rect.y < rect.height → length (row_at lefts (row - rect.y)) ≡ size = row_size size rect.height (row - rect.y) lefts a in
-    (λ within. both ∙ get-first (row_at lefts (row - rect.y)) (row_at rights (row - rect.y)) (column - rect.x) (omega (arith, wide (omega arith))),
-    λ within. both ∙ get-second (row_at lefts (row - rect.y)) (row_at rights (row - rect.y)) (column - rect.x) (column - (rect.x + size)) (omega (arith, wide (omega arith))))
+    let wide : row - rect.y < rect.height → length (row_at lefts (row - rect.y)) ≡ size = row_size size rect.height (row - rect.y) lefts a in (
+      λ within. both ∙ get-first (row_at lefts (row - rect.y)) (row_at rights (row - rect.y)) (column - rect.x) (omega (arith, wide (omega arith))),
+      λ within. both ∙ get-second (row_at lefts (row - rect.y)) (row_at rights (row - rect.y)) (column - rect.x) (column - (rect.x + size)) (omega (arith, wide (omega arith))),
+    )
 parts-cell {C = C} rows_of Below size first second rect column row window h f l =
     let at = lies_where column row window.rect l in
     let tops = composed rows_of first (first_part Below size rect) in
     let rests = composed rows_of second (second_part Below size rect) in
     let a = composed-size rows_of first (first_part Below size rect) h.0 (filled_first rows_of Below size first second rect f) in
-    let same : IsWithin window.rect (second_part Below size rect) → (row - rect.y) - size ≡ row - (rect.y + size) = λ within. omega arith in
-    (λ within. ap (λ (r : List C). slice_get r (column - rect.x)) (get_or_append_left tops rests [] (row - rect.y) (omega (arith, a.0))),
-    λ within. ap (λ (r : List C). slice_get r (column - rect.x)) (get_or-append_right tops rests size (row - rect.y) [] a.0 (omega arith) ∙ ap (row_at rests) (same within)))
+    let same : IsWithin window.rect (second_part Below size rect) → (row - rect.y) - size ≡ row - (rect.y + size) = λ within. omega arith in (
+      λ within. ap (λ (r : List C). slice_get r (column - rect.x)) (get_or_append_left tops rests [] (row - rect.y) (omega (arith, a.0))),
+      λ within. ap (λ (r : List C). slice_get r (column - rect.x)) (get_or-append_right tops rests size (row - rect.y) [] a.0 (omega arith) ∙ ap (row_at rests) (same within)),
+    )
 
 -- each cell is that of the window that holds it
 pub composed-cell : {C : Type 0} (rows_of : Placed → List (List C)) (windows : Windows) (rect : Rect) (column row i : ℕ) (window : Placed) → HasRoom windows rect → FillTheirRectangles rows_of (placed windows rect) → slice_get (placed windows rect) i ≡ Some window → lies_in column row window.rect ≡ true

@@ -187,13 +187,12 @@ removed_others v n (Split side size first second) rect d =
     (λ _ _ e. two_lists v side size first (removed n second b) rect
     ∙ (ap (option_or (window_at v first a)) (removed_others v n second b d e) ∙ sym whole))
 
-first_within : (side : Side) (size : ℕ) (first second : Windows) (rect : Rect) → HasRoom (Split side size first second) rect → IsWithin (first_part side size rect) rect
-first_within Right size first second rect h = let w = room_within Right size first second rect h in (omega arith, omega arith, omega arith, omega arith)
-first_within Below size first second rect h = let w = room_within Below size first second rect h in (omega arith, omega arith, omega arith, omega arith)
-
-second_within : (side : Side) (size : ℕ) (first second : Windows) (rect : Rect) → HasRoom (Split side size first second) rect → IsWithin (second_part side size rect) rect
-second_within Right size first second rect h = let w = room_within Right size first second rect h in (omega arith, omega arith, omega arith, omega arith)
-second_within Below size first second rect h = let w = room_within Below size first second rect h in (omega arith, omega arith, omega arith, omega arith)
+-- both parts of a split rectangle lie within it
+pub parts_within : (side : Side) (size : ℕ) (first second : Windows) (rect : Rect) → HasRoom (Split side size first second) rect → IsWithin (first_part side size rect) rect × IsWithin (second_part side size rect) rect
+parts_within Right size first second rect h =
+    let w = room_within Right size first second rect h in ((omega arith, omega arith, omega arith, omega arith), (omega arith, omega arith, omega arith, omega arith))
+parts_within Below size first second rect h =
+    let w = room_within Below size first second rect h in ((omega arith, omega arith, omega arith, omega arith), (omega arith, omega arith, omega arith, omega arith))
 
 stands_further : (window : Placed) (part rect : Rect) → StandsIn window part → IsWithin part rect → StandsIn window rect
 stands_further window part rect s w = ((omega arith, omega arith, omega arith, omega arith), s.1, s.2)
@@ -215,8 +214,8 @@ stands_listed (Split side size first second) rect i window h e =
     let a = first_part side size rect in
     let b = second_part side size rect in
     elim (in_one (placed first a) (placed second b) i window e) [
-      | inl p ↦ stands_further window a rect (stands_listed first a p.0 window h.0 p.1) (first_within side size first second rect h)
-      | inr p ↦ stands_further window b rect (stands_listed second b p.0 window h.1 p.1) (second_within side size first second rect h)
+      | inl p ↦ stands_further window a rect (stands_listed first a p.0 window h.0 p.1) (parts_within side size first second rect h).0
+      | inr p ↦ stands_further window b rect (stands_listed second b p.0 window h.1 p.1) (parts_within side size first second rect h).1
     ]
 
 -- and each that is found
