@@ -15,9 +15,9 @@ use Rattle.rd_tree.specs.declared.rect.Rect.{Rect}
 use Rattle.rd_tree.specs.declared.side.Side.{Side}
 use Rattle.rd_tree.specs.declared.side.Side.TheVariants.{Below, Right}
 use Rattle.rd_tree.specs.declared.placed.Placed.{Placed}
-use Rattle.rd_tree.specs.Windows.{Windows, Window, Split, HasRoom, first_part, second_part, placed}
+use Rattle.rd_tree.specs.Windows.{Windows, Window, Split, HasRoom, first_part, second_part, along, placed}
 use Rattle.rd_tree.specs.Places.{is_from, lies_in, windows_with, IsWithin}
-use Rattle.rd_tree.specs.Compositions.{beside, composed, cell_at, HasSize, FillTheirRectangles, IsHeld}
+use Rattle.rd_tree.specs.Compositions.{beside, both_parts, composed, cell_at, HasSize, FillTheirRectangles, IsHeld}
 use Rattle.rd_tree.proofs.Rooms.{room_within}
 use Rattle.rd_tree.proofs.Standing.{in_one, one_window, stands_listed}
 
@@ -39,17 +39,19 @@ beside-all P Q R both [] rights p q = tt
 beside-all P Q R both (left ∷ lefts) [] p q = tt
 beside-all P Q R both (left ∷ lefts) (right ∷ rights) p q = (both left right p.0 q.0, beside-all P Q R both lefts rights p.1 q.1)
 
-beside-size : {C : Type 0} (w v width height : ℕ) (lefts rights : List (List C)) → w + v ≡ width → HasSize w height lefts → HasSize v height rights → HasSize width height (beside lefts rights)
-beside-size w v width height lefts rights e a b = (
-  omega (arith, beside-length lefts rights (omega (arith, a.0, b.0)), a.0),
-  All-from_recursion (λ row. length row ≡ width) (beside lefts rights)
-      (beside-all (λ row. length row ≡ w) (λ row. length row ≡ v) (λ row. length row ≡ width) (λ left right p q. omega (arith, length-append left right)) lefts rights
-      (recursion_from_All (λ row. length row ≡ w) lefts a.1) (recursion_from_All (λ row. length row ≡ v) rights b.1)),
+-- the rows of both parts of a split rectangle fill it
+both-size : {C : Type 0} (side : Side) (size : ℕ) (rect : Rect) (firsts seconds : List (List C)) → size ≤ along side rect
+    → let a = first_part side size rect in
+    let b = second_part side size rect in
+    HasSize a.width a.height firsts → HasSize b.width b.height seconds → HasSize rect.width rect.height (both_parts side firsts seconds)
+both-size Right size rect lefts rights within a b = (
+  beside-length lefts rights (a.0 ∙ sym b.0) ∙ a.0,
+  All-from_recursion (λ row. length row ≡ rect.width) (beside lefts rights)
+      (beside-all (λ row. length row ≡ size) (λ row. length row ≡ rect.width - size) (λ row. length row ≡ rect.width) (λ left right p q. omega (arith, length-append left right)) lefts rights
+      (recursion_from_All (λ row. length row ≡ size) lefts a.1) (recursion_from_All (λ row. length row ≡ rect.width - size) rights b.1)),
 )
-
-below-size : {C : Type 0} (width h k height : ℕ) (tops rests : List (List C)) → h + k ≡ height → HasSize width h tops → HasSize width k rests → HasSize width height (tops ++ rests)
-below-size width h k height tops rests e a b =
-    (omega (arith, length-append tops rests, a.0, b.0), All-append (λ row. length row ≡ width) tops rests a.1 b.1)
+both-size Below size rect tops rests within a b =
+    (omega (arith, length-append tops rests, a.0, b.0), All-append (λ row. length row ≡ rect.width) tops rests a.1 b.1)
 
 -- each window's rows fill its rectangle: in the first part and in the second
 pub filled_first : {C : Type 0} (rows_of : Placed → List (List C)) (side : Side) (size : ℕ) (first second : Windows) (rect : Rect) → FillTheirRectangles rows_of (placed (Split side size first second) rect) → FillTheirRectangles rows_of (placed first (first_part side size rect))
@@ -64,16 +66,10 @@ filled_second rows_of side size first second rect f =
 pub composed-size : {C : Type 0} (rows_of : Placed → List (List C)) (windows : Windows) (rect : Rect) → HasRoom windows rect → FillTheirRectangles rows_of (placed windows rect) → HasSize rect.width rect.height (composed rows_of windows rect)
 composed-size rows_of (Window number mode margins) rect h f =
     (recursion_from_All (λ window. HasSize window.rect.width window.rect.height (rows_of window)) (placed (Window number mode margins) rect) f).0
-composed-size rows_of (Split Right size first second) rect h f =
-    let a = composed-size rows_of first (first_part Right size rect) h.0 (filled_first rows_of Right size first second rect f) in
-    let b = composed-size rows_of second (second_part Right size rect) h.1 (filled_second rows_of Right size first second rect f) in
-    beside-size size (rect.width - size) rect.width rect.height (composed rows_of first (first_part Right size rect)) (composed rows_of second (second_part Right size rect))
-    (omega (arith, (room_within Right size first second rect h).0)) a b
-composed-size rows_of (Split Below size first second) rect h f =
-    let a = composed-size rows_of first (first_part Below size rect) h.0 (filled_first rows_of Below size first second rect f) in
-    let b = composed-size rows_of second (second_part Below size rect) h.1 (filled_second rows_of Below size first second rect f) in
-    below-size rect.width size (rect.height - size) rect.height (composed rows_of first (first_part Below size rect)) (composed rows_of second (second_part Below size rect))
-    (omega (arith, (room_within Below size first second rect h).0)) a b
+composed-size rows_of (Split side size first second) rect h f =
+    both-size side size rect (composed rows_of first (first_part side size rect)) (composed rows_of second (second_part side size rect)) (room_within side size first second rect h).0
+    (composed-size rows_of first (first_part side size rect) h.0 (filled_first rows_of side size first second rect f))
+    (composed-size rows_of second (second_part side size rect) h.1 (filled_second rows_of side size first second rect f))
 
 -- where a cell that lies in a rectangle is
 lies_where : (column row : ℕ) (rect : Rect) → lies_in column row rect ≡ true → (rect.x ≤ column) × (column < rect.x + rect.width) × (rect.y ≤ row) × (row < rect.y + rect.height)
