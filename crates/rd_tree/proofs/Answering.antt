@@ -1,7 +1,6 @@
 -- What the calls say, from the window that was found.
-use Rattle.std.proofs.Common.{◌≡◌, ℕ, suc, ◌≤◌, ◌<◌, Bool, true, false, nat_le, length, Option, None, Some, Result, Ok, Err, refl, sym, ap, ◌∙◌, arith}
+use Rattle.std.proofs.Common.{◌≡◌, ℕ, suc, ◌≤◌, ◌<◌, Bool, true, false, length, Option, None, Some, Result, Ok, Err, refl, sym, ap, ◌∙◌, arith}
 use Rattle.std.specs.Prelude.{is_some, ⊤}
-use Rattle.std.proofs.lemmas.Bool.{or_left, or_right, or_from}
 use Rattle.std.proofs.lemmas.Bool.Decides.{nat_tests}
 use Rattle.rd_tree.specs.declared.rect.Rect.{Rect}
 use Rattle.rd_tree.specs.declared.side.Side.{Side}
@@ -41,13 +40,13 @@ unfolding split_tree
 split_done c w side size h f full = rw (h, f, full) refl
 
 pub full_of_windows : (c : Configuration) → 64 ≤ length (leaves c.windows) → is_full c ≡ true
-full_of_windows c p = or_left (nat_le 64 (length (leaves c.windows))) (nat_le 4294967295 c.made) (grind (arith, nat_tests))
+full_of_windows c p = grind (arith, nat_tests)
 
 pub full_of_numbers : (c : Configuration) → 4294967295 ≤ c.made → is_full c ≡ true
-full_of_numbers c p = or_right (nat_le 64 (length (leaves c.windows))) (nat_le 4294967295 c.made) (grind (arith, nat_tests))
+full_of_numbers c p = grind (arith, nat_tests)
 
 pub not_full : (c : Configuration) → length (leaves c.windows) < 64 → c.made < 4294967295 → is_full c ≡ false
-not_full c p q = or_from (nat_le 64 (length (leaves c.windows))) (nat_le 4294967295 c.made) (grind (arith, nat_tests)) (grind (arith, nat_tests))
+not_full c p q = grind (arith, nat_tests)
 
 -- a window that was found stands in its rectangle
 pub found_rect : (c : Configuration) (w : ℕ) (found : Option Placed) (window : Placed) → found ≡ window_at w c.windows (frame_of c) → found ≡ Some window → rect_of window.number c ≡ Some window.rect

@@ -1,8 +1,8 @@
 -- The rows of a frame, from those of its windows.
 use Rattle.std.proofs.Common.{◌≡◌, ℕ, zero, suc, ◌+◌, ◌-◌, ◌≤◌, ◌<◌, true, List, [], ◌∷◌, ◌++◌, length, length-append, Some, inl, inr, refl, sym, ap, ◌∙◌, arith}
-use Rattle.std.specs.Prelude.{slice_get, nat_le, nat_lt}
+use Rattle.std.specs.Prelude.{slice_get}
 use Rattle.std.specs.List.{All, AllByRecursion}
-use Rattle.std.proofs.lemmas.Bool.{and_parts, cases_Bool}
+use Rattle.std.proofs.lemmas.Bool.{cases_Bool}
 use Rattle.std.proofs.lemmas.Bool.Decides.{nat_tests}
 use Rattle.std.proofs.lemmas.List.{get_or_append_left, get_or-append_right}
 use Rattle.std.proofs.lemmas.List.Elements.{recursion_from_All, All-from_recursion, All-append, All-get_or}
@@ -16,7 +16,7 @@ use Rattle.rd_tree.specs.declared.side.Side.{Side}
 use Rattle.rd_tree.specs.declared.side.Side.TheVariants.{Below, Right}
 use Rattle.rd_tree.specs.declared.placed.Placed.{Placed}
 use Rattle.rd_tree.specs.Windows.{Windows, Window, Split, HasRoom, first_part, second_part, along, placed}
-use Rattle.rd_tree.specs.Places.{is_from, lies_in, windows_with, IsWithin}
+use Rattle.rd_tree.specs.Places.{lies_in, windows_with, IsWithin}
 use Rattle.rd_tree.specs.Compositions.{beside, both_parts, composed, cell_at, HasSize, FillTheirRectangles, IsHeld}
 use Rattle.rd_tree.proofs.Rooms.{room_within}
 use Rattle.rd_tree.proofs.Standing.{in_one, one_window, stands_listed}
@@ -73,15 +73,7 @@ composed-size rows_of (Split side size first second) rect h f =
 
 -- where a cell that lies in a rectangle is
 lies_where : (column row : ℕ) (rect : Rect) → lies_in column row rect ≡ true → (rect.x ≤ column) × (column < rect.x + rect.width) × (rect.y ≤ row) × (row < rect.y + rect.height)
-lies_where column row rect e =
-    let both = and_parts (is_from rect.x rect.width column) (is_from rect.y rect.height row) e in
-    let across = and_parts (nat_le rect.x column) (nat_lt column (rect.x + rect.width)) both.0 in
-    let down = and_parts (nat_le rect.y row) (nat_lt row (rect.y + rect.height)) both.1 in
-    let a : nat_le rect.x column ≡ true = across.0 in
-    let b : nat_lt column (rect.x + rect.width) ≡ true = across.1 in
-    let c : nat_le rect.y row ≡ true = down.0 in
-    let d : nat_lt row (rect.y + rect.height) ≡ true = down.1 in
-    (grind (arith, nat_tests), grind (arith, nat_tests), grind (arith, nat_tests), grind (arith, nat_tests))
+lies_where column row rect e = (grind (arith, nat_tests), grind (arith, nat_tests), grind (arith, nat_tests), grind (arith, nat_tests))
 
 row_size : {C : Type 0} (width height row : ℕ) (rows : List (List C)) → HasSize width height rows → row < height → length (row_at rows row) ≡ width
 row_size width height row rows s p = All-get_or (λ r. length r ≡ width) rows row [] (omega (arith, s.0)) s.1

@@ -1,5 +1,5 @@
 -- What changes of the windows keep.
-use Rattle.std.proofs.Common.{◌≡◌, ℕ, ◌+◌, Bool, true, false, if◌then◌else◌, ◌==◌, ◌||◌, nat_le, Option, None, Some, ◌⊎◌, inl, inr, refl, sym, ap, ◌∙◌, arith}
+use Rattle.std.proofs.Common.{◌≡◌, ℕ, ◌+◌, Bool, true, false, if◌then◌else◌, ◌==◌, ◌||◌, Option, None, Some, ◌⊎◌, inl, inr, refl, sym, ap, ◌∙◌, arith}
 use Rattle.std.specs.Prelude.{is_some}
 use Rattle.std.proofs.lemmas.Bool.{and_parts, and_from, cases_Bool, false≢true}
 use Rattle.std.proofs.Math.Bool.{and-true, or-false}
@@ -13,20 +13,18 @@ use Rattle.std.proofs.lemmas.Option.{cond_some}
 use Rattle.rd_tree.specs.declared.rect.Rect.{Rect}
 use Rattle.rd_tree.specs.declared.side.Side.{Side}
 use Rattle.rd_tree.specs.declared.placed.Placed.{Placed}
-use Rattle.rd_tree.specs.Windows.{Windows, Window, Split, columns_for, rows_for, first_part, second_part, HasRoom, fits, first_size, resized, placed, window_at, holds, replaced, is_leaf_of, is_single, sibling, removed}
+use Rattle.rd_tree.specs.Windows.{Windows, Window, Split, first_part, second_part, HasRoom, fits, first_size, resized, placed, window_at, holds, replaced, is_leaf_of, is_single, sibling, removed}
 use Rattle.rd_tree.specs.Places.{shared_place}
 use Rattle.rd_tree.proofs.Rooms.{of_number-append, parts_fill, resized_room}
 
 -- the test of room is true where each window has room
 pub fits-room : (windows : Windows) (rect : Rect) → HasRoom windows rect → fits windows rect ≡ true
-fits-room (Window number mode margins) rect h = and_from (nat_le (columns_for margins) rect.width) (nat_le (rows_for mode) rect.height) (let p = h.0 in grind (arith, nat_tests)) (let p = h.1 in grind (arith, nat_tests))
+fits-room (Window number mode margins) rect h = let p = h.0 in let q = h.1 in grind (arith, nat_tests)
 fits-room (Split side size first second) rect h =
     and_from (fits first (first_part side size rect)) (fits second (second_part side size rect)) (fits-room first (first_part side size rect) h.0) (fits-room second (second_part side size rect) h.1)
 
 pub room-fits : (windows : Windows) (rect : Rect) → fits windows rect ≡ true → HasRoom windows rect
-room-fits (Window number mode margins) rect e =
-    let both = and_parts (nat_le (columns_for margins) rect.width) (nat_le (rows_for mode) rect.height) e in
-    (let p = both.0 in grind (arith, nat_tests), let p = both.1 in grind (arith, nat_tests))
+room-fits (Window number mode margins) rect e = (grind (arith, nat_tests), grind (arith, nat_tests))
 room-fits (Split side size first second) rect e =
     let both = and_parts (fits first (first_part side size rect)) (fits second (second_part side size rect)) e in
     (room-fits first (first_part side size rect) both.0, room-fits second (second_part side size rect) both.1)

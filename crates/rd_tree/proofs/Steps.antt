@@ -1,6 +1,5 @@
 -- What the calls mean where none refuses, and that what each leaves is valid.
 use Rattle.std.proofs.Common.{◌≡◌, ℕ, suc, ◌≤◌, Bool, true, false, ◌&&◌, nat_le, if◌then◌else◌, Ok, Err, subst, arith}
-use Rattle.std.proofs.lemmas.Bool.{and_parts}
 use Rattle.std.proofs.lemmas.Bool.Decides.{nat_tests}
 use Rattle.rd_base.proofs.Choices.{if-ok, if-not, made-ok, both-ok}
 use Rattle.rd_tree.specs.declared.side.Side.{Side}
@@ -63,8 +62,7 @@ remove_keeps c d w valid said = let m = remove-means c d w said in subst IsValid
 
 met : (c : Configuration) (width height : ℕ) → (nat_le (columns_needed c.windows) width && nat_le (rows_needed c.windows) height) ≡ true → NeedsMet c.windows (frame width height)
 met c width height e =
-    let both = and_parts (nat_le (columns_needed c.windows) width) (nat_le (rows_needed c.windows) height) e in
-    (let p = both.0 in grind (arith, nat_tests), let p = both.1 in grind (arith, nat_tests))
+    (grind (arith, nat_tests), grind (arith, nat_tests))
 
 pub resize_keeps : (c d : Configuration) (width height : ℕ) → width ≤ 400 → height ≤ 200 → IsValid c → resize_tree c width height ≡ Ok d → IsValid d
 resize_keeps c d width height w h valid said =

@@ -1,6 +1,6 @@
 -- Each call leaves a valid tree valid.
-use Rattle.std.proofs.Common.{◌≡◌, ℕ, suc, ◌+◌, ◌≤◌, ◌<◌, Bool, true, false, ◌==◌, nat_le, length, length-append, ◌⊎◌, inl, inr, refl, arith}
-use Rattle.std.proofs.lemmas.Bool.{cases_Bool, eqb-true, or_parts}
+use Rattle.std.proofs.Common.{◌≡◌, ℕ, suc, ◌+◌, ◌≤◌, ◌<◌, Bool, true, false, ◌==◌, length, length-append, ◌⊎◌, inl, inr, refl, arith}
+use Rattle.std.proofs.lemmas.Bool.{cases_Bool, eqb-true}
 use Rattle.std.proofs.lemmas.Bool.Decides.{nat_tests}
 use Rattle.rd_base.proofs.Choices.{one-at-most}
 use Rattle.rd_tree.specs.declared.side.Side.{Side}
@@ -30,11 +30,7 @@ none_above : (v n : ℕ) (mode : Bool) (margins : ℕ) → n < v → times v (Wi
 none_above v n mode margins p = elim (own v n mode margins) [ inl e ↦ absurd (omega arith) | inr e ↦ e ]
 
 room_left : (c : Configuration) → is_full c ≡ false → (length (leaves c.windows) < 64) × (c.made < 4294967295)
-room_left c e =
-    let both = or_parts (nat_le 64 (length (leaves c.windows))) (nat_le 4294967295 c.made) e in
-    let p : nat_le 64 (length (leaves c.windows)) ≡ false = both.0 in
-    let q : nat_le 4294967295 c.made ≡ false = both.1 in
-    (grind (arith, nat_tests), grind (arith, nat_tests))
+room_left c e = (grind (arith, nat_tests), grind (arith, nat_tests))
 
 pub opening_valid : (width height : ℕ) → 11 ≤ width → 1 ≤ height → width ≤ 400 → height ≤ 200 → IsValid (opening width height)
 opening_valid width height a b w h = record {
