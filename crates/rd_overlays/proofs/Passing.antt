@@ -6,7 +6,7 @@ use Rattle.std.specs.List.Sorted.{IsPermutation}
 use Rattle.std.proofs.lemmas.List.FromFn.{length-range_with_len, get_or-range_with_len}
 use Rattle.std.proofs.lemmas.List.Sorted.{IsPermutation-append_left, IsPermutation-map, length_permutation}
 use Rattle.std.proofs.lemmas.Option.{slice_get-get_or}
-use Rattle.rd_base.proofs.Lists.{drop-cons, get-second, range-split, range-more}
+use Rattle.rd_base.proofs.Lists.{drop-cons, get-second, range-split}
 use Rattle.rd_overlays.specs.declared.overlay.Overlay.{Overlay}
 use Rattle.rd_overlays.specs.declared.bounds.Bounds.{Bounds}
 use Rattle.rd_overlays.specs.declared.way.Way.{Way}
@@ -30,9 +30,6 @@ passed-size order size p =
     let more = length-range_with_len (length order) (size - length order) in
     let both = length-append order (range_with_len (length order) (size - length order)) in
     omega (arith, more, both, p)
-
-pub range-pushed : (old new : List ℕ) (m : ℕ) → old ≡ range_with_len 0 m → new ≡ old ++ m ∷ [] → new ≡ range_with_len 0 (m + 1)
-range-pushed old new m is more = more ∙ (ap (λ (xs : List ℕ). xs ++ m ∷ []) is ∙ range-more 0 m m (omega arith))
 
 -- each number stands among them once
 pub passed-whole : (slots : List (Option Overlay)) (order : List ℕ) → length order ≤ length slots → IsPermutation (range_with_len 0 (length order)) order

@@ -11,7 +11,7 @@ use crate::overlay::{Overlay, overlay_at};
 use crate::way::Way;
 use rd_base::limits::OVERLAYS;
 use rd_base::{ListOf, Memory, Pos};
-use std::alloc::Global;
+use std::alloc::{AllocError, Global};
 
 /// How many numbers that follow one another in the order have bounds together.
 const BLOCK: usize = 256;
@@ -105,17 +105,11 @@ impl Index {
 }
 
 /// The numbers below a count, in increasing order.
-fn numbers_below(alloc: Global, count: usize) -> Result<Vec<u32>, Memory>
+fn numbers_below(alloc: Global, count: usize) -> Result<Vec<u32>, AllocError>
     requires { count ≤ OVERLAYS }
     ensures { IfOk result (λ numbers. numbers.items ≡ range_with_len 0 count) }
 {
-    let mut numbers = Vec::new(alloc);
-    let mut number = 0;
-    while number < count {
-        numbers.push(number as u32)?;
-        number += 1;
-    }
-    Ok(numbers)
+    (0..count as u32).collect(alloc)
 }
 
 /// The start of the overlay of a number. A number whose overlay does not live comes last.
