@@ -17,7 +17,7 @@ use rd_frame::panes_show_their_matrix;
 use rd_glyphs::plain_lines_are_whole;
 use rd_margins::{Marks, Widths, row_margin};
 use rd_matrix::Matrix;
-use rd_objects::{Objects, Text};
+use rd_objects::Objects;
 use rd_overlays::Overlays;
 use rd_text::Buffer;
 use rd_ucd::Classes;
@@ -136,18 +136,7 @@ fn string_of(alloc: Global, objects: &Objects, number: u32) -> Result<ListOf<Ch>
     ensures { IfOk result (λ text. text ≡ text_of (slice_get objects.now.strings number)) }
 {
     match objects.string(number) {
-        Some(string) => characters(alloc, string),
+        Some(string) => ListOf::from_slice(alloc, string.chars()),
         None => Ok(ListOf::new(alloc)),
     }
-}
-
-/// The characters of a string.
-fn characters(alloc: Global, string: &Text) -> Result<ListOf<Ch>, Memory>
-    ensures { IfOk result (λ list. list ≡ string.now.chars) }
-{
-    let mut list = ListOf::with_room(alloc, string.len() as usize)?;
-    for i in 0..string.len() {
-        list.push(string.ch(i))?;
-    }
-    Ok(list)
 }
