@@ -1,9 +1,11 @@
 -- Texts without a newline, and the lines of a text.
-use Rattle.std.proofs.Common.{◌≡◌, ◌≢◌, ℕ, suc, ◌+◌, ◌<◌, ◌==◌, Bool, true, false, cond, List, [], ◌∷◌, ◌++◌, length, take, drop, Option, None, Some, refl, sym, ap, ◌∙◌, subst, append_assoc, arith, add-one, MatchOption}
-use Rattle.std.specs.List.{AllByRecursion, position_from}
+use Rattle.std.proofs.Common.{◌≡◌, ◌≢◌, ℕ, ◌+◌, ◌<◌, ◌≤◌, ◌==◌, Bool, true, false, cond, List, [], ◌∷◌, ◌++◌, length, take, drop, get_or, nat_lt, Option, None, Some, refl, ap, ◌∙◌, subst, append_assoc, arith, MatchOption}
+use Rattle.std.specs.List.{AllByRecursion, position_or_len}
 use Rattle.std.specs.Prelude.{position}
-use Rattle.std.proofs.lemmas.Bool.{eqb-true, eqb-false, ne_eqb}
-use Rattle.std.proofs.lemmas.Iterator.Adapters.{position_from-zero}
+use Rattle.std.proofs.lemmas.Bool.{eqb-true, eqb-false, ltb-true, ltb-false, ne_eqb}
+use Rattle.std.proofs.lemmas.List.{get_or-take, length-take, take_all}
+use Rattle.std.proofs.lemmas.List.Elements.{recursion_from_All}
+use Rattle.std.proofs.lemmas.List.Sums.{fails_before_first, passes_at_first, split_at_first}
 use Rattle.rd_base.proofs.Lists.{each-append, each-take}
 use Rattle.rd_io.specs.Lines.{IsUnbroken, lines_of, text_of_lines, last_of}
 use Rattle.rd_io.specs.Pieces.{BreaksAt}
@@ -14,36 +16,23 @@ unbroken-append = each-append (λ b. b ≢ 10)
 pub unbroken-take : (n : ℕ) (xs : List ℕ) → IsUnbroken xs → IsUnbroken (take n xs)
 unbroken-take = each-take (λ b. b ≢ 10)
 
--- where a search from an index on leads
-abbrev pub Leads : ℕ → List ℕ → Option ℕ → Type 0
-Leads from xs None = IsUnbroken xs
-Leads from xs (Some i) = (k : ℕ) × (i ≡ from + k) × BreaksAt xs k
-
-leads-on : (x : ℕ) (xs : List ℕ) (from : ℕ) → x ≢ 10 → (o : Option ℕ) → Leads (from + 1) xs o → Leads from (x ∷ xs) o
-leads-on x xs from p None h = (p, h)
-leads-on x xs from p (Some i) h =
-    let at = h.2 in
-    let rest : drop (h.0 + 1) xs ≡ drop (suc h.0 + 1) (x ∷ xs) = rw (add-one, add-one) refl in
-    let parts : x ∷ xs ≡ x ∷ take h.0 xs ++ 10 ∷ drop (suc h.0 + 1) (x ∷ xs) = rw (← rest) (ap (λ (l : List ℕ). x ∷ l) at.2) in
-    (suc h.0, omega arith, (omega arith, (p, at.1), parts))
-
-leads-at : (b : Bool) (x : ℕ) (xs : List ℕ) (from : ℕ) → (x == 10) ≡ b → (o : Option ℕ) → Leads (from + 1) xs o → Leads from (x ∷ xs) (cond b (Some from) o)
-leads-at true x xs from e o h =
-    let here : x ∷ xs ≡ 10 ∷ xs = ap (λ n. n ∷ xs) (eqb-true x 10 e) in
-    (0, omega arith, (omega arith, tt, here))
-leads-at false x xs from e o h = leads-on x xs from (eqb-false x 10 e) o h
-
-position-leads : (xs : List ℕ) (from : ℕ) → Leads from xs (position_from (λ b. b == 10) from xs)
-position-leads [] from = tt
-position-leads (x ∷ xs) from = leads-at (x == 10) x xs from refl _ (position-leads xs (from + 1))
-
 -- a search finds the first newline
-leads-place : (xs : List ℕ) (o : Option ℕ) → Leads 0 xs o → MatchOption o (IsUnbroken xs) (λ i. BreaksAt xs i)
-leads-place xs None h = h
-leads-place xs (Some i) h = let same : h.0 ≡ i = omega arith in subst (BreaksAt xs) same h.2
-
 pub position-place : (xs : List ℕ) (o : Option ℕ) → o ≡ position (λ b. b == 10) xs → MatchOption o (IsUnbroken xs) (λ i. BreaksAt xs i)
-position-place xs o e = leads-place xs o (subst (Leads 0 xs) (sym (e ∙ position_from-zero (λ (b : ℕ). b == 10) xs)) (position-leads xs 0))
+position-place xs o e = rw e (by-place (nat_lt n (length xs)) refl) where
+  n : ℕ
+  n = position_or_len (λ b. b == 10) xs
+
+  none-before : (m : ℕ) → m ≤ n → IsUnbroken (take m xs)
+  none-before m low = recursion_from_All (λ b. b ≢ 10) (take m xs) (λ k d inside.
+      let size = length-take m xs in
+      rw (get_or-take m xs k d (omega arith)) (eqb-false (get_or xs k d) 10 (fails_before_first (λ b. b == 10) xs k d (omega arith))))
+
+  by-place : (t : Bool) → nat_lt n (length xs) ≡ t → MatchOption (cond t (Some n) None) (IsUnbroken xs) (λ i. BreaksAt xs i)
+  by-place true found =
+      let inside = ltb-true n (length xs) found in
+      let here : get_or xs n 10 ≡ 10 = eqb-true (get_or xs n 10) 10 (passes_at_first (λ b. b == 10) xs 10 inside) in
+      (inside, none-before n (omega arith), split_at_first (λ b. b == 10) xs 10 inside ∙ ap (λ b. take n xs ++ b ∷ drop (n + 1) xs) here)
+  by-place false none = subst IsUnbroken (take_all n xs (ltb-false n (length xs) none)) (none-before n (omega arith))
 
 -- ---- the law of lines
 
