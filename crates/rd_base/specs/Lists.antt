@@ -7,7 +7,8 @@ abbrev pub total : {X : Type 0} → (X → ℕ) → List X → ℕ
 total f [] = 0
 total f (x ∷ xs) = f x + total f xs
 
--- elements from one place to another, by where each starts and ends: it goes on where the one before it ended, or has no place
+-- elements from one place to another, which is not included, by where each starts and ends: an element has no place, or it goes on where
+-- the last one that has a place ended
 abbrev pub Follow : {X : Type 0} → (X → ℕ) → (X → ℕ) → ℕ → ℕ → List X → Type 0
 Follow start end from to [] = from ≡ to
 Follow start end from to (x ∷ xs) = ((start x ≡ end x) × Follow start end from to xs) ⊎ ((start x ≡ from) × (from < end x) × Follow start end (end x) to xs)
