@@ -128,10 +128,7 @@ fn fits(from: u32, cells: &[Cell], run: &SaidFaceRun) -> bool
 fn is_edge(cells: &[Cell], column: usize) -> bool
     ensures { result ≡ is_edge cells.now column }
 {
-    match cells.get(column) {
-        Some(Cell::Rest) => false,
-        _ => true,
-    }
+    !matches!(cells.get(column), Some(Cell::Rest))
 }
 
 /// Gives the cells of a run its face.
