@@ -1,9 +1,9 @@
 -- Elements of a list that pass a test: where the first of them stands, and how many there are.
 use Rattle.std.proofs.Common.{◌≡◌, ℕ, zero, suc, ◌+◌, ◌<◌, ◌≤◌, inl, inr, Bool, true, false, not, cond, List, [], ◌∷◌, length, Some, refl, sym, ap, ◌∙◌, arith}
 use Rattle.std.specs.List.{count_by, find, list_any, position_or_len, slice_get}
-use Rattle.std.proofs.lemmas.Bool.{cases_Bool, eqb-true}
-use Rattle.std.proofs.lemmas.List.Folds.{find_at}
-use Rattle.std.proofs.lemmas.Option.{slice_get_within}
+use Rattle.std.proofs.lemmas.Bool.{cases_Bool, eqb-false, eqb-true}
+use Rattle.std.proofs.lemmas.List.Folds.{find_at, list_any_at}
+use Rattle.std.proofs.lemmas.Option.{get_or_from_slice_get, slice_get_within}
 use Rattle.rd_base.proofs.Choices.{some-of}
 use Rattle.rd_base.proofs.Lists.{count-cons, found-passes, is_some-found, none_counted}
 
@@ -17,16 +17,11 @@ pub first-inside : {X : Type 0} (p : X → Bool) (xs : List X) → list_any p xs
 first-inside p xs some = let first = at-position p xs some in slice_get_within xs (position_or_len p xs) first.0 first.1
 
 -- an element that passes is counted
-pub place-counted : {X : Type 0} (p : X → Bool) (xs : List X) (k : ℕ) (x : X) → slice_get xs k ≡ Some x → p x ≡ true → 1 ≤ count_by p xs
-place-counted p [] k x there passes = absurd cc
-place-counted p (y ∷ xs) zero x there passes =
-    let same : y ≡ x = cc in
-    let count = count-cons p y xs ∙ ap (λ t. cond t 1 0 + count_by p xs) (ap p same ∙ passes) in
-    omega (arith, count)
-place-counted p (y ∷ xs) (suc k) x there passes = let rest = place-counted p xs k x there passes in let count = count-cons p y xs in omega (arith, count, rest)
-
 pub some-counted : {X : Type 0} (p : X → Bool) (xs : List X) → list_any p xs ≡ true → 1 ≤ count_by p xs
-some-counted p xs some = let first = at-position p xs some in place-counted p xs (position_or_len p xs) first.0 first.1 first.2
+some-counted p xs some = let none = eqb-false (count_by p xs) 0 (none_counted p xs ∙ ap not some) in omega (arith, none)
+
+pub place-counted : {X : Type 0} (p : X → Bool) (xs : List X) (k : ℕ) (x : X) → slice_get xs k ≡ Some x → p x ≡ true → 1 ≤ count_by p xs
+place-counted p xs k x there passes = some-counted p xs (list_any_at p xs k x (slice_get_within xs k x there) (ap p (get_or_from_slice_get xs k x x there) ∙ passes))
 
 pub none-counted : {X : Type 0} (p : X → Bool) (xs : List X) → list_any p xs ≡ false → count_by p xs ≡ 0
 none-counted p xs none = eqb-true (count_by p xs) 0 (none_counted p xs ∙ ap not none)
