@@ -5,13 +5,13 @@ use Rattle.std.proofs.lemmas.Iterator.Adapters.{option_map_id}
 use Rattle.rd_base.proofs.Choices.{none-both, or-first, map-or, map-some, none-of}
 use Rattle.std.specs.Prelude.{option_map}
 use Rattle.std.specs.Option.{option_or}
-use Rattle.rd_tree.proofs.Keeping.{is_some-if, is_some-or, by_way, removed_less}
+use Rattle.rd_tree.proofs.Keeping.{is_some-if, is_some-or, by_way, removed_less, resized_same}
 use Rattle.rd_tree.proofs.Rooms.{of_number-append}
 use Rattle.rd_tree.proofs.Standing.{held_times, resized_held}
 use Rattle.rd_tree.specs.declared.placed.Placed.{Placed}
 use Rattle.rd_tree.specs.declared.rect.Rect.{Rect}
 use Rattle.rd_tree.specs.declared.side.Side.{Side}
-use Rattle.rd_tree.specs.Windows.{Windows, Window, Split, first_part, second_part, first_size, placed, of_number, window_at, holds, resized, replaced, halves, split_at, is_leaf_of, is_single, sibling, removed, first_leaf, times}
+use Rattle.rd_tree.specs.Windows.{Windows, Window, Split, first_part, second_part, placed, of_number, window_at, holds, resized, replaced, halves, split_at, is_leaf_of, is_single, sibling, removed, first_leaf, times}
 use Rattle.rd_tree.specs.Calls.{frame_of}
 use Rattle.rd_state.specs.States.{StateValue}
 use Rattle.rd_state.specs.Valid.{IsValid}
@@ -84,11 +84,7 @@ placed-leaf n ws rect p h = sym (leaf-placed n ws rect) ∙ ap (option_map facts
 -- ---- sharing anew
 
 pub leaf-resized : (n : ℕ) (ws : Windows) (rect : Rect) → leaf_at n (resized ws rect) ≡ leaf_at n ws
-leaf-resized n (Window m mode margins) rect = refl
-leaf-resized n (Split side size first second) rect =
-    let new = first_size side size second rect in
-    ap (λ (o : Option Leaf). option_or o (leaf_at n (resized second (second_part side new rect)))) (leaf-resized n first (first_part side new rect))
-    ∙ ap (option_or (leaf_at n first)) (leaf-resized n second (second_part side new rect))
+leaf-resized n = resized_same (leaf_at n) option_or (λ _ _ _ _. refl)
 
 -- ---- something else in place of a window
 

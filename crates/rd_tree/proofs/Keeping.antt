@@ -1,5 +1,5 @@
 -- What changes of the windows keep.
-use Rattle.std.proofs.Common.{◌≡◌, ℕ, ◌+◌, Bool, true, false, if◌then◌else◌, ◌==◌, ◌||◌, Option, None, Some, ◌⊎◌, inl, inr, refl, sym, ap, ◌∙◌, arith}
+use Rattle.std.proofs.Common.{◌≡◌, ℕ, ◌+◌, Bool, true, false, if◌then◌else◌, ◌==◌, ◌||◌, Option, None, Some, ◌⊎◌, inl, inr, refl, sym, ap, ap₂, ◌∙◌, arith}
 use Rattle.std.specs.Prelude.{is_some}
 use Rattle.std.proofs.lemmas.Bool.{and_parts, and_from, cases_Bool, false≢true}
 use Rattle.std.proofs.Math.Bool.{and-true, or-false}
@@ -97,13 +97,16 @@ replaced_more f w d other sum leaf (Split side size first second) e =
       | inr p ↦ rw p (omega (arith, sum side size first (replaced w other second), sum side size first second, replaced_more f w d other sum leaf second (second-holds (holds w first) (holds w second) p e)))
     ]
 
-pub resized_same : (f : Windows → ℕ) → IsSum f → (windows : Windows) (rect : Rect) → f (resized windows rect) ≡ f windows
-resized_same f sum (Window n mode margins) rect = refl
-resized_same f sum (Split side size first second) rect =
+-- what windows have by what each part of theirs has is the same where they share a rectangle anew
+pub resized_same : {X : Type 0} (f : Windows → X) (join : X → X → X) → ((side : Side) (size : ℕ) (first second : Windows) → f (Split side size first second) ≡ join (f first) (f second))
+    → (windows : Windows) (rect : Rect) → f (resized windows rect) ≡ f windows
+resized_same f join parts (Window n mode margins) rect = refl
+resized_same f join parts (Split side size first second) rect =
     let new = first_size side size second rect in
     let a = first_part side new rect in
     let b = second_part side new rect in
-    omega (arith, sum side new (resized first a) (resized second b), sum side size first second, resized_same f sum first a, resized_same f sum second b)
+    parts side new (resized first a) (resized second b)
+    ∙ (ap₂ join (resized_same f join parts first a) (resized_same f join parts second b) ∙ sym (parts side size first second))
 
 window_has : (f : Windows → ℕ) (w d : ℕ) → ((n : ℕ) (mode : Bool) (margins : ℕ) → (n == w) ≡ true → f (Window n mode margins) ≡ d) → (windows : Windows) → is_leaf_of w windows ≡ true → f windows ≡ d
 window_has f w d leaf (Window n mode margins) e = leaf n mode margins e
@@ -144,8 +147,8 @@ removed_less f w d sum leaf (Split side size first second) rect e s =
     let b = second_part side size rect in
     let whole = sum side size first second in
     by_way (λ left _ _. f left + d ≡ f (Split side size first second)) w side size first second rect
-    (λ p. omega (arith, whole, resized_same f sum second rect, window_has f w d leaf first p))
-    (λ p. omega (arith, whole, resized_same f sum first rect, window_has f w d leaf second p))
+    (λ p. omega (arith, whole, resized_same f ◌+◌ sum second rect, window_has f w d leaf first p))
+    (λ p. omega (arith, whole, resized_same f ◌+◌ sum first rect, window_has f w d leaf second p))
     (λ h many. omega (arith, whole, sum side size (removed w first a) second, removed_less f w d sum leaf first a h many))
     (λ h there.
     omega (arith, whole, sum side size first (removed w second b), removed_less f w d sum leaf second b (there e).0 (there e).1))

@@ -15,11 +15,11 @@ use Rattle.rd_tree.specs.declared.rect.Rect.{Rect}
 use Rattle.rd_tree.specs.declared.side.Side.{Side}
 use Rattle.rd_tree.specs.declared.side.Side.TheVariants.{Below, Right}
 use Rattle.rd_tree.specs.declared.placed.Placed.{Placed}
-use Rattle.rd_tree.specs.Windows.{Windows, Window, Split, columns_for, rows_for, first_part, second_part, HasRoom, first_size, resized, leaves, placed, window_at, holds, replaced, is_leaf_of, is_single, sibling, removed, times}
+use Rattle.rd_tree.specs.Windows.{Windows, Window, Split, columns_for, rows_for, first_part, second_part, HasRoom, resized, leaves, placed, window_at, holds, replaced, is_leaf_of, is_single, sibling, removed, times}
 use Rattle.rd_tree.specs.Calls.{Configuration, IsValid, frame_of, rect_of_placed}
 use Rattle.rd_tree.specs.Places.{is_from, lies_in, windows_with, AllHaveRoom, in_place_of, replaced_first, without, is_among, IsWithin, StandsIn, LiesIn}
 use Rattle.rd_tree.proofs.Rooms.{rows_for-some, room_within, of_number-append}
-use Rattle.rd_tree.proofs.Keeping.{found_held, placed_among, by_way}
+use Rattle.rd_tree.proofs.Keeping.{found_held, placed_among, by_way, resized_same}
 
 -- a place in a range that is cut is in one of the two parts
 is_from-cut : (first size whole place : ℕ) → size ≤ whole → bit_of (is_from first size place) + bit_of (is_from (first + size) (whole - size) place) ≡ bit_of (is_from first whole place)
@@ -97,10 +97,7 @@ replaced_places w other (Split side size first second) rect =
 
 -- the windows of a rectangle that is shared anew are the same in the same order
 pub resized_leaves : (windows : Windows) (rect : Rect) → leaves (resized windows rect) ≡ leaves windows
-resized_leaves (Window number mode margins) rect = refl
-resized_leaves (Split side size first second) rect =
-    let new = first_size side size second rect in
-    rw (resized_leaves first (first_part side new rect), resized_leaves second (second_part side new rect)) refl
+resized_leaves = resized_same leaves ◌++◌ (λ _ _ _ _. refl)
 
 -- sharing the same rectangle anew changes nothing
 pub resized_same_place : (windows : Windows) (rect : Rect) → HasRoom windows rect → resized windows rect ≡ windows

@@ -109,4 +109,4 @@ unfolding count
 resize_valid c width height valid w h needs =
     let rect = frame width height in
     with_windows c (resized c.windows rect) width height valid w h (resized_room c.windows rect (room_first_parts c.windows (frame_of c) valid.room) needs)
-    (omega (arith, resized_same count count-sum c.windows rect)) (λ v. omega (arith, resized_same (times v) (times-sum v) c.windows rect))
+    (omega (arith, resized_same count ◌+◌ count-sum c.windows rect)) (λ v. omega (arith, resized_same (times v) ◌+◌ (times-sum v) c.windows rect))
