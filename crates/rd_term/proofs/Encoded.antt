@@ -1,7 +1,7 @@
 -- The bytes of a character, read by a terminal that stands between two sequences.
 use Rattle.std.proofs.Common.{◌≡◌, ◌≢◌, ℕ, ◌+◌, ◌*◌, ◌/◌, ◌%◌, ◌<◌, ◌≤◌, ◌==◌, Bool, true, false, nat_lt, nat_le, List, [], ◌∷◌, Option, Some, refl, sym, ap, ◌∙◌, arith, inl, inr}
 use Rattle.std.specs.Char.{encode_utf8}
-use Rattle.std.proofs.lemmas.Bool.{cases_lt, cases_eq, le-ltb, ne_eqb}
+use Rattle.std.proofs.lemmas.Bool.{cases_lt, cases_eq, lt-ltb, le-ltb, ne_eqb}
 use Rattle.std.proofs.lemmas.Bool.Decides.{nat_tests}
 use Rattle.rd_base.specs.Chars.{is_scalar, columns_of}
 use Rattle.rd_base.specs.Faces.{Attributes}
@@ -154,25 +154,12 @@ module _ (region : Option (ℕ × ℕ)) (rows : Rows) (cursor : Option (ℕ × �
   pub encoded_fed : (code : ℕ) → is_scalar code ≡ true → (code == 27) ≡ false → Fed code (encode_utf8 code)
   unfolding encode_utf8
   encoded_fed code scalar plain = elim (cases_lt code 128) [
-    | inl one ↦
-        let t : nat_lt code 128 ≡ true = grind (arith, nat_tests) in
-        rw t (one-fed code plain t)
+    | inl one ↦ rw (lt-ltb code 128 one) (one-fed code plain (lt-ltb code 128 one))
     | inr past ↦ elim (cases_lt code 2048) [
-      | inl two ↦
-          let f : nat_lt code 128 ≡ false = grind (arith, nat_tests) in
-          let t : nat_lt code 2048 ≡ true = grind (arith, nat_tests) in
-          rw (f, t) (fed-two code past two)
+      | inl two ↦ rw (le-ltb code 128 past, lt-ltb code 2048 two) (fed-two code past two)
       | inr more ↦ elim (cases_lt code 65536) [
-        | inl three ↦
-            let f : nat_lt code 128 ≡ false = grind (arith, nat_tests) in
-            let g : nat_lt code 2048 ≡ false = grind (arith, nat_tests) in
-            let t : nat_lt code 65536 ≡ true = grind (arith, nat_tests) in
-            rw (f, g, t) (fed-three code scalar more three)
-        | inr four ↦
-            let f : nat_lt code 128 ≡ false = grind (arith, nat_tests) in
-            let g : nat_lt code 2048 ≡ false = grind (arith, nat_tests) in
-            let h : nat_lt code 65536 ≡ false = grind (arith, nat_tests) in
-            rw (f, g, h) (fed-four code four (scalar-most code scalar))
+        | inl three ↦ rw (le-ltb code 128 past, le-ltb code 2048 more, lt-ltb code 65536 three) (fed-three code scalar more three)
+        | inr four ↦ rw (le-ltb code 128 past, le-ltb code 2048 more, le-ltb code 65536 four) (fed-four code four (scalar-most code scalar))
       ]
     ]
   ]
