@@ -10,28 +10,28 @@ use Rattle.rd_order.proofs.Places.{same_run, comes_of, Comes-within, Comes-sourc
 use Rattle.rd_order.proofs.Reversals.{l2_visual_order-length, l2_visual_order-comes, highest-bounds}
 
 -- the same with equal numbers
-moved : (f : ℕ → ℕ) (n base p : ℕ) {m k q r : ℕ} → m ≡ k → q ≡ r → Comes f n base m p q → Comes f n base k p r
-moved f n base p same at c = subst₂ (λ (i x : ℕ). Comes f n base i p x) same at c
+Comes-equal : (f : ℕ → ℕ) (n base p : ℕ) {m k q r : ℕ} → m ≡ k → q ≡ r → Comes f n base m p q → Comes f n base k p r
+Comes-equal f n base p same at c = subst₂ (λ (i x : ℕ). Comes f n base i p x) same at c
 
 -- levels above a place's own leave it
 climb : (f : ℕ → ℕ) (n base m j p q : ℕ) → f q ≤ base + m → Comes f n base m p q → Comes f n base (j + m) p q
-climb f n base m zero p q low c = moved f n base p (omega arith) refl c
+climb f n base m zero p q low c = Comes-equal f n base p (omega arith) refl c
 climb f n base m (suc j) p q low c =
     let all : suc (j + m) ≡ suc j + m = omega arith in
-    moved f n base p all refl (q, climb f n base m j p q low c, inl (omega arith, refl))
+    Comes-equal f n base p all refl (q, climb f n base m j p q low c, inl (omega arith, refl))
 
 unmoved : (f : ℕ → ℕ) (n base m p q : ℕ) → f q < base + suc m → Comes f n base (suc m) p q → Comes f n base m p q
-unmoved f n base m p q low (r, c, inl still) = moved f n base p refl (sym still.1) c
+unmoved f n base m p q low (r, c, inl still) = Comes-equal f n base p refl (sym still.1) c
 unmoved f n base m p q low (r, c, inr t) =
     let from = t.from in let to = t.to in let image = t.image in
     let high = t.run.high q (omega arith) (omega arith) in
     absurd (omega arith)
 
 descend : (f : ℕ → ℕ) (n base m j p q : ℕ) → f q ≤ base + m → Comes f n base (j + m) p q → Comes f n base m p q
-descend f n base m zero p q low c = moved f n base p (omega arith) refl c
+descend f n base m zero p q low c = Comes-equal f n base p (omega arith) refl c
 descend f n base m (suc j) p q low c =
     let all : suc j + m ≡ suc (j + m) = omega arith in
-    descend f n base m j p q low (unmoved f n base (j + m) p q (omega arith) (moved f n base p all refl c))
+    descend f n base m j p q low (unmoved f n base (j + m) p q (omega arith) (Comes-equal f n base p all refl c))
 
 -- the reversals above a level at q and those from it on are all of them
 all-reversals : (base m q : ℕ) (levels : List ℕ) → (0 < m → base + m ≤ get_or levels q 0) → q < length levels → (highest levels - base - m) + m ≡ highest levels - base
@@ -48,7 +48,7 @@ pub shows : (base m p q : ℕ) (levels : List ℕ) → (0 < m → base + m ≤ g
 shows base m p q levels high low within c =
     let f : ℕ → ℕ = λ i. get_or levels i 0 in
     let total = highest levels - base in
-    let whole = moved f (length levels) base p (all-reversals base m q levels high within) refl (climb f (length levels) base m (total - m) p q low c) in
+    let whole = Comes-equal f (length levels) base p (all-reversals base m q levels high within) refl (climb f (length levels) base m (total - m) p q low c) in
     let p_within = Comes-source f (length levels) base m p q c within in
     let size = l2_visual_order-length base levels in
     slice_get-get_or (l2_visual_order base levels) p 0 (omega arith) ∙ ap Some (l2_visual_order-comes base levels p q p_within whole)
@@ -67,7 +67,7 @@ placed base p q levels at =
     let there = l2_visual_order-comes base levels p found.0 p_within found.1 in
     let said = slice_get-get_or (l2_visual_order base levels) p 0 inside in
     let whole_at : Some q ≡ Some found.0 = sym at ∙ said ∙ ap Some there in
-    (p_within, moved f n base p refl (cc) found.1)
+    (p_within, Comes-equal f n base p refl (cc) found.1)
 
 -- what the order gives is an index of the line
 pub gives-within : (base p q : ℕ) (levels : List ℕ) → slice_get (l2_visual_order base levels) p ≡ Some q → (p < length levels) × (q < length levels)
@@ -82,7 +82,7 @@ known base p q levels m low high at =
     let f : ℕ → ℕ = λ i. get_or levels i 0 in
     let total = highest levels - base in
     let all = sym (all-reversals base m q levels high (gives-within base p q levels at).1) in
-    descend f (length levels) base m (total - m) p q low (moved f (length levels) base p all refl (placed base p q levels at).1)
+    descend f (length levels) base m (total - m) p q low (Comes-equal f (length levels) base p all refl (placed base p q levels at).1)
 
 -- the neighbour in the same run stands at the next place
 pub beside : (f : ℕ → ℕ) (n base m p q r : ℕ) → IsNextTo m q r → q < n → r < n → (0 < m → base + m ≤ f q) → (0 < m → base + m ≤ f r)
@@ -127,7 +127,7 @@ AreRuns f n base m j a b = (i : ℕ) → m < i → i ≤ m + j → IsRun f n (ba
 -- entering the runs
 pub enter : (f : ℕ → ℕ) (n base m j p q r a b : ℕ) → AreRuns f n base m j a b → a ≤ q → q < b → IsTurnedBy j a b q r
     → Comes f n base m p q → Comes f n base (j + m) p r
-enter f n base m zero p q r a b runs from to turn c = moved f n base p (omega arith) (sym (turn.even refl)) c
+enter f n base m zero p q r a b runs from to turn c = Comes-equal f n base p (omega arith) (sym (turn.even refl)) c
 enter f n base m (suc j) p q r a b runs from to turn c =
     let even = turn.even in let odd = turn.odd in
     let s = a + b - suc r in
@@ -137,7 +137,7 @@ enter f n base m (suc j) p q r a b runs from to turn c =
     let below = enter f n base m j p q s a b (λ i more less. runs i more (omega arith)) from to before c in
     let all : suc (j + m) ≡ suc j + m = omega arith in
     let run : IsRun f n (base + suc (j + m)) a b = runs (suc (j + m)) (omega arith) (omega arith) in
-    moved f n base p all refl (s, below, inr (record { a = a; b = b; run = run; from = omega arith; to = omega arith; image = omega arith }))
+    Comes-equal f n base p all refl (s, below, inr (record { a = a; b = b; run = run; from = omega arith; to = omega arith; image = omega arith }))
 
 -- one turn back
 came : (f : ℕ → ℕ) (n k a b q : ℕ) → IsRun f n k a b → a ≤ q → q < b → (base m p : ℕ) → base + suc m ≡ k → Comes f n base (suc m) p q
@@ -149,17 +149,17 @@ came f n k a b q run from to base m p e (r, c, inr t) =
     let t_run : IsRun f n k t.a t.b = subst (λ (l : ℕ). IsRun f n l t.a t.b) e t.run in
     let one = same_run f n k a b t.a t.b q run t_run from to (omega arith) (omega arith) in
     let e1 = one.0 in let e2 = one.1 in
-    moved f n base p refl (omega arith) c
+    Comes-equal f n base p refl (omega arith) c
 
 -- leaving the runs
 pub leave : (f : ℕ → ℕ) (n base m j p q r a b : ℕ) → AreRuns f n base m j a b → a ≤ q → q < b → IsTurnedBy j a b q r
     → Comes f n base (j + m) p q → Comes f n base m p r
-leave f n base m zero p q r a b runs from to turn c = moved f n base p (omega arith) (sym (turn.even refl)) c
+leave f n base m zero p q r a b runs from to turn c = Comes-equal f n base p (omega arith) (sym (turn.even refl)) c
 leave f n base m (suc j) p q r a b runs from to turn c =
     let even = turn.even in let odd = turn.odd in
     let all : suc j + m ≡ suc (j + m) = omega arith in
     let run : IsRun f n (base + suc (j + m)) a b = runs (suc (j + m)) (omega arith) (omega arith) in
-    let back = came f n (base + suc (j + m)) a b q run from to base (j + m) p refl (moved f n base p all refl c) in
+    let back = came f n (base + suc (j + m)) a b q run from to base (j + m) p refl (Comes-equal f n base p all refl c) in
     let before : IsTurnedBy j a b (a + b - suc q) r = record { even = λ e. omega arith; odd = λ e. omega arith } in
     leave f n base m j p (a + b - suc q) r a b (λ i more less. runs i more (omega arith)) (omega arith) (omega arith) before back
 
@@ -187,7 +187,7 @@ pub entered : (f : ℕ → ℕ) (n base level lowest a b p q r : ℕ) → base �
 entered f n base level lowest a b p q r up rise run high from to turn c =
     let runs = runs-between f n base level lowest a b up rise run.order run.within high run.before run.after in
     let all : (lowest - level) + (level - base) ≡ lowest - base = omega arith in
-    moved f n base p all refl (enter f n base (level - base) (lowest - level) p q r a b runs from to turn c)
+    Comes-equal f n base p all refl (enter f n base (level - base) (lowest - level) p q r a b runs from to turn c)
 
 -- the runs that are left at once: those from a level down to the highest level beside them
 pub left_at : (f : ℕ → ℕ) (n base level outer a b p q r : ℕ) → base ≤ outer → outer < level → IsRun f n level a b → BeginsLow f (outer + 1) a
@@ -195,14 +195,14 @@ pub left_at : (f : ℕ → ℕ) (n base level outer a b p q r : ℕ) → base �
 left_at f n base level outer a b p q r up fall run low_before low_after from to turn c =
     let runs = runs-between f n base outer level a b up fall run.order run.within run.high low_before low_after in
     let all : level - base ≡ (level - outer) + (outer - base) = omega arith in
-    leave f n base (outer - base) (level - outer) p q r a b runs from to turn (moved f n base p all refl c)
+    leave f n base (outer - base) (level - outer) p q r a b runs from to turn (Comes-equal f n base p all refl c)
 
 -- at the end of the line in the direction of the base nothing is left
 pub last : (base m p q : ℕ) (levels : List ℕ) → m ≡ 0 → Comes (λ i. get_or levels i 0) (length levels) base m p q
     → IsBeside (λ i. get_or levels i 0) (length levels) base m q None → slice_get (l2_visual_order base levels) (p + 1) ≡ None
 last base m p q levels e c none =
     let size = l2_visual_order-length base levels in
-    let at : q ≡ p = moved (λ i. get_or levels i 0) (length levels) base p e refl c in
+    let at : q ≡ p = Comes-equal (λ i. get_or levels i 0) (length levels) base p e refl c in
     let past : length levels ≤ suc q = elim (cases_lt (suc q) (length levels)) [
       | inl less ↦
           let even : m % 2 ≡ 0 = omega arith in
