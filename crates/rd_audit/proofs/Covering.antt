@@ -1,5 +1,5 @@
 -- The runs of faces of a row, read back.
-use Rattle.std.proofs.Common.{◌≡◌, ◌==◌, ℕ, ◌+◌, ◌-◌, ◌<◌, ◌≤◌, ◌&&◌, not, nat_lt, nat_le, Bool, true, false, if◌then◌else◌, None, Some, option_and_then, decimal, List, [], ◌∷◌, ◌++◌, length, refl, sym, ap, ap₂, subst, ◌∙◌, arith, append_assoc, append-nil, length-append, true≢false}
+use Rattle.std.proofs.Common.{◌≡◌, ◌==◌, ℕ, ◌+◌, ◌-◌, ◌<◌, ◌≤◌, ◌&&◌, not, Bool, true, false, if◌then◌else◌, None, Some, option_and_then, decimal, List, [], ◌∷◌, ◌++◌, length, refl, sym, ap, ap₂, subst, ◌∙◌, arith, append_assoc, append-nil, length-append, true≢false}
 use Rattle.std.specs.List.{AllByRecursion, concat}
 use Rattle.std.specs.Prelude.{All}
 use Rattle.std.proofs.lemmas.Bool.Decides.{nat_tests}
@@ -183,18 +183,12 @@ fits-there : (from n : ℕ) (face : Attributes) (done front back : List Cell) �
 fits-there from n face done front back less size some start next =
     let cells = done ++ plainly (front ++ back) in
     let last = length done + n - 1 in
-    let a : nat_le from (length done) ≡ true = grind (arith, nat_tests) in
-    let b : nat_le (length done) last ≡ true = grind (arith, nat_tests) in
     let within : last < length cells = omega (arith, length-append done (plainly (front ++ back)), length-map (front ++ back) (with_face plain), length-append front back, size, some) in
-    let c : nat_lt last (length cells) ≡ true = grind (arith, nat_tests) in
     let d : is_edge cells (length done) ≡ true = edge-seam done (front ++ back) start in
     let behind : length (done ++ plainly front) ≡ last + 1 = omega (arith, length-append done (plainly front), length-map front (with_face plain), size, some) in
     let whole : (done ++ plainly front) ++ plainly back ≡ cells = append_assoc done (plainly front) (plainly back) ∙ ap (λ l. done ++ l) (sym (map-append (with_face plain) front back)) in
     let e : is_edge cells (last + 1) ≡ true = sym (ap₂ is_edge whole behind) ∙ edge-seam (done ++ plainly front) back next in
-    and-five (nat_le from (length done)) (nat_le (length done) last) (nat_lt last (length cells)) (is_edge cells (length done)) (is_edge cells (last + 1)) a b c d e
-  where
-    and-five : (a b c d e : Bool) → a ≡ true → b ≡ true → c ≡ true → d ≡ true → e ≡ true → (a && b && c && d && e) ≡ true
-    and-five a b c d e p q r s t = rw (p, q, r, s, t) refl
+    grind (arith, nat_tests)
 
 painted-there : (n : ℕ) (face : Attributes) (done front back : List Cell) → length front ≡ n → 0 < n → AreOf face front
     → painted_by (run_at (length done) (length done + n - 1) face) (done ++ plainly (front ++ back)) ≡ (done ++ front) ++ plainly back

@@ -1,5 +1,5 @@
 -- Numbers below 1,000, read back.
-use Rattle.std.proofs.Common.{◌≡◌, ◌==◌, ℕ, ◌+◌, ◌-◌, ◌*◌, ◌/◌, ◌%◌, ◌<◌, ◌≤◌, nat_le, true, false, Option, Some, option_and_then, decimal, List, [], ◌∷◌, ◌++◌, inl, inr, refl, ap, ap₂, ◌∙◌, arith}
+use Rattle.std.proofs.Common.{◌≡◌, ℕ, ◌+◌, ◌*◌, ◌/◌, ◌%◌, ◌<◌, ◌≤◌, true, Option, Some, option_and_then, decimal, List, [], ◌∷◌, ◌++◌, inl, inr, ap, ap₂, ◌∙◌, arith}
 use Rattle.std.proofs.lemmas.Bool.{cases_lt}
 use Rattle.std.proofs.lemmas.Bool.Decides.{nat_tests}
 use Rattle.std.proofs.lemmas.Fmt.{decimal_digit, decimal_step}
@@ -8,16 +8,10 @@ use Rattle.rd_audit.specs.Numbers.{digit, lead, longer, number_of, pair_of}
 use Rattle.rd_audit.proofs.Lacking.{cut-seam, is_no_digit, lacks-decimal}
 
 digit-read : (d : ℕ) → d < 10 → digit (48 + d) ≡ Some d
-digit-read d less =
-    let low : nat_le 48 (48 + d) ≡ true = grind (arith, nat_tests) in
-    let high : nat_le (48 + d) 57 ≡ true = grind (arith, nat_tests) in
-    let same : 48 + d - 48 ≡ d = omega arith in
-    rw (low, high, same) refl
+digit-read d less = grind (arith, nat_tests)
 
 lead-read : (d : ℕ) → 0 < d → d < 10 → lead (48 + d) ≡ Some d
-lead-read d some less =
-    let other : (48 + d == 48) ≡ false = grind (arith, nat_tests) in
-    rw other (digit-read d less)
+lead-read d some less = grind (arith, nat_tests)
 
 two-digits : (n : ℕ) → 10 ≤ n → n < 100 → decimal n ≡ (48 + n / 10) ∷ (48 + n % 10) ∷ []
 two-digits n low high = decimal_step n low (omega arith) ∙ ap (λ l. l ++ (48 + n % 10) ∷ []) (decimal_digit (n / 10) (omega arith))

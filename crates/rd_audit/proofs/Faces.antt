@@ -1,5 +1,5 @@
 -- The numbers of a face, and the run that they stand in, read back.
-use Rattle.std.proofs.Common.{◌≡◌, ◌==◌, ℕ, ◌+◌, ◌-◌, ◌<◌, ◌≤◌, ◌&&◌, not, nat_lt, nat_le, Bool, true, false, if◌then◌else◌, Option, None, Some, option_and_then, decimal, List, [], ◌∷◌, ◌++◌, inl, inr, refl, sym, ap, ap₂, subst, ◌∙◌, arith, append-nil, true≢false}
+use Rattle.std.proofs.Common.{◌≡◌, ◌==◌, ℕ, ◌+◌, ◌<◌, ◌≤◌, ◌&&◌, not, Bool, true, false, if◌then◌else◌, Option, None, Some, option_and_then, decimal, List, [], ◌∷◌, ◌++◌, inl, inr, refl, ap, ap₂, subst, ◌∙◌, arith, append-nil, true≢false}
 use Rattle.std.proofs.lemmas.Bool.{and_from, and_parts, cases_eq}
 use Rattle.std.proofs.lemmas.Bool.Decides.{nat_tests}
 use Rattle.rd_base.specs.Cells.{HasColours}
@@ -80,44 +80,27 @@ read-more place n face (m ∷ ns) p q =
 
 -- ---- the numbers of a face
 
--- a number from 30 on is that of a colour
-of-colour : (n : ℕ) → 30 ≤ n → ((n == 0) ≡ false) × ((n == 1) ≡ false) × ((n == 4) ≡ false) × ((n == 7) ≡ false)
-    × (nat_le 30 n ≡ true) × (nat_lt n 30 ≡ false)
-of-colour n h = (grind (arith, nat_tests), grind (arith, nat_tests), grind (arith, nat_tests), grind (arith, nat_tests), grind (arith, nat_tests), grind (arith, nat_tests))
-
-background : (place : ℕ) (f : Attributes) (colour : ℕ) → f.bg ≡ 8 → nat_lt place 40 ≡ true → colour ≤ 8
+background : (place : ℕ) (f : Attributes) (colour : ℕ) → f.bg ≡ 8 → place < 40 → colour ≤ 8
     → with_numbers place f (there (colour_number colour 40 ∷ [])) ≡ Some (record f { bg = colour })
 background place f colour none behind range = elim (cases_eq colour 8) [
-  | inl same ↦
-      let e : f.bg ≡ colour = none ∙ sym same in
-      let t : (colour == 8) ≡ true = grind (arith, nat_tests) in
-      rw t (ap (λ c. Some (record f { bg = c })) e)
+  | inl same ↦ rw same (ap (λ c. Some (record f { bg = c })) none)
   | inr other ↦
       let t : (colour == 8) ≡ false = grind (arith, nat_tests) in
-      let a = of-colour (40 + colour) (omega arith) in
-      let g : nat_le (40 + colour) 37 ≡ false = grind (arith, nat_tests) in
-      let h : nat_le 40 (40 + colour) ≡ true = grind (arith, nat_tests) in
-      let i : nat_le (40 + colour) 47 ≡ true = grind (arith, nat_tests) in
-      let k : nat_lt (40 + colour) 40 ≡ false = grind (arith, nat_tests) in
-      let l : 40 + colour - 40 ≡ colour = omega arith in
-      rw (t, a.0, a.1, a.2, a.3, a.4, a.5, g, h, i, k, behind, l) refl
+      let stands : comes_behind place (40 + colour) ≡ true = grind (arith, nat_tests) in
+      let coloured : dressed (40 + colour) f ≡ record f { bg = colour } = grind (arith, nat_tests) in
+      rw (t, stands, coloured) refl
 ]
 
-foreground : (place : ℕ) (f : Attributes) (colour other : ℕ) → f.fg ≡ 8 → f.bg ≡ 8 → nat_lt place 30 ≡ true → colour ≤ 8 → other ≤ 8
+foreground : (place : ℕ) (f : Attributes) (colour other : ℕ) → f.fg ≡ 8 → f.bg ≡ 8 → place < 30 → colour ≤ 8 → other ≤ 8
     → with_numbers place f (there (colour_number colour 30 ∷ colour_number other 40 ∷ [])) ≡ Some (record f { fg = colour; bg = other })
-foreground place f colour other none none' behind range range' = elim (cases_eq colour 8) [
-  | inl same ↦
-      let e : f.fg ≡ colour = none ∙ sym same in
-      let t : (colour == 8) ≡ true = grind (arith, nat_tests) in
-      let far : nat_lt place 40 ≡ true = grind (arith, nat_tests) in
-      rw t (background place f other none' far range' ∙ ap (λ c. Some (record f { fg = c; bg = other })) e)
+foreground place f colour other none none_behind before range range_behind = elim (cases_eq colour 8) [
+  | inl same ↦ rw same (background place f other none_behind (omega arith) range_behind ∙ ap (λ c. Some (record f { fg = c; bg = other })) none)
   | inr apart ↦
       let t : (colour == 8) ≡ false = grind (arith, nat_tests) in
-      let a = of-colour (30 + colour) (omega arith) in
-      let g : nat_le (30 + colour) 37 ≡ true = grind (arith, nat_tests) in
-      let k : nat_lt (30 + colour) 40 ≡ true = grind (arith, nat_tests) in
-      let l : 30 + colour - 30 ≡ colour = omega arith in
-      rw (t, a.0, a.1, a.2, a.3, a.4, a.5, g, k, behind, l) (background 30 (record f { fg = colour }) other none' refl range')
+      let stands : comes_behind place (30 + colour) ≡ true = grind (arith, nat_tests) in
+      let here : place_of (30 + colour) ≡ 30 = grind (arith, nat_tests) in
+      let coloured : dressed (30 + colour) f ≡ record f { fg = colour } = grind (arith, nat_tests) in
+      rw (t, stands, here, coloured) (background 30 (record f { fg = colour }) other none_behind (omega arith) range_behind)
 ]
 
 abbrev face_by : Bool → Bool → Bool → ℕ → ℕ → Attributes
@@ -125,14 +108,14 @@ face_by bold underline inverse fg bg = record { fg = fg; bg = bg; bold = bold; u
 
 flags : (bold underline inverse : Bool) (fg bg : ℕ) → fg ≤ 8 → bg ≤ 8
     → with_numbers 0 plain (there (numbers_of_face (face_by bold underline inverse fg bg))) ≡ Some (face_by bold underline inverse fg bg)
-flags false false false fg bg p q = foreground 0 plain fg bg refl refl refl p q
-flags false false true fg bg p q = foreground 7 (face_by false false true 8 8) fg bg refl refl refl p q
-flags false true false fg bg p q = foreground 4 (face_by false true false 8 8) fg bg refl refl refl p q
-flags false true true fg bg p q = foreground 7 (face_by false true true 8 8) fg bg refl refl refl p q
-flags true false false fg bg p q = foreground 1 (face_by true false false 8 8) fg bg refl refl refl p q
-flags true false true fg bg p q = foreground 7 (face_by true false true 8 8) fg bg refl refl refl p q
-flags true true false fg bg p q = foreground 4 (face_by true true false 8 8) fg bg refl refl refl p q
-flags true true true fg bg p q = foreground 7 (face_by true true true 8 8) fg bg refl refl refl p q
+flags false false false fg bg p q = foreground 0 plain fg bg refl refl (omega arith) p q
+flags false false true fg bg p q = foreground 7 (face_by false false true 8 8) fg bg refl refl (omega arith) p q
+flags false true false fg bg p q = foreground 4 (face_by false true false 8 8) fg bg refl refl (omega arith) p q
+flags false true true fg bg p q = foreground 7 (face_by false true true 8 8) fg bg refl refl (omega arith) p q
+flags true false false fg bg p q = foreground 1 (face_by true false false 8 8) fg bg refl refl (omega arith) p q
+flags true false true fg bg p q = foreground 7 (face_by true false true 8 8) fg bg refl refl (omega arith) p q
+flags true true false fg bg p q = foreground 4 (face_by true true false 8 8) fg bg refl refl (omega arith) p q
+flags true true true fg bg p q = foreground 7 (face_by true true true 8 8) fg bg refl refl (omega arith) p q
 
 all-small : (bold underline inverse : Bool) (fg bg : ℕ) → fg ≤ 8 → bg ≤ 8 → AreSmall (there (numbers_of_face (face_by bold underline inverse fg bg)))
 all-small bold underline inverse fg bg p q = flag-small bold 1 _ (omega arith) (flag-small underline 4 _ (omega arith) (flag-small inverse 7 _ (omega arith)

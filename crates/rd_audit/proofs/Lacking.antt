@@ -1,6 +1,6 @@
 -- Bytes that lack a byte, and where they are cut by it.
-use Rattle.std.proofs.Common.{◌≡◌, ◌==◌, ℕ, zero, suc, ◌+◌, ◌/◌, ◌%◌, ◌<◌, ◌||◌, not, nat_lt, Bool, true, false, if◌then◌else◌, None, Some, option_map, decimal, List, [], ◌∷◌, ◌++◌, refl, ap, ◌∙◌, arith}
-use Rattle.std.proofs.lemmas.Bool.{and_from, and_parts, not-true}
+use Rattle.std.proofs.Common.{◌≡◌, ◌==◌, ℕ, zero, suc, ◌/◌, ◌%◌, ◌<◌, ◌||◌, not, nat_lt, Bool, true, false, if◌then◌else◌, None, Some, option_map, decimal, List, [], ◌∷◌, ◌++◌, get_or, refl, sym, ap, ◌∙◌, arith}
+use Rattle.std.proofs.lemmas.Bool.{and_from, and_parts, not-true, eqb-false}
 use Rattle.std.proofs.lemmas.Bool.Decides.{nat_tests, Decides-eqb}
 use Rattle.std.specs.List.{All, AllByRecursion, list_all}
 use Rattle.std.proofs.lemmas.List.Elements.{All-cons, All-nil}
@@ -10,7 +10,7 @@ use Rattle.std.specs.Fmt.{digits, digits_onto, digit_glyph}
 use Rattle.rd_io.specs.Lines.{lines_of}
 use Rattle.rd_base.specs.Cuts.{cut}
 use Rattle.rd_audit.specs.Cuts.{cut_last_or, cut_last, pieces}
-use Rattle.rd_audit.proofs.Cutting.{lines-cut}
+use Rattle.rd_audit.proofs.Cutting.{lines-cut, last-none}
 
 -- whether bytes do not have a byte
 abbrev pub lacks : ℕ → List ℕ → Bool
@@ -30,10 +30,7 @@ abbrev pub is_no_digit : ℕ → Bool
 is_no_digit byte = nat_lt byte 48 || nat_lt 57 byte
 
 glyph-other : (byte d : ℕ) → is_no_digit byte ≡ true → d < 10 → not (digit_glyph false d == byte) ≡ true
-glyph-other byte d other less =
-    let small : nat_lt d 10 ≡ true = grind (arith, nat_tests) in
-    let apart : (48 + d == byte) ≡ false = grind (arith, nat_tests) in
-    rw (small, apart) refl
+glyph-other byte d other less = grind (arith, nat_tests)
 
 onto-step : (byte k n : ℕ) (acc : List ℕ) (t : Bool) → (lacks byte acc ≡ true → lacks byte (digits_onto k 10 false (n / 10) acc) ≡ true) → lacks byte acc ≡ true
     → lacks byte (if t then acc else digits_onto k 10 false (n / 10) acc) ≡ true
@@ -75,13 +72,8 @@ pieces-one byte bytes h = slice_split_none (λ b. b == byte) bytes (all-other by
 pub lines-seam : (line back : List ℕ) → lacks 10 line ≡ true → lines_of (line ++ 10 ∷ back) ≡ line ∷ lines_of back
 lines-seam line back h = lines-cut (line ++ 10 ∷ back) line back (cut-seam 10 line back h)
 
-last-none : (byte : ℕ) (bytes : List ℕ) → lacks byte bytes ≡ true → cut_last byte bytes ≡ None
-last-none byte [] h = refl
-last-none byte (b ∷ bs) h =
-    let both = and_parts (not (b == byte)) (lacks byte bs) h in
-    ap (cut_last_or byte b bs) (last-none byte bs both.1) ∙ ap (λ t. if t then Some ([], bs) else None) (not-true (b == byte) both.0)
-
 pub last-seam : (byte : ℕ) (front back : List ℕ) → lacks byte back ≡ true → cut_last byte (front ++ byte ∷ back) ≡ Some (front, back)
 last-seam byte [] back h =
-    ap (cut_last_or byte byte back) (last-none byte back h) ∙ ap (λ t. if t then Some ([], back) else None) ((Decides-eqb byte byte).1 refl)
+    ap (cut_last_or byte byte back) (sym (last-none byte back (λ k less. eqb-false (get_or back k 0) byte (all-other byte back h k 0 less))))
+    ∙ ap (λ t. if t then Some ([], back) else None) ((Decides-eqb byte byte).1 refl)
 last-seam byte (b ∷ bs) back h = ap (cut_last_or byte b (bs ++ byte ∷ back)) (last-seam byte bs back h)

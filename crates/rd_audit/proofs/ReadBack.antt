@@ -1,5 +1,5 @@
 -- A dump that was printed, read back.
-use Rattle.std.proofs.Common.{◌≡◌, ◌==◌, ℕ, ◌+◌, ◌<◌, ◌≤◌, ◌&&◌, nat_lt, nat_le, Bool, true, false, if◌then◌else◌, Option, None, Some, option_and_then, option_map, unwrap_or, Result, Ok, Err, decimal, codes, List, [], ◌∷◌, ◌++◌, length, map, refl, sym, ap, ap₂, ◌∙◌, arith, append_assoc, append-nil, length-append}
+use Rattle.std.proofs.Common.{◌≡◌, ◌==◌, ℕ, ◌+◌, ◌<◌, ◌≤◌, ◌&&◌, nat_lt, nat_le, Bool, true, false, if◌then◌else◌, Option, None, Some, option_and_then, option_map, unwrap_or, Result, Ok, Err, decimal, codes, List, [], ◌∷◌, ◌++◌, length, map, refl, sym, ap, ◌∙◌, arith, append_assoc, append-nil, length-append}
 use Rattle.std.specs.Prelude.{All}
 use Rattle.std.proofs.lemmas.Bool.Decides.{nat_tests, Decides-eqb}
 use Rattle.std.proofs.lemmas.List.Elements.{All-head, All-tail}
@@ -51,10 +51,7 @@ abbrev IsAsWide : ℕ → List (List Cell) → Type 0
 IsAsWide width rows = (cells : List Cell) → length cells ≡ width → is_as_wide rows cells ≡ true
 
 first-wide : (width : ℕ) → 12 ≤ width → width ≤ 400 → IsAsWide width []
-first-wide width low high cells e =
-    let a : nat_le 12 (length cells) ≡ true = grind (arith, nat_tests) in
-    let b : nat_le (length cells) 400 ≡ true = grind (arith, nat_tests) in
-    ap₂ (λ x y. x && y) a b
+first-wide width low high cells e = grind (arith, nat_tests)
 
 more-wide : (width : ℕ) (rows : List (List Cell)) (cells : List Cell) → IsAsWide width rows → length cells ≡ width → IsAsWide width (rows ++ cells ∷ [])
 more-wide width [] cells wide e other f = (Decides-eqb (length other) (length cells)).1 (f ∙ sym e)
@@ -93,12 +90,11 @@ cursor-read picture h =
     let row : picture.row < length rows = h.whole.row in
     let column : picture.column < width_of rows = h.whole.column in
     let two : nat_le 2 (length rows) ≡ true = let tall = h.tall in grind (arith, nat_tests) in
-    let a : nat_lt picture.row (length rows) ≡ true = grind (arith, nat_tests) in
-    let b : nat_lt picture.column (width_of rows) ≡ true = grind (arith, nat_tests) in
+    let inside : (nat_lt picture.row (length rows) && nat_lt picture.column (width_of rows)) ≡ true = grind (arith, nat_tests) in
     ap (λ t. if t then option_and_then (λ (place : ℕ × ℕ). if nat_lt place.0 (length rows) && nat_lt place.1 (width_of rows) then Some place else None) (place_in (cursor_body picture)) else None) two
     ∙ ap (option_and_then (λ (place : ℕ × ℕ). if nat_lt place.0 (length rows) && nat_lt place.1 (width_of rows) then Some place else None))
     (pair-read 44 picture.row picture.column refl (omega (arith, row, h.screen.tall)) (omega (arith, column, h.screen.wide)))
-    ∙ ap (λ t. if t then Some (picture.row, picture.column) else None) (ap₂ (λ x y. x && y) a b)
+    ∙ ap (λ t. if t then Some (picture.row, picture.column) else None) inside
 
 -- the lines of a group
 abbrev group_of : Picture → List (List ℕ) → List (List ℕ)

@@ -1,9 +1,9 @@
 -- The text of a row, read back.
-use Rattle.std.proofs.Common.{◌≡◌, ◌==◌, ℕ, zero, suc, ◌+◌, ◌-◌, ◌/◌, ◌%◌, ◌<◌, ◌≤◌, nat_lt, true, false, if◌then◌else◌, Option, None, Some, option_and_then, option_map, List, [], ◌∷◌, ◌++◌, length, map, take, drop, get_or, replicate, inl, inr, refl, sym, ap, ap₂, ◌∙◌, arith, append_assoc, append-nil, length-append, length-take}
+use Rattle.std.proofs.Common.{◌≡◌, ◌==◌, ℕ, zero, suc, ◌+◌, ◌-◌, ◌<◌, ◌≤◌, nat_lt, true, false, if◌then◌else◌, Option, None, Some, option_and_then, option_map, List, [], ◌∷◌, ◌++◌, length, map, take, drop, get_or, replicate, refl, sym, ap, ap₂, ◌∙◌, arith, append_assoc, append-nil, length-append, length-take}
 use Rattle.std.specs.Char.{encode_utf8}
 use Rattle.std.specs.List.{AllByRecursion, flat_map}
 use Rattle.std.specs.Str.{all_scalars, encode_utf8_all, chars}
-use Rattle.std.proofs.lemmas.Bool.{cases_lt, cond-true}
+use Rattle.std.proofs.lemmas.Bool.{cond-true}
 use Rattle.std.proofs.lemmas.Bool.Decides.{nat_tests}
 use Rattle.std.proofs.lemmas.Str.{chars-encodes, is_utf8-from_IsUtf8}
 use Rattle.std.proofs.Math.Seq.{set-append_seam}
@@ -68,28 +68,7 @@ newline-columns = refl
 -- the bytes of a character but a newline hold none
 encode-lacks : (code : ℕ) → (code == 10) ≡ false → lacks 10 (encode_utf8 code) ≡ true
 unfolding encode_utf8
-encode-lacks code other = elim (cases_lt code 128) [
-  | inl one ↦
-      let t : nat_lt code 128 ≡ true = grind (arith, nat_tests) in
-      rw (t, other) refl
-  | inr past ↦
-      let f : nat_lt code 128 ≡ false = grind (arith, nat_tests) in
-      let a : (192 + code / 64 == 10) ≡ false = grind (arith, nat_tests) in
-      let b : (128 + code % 64 == 10) ≡ false = grind (arith, nat_tests) in
-      let c : (224 + code / 4096 == 10) ≡ false = grind (arith, nat_tests) in
-      let d : (128 + code / 64 % 64 == 10) ≡ false = grind (arith, nat_tests) in
-      let e : (240 + code / 262144 == 10) ≡ false = grind (arith, nat_tests) in
-      let g : (128 + code / 4096 % 64 == 10) ≡ false = grind (arith, nat_tests) in
-      elim (cases_lt code 2048) [
-        | inl two ↦ let t : nat_lt code 2048 ≡ true = grind (arith, nat_tests) in rw (f, t, a, b) refl
-        | inr more ↦
-            let h : nat_lt code 2048 ≡ false = grind (arith, nat_tests) in
-            elim (cases_lt code 65536) [
-              | inl three ↦ let t : nat_lt code 65536 ≡ true = grind (arith, nat_tests) in rw (f, h, t, c, d, b) refl
-              | inr four ↦ let k : nat_lt code 65536 ≡ false = grind (arith, nat_tests) in rw (f, h, k, e, g, d, b) refl
-            ]
-      ]
-]
+encode-lacks code other = grind (arith, nat_tests)
 
 encodes-lack : (codes : List ℕ) → AreShown codes → lacks 10 (encode_utf8_all codes) ≡ true
 encodes-lack [] h = refl
