@@ -73,8 +73,5 @@ fn put_row(alloc: Global, walker: &mut Walker, elements: &mut ListOf<Element>) -
 fn is_row_end(look: Look) -> bool
     ensures { result ≡ is_row_end look }
 {
-    match look {
-        Look::RowEnd => true,
-        _ => false,
-    }
+    matches!(look, Look::RowEnd)
 }
