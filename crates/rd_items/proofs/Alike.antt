@@ -1,5 +1,6 @@
 -- Positions up to the next stop are shown alike, and so are those from the last.
-use Rattle.std.proofs.Common.{◌≡◌, ◌⊎◌, inl, inr, ℕ, ◌+◌, ◌-◌, ◌<◌, ◌≤◌, sym, ap, ◌∙◌, arith}
+use Rattle.std.proofs.Common.{◌≡◌, inl, inr, ℕ, ◌+◌, ◌-◌, ◌<◌, ◌≤◌, sym, ap, ◌∙◌, arith}
+use Rattle.std.proofs.lemmas.Bool.{cases_lt}
 use Rattle.rd_objects.specs.Things.{ObjectLists}
 use Rattle.rd_props.specs.Buffers.{BufferValue}
 use Rattle.rd_props.specs.Stops.{IsNextStop, IsLastStop, LookAlike}
@@ -10,13 +11,10 @@ use Rattle.rd_items.specs.declared.showing.Showing.{Showing}
 module _ (s : BufferValue) (o : ObjectLists) (first stop : ℕ) (look : LookAlike s o first stop) where
   -- the positions up to a stop are shown as the first is
   as-first : (q : ℕ) → first ≤ q → q < stop → showing_at s o q ≡ showing_at s o first
-  as-first q low before = by-place (split low) where
-    split : first ≤ q → (q ≡ first) ⊎ (first < q)
-    split low = grind arith
-
-    by-place : (q ≡ first) ⊎ (first < q) → showing_at s o q ≡ showing_at s o first
-    by-place (inl e) = rw e
-    by-place (inr later) = ap (showing_by s.settings.invisible) (look.appearance q later before)
+  as-first q low before = elim (cases_lt first q) [
+    | inl later ↦ ap (showing_by s.settings.invisible) (look.appearance q later before)
+    | inr here ↦ let same : q ≡ first = omega arith in ap (showing_at s o) same
+  ]
 
   -- and as any of them
   alike-within : (p : ℕ) (showing : Showing) → first ≤ p → p < stop → (first < s.text.end → stop ≤ s.text.end) → showing ≡ showing_at s o p → IsAlikeRange s o (record { from = first; until = stop; showing = showing })
