@@ -1,8 +1,8 @@
 -- A step leads from a valid state to a valid one: settings, margin strings, objects and new buffers.
-use Rattle.std.proofs.Common.{◌≡◌, ℕ, zero, suc, ◌<◌, ◌≤◌, Bool, true, false, is_some, cond, Option, None, Some, List, [], ◌∷◌, ◌++◌, length, subst, sym, ap, refl, ◌∙◌, arith, length-append, IsTrue}
-use Rattle.std.proofs.lemmas.Bool.{ltb-true, ltb-false, leb-false}
+use Rattle.std.proofs.Common.{◌≡◌, ℕ, zero, suc, ◌<◌, ◌≤◌, true, is_some, inl, inr, Option, None, Some, List, [], ◌∷◌, ◌++◌, length, subst, sym, ap, refl, ◌∙◌, arith, length-append, IsTrue}
+use Rattle.std.proofs.lemmas.Bool.{cases_cond, ltb-true, ltb-false, leb-false}
 use Rattle.std.proofs.lemmas.List.Elements.{All-nil}
-use Rattle.std.proofs.lemmas.Option.{none-some}
+use Rattle.std.proofs.lemmas.Option.{none-some, same_Some}
 use Rattle.std.specs.Cmp.{nat_cmp_total}
 use Rattle.std.specs.FinMap as finite
 use Rattle.std.specs.FinMap.{get, get-insert, get-remove, get-empty}
@@ -74,17 +74,15 @@ setting-keeps o value form c d v h =
 
 -- ---- margin strings
 
-cond-some : (t : Bool) (w old : Option ℕ) (x : ℕ) (P : Type 0) → cond t w old ≡ Some x → (w ≡ Some x → P) → (old ≡ Some x → P) → P
-cond-some true w old x P h f g = f h
-cond-some false w old x P h f g = g h
-
 margin-made : (count : ℕ) (m : MarkValues) (number : ℕ) (string : Option ℕ) → is_made count string ≡ true → ((k x : ℕ) → get m k ≡ Some x → x < count)
     → (k x : ℕ) → get (marked m number string) k ≡ Some x → x < count
 margin-made count m number None made old k x h =
-    cond-some (eq_by_cmp nat_cmp k number) None (get m k) x (x < count) (sym (get-remove nat_cmp_total m number k) ∙ h) (λ e. absurd (cc)) (old k x)
+    elim (cases_cond (eq_by_cmp nat_cmp k number) None (get m k) (Some x) (sym h ∙ get-remove nat_cmp_total m number k)) [ inl e ↦ absurd (none-some x (sym e)) | inr e ↦ old k x (sym e) ]
 margin-made count m number (Some n) made old k x h =
-    cond-some (eq_by_cmp nat_cmp k number) (Some n) (get m k) x (x < count) (sym (get-insert nat_cmp_total m number n k) ∙ h)
-    (λ e. let same : n ≡ x = cc in subst (λ (y : ℕ). y < count) same (ltb-true n count made)) (old k x)
+    elim (cases_cond (eq_by_cmp nat_cmp k number) (Some n) (get m k) (Some x) (sym h ∙ get-insert nat_cmp_total m number n k)) [
+      | inl e ↦ subst (λ (y : ℕ). y < count) (same_Some n x (sym e)) (ltb-true n count made)
+      | inr e ↦ old k x (sym e)
+    ]
 
 pub margin-keeps : (o : ObjectLists) (number : ℕ) (string : Option ℕ) → Keeps o (λ p. p) (margin_putting o number string)
 margin-keeps o number string c d v h =
