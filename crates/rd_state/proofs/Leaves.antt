@@ -1,8 +1,8 @@
 -- What a window tree says of its windows, and how it changes.
 use Rattle.std.proofs.Common.{◌≡◌, ◌≢◌, ℕ, ◌≤◌, ◌==◌, ◌||◌, Bool, true, false, is_some, if◌then◌else◌, Option, None, Some, sym, ap, refl, ◌∙◌, arith}
-use Rattle.std.proofs.lemmas.Bool.{eqb-true, false_from_ne_true, cond-false, cond-true, eq-eqb, ne_eqb, or_left, or_right}
+use Rattle.std.proofs.lemmas.Bool.{eqb-true, false_from_ne_true, cond-false, cond_both, cond-true, eq-eqb, ne_eqb, or_left, or_right}
 use Rattle.std.proofs.lemmas.Iterator.Adapters.{option_map_id}
-use Rattle.rd_base.proofs.Choices.{none-both, or-first, map-or, map-some, none-of}
+use Rattle.rd_base.proofs.Choices.{is_some-map, none-both, or-first, map-or, map-some, none-of}
 use Rattle.std.specs.Prelude.{option_map}
 use Rattle.std.specs.Option.{option_or}
 use Rattle.rd_tree.proofs.Keeping.{is_some-if, is_some-or, by_way, removed_less, resized_same}
@@ -21,12 +21,6 @@ use Rattle.rd_state.proofs.Options.{or-none}
 
 abbrev pub Leaf : Type 0
 Leaf = Bool × ℕ
-
--- ---- options
-
-map-or-some : {X Y : Type 0} (f : X → Y) (o p : Option X) (q : Option Y) → is_some o ≡ true → option_or (option_map f o) q ≡ option_map f (option_or o p)
-map-or-some f None p q h = absurd (cc)
-map-or-some f (Some x) p q h = refl
 
 -- ---- finding
 
@@ -53,11 +47,6 @@ leaf-first n first second h = or-first (leaf_at n first) (leaf_at n second) (lea
 
 or-second : (n : ℕ) (first second : Windows) → holds n first ≡ false → option_or (leaf_at n first) (leaf_at n second) ≡ leaf_at n second
 or-second n first second h = ap (λ (o : Option Leaf). option_or o (leaf_at n second)) (leaf-none n first h)
-
--- the windows of one of two trees
-either-leaf : (k : ℕ) (t : Bool) (a b : Windows) (x : Option Leaf) → (t ≡ true → leaf_at k a ≡ x) → (t ≡ false → leaf_at k b ≡ x) → leaf_at k (if t then a else b) ≡ x
-either-leaf k true a b x h g = h refl
-either-leaf k false a b x h g = g refl
 
 -- ---- what is placed
 
@@ -90,24 +79,25 @@ leaf-resized n = resized_same (leaf_at n) option_or (λ _ _ _ _. refl)
 
 pub leaf-other : (n k : ℕ) (other : Bool → ℕ → Windows) (ws : Windows) → k ≢ n → ((mode : Bool) (margins : ℕ) → leaf_at k (other mode margins) ≡ None)
     → leaf_at k (replaced n other ws) ≡ leaf_at k ws
-leaf-other n k other (Window m mode margins) ne none = either-leaf k (m == n) (other mode margins) (Window m mode margins) (leaf_at k (Window m mode margins))
+leaf-other n k other (Window m mode margins) ne none = cond_both (m == n) (other mode margins) (Window m mode margins) (λ ws. leaf_at k ws ≡ leaf_at k (Window m mode margins))
     (λ h. none mode margins ∙ sym (leaf-past k m mode margins (λ p. ne (sym p ∙ eqb-true m n h)))) (λ h. refl)
 leaf-other n k other (Split side size first second) ne none =
-    either-leaf k (holds n first) (Split side size (replaced n other first) second) (Split side size first (replaced n other second))
-    (option_or (leaf_at k first) (leaf_at k second))
+    cond_both (holds n first) (Split side size (replaced n other first) second) (Split side size first (replaced n other second))
+    (λ ws. leaf_at k ws ≡ option_or (leaf_at k first) (leaf_at k second))
     (λ h. ap (λ (o : Option Leaf). option_or o (leaf_at k second)) (leaf-other n k other first ne none))
     (λ h. ap (option_or (leaf_at k first)) (leaf-other n k other second ne none))
 
 pub leaf-same : (n : ℕ) (other : Bool → ℕ → Windows) (g : Leaf → Leaf) (ws : Windows) → ((mode : Bool) (margins : ℕ) → leaf_at n (other mode margins) ≡ Some (g (mode, margins)))
     → leaf_at n (replaced n other ws) ≡ option_map g (leaf_at n ws)
-leaf-same n other g (Window m mode margins) gives = either-leaf n (m == n) (other mode margins) (Window m mode margins) (option_map g (leaf_at n (Window m mode margins)))
+leaf-same n other g (Window m mode margins) gives = cond_both (m == n) (other mode margins) (Window m mode margins) (λ ws. leaf_at n ws ≡ option_map g (leaf_at n (Window m mode margins)))
     (λ h. gives mode margins ∙ sym (ap (option_map g) (leaf-here n m mode margins (eqb-true m n h))))
     (λ h. let past = cond-false (m == n) (Some (mode, margins)) None h in past ∙ sym (ap (option_map g) past))
 leaf-same n other g (Split side size first second) gives =
-    either-leaf n (holds n first) (Split side size (replaced n other first) second) (Split side size first (replaced n other second))
-    (option_map g (option_or (leaf_at n first) (leaf_at n second)))
+    cond_both (holds n first) (Split side size (replaced n other first) second) (Split side size first (replaced n other second))
+    (λ ws. leaf_at n ws ≡ option_map g (option_or (leaf_at n first) (leaf_at n second)))
     (λ h. ap (λ (o : Option Leaf). option_or o (leaf_at n second)) (leaf-same n other g first gives)
-    ∙ map-or-some g (leaf_at n first) (leaf_at n second) (leaf_at n second) (leaf-some n first h))
+    ∙ (or-first (option_map g (leaf_at n first)) (leaf_at n second) (is_some-map g (leaf_at n first) (leaf-some n first h))
+    ∙ sym (ap (option_map g) (leaf-first n first second h))))
     (λ h. ap (option_or (leaf_at n first)) (leaf-same n other g second gives)
     ∙ (ap (λ (o : Option Leaf). option_or o (option_map g (leaf_at n second))) (leaf-none n first h)
     ∙ sym (ap (option_map g) (or-second n first second h))))
@@ -133,13 +123,13 @@ new-half n side size new mode margins ne =
 
 pub split-new : (n : ℕ) (side : Side) (size new : ℕ) (ws : Windows) → n ≢ new → leaf_at new ws ≡ None → leaf_at new (split_at n side size new ws) ≡ leaf_at n ws
 split-new n side size new (Window m mode margins) ne none =
-    either-leaf new (m == n) (halves n side size new mode margins) (Window m mode margins) (leaf_at n (Window m mode margins))
+    cond_both (m == n) (halves n side size new mode margins) (Window m mode margins) (λ ws. leaf_at new ws ≡ leaf_at n (Window m mode margins))
     (λ h. new-half n side size new mode margins ne ∙ sym (leaf-here n m mode margins (eqb-true m n h)))
     (λ h. none ∙ sym (cond-false (m == n) (Some (mode, margins)) None h))
 split-new n side size new (Split s z first second) ne none =
     let parts = none-both (leaf_at new first) (leaf_at new second) none in
-    either-leaf new (holds n first) (Split s z (split_at n side size new first) second) (Split s z first (split_at n side size new second))
-    (option_or (leaf_at n first) (leaf_at n second))
+    cond_both (holds n first) (Split s z (split_at n side size new first) second) (Split s z first (split_at n side size new second))
+    (λ ws. leaf_at new ws ≡ option_or (leaf_at n first) (leaf_at n second))
     (λ h. ap (λ (o : Option Leaf). option_or o (leaf_at new second)) (split-new n side size new first ne parts.0)
     ∙ (ap (option_or (leaf_at n first)) parts.1 ∙ (or-none (leaf_at n first) ∙ sym (leaf-first n first second h))))
     (λ h. ap (option_or (leaf_at new first)) (split-new n side size new second ne parts.1)

@@ -1,5 +1,5 @@
 -- What an option holds, and choices of options.
-use Rattle.std.proofs.Common.{◌≡◌, ℕ, ◌<◌, Bool, true, is_some, Option, None, Some, ap, refl, sym, List, length, nat_lt, arith}
+use Rattle.std.proofs.Common.{◌≡◌, ℕ, ◌<◌, Bool, Option, None, Some, ap, refl, sym, List, length, nat_lt, arith}
 use Rattle.std.proofs.lemmas.Bool.{ltb-true}
 use Rattle.std.proofs.lemmas.Option.{cond_some}
 use Rattle.std.specs.List.{position_or_len}
@@ -14,10 +14,6 @@ one-value o x y h k = cc
 pub or-none : {X : Type 0} (o : Option X) → option_or o None ≡ o
 or-none None = refl
 or-none (Some x) = refl
-
-pub some-or : {X : Type 0} (o p : Option X) → is_some o ≡ true → is_some (option_or o p) ≡ true
-some-or None p h = absurd (cc)
-some-or (Some x) p h = refl
 
 pub map-map : {X Y Z : Type 0} (f : X → Y) (g : Y → Z) (h : X → Z) (o : Option X) → ((x : X) → g (f x) ≡ h x) → option_map g (option_map f o) ≡ option_map h o
 map-map f g h None e = refl

@@ -1,6 +1,6 @@
 -- That a step leads from a valid state to a valid one: windows and the frame.
 use Rattle.std.proofs.Common.{◌≡◌, ◌≢◌, ℕ, ◌+◌, ◌-◌, ◌<◌, ◌≤◌, inl, inr, ◌==◌, Bool, true, false, is_some, cond, if◌then◌else◌, nat_lt, ℤ, pos, negsuc, Option, None, Some, Result, Ok, List, [], ◌∷◌, ◌++◌, length, subst, sym, ap, refl, ◌∙◌, arith, IsTrue}
-use Rattle.std.proofs.lemmas.Bool.{cases_eq, eqb-false, ltb-true, ltb-false, cond-false, cond-true, eq-eqb, ne_eqb}
+use Rattle.std.proofs.lemmas.Bool.{cases_eq, cond_both, eqb-false, ltb-true, ltb-false, cond-false, cond-true, or_left, eq-eqb, ne_eqb}
 use Rattle.std.proofs.lemmas.Bool.Decides.{nat_tests}
 use Rattle.std.specs.Int.{int_max}
 use Rattle.std.proofs.lemmas.Int.{ints}
@@ -15,6 +15,7 @@ use Rattle.rd_script.specs.Forms.{IsFormat}
 use Rattle.rd_script.specs.Numbers.{is_near_zero}
 use Rattle.rd_tree.specs.Calls as tree
 use Rattle.rd_tree.specs.Calls.{Configuration, frame_of, split_tree, remove_tree, resize_tree, mode_tree, margins_tree}
+use Rattle.rd_tree.proofs.Keeping.{is_some-or}
 use Rattle.rd_tree.proofs.Steps.{split-means, remove-means, resize-means, mode-means, margins-means}
 use Rattle.rd_tree.specs.Windows.{Windows, Window, holds, is_single, split_at, removed, replaced, resized, first_leaf, sibling}
 use Rattle.rd_tree.specs.declared.fault.TreeFault.{TreeFault}
@@ -30,7 +31,7 @@ use Rattle.rd_state.proofs.Keeping.{window-placed, windows-changed}
 use Rattle.rd_state.proofs.Leaves.{Leaf, leaf-resized, leaf-same, leaf-other, split-same, split-other, split-new, removed-same, removed-other, heir-held, is_some-leaf, unmade}
 use Rattle.rd_state.proofs.StepParts.{found, unless, tree-if, treed-if, placing-if}
 use Rattle.rd_state.proofs.Tests.{is_accessible-means}
-use Rattle.rd_state.proofs.Options.{map-map, one-value, or-none, some-or}
+use Rattle.rd_state.proofs.Options.{map-map, one-value, or-none}
 use Rattle.rd_state.proofs.WithParts.{with_parts}
 
 -- ---- a state with other windows, in the frame that there is
@@ -223,7 +224,7 @@ split-windows s d number side size w copy v valid is found leaf new =
         | inl p ↦ v.windows.each k e p
         | inr p ↦ subst (λ (x : NumberedWindow). IsWindow s.buffers x.1) (sym p.1) new
       ];
-      selected = subst IsSome (sym (window-end s.selected s.windows (made, copy))) (some-or (window_of s.selected s.windows) _ v.windows.selected);
+      selected = subst IsSome (sym (window-end s.selected s.windows (made, copy))) (is_some-or (window_of s.selected s.windows) _ ∙ or_left _ _ v.windows.selected);
     }
 
 copy-keeps : (bs : List BufferValue) (w : WindowState) → IsWindow bs w → IsWindow bs (record w { forced = false; pending = pos 0 })
@@ -249,10 +250,6 @@ some-window : (o : Option WindowState) → is_some (option_map leaf_of o) ≡ tr
 some-window None h = absurd (cc)
 some-window (Some w) h = refl
 
-selected-after : (t : Bool) (heir old : ℕ) (ws : List NumberedWindow) → (t ≡ true → IsSome (window_of heir ws)) → (t ≡ false → IsSome (window_of old ws)) → IsSome (window_of (if t then heir else old) ws)
-selected-after true heir old ws h g = h refl
-selected-after false heir old ws h g = g refl
-
 removed-windows : (s : StateValue) (d : Configuration) (number : ℕ) (w : WindowState) → IsValid s → tree.IsValid d → holds number s.tree.windows ≡ true → is_single s.tree.windows ≡ false
     → d.windows ≡ removed number s.tree.windows (frame_of s.tree) → window_of number s.windows ≡ Some w
     → AreWindows s.buffers d (without_window number s.windows) (if s.selected == number then first_leaf (sibling number s.tree.windows) else s.selected)
@@ -275,7 +272,7 @@ removed-windows s d number w v valid there many is found =
       apart = apart;
       each = each-entry (IsWindow s.buffers) (IsWindow s.buffers) s.windows left apart (λ k. none-past number k (λ x. None) s.windows)
           (each-without (Hands (IsWindow s.buffers) (IsWindow s.buffers) s.windows) (λ k x lives old. old) number s.windows v.windows.apart) v.windows.each;
-      selected = selected-after (s.selected == number) heir s.selected left
+      selected = cond_both (s.selected == number) heir s.selected (λ n. IsSome (window_of n left))
           (λ h. some-window (window_of heir left) (sym (ap (λ (o : Option Leaf). is_some o) (leaves heir))
           ∙ (is_some-leaf heir d.windows ∙ (ap (holds heir) is ∙ heir-held number s.tree.windows (frame_of s.tree)))))
           (λ h. subst IsSome (sym (window-past number s.selected (λ x. None) s.windows (eqb-false s.selected number h))) v.windows.selected);
