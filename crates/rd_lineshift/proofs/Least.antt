@@ -30,41 +30,35 @@ least : (f : Shift → ℕ) (xs : List Shift) → IsLeast f xs (cheapest f xs)
 least f [] = refl
 least f (x ∷ xs) = least-step f x xs (cheapest f xs) (least f xs)
 
-gains-if : (f : Shift → ℕ) (rows : ℕ) (xs : List Shift) (b : Bool) (r s : Shift) → nat_le (f r + 3) rows ≡ b → AllByRecursion (λ t. f r ≤ f t) xs
-    → (if b then Some r else None) ≡ Some s → (f s + 3 ≤ rows) × AllByRecursion (λ t. f s ≤ f t) xs
-gains-if f rows xs true r s e h g =
-    let is : r ≡ s = cc in
-    let le : f r + 3 ≤ rows = grind (arith, nat_tests) in
-    subst (λ x. (f x + 3 ≤ rows) × AllByRecursion (λ t. f x ≤ f t) xs) is (le, h)
-gains-if f rows xs false r s e h g = absurd (cc)
+-- of what is taken of the least: it spares three of so many rows, and no shift costs less; where none is taken, each spares fewer
+abbrev Tells : (Shift → ℕ) → ℕ → List Shift → Option Shift → Type 0
+Tells f rows xs s = MatchOption s (AllByRecursion (λ t. rows < f t + 3) xs) (λ s. (f s + 3 ≤ rows) × AllByRecursion (λ t. f s ≤ f t) xs)
 
-gains : (f : Shift → ℕ) (rows : ℕ) (xs : List Shift) (r : Option Shift) (s : Shift) → IsLeast f xs r → if_gains f rows r ≡ Some s → (f s + 3 ≤ rows) × AllByRecursion (λ t. f s ≤ f t) xs
-gains f rows xs None s h g = absurd (cc)
-gains f rows xs (Some r) s h g = gains-if f rows xs (nat_le (f r + 3) rows) r s refl h g
-
-none-if : (f : Shift → ℕ) (rows : ℕ) (xs : List Shift) (b : Bool) (r : Shift) → nat_le (f r + 3) rows ≡ b → AllByRecursion (λ t. f r ≤ f t) xs
-    → (if b then Some r else None) ≡ None → AllByRecursion (λ t. rows < f t + 3) xs
-none-if f rows xs true r e h g = absurd (cc)
-none-if f rows xs false r e h g =
+gains-if : (f : Shift → ℕ) (rows : ℕ) (xs : List Shift) (b : Bool) (r : Shift) → nat_le (f r + 3) rows ≡ b → AllByRecursion (λ t. f r ≤ f t) xs → Tells f rows xs (if b then Some r else None)
+gains-if f rows xs true r e h = (grind (arith, nat_tests), h)
+gains-if f rows xs false r e h =
     let lt : rows < f r + 3 = grind (arith, nat_tests) in
     each-weaker (λ t. f r ≤ f t) (λ t. rows < f t + 3) (λ t k. omega (arith, lt, k)) xs h
 
-none-gains : (f : Shift → ℕ) (rows : ℕ) (xs : List Shift) (r : Option Shift) → IsLeast f xs r → if_gains f rows r ≡ None → AllByRecursion (λ t. rows < f t + 3) xs
-none-gains f rows xs None h g = subst (λ ys. AllByRecursion (λ t. rows < f t + 3) ys) (sym h) tt
-none-gains f rows xs (Some r) h g = none-if f rows xs (nat_le (f r + 3) rows) r refl h g
+gains : (f : Shift → ℕ) (rows : ℕ) (xs : List Shift) (r : Option Shift) → IsLeast f xs r → Tells f rows xs (if_gains f rows r)
+gains f rows xs None h = subst (λ ys. AllByRecursion (λ t. rows < f t + 3) ys) (sym h) tt
+gains f rows xs (Some r) h = gains-if f rows xs (nat_le (f r + 3) rows) r refl h
+
+told : (current target : Picture) (bands : List Band) (s : Option Shift) → choice (Some current) target bands ≡ s
+    → Tells (cost current target) (differing current.rows target.rows) (flat_map shifts_of bands) s
+told current target bands s e =
+    let f = cost current target in
+    let xs = flat_map shifts_of bands in
+    let rows = differing current.rows target.rows in
+    subst (Tells f rows xs) e (gains f rows xs (cheapest f xs) (least f xs))
 
 pub taken-least : (current target : Picture) (bands : List Band) (s : Shift) → choice (Some current) target bands ≡ Some s
     → (cost current target s + 3 ≤ differing current.rows target.rows) × All (λ t. cost current target s ≤ cost current target t) (flat_map shifts_of bands)
 taken-least current target bands s e =
-    let f = cost current target in
-    let xs = flat_map shifts_of bands in
-    let h = gains f (differing current.rows target.rows) xs (cheapest f xs) s (least f xs) e in
-    (h.0, All-from_recursion (λ t. f s ≤ f t) xs h.1)
+    let h = told current target bands (Some s) e in
+    (h.0, All-from_recursion (λ t. cost current target s ≤ cost current target t) (flat_map shifts_of bands) h.1)
 
 pub none-least : (current target : Picture) (bands : List Band) → choice (Some current) target bands ≡ None
     → All (λ t. differing current.rows target.rows < cost current target t + 3) (flat_map shifts_of bands)
 none-least current target bands e =
-    let f = cost current target in
-    let xs = flat_map shifts_of bands in
-    let rows = differing current.rows target.rows in
-    All-from_recursion (λ t. differing current.rows target.rows < f t + 3) xs (none-gains f rows xs (cheapest f xs) (least f xs) e)
+    All-from_recursion (λ t. differing current.rows target.rows < cost current target t + 3) (flat_map shifts_of bands) (told current target bands None e)
