@@ -1,15 +1,15 @@
 -- Where the item that covers a point begins, among all rows of a source and in a view.
-use Rattle.std.proofs.Common.{◌≡◌, ℕ, suc, ◌+◌, ◌-◌, ◌<◌, ◌≤◌, inl, inr, Bool, true, false, cond, ◌||◌, List, [], ◌∷◌, length, take, drop, slice_get, option_map, is_some, Option, None, Some, refl, sym, ap, ◌∙◌, arith}
+use Rattle.std.proofs.Common.{◌≡◌, ℕ, suc, ◌+◌, ◌-◌, ◌<◌, ◌≤◌, inl, inr, true, false, cond, ◌||◌, List, [], ◌∷◌, length, take, drop, slice_get, option_map, is_some, Option, None, Some, refl, sym, ap, ◌∙◌, arith}
 use Rattle.std.proofs.lemmas.Bool.{cases_Bool}
 use Rattle.std.proofs.lemmas.List.{length-take}
 use Rattle.std.proofs.lemmas.Option.{slice_get_within}
 use Rattle.std.proofs.lemmas.Map.Keys.{any_passes_from_place}
 use Rattle.std.specs.List.{count_by, find, list_any}
-use Rattle.rd_base.proofs.Lists.{count-cons}
+use Rattle.rd_base.proofs.Lists.{count-cons, is_some-found}
 use Rattle.rd_matrix.proofs.Covering.{count_at, few-whole}
 use Rattle.rd_matrix.proofs.Passing.{at-position, one-position, some-counted}
 use Rattle.rd_matrix.specs.Blocks.{IsWithin}
-use Rattle.rd_matrix.specs.Columns.{column_in, covers, shown_column}
+use Rattle.rd_matrix.specs.Columns.{covers, shown_column}
 use Rattle.rd_matrix.specs.Cursors.{column_shown, cursor_in, or_below}
 use Rattle.rd_matrix.specs.Entries.{EntryMeaning}
 use Rattle.rd_matrix.specs.Sources.{IsSource, SourceValues, rows_at}
@@ -38,20 +38,17 @@ rows-counted point (e ∷ es) =
 
 -- ---- the cursor of a list of rows
 
-column-any : (start point : ℕ) (bs : List Begin) → list_any (covers start point) bs ≡ is_some (column_in start point bs)
-column-any start point [] = refl
-column-any start point (b ∷ bs) = by (covers start point b) (column-any start point bs) where
-  by : (t : Bool) → list_any (covers start point) bs ≡ is_some (column_in start point bs)
-      → (t || list_any (covers start point) bs) ≡ is_some (option_map (λ (x : Begin). x.column) (cond t (Some b) (find (covers start point) bs)))
-  by true behind = refl
-  by false behind = behind
+-- a mapped option has a value where the option has one
+some-mapped : {X Y : Type 0} (f : X → Y) (o : Option X) → is_some (option_map f o) ≡ is_some o
+some-mapped f None = refl
+some-mapped f (Some x) = refl
 
 -- a row has the beginning exactly where it is shown in a column
 begins-shown : (point : ℕ) (e : EntryMeaning) → begins_item point e ≡ is_some (column_shown point e)
-begins-shown point e = column-any e.start point e.row.begins ∙ by (column_in e.start point e.row.begins) where
-  by : (o : Option ℕ) → is_some o ≡ is_some (option_map (shown_column e.row) o)
-  by None = refl
-  by (Some k) = refl
+begins-shown point e =
+    let found = find (covers e.start point) e.row.begins in
+    sym (some-mapped (shown_column e.row) (option_map (λ (b : Begin). b.column) found)
+    ∙ (some-mapped (λ (b : Begin). b.column) found ∙ is_some-found (covers e.start point) e.row.begins))
 
 -- the row at a place has the beginning
 abbrev HasBeginning : ℕ → List EntryMeaning → ℕ → Type 0
