@@ -32,8 +32,8 @@ use Rattle.rd_levels.specs.declared.turn.Turn.{Turn}
 use Rattle.rd_matrix.proofs.Passing.{at-position, first-inside}
 use Rattle.rd_order.proofs.Once.{is_place, once-at-least}
 use Rattle.rd_stack.specs.Strings.{place_of, run_heads, ends_row, part_by, part_of, part_joins, part_class, part_code, shown_by, shown_at, in_order, row, row_end, rows_from, string_parts}
-use Rattle.rd_stack.specs.Shown.{ellipsis_glyphs, display_part_elements, display_elements}
-use Rattle.rd_stack.specs.Lines.{item_elements_by}
+use Rattle.rd_stack.specs.Shown.{ellipsis_glyphs, display_part_elements, display_elements, kind_elements}
+use Rattle.rd_stack.specs.Lines.{put_kind}
 use Rattle.rd_stack.specs.declared.part.Place.{Place}
 use Rattle.rd_stack.specs.declared.part.Part.{Part}
 use Rattle.rd_stack.specs.declared.part.Shown.{Shown}
@@ -202,7 +202,7 @@ ellipsis-some (Some table) face origin h = glyphs-some table.ellipsis face origi
 
 -- the law of items that give an element
 abbrev pub ItemsGive : Type 0
-ItemsGive = (s : Scene) (base : ℕ) (k : ItemKind) (odd : Bool) (face : Attributes) (origin : Origin) → kind_gives s k ≡ true → 1 ≤ length (item_elements_by s base k false odd face origin)
+ItemsGive = (s : Scene) (base : ℕ) (k : ItemKind) (odd : Bool) (face : Attributes) (origin : Origin) → kind_gives s k ≡ true → 1 ≤ length (put_kind kind_elements s base k false odd face origin)
 
 pub item-some : CharactersGive → ItemsGive
 item-some law s base (item.Char c) odd face origin h = law s.parts c odd face origin (not-true (is_empty_entry (entry_of s.parts.table c)) h)
@@ -281,7 +281,7 @@ ellipsis-none : (table : Option TableValue) (face : Attributes) (origin : Origin
 ellipsis-none None face origin h = absurd (let q : true ≡ false = h in cc)
 ellipsis-none (Some table) face origin h = ap (λ text. glyph_elements face origin (unwrap_or text (ellipsis_glyphs None))) (empty-entry table.ellipsis h)
 
-pub item-none : (s : Scene) (base : ℕ) (k : ItemKind) (odd : Bool) (face : Attributes) (origin : Origin) → kind_gives s k ≡ false → item_elements_by s base k false odd face origin ≡ []
+pub item-none : (s : Scene) (base : ℕ) (k : ItemKind) (odd : Bool) (face : Attributes) (origin : Origin) → kind_gives s k ≡ false → put_kind kind_elements s base k false odd face origin ≡ []
 item-none s base (item.Char c) odd face origin h = character-none s.parts c odd face origin h
 item-none s base (item.Marked g) odd face origin h = absurd (let q : true ≡ false = h in cc)
 item-none s base (item.Text n) odd face origin h = string-none s base origin face (slice_get s.objects.strings n) h

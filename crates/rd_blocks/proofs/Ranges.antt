@@ -17,7 +17,8 @@ use Rattle.rd_matrix.specs.Held.{in_range, are_inside}
 use Rattle.rd_order.proofs.Once.{is_place, once-at-most}
 use Rattle.rd_rows.specs.Laws.{ranges_of}
 use Rattle.rd_rows.specs.Placing.{is_item}
-use Rattle.rd_stack.specs.Lines.{item_elements_by, turn_elements, origin_of, item_elements, item_class, item_code, item_turns, line_of_items}
+use Rattle.rd_stack.specs.Lines.{origin_of, item_class, item_code, item_turns, line_of_items, put_kind, put_turn, put_item}
+use Rattle.rd_stack.specs.Shown.{kind_elements}
 use Rattle.rd_stack.proofs.EachElement.{item-each}
 use Rattle.rd_base.proofs.Lists.{all-at, count-cons, follow-once}
 use Rattle.rd_base.specs.Cells.{bit_of}
@@ -36,7 +37,7 @@ abbrev AreOf : Origin → List Element → Type 0
 AreOf origin es = AllByRecursion (λ (e : Element). e.origin ≡ origin) es
 
 -- what holds of whatever has an item's origin holds of each of its elements
-item-of : (P : Element → Type 0) (s : Scene) (base : ℕ) (x : Item) (odd : Bool) (origin : Origin) → ((e : Element) → e.origin ≡ origin → P e) → AllByRecursion P (item_elements_by s base x.kind x.overlay odd x.face origin)
+item-of : (P : Element → Type 0) (s : Scene) (base : ℕ) (x : Item) (odd : Bool) (origin : Origin) → ((e : Element) → e.origin ≡ origin → P e) → AllByRecursion P (put_kind kind_elements s base x.kind x.overlay odd x.face origin)
 item-of P s base x odd origin own =
     item-each s base origin (λ f. Unit {0}) P (λ n text found i under any. tt) (λ extent l f inner any. own _ refl) x.kind x.overlay odd x.face (λ ends. own _ refl) tt
 
@@ -93,7 +94,7 @@ behind-rest (Some k) t ts behind = omega (arith, behind)
 module _ (s : Scene) (base : ℕ) (q : ℕ × ℕ → Bool) where
   -- an item that this tests has an element
   abbrev pub HasElements : Item → Type 0
-  HasElements x = (odd : Bool) (origin : Origin) → q (range_of_item x) ≡ true → 1 ≤ length (item_elements_by s base x.kind x.overlay odd x.face origin)
+  HasElements x = (odd : Bool) (origin : Origin) → q (range_of_item x) ≡ true → 1 ≤ length (put_kind kind_elements s base x.kind x.overlay odd x.face origin)
 
   none-hit : (b : Bool) (n : ℕ) → (b ≡ true → 1 ≤ n) → n ≡ 0 → bit_of b ≡ 0
   none-hit true n h none = let one = h refl in absurd (omega (arith, one, none))
@@ -114,18 +115,18 @@ module _ (s : Scene) (base : ℕ) (q : ℕ × ℕ → Bool) where
 
   counted-turn : (before : Option ℕ) (t : Turn) (o : Option Item) (rest : List Element) (n : ℕ) → is_item before t.index ≡ false → ((x : Item) → o ≡ Some x → HasElements x)
       → count_by q (ranges_of before rest) ≡ n → count_by q (ranges_of (Some t.index) rest) ≡ n
-      → count_by q (ranges_of before (turn_elements s base t o ++ rest)) ≡ hit_by q o + n
+      → count_by q (ranges_of before (put_turn kind_elements s base t o ++ rest)) ≡ hit_by q o + n
   counted-turn before t None rest n other some same later = same ∙ plus-none 0 n refl
   counted-turn before t (Some x) rest n other some same later =
-      counted-by before t x (item_elements_by s base x.kind x.overlay t.odd x.face (origin_of t.index x)) rest n other
+      counted-by before t x (put_kind kind_elements s base x.kind x.overlay t.odd x.face (origin_of t.index x)) rest n other
       (item-of (λ (e : Element). e.origin ≡ origin_of t.index x) s base x t.odd (origin_of t.index x) (λ e is. is))
       (λ h. some x refl t.odd (origin_of t.index x) h) (λ e. same) later
 
   counted : (items : List Item) (before : Option ℕ) (ts : List Turn) → ((i : ℕ) (x : Item) → slice_get items i ≡ Some x → HasElements x) → IsOnce ts → IsBehind before ts
-      → count_by q (ranges_of before (flat_map (item_elements s base items) ts)) ≡ total_in (hit q items) ts
+      → count_by q (ranges_of before (flat_map (put_item kind_elements s base items) ts)) ≡ total_in (hit q items) ts
   counted items before [] some once behind = refl
   counted items before (t ∷ ts) some once behind =
-      counted-turn before t (slice_get items t.index) (flat_map (item_elements s base items) ts) (total_in (hit q items) ts) (other-item before t ts behind)
+      counted-turn before t (slice_get items t.index) (flat_map (put_item kind_elements s base items) ts) (total_in (hit q items) ts) (other-item before t ts behind)
       (λ x at. some t.index x at)
       (counted items before ts some (once-rest t ts once) (behind-rest before t ts behind))
       (counted items (Some t.index) ts some (once-rest t ts once) (once-behind t ts once))
@@ -166,17 +167,17 @@ module _ (size : ℕ) where
   ranges-in before (e ∷ es) all =
       range-in (is_item before e.origin.item) (e.origin.from, e.origin.to) (ranges_of (Some e.origin.item) es) (all 0 e (omega arith)) (ranges-in (Some e.origin.item) es (All-tail LiesIn e es all))
 
-  turn-in : (s : Scene) (base : ℕ) (t : Turn) (o : Option Item) → ((x : Item) → o ≡ Some x → LiesWithin size (range_of_item x)) → All LiesIn (turn_elements s base t o)
+  turn-in : (s : Scene) (base : ℕ) (t : Turn) (o : Option Item) → ((x : Item) → o ≡ Some x → LiesWithin size (range_of_item x)) → All LiesIn (put_turn kind_elements s base t o)
   turn-in s base t None each = All-nil LiesIn
   turn-in s base t (Some x) each =
       let origin = origin_of t.index x in
-      All-from_recursion LiesIn (item_elements_by s base x.kind x.overlay t.odd x.face origin)
+      All-from_recursion LiesIn (put_kind kind_elements s base x.kind x.overlay t.odd x.face origin)
       (item-of LiesIn s base x t.odd origin (λ e is. subst (λ (o : Origin). LiesWithin size (o.from, o.to)) (sym is) (each x refl)))
 
-  turns-in : (s : Scene) (base : ℕ) (items : List Item) (ts : List Turn) → All (λ (x : Item). LiesWithin size (range_of_item x)) items → All LiesIn (flat_map (item_elements s base items) ts)
+  turns-in : (s : Scene) (base : ℕ) (items : List Item) (ts : List Turn) → All (λ (x : Item). LiesWithin size (range_of_item x)) items → All LiesIn (flat_map (put_item kind_elements s base items) ts)
   turns-in s base items [] all = All-nil LiesIn
   turns-in s base items (t ∷ ts) all =
-      All-append LiesIn (item_elements s base items t) (flat_map (item_elements s base items) ts)
+      All-append LiesIn (put_item kind_elements s base items t) (flat_map (put_item kind_elements s base items) ts)
       (turn-in s base t (slice_get items t.index) (λ x at. all-at (λ (y : Item). LiesWithin size (range_of_item y)) items t.index x all at)) (turns-in s base items ts all)
 
 -- what a range that holds an offset says of its item
@@ -187,7 +188,7 @@ holds-less k r h = grind (arith, nat_tests)
 pub item-has : ItemsGive → (s : Scene) (base k : ℕ) (x : Item) → nat_lt x.from x.to ≡ (not x.overlay && kind_gives s x.kind) → HasElements s base (in_range k) x
 item-has law s base k x covers = λ odd origin held.
     let parts = and_parts (not x.overlay) (kind_gives s x.kind) (sym covers ∙ lt-ltb x.from x.to (holds-less k (range_of_item x) held)) in
-    subst (λ (b : Bool). 1 ≤ length (item_elements_by s base x.kind b odd x.face origin)) (sym (not-true x.overlay parts.0))
+    subst (λ (b : Bool). 1 ≤ length (put_kind kind_elements s base x.kind b odd x.face origin)) (sym (not-true x.overlay parts.0))
     (law s base x.kind odd x.face origin parts.1)
 
 -- the items of a line: each offset is in the range of exactly one

@@ -14,7 +14,8 @@ ghost use Rattle.rd_items.specs.Pieces.{Scene};
 ghost use Rattle.rd_items.specs.declared.item.ItemKind.{ItemKind};
 ghost use Rattle.rd_rows.specs.Shapes.{ShapeValues, IsShape};
 ghost use Rattle.rd_rows.specs.Whole.{IsWhole};
-ghost use Rattle.rd_stack.specs.Lines.{item_elements_by};
+ghost use Rattle.rd_stack.specs.Lines.{put_kind};
+ghost use Rattle.rd_stack.specs.Shown.{kind_elements};
 ghost use Rattle.rd_matrix.specs.declared.block.Block.{Block};
 ghost use Rattle.rd_matrix.specs.Blocks.{IsWithin};
 ghost use Rattle.rd_matrix.specs.Sources.{IsSource, rows_at};
@@ -47,9 +48,9 @@ pub fn buffers_are_sources()
 /// positions does, and else it has none: at every base level and place, in every face. The call does nothing.
 pub fn items_that_give_have_elements()
     ensures some { (s : Scene) (base : ℕ) (kind : ItemKind) (odd : Bool) (face : Attributes) (origin : Origin)
-        → kind_gives s kind ≡ true → 1 ≤ length (item_elements_by s base kind false odd face origin) }
+        → kind_gives s kind ≡ true → 1 ≤ length (put_kind kind_elements s base kind false odd face origin) }
     ensures none { (s : Scene) (base : ℕ) (kind : ItemKind) (odd : Bool) (face : Attributes) (origin : Origin)
-        → kind_gives s kind ≡ false → item_elements_by s base kind false odd face origin ≡ [] }
+        → kind_gives s kind ≡ false → put_kind kind_elements s base kind false odd face origin ≡ [] }
 {
     elements_are_sound();
 }

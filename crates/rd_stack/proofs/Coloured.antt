@@ -20,8 +20,8 @@ use Rattle.rd_items.specs.declared.item.ItemKind.{ItemKind}
 use Rattle.rd_items.specs.declared.piece.Piece.{Piece}
 use Rattle.rd_items.proofs.EachItem.{GivesOnly, items-each}
 use Rattle.rd_levels.specs.declared.turn.Turn.{Turn}
-use Rattle.rd_stack.specs.Shown.{display_elements, outside, prefix, AreColoured}
-use Rattle.rd_stack.specs.Lines.{turn_elements, origin_of, item_elements, item_turns, line_elements}
+use Rattle.rd_stack.specs.Shown.{display_elements, outside, prefix, AreColoured, kind_elements}
+use Rattle.rd_stack.specs.Lines.{origin_of, item_turns, line_elements, put_turn, put_item}
 use Rattle.rd_stack.proofs.EachElement.{display-each, item-each}
 use Rattle.rd_stack.proofs.Good.{found-by}
 use Rattle.rd_stack.proofs.Lists.{each-any, each-flat}
@@ -62,7 +62,7 @@ module _ (own : (text : TextValue) (i : ℕ) → IsString text → HasColours (f
   faces : (n : ℕ) (text : TextValue) → slice_get s.objects.strings n ≡ Some text → (i : ℕ) (under : Attributes) → HasColours under → HasColours (over (face_of text i) under)
   faces n text found i under h = over-coloured (face_of text i) under (own text i (all-at (λ (t : TextValue). IsString t) s.objects.strings n text sound.strings found)) h
 
-  turn-coloured : (turn : Turn) (x : Option Item) → IfSome x ItemColours → AllByRecursion IsColoured (turn_elements s base turn x)
+  turn-coloured : (turn : Turn) (x : Option Item) → IfSome x ItemColours → AllByRecursion IsColoured (put_turn kind_elements s base turn x)
   turn-coloured turn None h = tt
   turn-coloured turn (Some x) h =
       item-each s base (origin_of turn.index x) (λ f. HasColours f) IsColoured faces (λ extent l face inner coloured. coloured) x.kind x.overlay turn.odd x.face (λ ends. h) h
@@ -73,7 +73,7 @@ module _ (own : (text : TextValue) (i : ℕ) → IsString text → HasColours (f
       let turns = item_turns s base items in
       let coloured = items-coloured s es (recursion_from_All (λ (e : Seen). HasColours e.appearance.face) es all) in
       All-from_recursion IsColoured (line_elements s base es)
-      (each-flat (item_elements s base items) (λ (t : Turn). Unit {0}) IsColoured
+      (each-flat (put_item kind_elements s base items) (λ (t : Turn). Unit {0}) IsColoured
       (λ t any. turn-coloured t (slice_get items t.index) (found-by ItemColours items t.index coloured)) turns (each-any turns))
 
   pub prefix-coloured : (number : ℕ) → AreColoured (prefix s base number)

@@ -24,8 +24,8 @@ use Rattle.rd_items.specs.Pieces.{Scene}
 use Rattle.rd_items.specs.declared.item.ItemKind.{ItemKind}
 use Rattle.rd_items.specs.declared.item.ItemKind.TheVariants as item
 use Rattle.rd_stack.specs.Strings.{part_by, string_parts}
-use Rattle.rd_stack.specs.Shown.{ellipsis_glyphs, space_elements, kind_elements, display_part_elements, display_elements, overlay_part_elements, overlay_elements}
-use Rattle.rd_stack.specs.Lines.{text_elements, item_elements_by}
+use Rattle.rd_stack.specs.Shown.{ellipsis_glyphs, space_elements, kind_elements, put_part, put_string, put_text, display_elements}
+use Rattle.rd_stack.specs.Lines.{put_kind}
 use Rattle.rd_stack.specs.declared.part.Place.{Place}
 use Rattle.rd_stack.specs.declared.part.Part.{Part}
 use Rattle.rd_stack.specs.declared.part.Shown.{Shown as ShownPart}
@@ -100,26 +100,21 @@ module _ (s : Scene) (base : ℕ) (origin : Origin) (F : Attributes → Type 0) 
       string-each s base (λ (p : Place). F p.face) (λ (x : Part). F x.face) (λ (x : ShownPart). F x.face) (λ p own. part-face _ p own) (λ held next glyph these those e. these)
       (λ odd x own. own) (λ p own. own) replaced text under (λ i. faces n text found i under h)
 
-  display-by : (n : ℕ) (text : Option TextValue) → slice_get s.objects.strings n ≡ text → (under : Attributes) → F under → Each (display_elements s base origin under text)
-  display-by n None found under h = tt
-  display-by n (Some text) found under h =
-      each-flat (display_part_elements s origin) (λ (x : ShownPart). F x.face) P (λ x own. part-each (λ t. []) x (λ m. tt) own) (string_parts s base false text under) (shown-faces false n text found under h)
+  string-by : (inner : Attributes → Option TextValue → List Element) → ((m : ℕ) (face : Attributes) → F face → Each (inner face (slice_get s.objects.strings m)))
+      → (replaced : Bool) (n : ℕ) (text : Option TextValue) → slice_get s.objects.strings n ≡ text → (under : Attributes) → F under → Each (put_string kind_elements inner s base replaced origin under text)
+  string-by inner each replaced n None found under h = tt
+  string-by inner each replaced n (Some text) found under h =
+      each-flat (put_part kind_elements inner s origin) (λ (x : ShownPart). F x.face) P (λ x own. part-each (inner x.face) x (λ m. each m x.face own) own)
+      (string_parts s base replaced text under) (shown-faces replaced n text found under h)
 
   pub display-each : (n : ℕ) (under : Attributes) → F under → Each (display_elements s base origin under (slice_get s.objects.strings n))
-  display-each n under h = display-by n (slice_get s.objects.strings n) refl under h
+  display-each n under h = string-by (λ face text. []) (λ m face own. tt) false n (slice_get s.objects.strings n) refl under h
 
-  overlay-by : (n : ℕ) (text : Option TextValue) → slice_get s.objects.strings n ≡ text → (under : Attributes) → F under → Each (overlay_elements s base origin under text)
-  overlay-by n None found under h = tt
-  overlay-by n (Some text) found under h =
-      each-flat (overlay_part_elements s base origin) (λ (x : ShownPart). F x.face) P
-      (λ x own. part-each (display_elements s base origin x.face) x (λ m. display-each m x.face own) own)
-      (string_parts s base true text under) (shown-faces true n text found under h)
-
-  text-each : (overlay : Bool) (n : ℕ) (face : Attributes) → F face → Each (text_elements s base overlay origin face (slice_get s.objects.strings n))
-  text-each true n face h = overlay-by n (slice_get s.objects.strings n) refl face h
+  text-each : (overlay : Bool) (n : ℕ) (face : Attributes) → F face → Each (put_text kind_elements s base overlay origin face (slice_get s.objects.strings n))
+  text-each true n face h = string-by (display_elements s base origin) display-each true n (slice_get s.objects.strings n) refl face h
   text-each false n face h = display-each n face h
 
   -- ---- items
 
-  pub item-each : (k : ItemKind) (overlay odd : Bool) (face : Attributes) → (is_ender_kind k ≡ true → P (element_of face origin look.LineEnd)) → F face → Each (item_elements_by s base k overlay odd face origin)
-  item-each k overlay odd face end h = kind-each look.LineEnd (text_elements s base overlay origin face) k odd face end (λ n. text-each overlay n face h) h
+  pub item-each : (k : ItemKind) (overlay odd : Bool) (face : Attributes) → (is_ender_kind k ≡ true → P (element_of face origin look.LineEnd)) → F face → Each (put_kind kind_elements s base k overlay odd face origin)
+  item-each k overlay odd face end h = kind-each look.LineEnd (put_text kind_elements s base overlay origin face) k odd face end (λ n. text-each overlay n face h) h

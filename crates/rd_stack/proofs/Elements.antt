@@ -15,13 +15,12 @@ use Rattle.rd_items.specs.declared.item.Item.{Item}
 use Rattle.rd_items.specs.declared.item.ItemKind.{ItemKind}
 use Rattle.rd_items.specs.declared.item.ItemKind.TheVariants as item
 use Rattle.rd_levels.specs.declared.turn.Turn.{Turn}
-use Rattle.rd_stack.specs.declared.part.Shown.{Shown}
 use Rattle.rd_stack.specs.Strings.{string_parts}
 use Rattle.rd_base.specs.Elements.{AreSound}
 use Rattle.rd_base.specs.Glyphs.{AreMeasured}
-use Rattle.rd_stack.specs.Shown.{AreRight, kind_elements, display_part_elements, display_elements, overlay_part_elements}
-use Rattle.rd_stack.specs.Lines.{text_elements, turn_elements, origin_of, item_elements}
-use Rattle.rd_stack.specs.Steps.{kind_steps, display_part_steps, display_steps, part_steps, text_steps, steps_of, item_steps, line_left, elements_in}
+use Rattle.rd_stack.specs.Shown.{AreRight, kind_elements, put_part, put_string, put_inner, put_text}
+use Rattle.rd_stack.specs.Lines.{origin_of, put_turn, put_item}
+use Rattle.rd_stack.specs.Steps.{kind_steps, line_left, elements_in}
 
 one-by-one : {X : Type 0} (f : X → List (List Element)) (g : X → List Element) → ((x : X) → elements_in (f x) ≡ g x) → (xs : List X) → elements_in (flat_map f xs) ≡ flat_map g xs
 one-by-one f g each [] = refl
@@ -39,31 +38,29 @@ kind-elements end steps string each s item.Ellipsis odd face origin = append-nil
 kind-elements end steps string each s item.Ender odd face origin = refl
 
 module _ (s : Scene) (base : ℕ) (origin : Origin) where
-  display-part : (x : Shown) → elements_in (display_part_steps s origin x) ≡ display_part_elements s origin x
-  display-part x = kind-elements look.RowEnd (λ t. []) (λ t. []) (λ t. refl) s x.kind x.odd x.face origin
+  string-elements : (steps : Attributes → Option TextValue → List (List Element)) (inner : Attributes → Option TextValue → List Element) → ((face : Attributes) (text : Option TextValue) → elements_in (steps face text) ≡ inner face text)
+      → (replaced : Bool) (under : Attributes) (text : Option TextValue) → elements_in (put_string kind_steps steps s base replaced origin under text) ≡ put_string kind_elements inner s base replaced origin under text
+  string-elements steps inner each replaced under None = refl
+  string-elements steps inner each replaced under (Some text) =
+      one-by-one (put_part kind_steps steps s origin) (put_part kind_elements inner s origin)
+      (λ x. kind-elements look.RowEnd (steps x.face) (inner x.face) (each x.face) s x.kind x.odd x.face origin) (string_parts s base replaced text under)
 
-  display-elements : (under : Attributes) (text : Option TextValue) → elements_in (display_steps s base origin under text) ≡ display_elements s base origin under text
-  display-elements under None = refl
-  display-elements under (Some text) =
-      one-by-one (display_part_steps s origin) (display_part_elements s origin) display-part (string_parts s base false text under)
+  inner-elements : (overlay : Bool) (face : Attributes) (text : Option TextValue) → elements_in (put_inner kind_steps s base overlay origin face text) ≡ put_inner kind_elements s base overlay origin face text
+  inner-elements true = string-elements (λ over other. []) (λ over other. []) (λ over other. refl) false
+  inner-elements false = λ face text. refl
 
-  pub text-elements : (overlay : Bool) (face : Attributes) (text : Option TextValue) → elements_in (text_steps s base overlay origin face text) ≡ text_elements s base overlay origin face text
-  text-elements true face None = refl
-  text-elements false face None = refl
-  text-elements true face (Some text) =
-      one-by-one (part_steps s base true origin) (overlay_part_elements s base origin) (λ x. kind-elements look.RowEnd (display_steps s base origin x.face) (display_elements s base origin x.face) (display-elements x.face) s x.kind x.odd x.face origin) (string_parts s base true text face)
-  text-elements false face (Some text) =
-      one-by-one (part_steps s base false origin) (display_part_elements s origin) display-part (string_parts s base false text face)
+  pub text-elements : (overlay : Bool) (face : Attributes) (text : Option TextValue) → elements_in (put_text kind_steps s base overlay origin face text) ≡ put_text kind_elements s base overlay origin face text
+  text-elements overlay = string-elements (put_inner kind_steps s base overlay origin) (put_inner kind_elements s base overlay origin) (inner-elements overlay) overlay
 
-turn-elements : (s : Scene) (base : ℕ) (turn : Turn) (found : Option Item) → elements_in (steps_of s base turn found) ≡ turn_elements s base turn found
+turn-elements : (s : Scene) (base : ℕ) (turn : Turn) (found : Option Item) → elements_in (put_turn kind_steps s base turn found) ≡ put_turn kind_elements s base turn found
 turn-elements s base turn None = refl
 turn-elements s base turn (Some x) =
     let origin = origin_of turn.index x in
-    kind-elements look.LineEnd (text_steps s base x.overlay origin x.face) (text_elements s base x.overlay origin x.face) (text-elements s base origin x.overlay x.face) s x.kind turn.odd x.face origin
+    kind-elements look.LineEnd (put_text kind_steps s base x.overlay origin x.face) (put_text kind_elements s base x.overlay origin x.face) (text-elements s base origin x.overlay x.face) s x.kind turn.odd x.face origin
 
-pub line-elements : (s : Scene) (base : ℕ) (items : List Item) (turns : List Turn) → elements_in (line_left s base items turns) ≡ flat_map (item_elements s base items) turns
+pub line-elements : (s : Scene) (base : ℕ) (items : List Item) (turns : List Turn) → elements_in (line_left s base items turns) ≡ flat_map (put_item kind_elements s base items) turns
 line-elements s base items turns =
-    one-by-one (item_steps s base items) (item_elements s base items) (λ turn. turn-elements s base turn (slice_get items turn.index)) turns
+    one-by-one (put_item kind_steps s base items) (put_item kind_elements s base items) (λ turn. turn-elements s base turn (slice_get items turn.index)) turns
 
 pub if-made : {W : Type 0} (left : W → List Element) (result : Result W Memory) (a b : List Element) → IfOk result (λ w. left w ≡ a) → a ≡ b → IfOk result (λ w. left w ≡ b)
 if-made left (Ok w) a b same more = same ∙ more

@@ -11,15 +11,15 @@ use Rattle.rd_base.specs.declared.element.Origin.{Origin}
 use Rattle.rd_items.specs.Covers.{is_ender_kind}
 use Rattle.rd_items.specs.Pieces.{Scene}
 use Rattle.rd_items.specs.declared.item.ItemKind.{ItemKind}
-use Rattle.rd_stack.specs.Lines.{item_elements_by}
-use Rattle.rd_stack.specs.Shown.{display_elements, outside, prefix, AreOpen}
+use Rattle.rd_stack.specs.Lines.{put_kind}
+use Rattle.rd_stack.specs.Shown.{display_elements, outside, prefix, AreOpen, kind_elements}
 use Rattle.rd_stack.proofs.EachElement.{display-each, item-each}
 use Rattle.rd_stack.proofs.Prefixes.{before-each}
 
 abbrev pub IsOpen : Element → Type 0
 IsOpen e = is_line_end e.look ≡ false
 
-pub item-open : (s : Scene) (base : ℕ) (k : ItemKind) (overlay odd : Bool) (face : Attributes) (origin : Origin) → is_ender_kind k ≡ false → AllByRecursion IsOpen (item_elements_by s base k overlay odd face origin)
+pub item-open : (s : Scene) (base : ℕ) (k : ItemKind) (overlay odd : Bool) (face : Attributes) (origin : Origin) → is_ender_kind k ≡ false → AllByRecursion IsOpen (put_kind kind_elements s base k overlay odd face origin)
 item-open s base k overlay odd face origin other =
     item-each s base origin (λ f. Unit {0}) IsOpen (λ n text found i under any. tt) (λ extent l f inner any. inner) k overlay odd face (λ ends. absurd (both_ways (is_ender_kind k) other ends)) tt
 

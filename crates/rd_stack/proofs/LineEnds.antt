@@ -22,7 +22,8 @@ use Rattle.rd_items.proofs.Ended.{Ended, ended}
 use Rattle.rd_items.specs.declared.item.Item.{Item}
 use Rattle.rd_items.specs.declared.item.ItemKind.{ItemKind}
 use Rattle.rd_items.specs.declared.item.ItemKind.TheVariants as item
-use Rattle.rd_stack.specs.Lines.{item_elements_by, turn_elements, origin_of, item_elements, item_class, item_code, item_turns, line_of_items}
+use Rattle.rd_stack.specs.Lines.{origin_of, item_class, item_code, item_turns, line_of_items, put_kind, put_turn, put_item}
+use Rattle.rd_stack.specs.Shown.{kind_elements}
 use Rattle.rd_stack.proofs.Ends.{IsOpen, item-open}
 use Rattle.rd_stack.proofs.Lists.{each-flat}
 
@@ -47,7 +48,7 @@ ender-last law s base items e =
     (subst (λ cs. ComesLast (turned cs) (length fronts)) (sym classes) (law s.brackets s.parts.settings.reorder base fronts (map item_code items)))
 
 module _ (s : Scene) (base : ℕ) where
-  kind-ends : (k : ItemKind) (overlay odd : Bool) (face : Attributes) (origin : Origin) → is_ender_kind k ≡ true → item_elements_by s base k overlay odd face origin ≡ element_of face origin look.LineEnd ∷ []
+  kind-ends : (k : ItemKind) (overlay odd : Bool) (face : Attributes) (origin : Origin) → is_ender_kind k ≡ true → put_kind kind_elements s base k overlay odd face origin ≡ element_of face origin look.LineEnd ∷ []
   kind-ends item.Ender overlay odd face origin is = refl
   kind-ends (item.Char c) overlay odd face origin is = absurd (let q : false ≡ true = is in cc)
   kind-ends (item.Marked g) overlay odd face origin is = absurd (let q : false ≡ true = is in cc)
@@ -55,28 +56,28 @@ module _ (s : Scene) (base : ℕ) where
   kind-ends (item.Space spec) overlay odd face origin is = absurd (let q : false ≡ true = is in cc)
   kind-ends item.Ellipsis overlay odd face origin is = absurd (let q : false ≡ true = is in cc)
 
-  open-at : (front : List Item) (last : Item) (turn : Turn) → AllByRecursion (λ (x : Item). is_ender_kind x.kind ≡ false) front → (i : ℕ) → i < length front → AllByRecursion IsOpen (turn_elements s base turn (slice_get (front ++ last ∷ []) i))
+  open-at : (front : List Item) (last : Item) (turn : Turn) → AllByRecursion (λ (x : Item). is_ender_kind x.kind ≡ false) front → (i : ℕ) → i < length front → AllByRecursion IsOpen (put_turn kind_elements s base turn (slice_get (front ++ last ∷ []) i))
   open-at [] last turn each i inside = absurd (omega arith)
   open-at (x ∷ xs) last turn each zero inside = item-open s base x.kind x.overlay turn.odd x.face (origin_of turn.index x) each.0
   open-at (x ∷ xs) last turn each (suc i) inside = open-at xs last turn each.1 i (omega arith)
 
-  end-at : (front : List Item) (last : Item) (turn : Turn) → turn_elements s base turn (slice_get (front ++ last ∷ []) (length front)) ≡ turn_elements s base turn (Some last)
+  end-at : (front : List Item) (last : Item) (turn : Turn) → put_turn kind_elements s base turn (slice_get (front ++ last ∷ []) (length front)) ≡ put_turn kind_elements s base turn (Some last)
   end-at [] last turn = refl
   end-at (x ∷ xs) last turn = end-at xs last turn
 
   front-open : (front : List Item) (last : Item) (turns : List Turn) → AllByRecursion (λ (x : Item). is_ender_kind x.kind ≡ false) front → All (λ (t : Turn). t.index < length front) turns
-      → AllByRecursion IsOpen (flat_map (item_elements s base (front ++ last ∷ [])) turns)
+      → AllByRecursion IsOpen (flat_map (put_item kind_elements s base (front ++ last ∷ [])) turns)
   front-open front last turns each low =
-      each-flat (item_elements s base (front ++ last ∷ [])) (λ (t : Turn). t.index < length front) IsOpen (λ t below. open-at front last t each t.index below) turns
+      each-flat (put_item kind_elements s base (front ++ last ∷ [])) (λ (t : Turn). t.index < length front) IsOpen (λ t below. open-at front last t each t.index below) turns
       (recursion_from_All (λ (t : Turn). t.index < length front) turns low)
 
   turned-ends : (front : List Item) (last : Item) (turns : List Turn) → is_ender_kind last.kind ≡ true → AllByRecursion (λ (x : Item). is_ender_kind x.kind ≡ false) front → ComesLast turns (length front)
-      → ends_once (flat_map (item_elements s base (front ++ last ∷ [])) turns) ≡ true
+      → ends_once (flat_map (put_item kind_elements s base (front ++ last ∷ [])) turns) ≡ true
   turned-ends front last turns ends each comes =
-      let f = item_elements s base (front ++ last ∷ []) in
+      let f = put_item kind_elements s base (front ++ last ∷ []) in
       let end = element_of last.face (origin_of comes.last.index last) look.LineEnd in
       let given : f comes.last ≡ end ∷ [] =
-      ap (λ i. turn_elements s base comes.last (slice_get (front ++ last ∷ []) i)) comes.index ∙ end-at front last comes.last
+      ap (λ i. put_turn kind_elements s base comes.last (slice_get (front ++ last ∷ []) i)) comes.index ∙ end-at front last comes.last
       ∙ kind-ends last.kind last.overlay comes.last.odd last.face (origin_of comes.last.index last) ends in
       ap (λ ts. ends_once (flat_map f ts)) comes.whole
       ∙ ap ends_once (flat_map-append f comes.front (comes.last ∷ []) ∙ ap (λ l. flat_map f comes.front ++ l) (append-nil (f comes.last) ∙ given))
@@ -85,5 +86,5 @@ module _ (s : Scene) (base : ℕ) where
   pub line-ends : LastLaw → (items : List Item) → EndOnce items → ends_once (line_of_items s base items) ≡ true
   line-ends law items once =
       let e = ended items once in
-      ap (λ xs. ends_once (flat_map (item_elements s base xs) (item_turns s base items))) e.whole
+      ap (λ xs. ends_once (flat_map (put_item kind_elements s base xs) (item_turns s base items))) e.whole
       ∙ turned-ends e.others e.ender (item_turns s base items) e.is.kind e.inner (ender-last law s base items e)

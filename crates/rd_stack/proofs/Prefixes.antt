@@ -7,8 +7,8 @@ use Rattle.rd_base.specs.Elements.{Takes}
 use Rattle.rd_base.specs.declared.element.Element.{Element}
 use Rattle.rd_base.specs.Faces.{plain}
 use Rattle.rd_items.specs.Pieces.{Scene}
-use Rattle.rd_stack.specs.Shown.{display_elements, outside, prefix, is_row_end, before_row_end, AreOpen, AreRight, AreInside, AreOfOneRow}
-use Rattle.rd_stack.specs.Steps.{text_steps, elements_in}
+use Rattle.rd_stack.specs.Shown.{display_elements, outside, prefix, is_row_end, before_row_end, AreOpen, AreRight, AreInside, AreOfOneRow, put_text}
+use Rattle.rd_stack.specs.Steps.{elements_in, kind_steps}
 use Rattle.rd_stack.proofs.Elements.{text-elements}
 
 one-first : (e : Element) (es : List Element) (ends : Bool) → is_row_end e.look ≡ ends → AreOfOneRow es → AreOfOneRow (if ends then [] else e ∷ es)
@@ -49,15 +49,15 @@ row-stops out e old new whole taken here all =
 pub row-ends : (found : Option Element) (out old new whole : List Element) → found ≡ None → Takes (Ok found) old new → out ++ before_row_end old ≡ whole → out ≡ whole
 row-ends found out old new whole is takes all = sym (ap (λ l. out ++ before_row_end l) (took-none found old new is takes) ∙ append-nil out) ∙ all
 
-module _ (s : Scene) (base number : ℕ) (found : Option (List (List Element))) (made : unwrap_or found [] ≡ text_steps s base false outside plain (slice_get s.objects.strings number)) where
+module _ (s : Scene) (base number : ℕ) (found : Option (List (List Element))) (made : unwrap_or found [] ≡ put_text kind_steps s base false outside plain (slice_get s.objects.strings number)) where
   pub prefix-none : found ≡ None → [] ≡ prefix s base number
   prefix-none none =
-      let nothing : [] ≡ text_steps s base false outside plain (slice_get s.objects.strings number) = ap (λ f. unwrap_or f []) (sym none) ∙ made in
+      let nothing : [] ≡ put_text kind_steps s base false outside plain (slice_get s.objects.strings number) = ap (λ f. unwrap_or f []) (sym none) ∙ made in
       ap (λ steps. before_row_end (elements_in steps)) nothing ∙ ap before_row_end (text-elements s base outside false plain (slice_get s.objects.strings number))
 
   pub prefix-some : (steps : List (List Element)) → found ≡ Some steps → elements_in steps ≡ display_elements s base outside plain (slice_get s.objects.strings number)
   prefix-some steps some =
-      let all : steps ≡ text_steps s base false outside plain (slice_get s.objects.strings number) = ap (λ f. unwrap_or f []) (sym some) ∙ made in
+      let all : steps ≡ put_text kind_steps s base false outside plain (slice_get s.objects.strings number) = ap (λ f. unwrap_or f []) (sym some) ∙ made in
       ap elements_in all ∙ text-elements s base outside false plain (slice_get s.objects.strings number)
 
 pub are-inside : (es : List Element) → AreRight es → AreOpen es → AreInside es

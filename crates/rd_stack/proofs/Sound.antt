@@ -36,8 +36,8 @@ use Rattle.rd_props.specs.Seen.{Seen}
 use Rattle.rd_levels.specs.declared.turn.Turn.{Turn}
 use Rattle.rd_levels.proofs.Turns.{turns-count}
 use Rattle.rd_stack.specs.Strings.{string_parts}
-use Rattle.rd_stack.specs.Shown.{ellipsis_glyphs, space_elements, kind_elements, display_part_elements, display_elements, overlay_part_elements, overlay_elements, before_row_end, is_row_end, outside, prefix, IsRight}
-use Rattle.rd_stack.specs.Lines.{text_elements, turn_elements, origin_of, item_elements, item_class, item_code, item_turns, line_of_items, line_elements, IsCodedKind, AreCodedItems}
+use Rattle.rd_stack.specs.Shown.{ellipsis_glyphs, space_elements, kind_elements, display_part_elements, display_elements, before_row_end, is_row_end, outside, prefix, IsRight, put_text, put_part}
+use Rattle.rd_stack.specs.Lines.{origin_of, item_class, item_code, item_turns, line_of_items, line_elements, IsCodedKind, AreCodedItems, put_turn, put_item}
 use Rattle.rd_stack.specs.Limits.{AreFew, AreRightWithin, most_display_columns, most_overlay_columns, most_columns}
 use Rattle.rd_stack.specs.declared.part.Shown.{Shown}
 use Rattle.rd_stack.proofs.Good.{both-right, good-nil, good-one, good-more, good-each, found}
@@ -191,26 +191,26 @@ module _ (laws : GlyphLaws) (marks : MarkLaws) (s : Scene) (base : ℕ) (sound :
   display-good origin under (Some text) is =
       parts-good false (display_part_elements s origin) SPACE_COLUMNS (λ x own. part-good (λ t. []) SPACE_COLUMNS (omega arith) x origin (λ n. good-nil SPACE_COLUMNS) own) under text is
 
-  overlay-good : (origin : Origin) (under : Attributes) (text : Option TextValue) → IfSome text (λ t. IsString t) → AreRightWithin most_overlay_columns (overlay_elements s base origin under text)
+  overlay-good : (origin : Origin) (under : Attributes) (text : Option TextValue) → IfSome text (λ t. IsString t) → AreRightWithin most_overlay_columns (put_text kind_elements s base true origin under text)
   overlay-good origin under None is = good-nil most_overlay_columns
   overlay-good origin under (Some text) is =
-      parts-good true (overlay_part_elements s base origin) most_display_columns
+      parts-good true (put_part kind_elements (display_elements s base origin) s origin) most_display_columns
       (λ x own. part-good (display_elements s base origin x.face) most_display_columns (omega arith) x origin (λ n. display-good origin x.face (slice_get s.objects.strings n) (string-at s.objects sound n)) own)
       under text is
 
   -- ---- items
 
-  string-good : (overlay : Bool) (origin : Origin) (face : Attributes) (n : ℕ) → AreRightWithin most_overlay_columns (text_elements s base overlay origin face (slice_get s.objects.strings n))
+  string-good : (overlay : Bool) (origin : Origin) (face : Attributes) (n : ℕ) → AreRightWithin most_overlay_columns (put_text kind_elements s base overlay origin face (slice_get s.objects.strings n))
   string-good true origin face n = overlay-good origin face (slice_get s.objects.strings n) (string-at s.objects sound n)
   string-good false origin face n =
       let text = slice_get s.objects.strings n in
       good-more most_display_columns most_overlay_columns (display_elements s base origin face text) (omega arith) (display-good origin face text (string-at s.objects sound n))
 
-  turn-good : (turn : Turn) (x : Option Item) → IfSome x (λ (i : Item). IsFitKind i.kind) → AreRightWithin most_overlay_columns (turn_elements s base turn x)
+  turn-good : (turn : Turn) (x : Option Item) → IfSome x (λ (i : Item). IsFitKind i.kind) → AreRightWithin most_overlay_columns (put_turn kind_elements s base turn x)
   turn-good turn None fit = good-nil most_overlay_columns
   turn-good turn (Some x) fit =
       let origin = origin_of turn.index x in
-      kind-good look.LineEnd (text_elements s base x.overlay origin x.face) most_overlay_columns (omega arith) x.kind turn.odd x.face origin
+      kind-good look.LineEnd (put_text kind_elements s base x.overlay origin x.face) most_overlay_columns (omega arith) x.kind turn.odd x.face origin
       (good-one most_overlay_columns (element_of x.face origin look.LineEnd) refl tt (omega arith)) (λ n. string-good x.overlay origin x.face n) fit
 
   -- a line of fit items
@@ -220,7 +220,7 @@ module _ (laws : GlyphLaws) (marks : MarkLaws) (s : Scene) (base : ℕ) (sound :
       let reorder = s.parts.settings.reorder in
       let count : length turns ≡ length items = turns-count s.brackets reorder base (map item_class items) (map item_code items) ∙ length-map items item_class in
       good-more (length turns * most_overlay_columns) (length items * most_overlay_columns) (line_of_items s base items) (omega (arith, count))
-      (good-each (item_elements s base items) (λ (t : Turn). Unit {0}) most_overlay_columns
+      (good-each (put_item kind_elements s base items) (λ (t : Turn). Unit {0}) most_overlay_columns
       (λ t own. turn-good t (slice_get items t.index) (found (λ (i : Item). IsFitKind i.kind) items t.index fit)) turns (each-any turns))
 
   -- the line of what is read, where its items are measured and coded

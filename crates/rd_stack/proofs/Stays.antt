@@ -26,8 +26,8 @@ use Rattle.rd_items.specs.declared.item.Item.{Item}
 use Rattle.rd_items.specs.declared.item.ItemKind.{ItemKind}
 use Rattle.rd_items.specs.declared.item.ItemKind.TheVariants as item
 use Rattle.rd_levels.specs.declared.turn.Turn.{Turn}
-use Rattle.rd_stack.specs.Lines.{text_elements, turn_elements, item_elements, item_turns, line_of_items, line_elements, origin_of}
-use Rattle.rd_stack.specs.Shown.{kind_elements, display_part_elements, display_elements, overlay_part_elements, overlay_elements, before_row_end, outside, prefix}
+use Rattle.rd_stack.specs.Lines.{item_turns, line_of_items, line_elements, origin_of, put_turn, put_item}
+use Rattle.rd_stack.specs.Shown.{kind_elements, put_part, put_string, put_text, display_elements, before_row_end, outside, prefix}
 use Rattle.rd_stack.specs.Strings.{places_from, run_heads, ends_row, spec_kind, part_by, part_of, part_joins, row, row_end, rows_from, string_parts}
 use Rattle.rd_stack.specs.declared.part.Part.{Part}
 use Rattle.rd_stack.specs.declared.part.Place.{Place}
@@ -145,11 +145,6 @@ module _ (old new : Scene) (goes : GoesOnFrom old new) (closed : IsClosed old.ob
     same-string : (base : ℕ) (replaced : Bool) (under : Attributes) → string_parts new base replaced text under ≡ string_parts old base replaced text under
     same-string base replaced under = same-rows base [] (run_heads None (places_from replaced text under 0)) (places-each IsMade replaced text under (spec-made replaced))
 
-    text-display : (base : ℕ) (origin : Origin) (under : Attributes) → display_elements new base origin under (Some text) ≡ display_elements old base origin under (Some text)
-    text-display base origin under =
-        ap (λ (xs : List Shown). flat_map (display_part_elements new origin) xs) (same-string base false under)
-        ∙ flat-each (display_part_elements new origin) (display_part_elements old origin) (string_parts old base false text under) (λ x. same-kind look.RowEnd (λ t. []) (λ t. []) x.kind x.odd x.face origin (λ n is. refl))
-
   -- what the string of a number gives, where what it gives if it was made stays
   found-stays : (f g : Option TextValue → List Element) (found : Option TextValue) → f None ≡ g None → ((text : TextValue) → found ≡ Some text → f (Some text) ≡ g (Some text))
       → f found ≡ g found
@@ -162,33 +157,34 @@ module _ (old new : Scene) (goes : GoesOnFrom old new) (closed : IsClosed old.ob
   string-stays f g number made none some =
       ap f (same_strings old.objects new.objects number goes.objects made) ∙ found-stays f g (slice_get old.objects.strings number) none some
 
+  -- the elements of a string that was made, where those of strings in it stay
+  same-put : (f g : Attributes → Option TextValue → List Element) → ((n : ℕ) (face : Attributes) → n < length old.objects.strings → f face (slice_get new.objects.strings n) ≡ g face (slice_get old.objects.strings n))
+      → (replaced : Bool) (number base : ℕ) (origin : Origin) (under : Attributes) → number < length old.objects.strings
+      → put_string kind_elements f new base replaced origin under (slice_get new.objects.strings number) ≡ put_string kind_elements g old base replaced origin under (slice_get old.objects.strings number)
+  same-put f g inner replaced number base origin under made =
+      string-stays (put_string kind_elements f new base replaced origin under) (put_string kind_elements g old base replaced origin under) number made refl (λ text found.
+      ap (λ (xs : List Shown). flat_map (put_part kind_elements f new origin) xs) (same-string number text found base replaced under)
+      ∙ flat-same (IsFineShown old closed) (put_part kind_elements f new origin) (put_part kind_elements g old origin) (string_parts old base replaced text under)
+      (λ x made. same-kind look.RowEnd (f x.face) (g x.face) x.kind x.odd x.face origin (λ n is. inner n x.face (subst (ShowsMade old.objects) is made)))
+      (string-fine old closed base replaced text under))
+
   same-display : (number base : ℕ) (origin : Origin) (under : Attributes) → number < length old.objects.strings
       → display_elements new base origin under (slice_get new.objects.strings number) ≡ display_elements old base origin under (slice_get old.objects.strings number)
-  same-display number base origin under made =
-      string-stays (display_elements new base origin under) (display_elements old base origin under) number made refl (λ text found. text-display number text found base origin under)
-
-  same-overlay : (number base : ℕ) (origin : Origin) (under : Attributes) → number < length old.objects.strings
-      → overlay_elements new base origin under (slice_get new.objects.strings number) ≡ overlay_elements old base origin under (slice_get old.objects.strings number)
-  same-overlay number base origin under made =
-      string-stays (overlay_elements new base origin under) (overlay_elements old base origin under) number made refl (λ text found.
-      ap (λ (xs : List Shown). flat_map (overlay_part_elements new base origin) xs) (same-string number text found base true under)
-      ∙ flat-same (IsFineShown old closed) (overlay_part_elements new base origin) (overlay_part_elements old base origin) (string_parts old base true text under)
-      (λ x made. same-kind look.RowEnd (display_elements new base origin x.face) (display_elements old base origin x.face) x.kind x.odd x.face origin
-      (λ n is. same-display n base origin x.face (subst (ShowsMade old.objects) is made)))
-      (string-fine old closed base true text under))
+  same-display = same-put (λ face text. []) (λ face text. []) (λ n face made. refl) false
 
   -- ---- the items of a line
 
   same-text : (overlay : Bool) (number base : ℕ) (origin : Origin) (face : Attributes) → number < length old.objects.strings
-      → text_elements new base overlay origin face (slice_get new.objects.strings number) ≡ text_elements old base overlay origin face (slice_get old.objects.strings number)
-  same-text true number base origin face made = same-overlay number base origin face made
+      → put_text kind_elements new base overlay origin face (slice_get new.objects.strings number) ≡ put_text kind_elements old base overlay origin face (slice_get old.objects.strings number)
+  same-text true number base origin face made =
+      same-put (display_elements new base origin) (display_elements old base origin) (λ n over. same-display n base origin over) true number base origin face made
   same-text false number base origin face made = same-display number base origin face made
 
-  same-item : (base : ℕ) (turn : Turn) (found : Option Item) → IfSome found (λ i. ShowsMade old.objects i.kind) → turn_elements new base turn found ≡ turn_elements old base turn found
+  same-item : (base : ℕ) (turn : Turn) (found : Option Item) → IfSome found (λ i. ShowsMade old.objects i.kind) → put_turn kind_elements new base turn found ≡ put_turn kind_elements old base turn found
   same-item base turn None made = refl
   same-item base turn (Some i) made =
       let origin = origin_of turn.index i in
-      same-kind look.LineEnd (text_elements new base i.overlay origin i.face) (text_elements old base i.overlay origin i.face) i.kind turn.odd i.face origin
+      same-kind look.LineEnd (put_text kind_elements new base i.overlay origin i.face) (put_text kind_elements old base i.overlay origin i.face) i.kind turn.odd i.face origin
       (λ n is. same-text i.overlay n base origin i.face (subst (ShowsMade old.objects) is made))
 
   same-turns : (base : ℕ) (items : List Item) → item_turns new base items ≡ item_turns old base items
@@ -196,8 +192,8 @@ module _ (old new : Scene) (goes : GoesOnFrom old new) (closed : IsClosed old.ob
 
   same-line : (base : ℕ) (items : List Item) → ShowMade old.objects items → line_of_items new base items ≡ line_of_items old base items
   same-line base items made =
-      ap (λ (turns : List Turn). flat_map (item_elements new base items) turns) (same-turns base items)
-      ∙ flat-each (item_elements new base items) (item_elements old base items) (item_turns old base items)
+      ap (λ (turns : List Turn). flat_map (put_item kind_elements new base items) turns) (same-turns base items)
+      ∙ flat-each (put_item kind_elements new base items) (put_item kind_elements old base items) (item_turns old base items)
       (λ turn. same-item base turn (slice_get items turn.index) (found (λ (i : Item). ShowsMade old.objects i.kind) items turn.index made))
 
   -- the line of what names made objects alone

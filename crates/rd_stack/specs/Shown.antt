@@ -1,4 +1,4 @@
--- The elements of what an item or a part of a string shows, and of strings.
+-- What an item or a part of a string shows, and strings: as elements, and by the same definitions as the steps of a walk.
 use Rattle.std.specs.Prelude.{ℕ, if◌then◌else◌, Bool, true, false, List, [], ◌∷◌, replicate, slice_get, Option, None, Some, unwrap_or, ◌≡◌, All}
 use Rattle.std.specs.List.{flat_map}
 use Rattle.rd_base.specs.Cells.{HasColours, single}
@@ -33,8 +33,13 @@ abbrev pub ellipsis_glyphs : Option TableValue → List Glyph
 ellipsis_glyphs None = replicate 3 (single 46 1)
 ellipsis_glyphs (Some table) = unwrap_or table.ellipsis (replicate 3 (single 46 1))
 
--- the elements of what an item or a part of a string shows, by the look of an ender and by the elements of strings
-abbrev pub kind_elements : Look → (Option TextValue → List Element) → Scene → ItemKind → Bool → Attributes → Origin → List Element
+-- a way to put what an item or a part of a string shows, by the look of an ender and by what is put for a string: its elements
+-- (`kind_elements`), or the steps of a walk over them (`kind_steps`)
+abbrev pub Putting : Type 0 → Type 0
+Putting X = Look → (Option TextValue → List X) → Scene → ItemKind → Bool → Attributes → Origin → List X
+
+-- the elements of what an item or a part of a string shows
+abbrev pub kind_elements : Putting Element
 kind_elements end string s (kind.Char c) odd face origin = elements_of s.parts c odd face origin
 kind_elements end string s (kind.Marked g) odd face origin = element_of face origin (look.Glyph g) ∷ []
 kind_elements end string s (kind.Text n) odd face origin = string (slice_get s.objects.strings n)
@@ -42,24 +47,32 @@ kind_elements end string s (kind.Space spec) odd face origin = space_elements sp
 kind_elements end string s kind.Ellipsis odd face origin = glyph_elements face origin (ellipsis_glyphs s.parts.table)
 kind_elements end string s kind.Ender odd face origin = element_of face origin end ∷ []
 
--- the elements of a part of a display string, which shows no other string
-abbrev pub display_part_elements : Scene → Origin → Shown → List Element
-display_part_elements s origin x = kind_elements look.RowEnd (λ text. []) s x.kind x.odd x.face origin
+-- a part of a string, by what is put for a string that it shows over its face
+abbrev pub put_part : {X : Type 0} → Putting X → (Attributes → Option TextValue → List X) → Scene → Origin → Shown → List X
+put_part put inner s origin x = put look.RowEnd (inner x.face) s x.kind x.odd x.face origin
 
--- the elements of a display string that stands over a face, in a line of this base: its own display runs are not used. A number
--- that names no string stands for the empty one
+-- a string over a face, in a line of this base; a flag says whether its own display runs are used. What is put for a string that one of
+-- these runs names, over the face there, is given. A number that names no string stands for the empty one
+abbrev pub put_string : {X : Type 0} → Putting X → (Attributes → Option TextValue → List X) → Scene → ℕ → Bool → Origin → Attributes → Option TextValue → List X
+put_string put inner s base replaced origin under None = []
+put_string put inner s base replaced origin under (Some text) = flat_map (put_part put inner s origin) (string_parts s base replaced text under)
+
+-- what is put for a string that a display run names: in an overlay's string (true) that display string, and in a display string (false)
+-- nothing, since its own runs are not used
+abbrev pub put_inner : {X : Type 0} → Putting X → Scene → ℕ → Bool → Origin → Attributes → Option TextValue → List X
+put_inner put s base true origin face text = put_string put (λ over other. []) s base false origin face text
+put_inner put s base false origin face text = []
+
+-- an overlay's string, of which the own display runs are used, or a display string, of which they are not
+abbrev pub put_text : {X : Type 0} → Putting X → Scene → ℕ → Bool → Origin → Attributes → Option TextValue → List X
+put_text put s base overlay origin = put_string put (put_inner put s base overlay origin) s base overlay origin
+
+-- the elements of a display string, and of a part of it
 abbrev pub display_elements : Scene → ℕ → Origin → Attributes → Option TextValue → List Element
-display_elements s base origin under None = []
-display_elements s base origin under (Some text) = flat_map (display_part_elements s origin) (string_parts s base false text under)
+display_elements s base = put_text kind_elements s base false
 
--- the elements of a part of an overlay's string: where a display run names a string, those of that display string
-abbrev pub overlay_part_elements : Scene → ℕ → Origin → Shown → List Element
-overlay_part_elements s base origin x = kind_elements look.RowEnd (display_elements s base origin x.face) s x.kind x.odd x.face origin
-
--- the elements of an overlay's string that stands over a face: its own display runs are used
-abbrev pub overlay_elements : Scene → ℕ → Origin → Attributes → Option TextValue → List Element
-overlay_elements s base origin under None = []
-overlay_elements s base origin under (Some text) = flat_map (overlay_part_elements s base origin) (string_parts s base true text under)
+abbrev pub display_part_elements : Scene → Origin → Shown → List Element
+display_part_elements = put_part kind_elements (λ face text. [])
 
 abbrev pub is_row_end : Look → Bool
 is_row_end look.RowEnd = true

@@ -17,11 +17,12 @@ impl<'a> Model for Entrance<'a> {
     ghost use Rattle.std.specs.Prelude.{List, ◌≤◌, slice_get};
     ghost use Rattle.rd_base.specs.declared.element.Element.{Element};
     ghost use Rattle.rd_items.specs.Pieces.{scene_of};
-    ghost use Rattle.rd_stack.specs.Steps.{text_steps};
+    ghost use Rattle.rd_stack.specs.Steps.{kind_steps};
+    ghost use Rattle.rd_stack.specs.Shown.{put_text};
 
     ghost Value = { List (List Element) };
 
-    ghost view = { λ e. text_steps (scene_of e.around.view) e.around.base e.around.replaced e.around.origin e.around.under (slice_get e.around.view.objects.now.strings e.number) };
+    ghost view = { λ e. put_text kind_steps (scene_of e.around.view) e.around.base e.around.replaced e.around.origin e.around.under (slice_get e.around.view.objects.now.strings e.number) };
 
     ghost invariant = { λ e. e.around.base ≤ 1 };
 }

@@ -1,8 +1,8 @@
 //! The steps of the items of a block.
 ghost use Rattle.std.specs.Prelude.{◌≡◌, ◌≤◌, [], IfOk};
 ghost use Rattle.rd_items.specs.Pieces.{scene_of};
-ghost use Rattle.rd_stack.specs.Lines.{origin_of};
-ghost use Rattle.rd_stack.specs.Steps.{item_steps_by};
+ghost use Rattle.rd_stack.specs.Lines.{origin_of, put_kind};
+ghost use Rattle.rd_stack.specs.Steps.{kind_steps};
 ghost use Rattle.rd_stack.specs.Walks.{IsStep};
 
 use crate::entrance::Entrance;
@@ -59,7 +59,7 @@ fn step_of<'a>(
 ) -> Result<Step<'a>, Memory>
     requires base { base ≤ 1 }
     requires few { few.old ≡ [] }
-    ensures { IfOk result (λ step. IsStep step few.new (item_steps_by (scene_of view.now) base item.now.kind item.now.overlay odd item.now.face origin) []) }
+    ensures { IfOk result (λ step. IsStep step few.new (put_kind kind_steps (scene_of view.now) base item.now.kind item.now.overlay odd item.now.face origin) []) }
 {
     match item.kind {
         ItemKind::Text(number) => Ok(Step::Enters(Entrance {
