@@ -1,8 +1,8 @@
 -- Lists by numbers: what stands under one, and the windows of a state.
-use Rattle.std.proofs.Common.{◌≡◌, ◌≢◌, ℕ, zero, suc, ◌+◌, ◌<◌, ◌⊎◌, inl, inr, ◌==◌, not, if◌then◌else◌, Option, None, Some, List, [], ◌∷◌, ◌++◌, length, map, nat_lt, set, subst, sym, ap, refl, ◌∙◌, arith}
+use Rattle.std.proofs.Common.{◌≡◌, ◌≢◌, ℕ, zero, suc, ◌+◌, ◌<◌, ◌⊎◌, inl, inr, ◌==◌, not, if◌then◌else◌, Option, None, Some, List, [], ◌∷◌, ◌++◌, length, map, nat_lt, set, get_or, subst, sym, ap, refl, ◌∙◌, arith}
 use Rattle.std.proofs.lemmas.Bool.{cases_eq, cond-false, cond-true, eq-eqb, ltb-false, ne_eqb, not_from_false, not_from_true}
 use Rattle.std.proofs.lemmas.List.Sums.{prefix_len-le-length}
-use Rattle.std.proofs.lemmas.Option.{none-some}
+use Rattle.std.proofs.lemmas.Option.{none-some, slice_get-get_or}
 use Rattle.std.specs.Prelude.{slice_get, option_map, position, IsSome}
 use Rattle.std.specs.List.{remove}
 use Rattle.std.specs.Option.{option_or}
@@ -22,10 +22,10 @@ under-here n e rest h = cond-true (e.0 == n) (Some e.1) (under n rest) (eq-eqb e
 pub under-there : {X : Type 0} (n : ℕ) (e : ℕ × X) (rest : List (ℕ × X)) → e.0 ≢ n → under n (e ∷ rest) ≡ under n rest
 under-there n e rest h = cond-false (e.0 == n) (Some e.1) (under n rest) (ne_eqb e.0 n h)
 
-becoming-here : (n : ℕ) (f : WindowState → Option WindowState) (e : NumberedWindow) (rest : List NumberedWindow) → e.0 ≡ n → becoming n f (e ∷ rest) ≡ kept_as e.0 (f e.1) rest
+becoming-here : {X : Type 0} (n : ℕ) (f : X → Option X) (e : ℕ × X) (rest : List (ℕ × X)) → e.0 ≡ n → becoming n f (e ∷ rest) ≡ kept_as e.0 (f e.1) rest
 becoming-here n f e rest h = cond-true (e.0 == n) _ _ (eq-eqb e.0 n h)
 
-becoming-there : (n : ℕ) (f : WindowState → Option WindowState) (e : NumberedWindow) (rest : List NumberedWindow) → e.0 ≢ n → becoming n f (e ∷ rest) ≡ e ∷ becoming n f rest
+becoming-there : {X : Type 0} (n : ℕ) (f : X → Option X) (e : ℕ × X) (rest : List (ℕ × X)) → e.0 ≢ n → becoming n f (e ∷ rest) ≡ e ∷ becoming n f rest
 becoming-there n f e rest h = cond-false (e.0 == n) _ _ (ne_eqb e.0 n h)
 
 place-here : {X : Type 0} (n : ℕ) (e : ℕ × X) (rest : List (ℕ × X)) → e.0 ≡ n → place_in n (e ∷ rest) ≡ 0
@@ -46,23 +46,23 @@ get-window n (e ∷ rest) w h = elim (cases_eq e.0 n) [
 ]
 
 -- an entry that stands at the place of a number
-pub record IsFound (n i : ℕ) (ws : List NumberedWindow) (e : NumberedWindow) : Type 0 where
-  pub at : slice_get ws i ≡ Some e
+pub record IsFound {X : Type 0} (n i : ℕ) (es : List (ℕ × X)) (e : ℕ × X) : Type 0 where
+  pub at : slice_get es i ≡ Some e
   pub number : e.0 ≡ n
-  pub window : window_of n ws ≡ Some e.1
-  pub changed : (f : WindowState → WindowState) → set ws i (e.0, f e.1) ≡ with_window n f ws
-  pub removed : remove ws i ≡ without_window n ws
+  pub stands : under n es ≡ Some e.1
+  pub changed : (f : X → X) → set es i (e.0, f e.1) ≡ with_window n f es
+  pub removed : remove es i ≡ without_window n es
 
-one-further : (n j : ℕ) (d : NumberedWindow) (rest : List NumberedWindow) (e : NumberedWindow) → d.0 ≢ n → IsFound n j rest e → IsFound n (suc j) (d ∷ rest) e
-one-further n j d rest e q p = record {
+one-further : {X : Type 0} (n j : ℕ) (d : ℕ × X) (rest : List (ℕ × X)) (e : ℕ × X) → d.0 ≢ n → IsFound n j rest e → IsFound n (suc j) (d ∷ rest) e
+one-further {X} n j d rest e q p = record {
   at = p.at;
   number = p.number;
-  window = under-there n d rest q ∙ p.window;
-  changed = λ f. ap (λ (xs : List NumberedWindow). d ∷ xs) (p.changed f) ∙ sym (becoming-there n (λ x. Some (f x)) d rest q);
-  removed = ap (λ (xs : List NumberedWindow). d ∷ xs) p.removed ∙ sym (becoming-there n (λ x. None) d rest q);
+  stands = under-there n d rest q ∙ p.stands;
+  changed = λ f. ap (λ (xs : List (ℕ × X)). d ∷ xs) (p.changed f) ∙ sym (becoming-there n (λ x. Some (f x)) d rest q);
+  removed = ap (λ (xs : List (ℕ × X)). d ∷ xs) p.removed ∙ sym (becoming-there n (λ x. None) d rest q);
 }
 
-pub found : (n i : ℕ) (ws : List NumberedWindow) → i ≡ place_in n ws → i < length ws → (e : NumberedWindow) × IsFound n i ws e
+pub found : {X : Type 0} (n i : ℕ) (es : List (ℕ × X)) → i ≡ place_in n es → i < length es → (e : ℕ × X) × IsFound n i es e
 found n i [] is less = absurd (omega arith)
 found n zero (e ∷ rest) is less = elim (cases_eq e.0 n) [
   | inl p ↦ (
@@ -70,7 +70,7 @@ found n zero (e ∷ rest) is less = elim (cases_eq e.0 n) [
     record {
       at = refl;
       number = p;
-      window = under-here n e rest p;
+      stands = under-here n e rest p;
       changed = λ f. sym (becoming-here n (λ x. Some (f x)) e rest p);
       removed = sym (becoming-here n (λ x. None) e rest p);
     },
@@ -83,6 +83,12 @@ found n (suc j) (d ∷ rest) is less = elim (cases_eq d.0 n) [
       let there = found n j rest (omega (arith, place-there n d rest q, is)) (omega arith) in
       (there.0, one-further n j d rest there.0 q there.1)
 ]
+
+pub found-entry : {X : Type 0} (n i : ℕ) (es : List (ℕ × X)) (e : ℕ × X) → i ≡ place_in n es → i < length es → e ≡ get_or es i e → IsFound n i es e
+found-entry n i es e is less at =
+    let there = found n i es is less in
+    let same : there.0 ≡ e = cc (sym there.1.at ∙ (slice_get-get_or es i e less ∙ ap Some (sym at))) in
+    subst (IsFound n i es) same there.1
 
 absent : {X : Type 0} (n : ℕ) (es : List (ℕ × X)) → length es ≡ place_in n es → under n es ≡ None
 absent n [] h = refl
@@ -97,27 +103,27 @@ nowhere {X} n es h =
     let past = ltb-false (place_in n es) (length es) (none-chosen (nat_lt (place_in n es) (length es)) (place_in n es) None h).0 in
     absent n es (omega (arith, past, prefix_len-le-length (λ (e : ℕ × X). not (e.0 == n)) es))
 
--- ---- a window that becomes another, or goes
+-- ---- what becomes something else, or goes
 
-kept-past : (n m : ℕ) (o : Option WindowState) (rest : List NumberedWindow) → n ≢ m → window_of m (kept_as n o rest) ≡ window_of m rest
+kept-past : {X : Type 0} (n m : ℕ) (o : Option X) (rest : List (ℕ × X)) → n ≢ m → under m (kept_as n o rest) ≡ under m rest
 kept-past n m None rest other = refl
-kept-past n m (Some w) rest other = under-there m (n, w) rest other
+kept-past n m (Some x) rest other = under-there m (n, x) rest other
 
 -- the others stay
-pub window-past : (n m : ℕ) (f : WindowState → Option WindowState) (ws : List NumberedWindow) → m ≢ n → window_of m (becoming n f ws) ≡ window_of m ws
+pub window-past : {X : Type 0} (n m : ℕ) (f : X → Option X) (es : List (ℕ × X)) → m ≢ n → under m (becoming n f es) ≡ under m es
 window-past n m f [] ne = refl
 window-past n m f (e ∷ rest) ne = elim (cases_eq e.0 n) [
   | inl p ↦
       let other : e.0 ≢ m = λ r. ne (sym r ∙ p) in
-      ap (window_of m) (becoming-here n f e rest p) ∙ (kept-past e.0 m (f e.1) rest other ∙ sym (under-there m e rest other))
-  | inr q ↦ ap (window_of m) (becoming-there n f e rest q) ∙ elim (cases_eq e.0 m) [
+      ap (under m) (becoming-here n f e rest p) ∙ (kept-past e.0 m (f e.1) rest other ∙ sym (under-there m e rest other))
+  | inr q ↦ ap (under m) (becoming-there n f e rest q) ∙ elim (cases_eq e.0 m) [
     | inl r ↦ under-here m e (becoming n f rest) r ∙ sym (under-here m e rest r)
     | inr r ↦ under-there m e (becoming n f rest) r ∙ (window-past n m f rest ne ∙ sym (under-there m e rest r))
   ]
 ]
 
-pub window-other : (n m : ℕ) (f : WindowState → WindowState) (ws : List NumberedWindow) → m ≢ n → window_of m (with_window n f ws) ≡ window_of m ws
-window-other n m f ws ne = window-past n m (λ w. Some (f w)) ws ne
+pub window-other : {X : Type 0} (n m : ℕ) (f : X → X) (es : List (ℕ × X)) → m ≢ n → under m (with_window n f es) ≡ under m es
+window-other n m f es ne = window-past n m (λ x. Some (f x)) es ne
 
 -- none comes
 pub none-past : (n m : ℕ) (f : WindowState → Option WindowState) (ws : List NumberedWindow) → window_of m ws ≡ None → window_of m (becoming n f ws) ≡ None

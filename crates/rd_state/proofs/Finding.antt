@@ -1,19 +1,12 @@
 -- Windows found by number.
-use Rattle.std.proofs.Common.{◌≡◌, ℕ, ◌<◌, Some, Result, Ok, List, length, set, get_or, refl, ap, subst, sym, ◌∙◌}
-use Rattle.std.proofs.lemmas.Option.{slice_get-get_or}
+use Rattle.std.proofs.Common.{◌≡◌, ℕ, ◌<◌, Result, Ok, List, length, set, get_or, refl, ap, subst, sym, ◌∙◌}
 use Rattle.rd_state.specs.declared.refused.Refused.{Refused}
 use Rattle.rd_state.specs.declared.refused.Refused.TheVariants.{NoWindow}
 use Rattle.rd_state.specs.declared.window.WindowState.{WindowState}
 use Rattle.rd_state.specs.States.{StateValue}
 use Rattle.rd_state.specs.Steps.{with_found, in_window, changing, setting}
 use Rattle.rd_state.specs.Windows.{place_in, with_window}
-use Rattle.rd_state.proofs.ByNumber.{NumberedWindow, IsFound, found}
-
-pub found-entry : (n i : ℕ) (ws : List NumberedWindow) (e : NumberedWindow) → i ≡ place_in n ws → i < length ws → e ≡ get_or ws i e → IsFound n i ws e
-found-entry n i ws e is less at =
-    let there = found n i ws is less in
-    let same : there.0 ≡ e = cc (sym there.1.at ∙ (slice_get-get_or ws i e less ∙ ap Some (sym at))) in
-    subst (IsFound n i ws) same there.1
+use Rattle.rd_state.proofs.ByNumber.{NumberedWindow, IsFound, found, found-entry}
 
 -- what `find` answers, of the windows of a state
 pub found-in : (s : StateValue) (ws : List NumberedWindow) (n i : ℕ) (e : NumberedWindow) → ws ≡ s.windows → i ≡ place_in n ws → i < length ws → e ≡ get_or s.windows i e → IsFound n i s.windows e
@@ -23,7 +16,7 @@ found-in s ws n i e shown is less at =
 -- what is done to a window that was found
 pub at-window : (s t : StateValue) (n i : ℕ) (e : NumberedWindow) (g : StateValue → WindowState → Result StateValue Refused) → t ≡ s → IsFound n i t.windows e → in_window s n (g s) ≡ g t e.1
 at-window s t n i e g same there =
-    ap (λ x. in_window x n (g x)) (sym same) ∙ ap (λ o. with_found NoWindow o (g t)) there.window
+    ap (λ x. in_window x n (g x)) (sym same) ∙ ap (λ o. with_found NoWindow o (g t)) there.stands
 
 -- a window that becomes another
 pub changes-window : (s t : StateValue) (n i : ℕ) (e : NumberedWindow) (f : WindowState → WindowState) → t ≡ s → IsFound n i t.windows e

@@ -20,8 +20,8 @@ use Rattle.rd_state.specs.Steps.{with_found, in_shown, replaced, moving, changin
 use Rattle.rd_state.specs.Valid.{IsValid}
 use Rattle.rd_state.specs.Windows.{place_in, with_window, selected_window}
 use Rattle.rd_state.proofs.ByName.{AnswersAt}
-use Rattle.rd_state.proofs.ByNumber.{NumberedWindow, IsFound}
-use Rattle.rd_state.proofs.Finding.{found-entry, at-window}
+use Rattle.rd_state.proofs.ByNumber.{NumberedWindow, IsFound, found-entry}
+use Rattle.rd_state.proofs.Finding.{at-window}
 use Rattle.rd_state.proofs.Stepping.{insertion-means}
 
 -- ---- insertions
@@ -101,7 +101,7 @@ typing-err s t new i e refused same there said =
 pub typing-effect : (s t : StateValue) (new : List ℕ) (i : ℕ) (e : NumberedWindow) → t ≡ s → IsFound t.selected i t.windows e
     → inserted_effect e.1.buffer e.1.point new ≡ inserted_effect (selected_window s).buffer (selected_window s).point new
 typing-effect s t new i e same there =
-    let is : e.1 ≡ selected_window s = sym (ap (λ o. unwrap_or o opening_window) there.window) ∙ ap selected_window same in
+    let is : e.1 ≡ selected_window s = sym (ap (λ o. unwrap_or o opening_window) there.stands) ∙ ap selected_window same in
     ap (λ (w : WindowState). inserted_effect w.buffer w.point new) is
 
 -- ---- refusals

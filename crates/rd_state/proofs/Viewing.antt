@@ -21,10 +21,10 @@ use Rattle.rd_state.proofs.Showing.{held-small, window-valid}
 
 -- a window that lives shows a buffer that was made
 pub shown-made : (s : StateValue) (n i : ℕ) (e : NumberedWindow) → IsValid s → IsFound n i s.windows e → e.1.buffer < length s.buffers
-shown-made s n i e valid there = (window-valid s n e.1 valid there.window).made
+shown-made s n i e valid there = (window-valid s n e.1 valid there.stands).made
 
 pub rows-near : (s : StateValue) (n i : ℕ) (e : NumberedWindow) → IsValid s → IsFound n i s.windows e → IsTrue (is_near_zero (pos 1000000000) e.1.pending)
-rows-near s n i e valid there = (window-valid s n e.1 valid there.window).pending
+rows-near s n i e valid there = (window-valid s n e.1 valid there.stands).pending
 
 -- ---- a buffer that is shown
 

@@ -19,23 +19,23 @@ window_of number windows = under number windows
 abbrev pub place_in : {X : Type 0} → ℕ → List (ℕ × X) → ℕ
 place_in number es = position_or_len (λ e. e.0 == number) es
 
--- a window under a number before others, where there is one
-abbrev pub kept_as : ℕ → Option WindowState → List (ℕ × WindowState) → List (ℕ × WindowState)
+-- what stands under a number before others, where there is something
+abbrev pub kept_as : {X : Type 0} → ℕ → Option X → List (ℕ × X) → List (ℕ × X)
 kept_as number None rest = rest
-kept_as number (Some w) rest = (number, w) ∷ rest
+kept_as number (Some x) rest = (number, x) ∷ rest
 
--- the windows where the one with a number became another, or went
-abbrev pub becoming : ℕ → (WindowState → Option WindowState) → List (ℕ × WindowState) → List (ℕ × WindowState)
+-- the entries where what stands under a number became something else, or went
+abbrev pub becoming : {X : Type 0} → ℕ → (X → Option X) → List (ℕ × X) → List (ℕ × X)
 becoming number f [] = []
 becoming number f (e ∷ rest) = if e.0 == number then kept_as e.0 (f e.1) rest else e ∷ becoming number f rest
 
--- where it became another
-abbrev pub with_window : ℕ → (WindowState → WindowState) → List (ℕ × WindowState) → List (ℕ × WindowState)
-with_window number f windows = becoming number (λ w. Some (f w)) windows
+-- where it became something else
+abbrev pub with_window : {X : Type 0} → ℕ → (X → X) → List (ℕ × X) → List (ℕ × X)
+with_window number f es = becoming number (λ x. Some (f x)) es
 
 -- where it went
-abbrev pub without_window : ℕ → List (ℕ × WindowState) → List (ℕ × WindowState)
-without_window number windows = becoming number (λ w. None) windows
+abbrev pub without_window : {X : Type 0} → ℕ → List (ℕ × X) → List (ℕ × X)
+without_window number es = becoming number (λ x. None) es
 
 -- no number stands twice
 abbrev pub AreApart : List (ℕ × WindowState) → Type 0

@@ -1,6 +1,5 @@
 mod Answering
 mod Desiring
-mod Finding
 mod Kept
 mod Passing
 mod Placing

@@ -1,24 +1,23 @@
-use Rattle.std.proofs.Common.{◌≡◌, ℕ, Option, sym, ap, ◌∙◌, get_or, set, unwrap_or}
-use Rattle.std.proofs.lemmas.List.{get_or_read}
+use Rattle.std.proofs.Common.{ℕ, Option, sym, ap, ◌∙◌, set, ◌==◌, unwrap_or}
 use Rattle.rd_window.specs.declared.layout.Layout.{Layout}
 use Rattle.rd_layout.specs.Sessions.{layout_of}
 use Rattle.rd_layout.proofs.Known.{Last}
-use Rattle.rd_state.proofs.ByNumber.{nowhere}
-use Rattle.rd_views.specs.Layings.{nobody}
-use Rattle.rd_views.proofs.Finding.{found, others-stay}
+use Rattle.rd_state.proofs.ByNumber.{found-entry, nowhere, window-other}
+use Rattle.rd_state.proofs.Options.{position-is}
 use Rattle.rd_views.proofs.lasts.exchange.Goals as goal
 
 pub returns-in-Some : goal.returns-in-Some
 returns-in-Some c =
     let es = c.args.layouts.now in
     let i = c.in-Some.i in
-    let there = found c.args.window i es (sym c.find.ensures ∙ c.in-Some.is) in
-    let entry : c.index-layouts-i.result ≡ get_or es i nobody = get_or_read es i c.index-layouts-i.result there.inside c.index-layouts-i.is nobody in
+    let place = position-is (λ (e : Last). e.0 == c.args.window) es i (sym c.find.ensures ∙ c.in-Some.is) in
+    let there = found-entry c.args.window i es c.index-layouts-i.result place.0 place.1 c.index-layouts-i.is in
+    let here = sym c.index-layouts-i.is in
     record {
-      taken = c.swap.ensures.y_after ∙ (ap (λ (e : Last). e.1) (sym c.index-layouts-i.is ∙ entry) ∙ sym (ap (λ (o : Option Layout). unwrap_or o c.args.layout.now) there.layout));
+      taken = c.swap.ensures.y_after ∙ (ap (λ (e : Last). e.1) here ∙ sym (ap (λ (o : Option Layout). unwrap_or o c.args.layout.now) there.stands));
       others = λ n other.
-          ap (λ (k : ℕ). layout_of n (set es i (k, c.swap.new.x))) (ap (λ (e : Last). e.0) (sym c.index-layouts-i.is ∙ entry) ∙ there.number)
-          ∙ others-stay n c.args.window i es c.swap.new.x other there.inside there.number;
+          ap (λ (k : ℕ). layout_of n (set es i (k, c.swap.new.x))) (ap (λ (e : Last). e.0) here)
+          ∙ (ap (layout_of n) (there.changed (λ _. c.swap.new.x)) ∙ window-other c.args.window n (λ _. c.swap.new.x) es other);
     }
 
 pub returns-in_default-clause-taken : goal.returns-in_default-clause-taken

@@ -9,4 +9,4 @@ pub returns-in-Ok : goal.returns-in-Ok
 returns-in-Ok c =
     let t = the_view c.self.inside in
     let there = found-in t c.as_slice.result.now c.args.number c.in-Ok.i c.index.result.now c.as_slice.ensures.value c.in-Ok.ensures.0 c.in-Ok.ensures.1 c.index.ensures in
-    sym there.window ∙ ap (λ (s : StateValue). window_of c.args.number s.windows) c.self.view_is
+    sym there.stands ∙ ap (λ (s : StateValue). window_of c.args.number s.windows) c.self.view_is
