@@ -103,7 +103,7 @@ record Goes (b i : ℕ) (f next : Option ℕ) (cs : List Class) (ls : List ℕ) 
   indexes : rest_indexes f (gathered b i cs ls ks bs) ≡ chain i next ks
   ends : (e : Class) → rest_end e f (gathered b i cs ls ks bs) ≡ chain_end e i next ks
 
--- one sequence begins there, and from then on goes on from elsewhere
+-- the sequence that begins at an item is what goes on from it, and the others stay
 present : (cs : List Class) (ls : List ℕ) (ks : List Link) (bs : List Bool) (b i j p : ℕ) → p ≡ i + j
     → length ls ≡ length cs → length ks ≡ length cs → j < length cs → get_or bs j false ≡ true
     → Goes b i (Some p) (Some p) cs ls ks bs (set bs j false)

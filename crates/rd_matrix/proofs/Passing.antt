@@ -16,7 +16,7 @@ at-position p xs some =
 pub first-inside : {X : Type 0} (p : X → Bool) (xs : List X) → list_any p xs ≡ true → position_or_len p xs < length xs
 first-inside p xs some = let first = at-position p xs some in slice_get_within xs (position_or_len p xs) first.0 first.1
 
--- an element that passes is counted
+-- where an element passes, one is counted
 pub some-counted : {X : Type 0} (p : X → Bool) (xs : List X) → list_any p xs ≡ true → 1 ≤ count_by p xs
 some-counted p xs some = let none = eqb-false (count_by p xs) 0 (none_counted p xs ∙ ap not some) in omega (arith, none)
 

@@ -9,7 +9,7 @@ use Rattle.rd_order.specs.Places.{AreHigh, BeginsLow, IsRun, Comes, IsNextTo, Is
 use Rattle.rd_order.proofs.Places.{same_run, comes_of, Comes-within, Comes-source}
 use Rattle.rd_order.proofs.Reversals.{l2_visual_order-length, l2_visual_order-comes, highest-bounds}
 
--- the same with equal numbers
+-- what `Comes` says holds of equal numbers too
 Comes-equal : (f : ℕ → ℕ) (n base p : ℕ) {m k q r : ℕ} → m ≡ k → q ≡ r → Comes f n base m p q → Comes f n base k p r
 Comes-equal f n base p same at c = subst₂ (λ (i x : ℕ). Comes f n base i p x) same at c
 

@@ -18,7 +18,7 @@ use Rattle.rd_levels.specs.declared.turn.Turn.{Turn}
 use Rattle.rd_stack.specs.Strings.{string_parts}
 use Rattle.rd_base.specs.Elements.{AreSound}
 use Rattle.rd_base.specs.Glyphs.{AreMeasured}
-use Rattle.rd_stack.specs.Shown.{AreRight, kind_elements, put_part, put_string, put_inner, put_text}
+use Rattle.rd_stack.specs.Shown.{AreRight, kind_elements, put_part, put_string, put_named, put_text}
 use Rattle.rd_stack.specs.Lines.{origin_of, put_turn, put_item}
 use Rattle.rd_stack.specs.Steps.{kind_steps, line_left, elements_in}
 
@@ -45,12 +45,12 @@ module _ (s : Scene) (base : ℕ) (origin : Origin) where
       one-by-one (put_part kind_steps steps s origin) (put_part kind_elements inner s origin)
       (λ x. kind-elements look.RowEnd (steps x.face) (inner x.face) (each x.face) s x.kind x.odd x.face origin) (string_parts s base replaced text under)
 
-  inner-elements : (overlay : Bool) (face : Attributes) (text : Option TextValue) → elements_in (put_inner kind_steps s base overlay origin face text) ≡ put_inner kind_elements s base overlay origin face text
+  inner-elements : (overlay : Bool) (face : Attributes) (text : Option TextValue) → elements_in (put_named kind_steps s base overlay origin face text) ≡ put_named kind_elements s base overlay origin face text
   inner-elements true = string-elements (λ over other. []) (λ over other. []) (λ over other. refl) false
   inner-elements false = λ face text. refl
 
   pub text-elements : (overlay : Bool) (face : Attributes) (text : Option TextValue) → elements_in (put_text kind_steps s base overlay origin face text) ≡ put_text kind_elements s base overlay origin face text
-  text-elements overlay = string-elements (put_inner kind_steps s base overlay origin) (put_inner kind_elements s base overlay origin) (inner-elements overlay) overlay
+  text-elements overlay = string-elements (put_named kind_steps s base overlay origin) (put_named kind_elements s base overlay origin) (inner-elements overlay) overlay
 
 turn-elements : (s : Scene) (base : ℕ) (turn : Turn) (found : Option Item) → elements_in (put_turn kind_steps s base turn found) ≡ put_turn kind_elements s base turn found
 turn-elements s base turn None = refl

@@ -1,4 +1,4 @@
--- The elements of a line.
+-- The items of a line, as elements and as steps, and the elements of the line.
 use Rattle.std.specs.Prelude.{ℕ, Bool, List, [], map, slice_get, Option, None, Some, All, IsTrue}
 use Rattle.std.specs.List.{flat_map}
 use Rattle.rd_base.specs.Faces.{Attributes}
@@ -25,11 +25,12 @@ put_kind put s base k overlay odd face origin = put look.LineEnd (put_text put s
 abbrev pub origin_of : ℕ → Item → Origin
 origin_of k item = record { item = k; from = item.from; to = item.to }
 
--- an item of a block, of the number that its turn gives
+-- the item of a turn, with the turn's number; where there is none, nothing
 abbrev pub put_turn : {X : Type 0} → Putting X → Scene → ℕ → Turn → Option Item → List X
 put_turn put s base turn None = []
 put_turn put s base turn (Some item) = put_kind put s base item.kind item.overlay turn.odd item.face (origin_of turn.index item)
 
+-- the same, of the items of a block
 abbrev pub put_item : {X : Type 0} → Putting X → Scene → ℕ → List Item → Turn → List X
 put_item put s base items turn = put_turn put s base turn (slice_get items turn.index)
 

@@ -34,7 +34,7 @@ ellipsis_glyphs None = replicate 3 (single 46 1)
 ellipsis_glyphs (Some table) = unwrap_or table.ellipsis (replicate 3 (single 46 1))
 
 -- a way to put what an item or a part of a string shows, by the look of an ender and by what is put for a string: its elements
--- (`kind_elements`), or the steps of a walk over them (`kind_steps`)
+-- (`kind_elements`), or the steps of a walk over them (`kind_steps` of Steps)
 abbrev pub Putting : Type 0 → Type 0
 Putting X = Look → (Option TextValue → List X) → Scene → ItemKind → Bool → Attributes → Origin → List X
 
@@ -47,27 +47,27 @@ kind_elements end string s (kind.Space spec) odd face origin = space_elements sp
 kind_elements end string s kind.Ellipsis odd face origin = glyph_elements face origin (ellipsis_glyphs s.parts.table)
 kind_elements end string s kind.Ender odd face origin = element_of face origin end ∷ []
 
--- a part of a string, by what is put for a string that it shows over its face
+-- a part of a string; what is put over its face for a string that it names is given
 abbrev pub put_part : {X : Type 0} → Putting X → (Attributes → Option TextValue → List X) → Scene → Origin → Shown → List X
 put_part put inner s origin x = put look.RowEnd (inner x.face) s x.kind x.odd x.face origin
 
 -- a string over a face, in a line of this base; a flag says whether its own display runs are used. What is put for a string that one of
--- these runs names, over the face there, is given. A number that names no string stands for the empty one
+-- these runs names, over the face there, is given. None, as of a number that names no string, puts nothing
 abbrev pub put_string : {X : Type 0} → Putting X → (Attributes → Option TextValue → List X) → Scene → ℕ → Bool → Origin → Attributes → Option TextValue → List X
 put_string put inner s base replaced origin under None = []
 put_string put inner s base replaced origin under (Some text) = flat_map (put_part put inner s origin) (string_parts s base replaced text under)
 
 -- what is put for a string that a display run names: in an overlay's string (true) that display string, and in a display string (false)
 -- nothing, since its own runs are not used
-abbrev pub put_inner : {X : Type 0} → Putting X → Scene → ℕ → Bool → Origin → Attributes → Option TextValue → List X
-put_inner put s base true origin face text = put_string put (λ over other. []) s base false origin face text
-put_inner put s base false origin face text = []
+abbrev pub put_named : {X : Type 0} → Putting X → Scene → ℕ → Bool → Origin → Attributes → Option TextValue → List X
+put_named put s base true origin face text = put_string put (λ over other. []) s base false origin face text
+put_named put s base false origin face text = []
 
--- an overlay's string, of which the own display runs are used, or a display string, of which they are not
+-- an overlay's string (true): its display runs are used, and a string that one names is put; or a display string (false): they are not
 abbrev pub put_text : {X : Type 0} → Putting X → Scene → ℕ → Bool → Origin → Attributes → Option TextValue → List X
-put_text put s base overlay origin = put_string put (put_inner put s base overlay origin) s base overlay origin
+put_text put s base overlay origin = put_string put (put_named put s base overlay origin) s base overlay origin
 
--- the elements of a display string, and of a part of it
+-- the elements of a display string over a face, in a line of this base, its own display runs not used; and of a part of it
 abbrev pub display_elements : Scene → ℕ → Origin → Attributes → Option TextValue → List Element
 display_elements s base = put_text kind_elements s base false
 

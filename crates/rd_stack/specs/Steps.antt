@@ -11,7 +11,7 @@ use Rattle.rd_items.specs.declared.item.Item.{Item}
 use Rattle.rd_items.specs.declared.item.ItemKind.TheVariants as kind
 use Rattle.rd_levels.specs.declared.turn.Turn.{Turn}
 use Rattle.rd_stack.specs.Strings.{shown_at, behind_row}
-use Rattle.rd_stack.specs.Shown.{Putting, kind_elements, put_part, put_inner}
+use Rattle.rd_stack.specs.Shown.{Putting, kind_elements, put_part, put_named}
 use Rattle.rd_stack.specs.Lines.{put_item}
 use Rattle.rd_stack.specs.declared.part.Part.{Part}
 use Rattle.rd_stack.specs.declared.part.Shown.{Shown}
@@ -23,7 +23,7 @@ kind_steps end string s k odd face origin = kind_elements end (λ text. []) s k 
 
 -- the steps of a part of an overlay's string or of a display string
 abbrev pub part_steps : Scene → ℕ → Bool → Origin → Shown → List (List Element)
-part_steps s base replaced origin = put_part kind_steps (put_inner kind_steps s base replaced origin) s origin
+part_steps s base replaced origin = put_part kind_steps (put_named kind_steps s base replaced origin) s origin
 
 -- what a string has still to give, where these turns of the parts of a row are left that ends at a place
 abbrev pub string_left : Scene → ℕ → Bool → Origin → Attributes → TextValue → List Part → List Turn → ℕ → List (List Element)

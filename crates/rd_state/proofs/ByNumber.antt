@@ -9,7 +9,7 @@ use Rattle.std.specs.Option.{option_or}
 use Rattle.rd_base.proofs.Choices.{is_some-map, none-chosen}
 use Rattle.rd_state.specs.declared.window.WindowState.{WindowState}
 use Rattle.rd_state.proofs.Options.{one-value}
-use Rattle.rd_state.specs.Windows.{under, window_of, place_in, kept_as, becoming, with_window, without_window, AreApart}
+use Rattle.rd_state.specs.Windows.{under, window_of, place_in, kept_as, becoming, with_entry, without_entry, AreApart}
 
 abbrev pub NumberedWindow : Type 0
 NumberedWindow = ℕ × WindowState
@@ -50,8 +50,8 @@ pub record IsFound {X : Type 0} (n i : ℕ) (es : List (ℕ × X)) (e : ℕ × X
   pub at : slice_get es i ≡ Some e
   pub number : e.0 ≡ n
   pub stands : under n es ≡ Some e.1
-  pub changed : (f : X → X) → set es i (e.0, f e.1) ≡ with_window n f es
-  pub removed : remove es i ≡ without_window n es
+  pub changed : (f : X → X) → set es i (e.0, f e.1) ≡ with_entry n f es
+  pub removed : remove es i ≡ without_entry n es
 
 one-further : {X : Type 0} (n j : ℕ) (d : ℕ × X) (rest : List (ℕ × X)) (e : ℕ × X) → d.0 ≢ n → IsFound n j rest e → IsFound n (suc j) (d ∷ rest) e
 one-further {X} n j d rest e q p = record {
@@ -110,20 +110,20 @@ kept-past n m None rest other = refl
 kept-past n m (Some x) rest other = under-there m (n, x) rest other
 
 -- the others stay
-pub window-past : {X : Type 0} (n m : ℕ) (f : X → Option X) (es : List (ℕ × X)) → m ≢ n → under m (becoming n f es) ≡ under m es
-window-past n m f [] ne = refl
-window-past n m f (e ∷ rest) ne = elim (cases_eq e.0 n) [
+pub entry-past : {X : Type 0} (n m : ℕ) (f : X → Option X) (es : List (ℕ × X)) → m ≢ n → under m (becoming n f es) ≡ under m es
+entry-past n m f [] ne = refl
+entry-past n m f (e ∷ rest) ne = elim (cases_eq e.0 n) [
   | inl p ↦
       let other : e.0 ≢ m = λ r. ne (sym r ∙ p) in
       ap (under m) (becoming-here n f e rest p) ∙ (kept-past e.0 m (f e.1) rest other ∙ sym (under-there m e rest other))
   | inr q ↦ ap (under m) (becoming-there n f e rest q) ∙ elim (cases_eq e.0 m) [
     | inl r ↦ under-here m e (becoming n f rest) r ∙ sym (under-here m e rest r)
-    | inr r ↦ under-there m e (becoming n f rest) r ∙ (window-past n m f rest ne ∙ sym (under-there m e rest r))
+    | inr r ↦ under-there m e (becoming n f rest) r ∙ (entry-past n m f rest ne ∙ sym (under-there m e rest r))
   ]
 ]
 
-pub window-other : {X : Type 0} (n m : ℕ) (f : X → X) (es : List (ℕ × X)) → m ≢ n → under m (with_window n f es) ≡ under m es
-window-other n m f es ne = window-past n m (λ x. Some (f x)) es ne
+pub entry-other : {X : Type 0} (n m : ℕ) (f : X → X) (es : List (ℕ × X)) → m ≢ n → under m (with_entry n f es) ≡ under m es
+entry-other n m f es ne = entry-past n m (λ x. Some (f x)) es ne
 
 -- none comes
 pub none-past : (n m : ℕ) (f : WindowState → Option WindowState) (ws : List NumberedWindow) → window_of m ws ≡ None → window_of m (becoming n f ws) ≡ None
@@ -147,31 +147,31 @@ apart-becoming n f (e ∷ rest) h = elim (cases_eq e.0 n) [
   | inr q ↦ subst AreApart (sym (becoming-there n f e rest q)) (none-past n e.0 f rest h.0, apart-becoming n f rest h.1)
 ]
 
-pub window-same : (n : ℕ) (f : WindowState → WindowState) (ws : List NumberedWindow) → window_of n (with_window n f ws) ≡ option_map f (window_of n ws)
+pub window-same : (n : ℕ) (f : WindowState → WindowState) (ws : List NumberedWindow) → window_of n (with_entry n f ws) ≡ option_map f (window_of n ws)
 window-same n f [] = refl
 window-same n f (e ∷ rest) = elim (cases_eq e.0 n) [
   | inl p ↦ ap (window_of n) (becoming-here n (λ w. Some (f w)) e rest p) ∙ (under-here n (e.0, f e.1) rest p ∙ sym (ap (option_map f) (under-here n e rest p)))
   | inr q ↦
       ap (window_of n) (becoming-there n (λ w. Some (f w)) e rest q)
-      ∙ (under-there n e (with_window n f rest) q ∙ (window-same n f rest ∙ sym (ap (option_map f) (under-there n e rest q))))
+      ∙ (under-there n e (with_entry n f rest) q ∙ (window-same n f rest ∙ sym (ap (option_map f) (under-there n e rest q))))
 ]
 
 -- a number leads to what it led to, or to what became of that
 pub window-with : (n m : ℕ) (f : WindowState → WindowState) (ws : List NumberedWindow)
-    → (window_of m (with_window n f ws) ≡ window_of m ws) ⊎ (window_of m (with_window n f ws) ≡ option_map f (window_of m ws))
+    → (window_of m (with_entry n f ws) ≡ window_of m ws) ⊎ (window_of m (with_entry n f ws) ≡ option_map f (window_of m ws))
 window-with n m f ws = elim (cases_eq m n) [
-  | inl p ↦ inr (subst (λ (k : ℕ). window_of k (with_window n f ws) ≡ option_map f (window_of k ws)) (sym p) (window-same n f ws))
-  | inr q ↦ inl (window-other n m f ws q)
+  | inl p ↦ inr (subst (λ (k : ℕ). window_of k (with_entry n f ws) ≡ option_map f (window_of k ws)) (sym p) (window-same n f ws))
+  | inr q ↦ inl (entry-other n m f ws q)
 ]
 
-pub some-with : (n m : ℕ) (f : WindowState → WindowState) (ws : List NumberedWindow) → IsSome (window_of m ws) → IsSome (window_of m (with_window n f ws))
+pub some-with : (n m : ℕ) (f : WindowState → WindowState) (ws : List NumberedWindow) → IsSome (window_of m ws) → IsSome (window_of m (with_entry n f ws))
 some-with n m f ws h = elim (window-with n m f ws) [ inl p ↦ subst IsSome (sym p) h | inr p ↦ subst IsSome (sym p) (is_some-map f (window_of m ws) h) ]
 
-pub window-gone : (n : ℕ) (ws : List NumberedWindow) → AreApart ws → window_of n (without_window n ws) ≡ None
+pub window-gone : (n : ℕ) (ws : List NumberedWindow) → AreApart ws → window_of n (without_entry n ws) ≡ None
 window-gone n [] h = refl
 window-gone n (e ∷ rest) h = elim (cases_eq e.0 n) [
   | inl p ↦ ap (window_of n) (becoming-here n (λ w. None) e rest p) ∙ (ap (λ (k : ℕ). window_of k rest) (sym p) ∙ h.0)
-  | inr q ↦ ap (window_of n) (becoming-there n (λ w. None) e rest q) ∙ (under-there n e (without_window n rest) q ∙ window-gone n rest h.1)
+  | inr q ↦ ap (window_of n) (becoming-there n (λ w. None) e rest q) ∙ (under-there n e (without_entry n rest) q ∙ window-gone n rest h.1)
 ]
 
 -- ---- a window that comes
@@ -243,14 +243,14 @@ module _ (R : ℕ → WindowState → WindowState → Type 0) (stays : (number :
   each-same ws number w v h k = stays-found number ws w v h k
 
   -- where one becomes another
-  pub each-with : (n : ℕ) (f : WindowState → WindowState) (ws : List NumberedWindow) → ((w : WindowState) → R n w (f w)) → Each R ws (with_window n f ws)
+  pub each-with : (n : ℕ) (f : WindowState → WindowState) (ws : List NumberedWindow) → ((w : WindowState) → R n w (f w)) → Each R ws (with_entry n f ws)
   each-with n f ws changed number w v h k = elim (cases_eq number n) [
     | inl p ↦
         let here : window_of n ws ≡ Some w = ap (λ (m : ℕ). window_of m ws) (sym p) ∙ h in
-        let after : option_map f (window_of n ws) ≡ Some v = sym (window-same n f ws) ∙ (ap (λ (m : ℕ). window_of m (with_window n f ws)) (sym p) ∙ k) in
+        let after : option_map f (window_of n ws) ≡ Some v = sym (window-same n f ws) ∙ (ap (λ (m : ℕ). window_of m (with_entry n f ws)) (sym p) ∙ k) in
         let is : f w ≡ v = cc (sym (ap (option_map f) here) ∙ after) in
         subst (λ (m : ℕ). R m w v) (sym p) (subst (R n w) is (changed w))
-    | inr q ↦ stays-found number ws w v h (sym (window-other n number f ws q) ∙ k)
+    | inr q ↦ stays-found number ws w v h (sym (entry-other n number f ws q) ∙ k)
   ]
 
   -- where one comes
@@ -262,10 +262,10 @@ module _ (R : ℕ → WindowState → WindowState → Type 0) (stays : (number :
       subst (R number w) is (stays number w)
 
   -- where one goes
-  pub each-without : (n : ℕ) (ws : List NumberedWindow) → AreApart ws → Each R ws (without_window n ws)
+  pub each-without : (n : ℕ) (ws : List NumberedWindow) → AreApart ws → Each R ws (without_entry n ws)
   each-without n ws apart number w v h k = elim (cases_eq number n) [
-    | inl p ↦ absurd (none-some v (sym (window-gone n ws apart) ∙ (ap (λ (m : ℕ). window_of m (without_window n ws)) (sym p) ∙ k)))
-    | inr q ↦ stays-found number ws w v h (sym (window-past n number (λ x. None) ws q) ∙ k)
+    | inl p ↦ absurd (none-some v (sym (window-gone n ws apart) ∙ (ap (λ (m : ℕ). window_of m (without_entry n ws)) (sym p) ∙ k)))
+    | inr q ↦ stays-found number ws w v h (sym (entry-past n number (λ x. None) ws q) ∙ k)
   ]
 
 -- ---- places and numbers

@@ -5,7 +5,7 @@ use Rattle.rd_state.specs.declared.refused.Refused.TheVariants.{NoWindow}
 use Rattle.rd_state.specs.declared.window.WindowState.{WindowState}
 use Rattle.rd_state.specs.States.{StateValue}
 use Rattle.rd_state.specs.Steps.{with_found, in_window, changing, setting}
-use Rattle.rd_state.specs.Windows.{place_in, with_window}
+use Rattle.rd_state.specs.Windows.{place_in, with_entry}
 use Rattle.rd_state.proofs.ByNumber.{NumberedWindow, IsFound, found, found-entry}
 
 -- what `find` answers, of the windows of a state
@@ -20,9 +20,9 @@ at-window s t n i e g same there =
 
 -- a window that becomes another
 pub changes-window : (s t : StateValue) (n i : ℕ) (e : NumberedWindow) (f : WindowState → WindowState) → t ≡ s → IsFound n i t.windows e
-    → record s { windows = with_window n f s.windows } ≡ record t { windows = set t.windows i (e.0, f e.1) }
+    → record s { windows = with_entry n f s.windows } ≡ record t { windows = set t.windows i (e.0, f e.1) }
 changes-window s t n i e f same there =
-    ap (λ (x : StateValue). record x { windows = with_window n f x.windows }) (sym same) ∙ ap (λ xs. record t { windows = xs }) (sym (there.changed f))
+    ap (λ (x : StateValue). record x { windows = with_entry n f x.windows }) (sym same) ∙ ap (λ xs. record t { windows = xs }) (sym (there.changed f))
 
 pub sets-window : (s t : StateValue) (n i : ℕ) (e : NumberedWindow) (f : WindowState → WindowState) → t ≡ s → IsFound n i t.windows e → setting s n f ≡ Ok (record t { windows = set t.windows i (e.0, f e.1) })
 sets-window s t n i e f same there = at-window s t n i e (λ x w. changing n f (Ok x)) same there ∙ ap (λ x. Ok x) (changes-window t t n i e f refl there)

@@ -25,7 +25,7 @@ use Rattle.rd_state.specs.Shown.{ChecksFormat}
 use Rattle.rd_state.specs.States.{StateValue}
 use Rattle.rd_state.specs.Steps.{changing, format_fault, in_window, mode_lining, on_tree, refused_tree, removing, splitting, step, unless_bad}
 use Rattle.rd_state.specs.Valid.{IsValid}
-use Rattle.rd_state.specs.Windows.{place_in, without_window}
+use Rattle.rd_state.specs.Windows.{place_in, without_entry}
 use Rattle.rd_state.proofs.ByNumber.{NumberedWindow, IsFound}
 use Rattle.rd_state.proofs.Finding.{at-window, found-in}
 use Rattle.rd_state.proofs.Leaves.{facts, is_some-leaf, leaf-placed}
@@ -66,7 +66,7 @@ pub removes-window : (s t : StateValue) (n i : ℕ) (e : NumberedWindow) (d : Co
 removes-window s t n i e d ws heir same there said is chosen_is =
     let left : (x : StateValue) (c : Configuration) → StateValue = λ x c. record x {
       tree = c;
-      windows = without_window n x.windows;
+      windows = without_entry n x.windows;
       selected = if x.selected == n then first_leaf (sibling n x.tree.windows) else x.selected;
     } in
     at-window s t n i e (λ x w. on_tree (remove_tree x.tree n) (left x)) same there

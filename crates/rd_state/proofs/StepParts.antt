@@ -9,7 +9,7 @@ use Rattle.rd_state.specs.Moves.{moved_in}
 use Rattle.rd_state.specs.States.{BufferValue, ContentValue, StateValue, new_buffer, number_of}
 use Rattle.rd_state.specs.Steps.{with_found, replaced, moving, changing, with_objects, on_tree, making, edited, edited_moving, typing, placing, setting, unless_bad}
 use Rattle.rd_state.specs.Valid.{most_buffers}
-use Rattle.rd_state.specs.Windows.{window_of, with_window}
+use Rattle.rd_state.specs.Windows.{window_of, with_entry}
 use Rattle.rd_state.specs.declared.moves.Move.{Move}
 use Rattle.rd_state.specs.declared.moves.Move.TheVariants.{Inserted}
 use Rattle.rd_state.specs.declared.refused.Refused.{Refused}
@@ -53,7 +53,7 @@ module _ (P : StateValue → Type 0) where
   moving-if s i b how (Ok c) h = h c refl
 
   typed-if : (s : StateValue) (i : ℕ) (b : BufferValue) (how : Move) (n : ℕ) (f : WindowState → WindowState) (r : Result ContentValue Refused)
-      → ((c : ContentValue) → r ≡ Ok c → P (record (with_content s i b c) { windows = with_window n f (map (moved_in i how) s.windows) })) → IfOk (changing n f (moving i how (replaced s i b r))) P
+      → ((c : ContentValue) → r ≡ Ok c → P (record (with_content s i b c) { windows = with_entry n f (map (moved_in i how) s.windows) })) → IfOk (changing n f (moving i how (replaced s i b r))) P
   typed-if s i b how n f (Err refusal) h = tt
   typed-if s i b how n f (Ok c) h = h c refl
 
@@ -67,7 +67,7 @@ module _ (P : StateValue → Type 0) where
 
   -- a window changed beside the tree
   pub treed-if : (s : StateValue) (r : Result Configuration TreeFault) (n : ℕ) (f : WindowState → WindowState)
-      → ((d : Configuration) → r ≡ Ok d → P (record s { tree = d; windows = with_window n f s.windows })) → IfOk (changing n f (on_tree r (λ tree. record s { tree = tree }))) P
+      → ((d : Configuration) → r ≡ Ok d → P (record s { tree = d; windows = with_entry n f s.windows })) → IfOk (changing n f (on_tree r (λ tree. record s { tree = tree }))) P
   treed-if s (Err fault) n f h = tt
   treed-if s (Ok d) n f h = h d refl
 
@@ -91,19 +91,19 @@ module _ (P : StateValue → Type 0) where
 
   pub typing-if : (s : StateValue) (new : List ℕ)
       → ((w : WindowState) (b : BufferValue) (c : ContentValue) → window_of s.selected s.windows ≡ Some w → slice_get s.buffers w.buffer ≡ Some b → insertion w.point new b.content ≡ Ok c
-      → P (record (with_content s w.buffer b c) { windows = with_window s.selected (λ old. record old { point = w.point + length new }) (map (moved_in w.buffer (Inserted w.point (length new))) s.windows) }))
+      → P (record (with_content s w.buffer b c) { windows = with_entry s.selected (λ old. record old { point = w.point + length new }) (map (moved_in w.buffer (Inserted w.point (length new))) s.windows) }))
       → IfOk (typing s new) P
   typing-if s new h =
       found _ (window_of s.selected s.windows) _
       (λ w lives. found _ (slice_get s.buffers w.buffer) _
       (λ b at. typed-if s w.buffer b (Inserted w.point (length new)) s.selected (λ old. record old { point = w.point + length new }) (insertion w.point new b.content) (λ c is. h w b c lives at is)))
 
-  pub setting-if : (s : StateValue) (n : ℕ) (f : WindowState → WindowState) → P (record s { windows = with_window n f s.windows }) → IfOk (setting s n f) P
+  pub setting-if : (s : StateValue) (n : ℕ) (f : WindowState → WindowState) → P (record s { windows = with_entry n f s.windows }) → IfOk (setting s n f) P
   setting-if s n f h = found _ (window_of n s.windows) _ (λ w lives. h)
 
   pub placing-if : (s : StateValue) (n place : ℕ) (f : WindowState → WindowState)
       → ((w : WindowState) (b : BufferValue) → window_of n s.windows ≡ Some w → slice_get s.buffers w.buffer ≡ Some b → is_accessible b.content.text place ≡ true
-      → P (record s { windows = with_window n f s.windows })) → IfOk (placing s n place f) P
+      → P (record s { windows = with_entry n f s.windows })) → IfOk (placing s n place f) P
   placing-if s n place f h =
       found _ (window_of n s.windows) _
       (λ w lives. found _ (slice_get s.buffers w.buffer) _ (λ b at. tested (is_accessible b.content.text place) _ _ P (λ yes. h w b lives at yes)))

@@ -18,7 +18,7 @@ use Rattle.rd_state.specs.Moves.{moved_in}
 use Rattle.rd_state.specs.Effects.{inserted_effect}
 use Rattle.rd_state.specs.Steps.{with_found, in_shown, replaced, moving, changing, typing, step}
 use Rattle.rd_state.specs.Valid.{IsValid}
-use Rattle.rd_state.specs.Windows.{place_in, with_window, selected_window}
+use Rattle.rd_state.specs.Windows.{place_in, with_entry, selected_window}
 use Rattle.rd_state.proofs.ByName.{AnswersAt}
 use Rattle.rd_state.proofs.ByNumber.{NumberedWindow, IsFound, found-entry}
 use Rattle.rd_state.proofs.Finding.{at-window}
@@ -63,13 +63,13 @@ typed s new w = in_shown s w (λ b.
     (moving w.buffer (Inserted w.point (length new)) (replaced s w.buffer b (insertion w.point new b.content))))
 
 typed-ok : (s : StateValue) (new : List ℕ) (w : WindowState) (bs : List BufferValue) → AnswersAt (Ok tt) (insertion w.point new) w.buffer s.buffers bs
-    → typed s new w ≡ Ok (record s { buffers = bs; windows = with_window s.selected (λ old. record old { point = w.point + length new }) (map (moved_in w.buffer (Inserted w.point (length new))) s.windows) })
+    → typed s new w ≡ Ok (record s { buffers = bs; windows = with_entry s.selected (λ old. record old { point = w.point + length new }) (map (moved_in w.buffer (Inserted w.point (length new))) s.windows) })
 typed-ok s new w bs (b, c, at, gives, is) =
     let f : WindowState → WindowState = λ old. record old { point = w.point + length new } in
     let done : Result ContentValue Refused → Result StateValue Refused = λ r. changing s.selected f (moving w.buffer (Inserted w.point (length new)) (replaced s w.buffer b r)) in
     ap (λ o. with_found NoBuffer o (λ x. changing s.selected f (moving w.buffer (Inserted w.point (length new)) (replaced s w.buffer x (insertion w.point new x.content))))) at
     ∙ (ap done gives
-    ∙ ap (λ (xs : List BufferValue). Ok (record s { buffers = xs; windows = with_window s.selected f (map (moved_in w.buffer (Inserted w.point (length new))) s.windows) })) (sym is))
+    ∙ ap (λ (xs : List BufferValue). Ok (record s { buffers = xs; windows = with_entry s.selected f (map (moved_in w.buffer (Inserted w.point (length new))) s.windows) })) (sym is))
 
 typed-err : (s : StateValue) (new : List ℕ) (w : WindowState) (refused : Refused) → (b : BufferValue) × (slice_get s.buffers w.buffer ≡ Some b) × (insertion w.point new b.content ≡ Err refused)
     → typed s new w ≡ Err refused
@@ -87,7 +87,7 @@ typing-ok s t new i e d bs ws same there inserted moved there_2 =
     sym (ap (λ (x : StateValue). typing x new) same)
     ∙ (at-window t t t.selected i e (λ x w. typed t new w) refl there
     ∙ (typed-ok t new e.1 bs inserted
-    ∙ (ap (λ (xs : List NumberedWindow). Ok (record t { buffers = bs; windows = with_window t.selected f xs })) (sym moved)
+    ∙ (ap (λ (xs : List NumberedWindow). Ok (record t { buffers = bs; windows = with_entry t.selected f xs })) (sym moved)
     ∙ ap (λ (xs : List NumberedWindow). Ok (record t { buffers = bs; windows = xs })) (sym (there_2.changed f)))))
 
 pub typing-err : (s t : StateValue) (new : List ℕ) (i : ℕ) (e : NumberedWindow) (refused : Refused) → t ≡ s → IsFound t.selected i t.windows e

@@ -19,7 +19,7 @@ use Rattle.rd_state.specs.declared.refused.Refused.TheVariants.{NoBuffer, NoWind
 use Rattle.rd_state.specs.declared.window.WindowState.{WindowState}
 use Rattle.rd_state.specs.States.{BufferValue, ContentValue, StateValue, new_buffer, number_of}
 use Rattle.rd_state.specs.Valid.{most_buffers}
-use Rattle.rd_state.specs.Windows.{window_of, with_window, without_window}
+use Rattle.rd_state.specs.Windows.{window_of, with_entry, without_entry}
 use Rattle.rd_state.specs.Making.{string_making, spec_making, face_making, table_making, table_of}
 use Rattle.rd_state.specs.Edits.{is_accessible, insertion, deletion, narrowing, widening, property_putting, overlay_making, overlay_moving, overlay_dropping, overlay_putting, margin_putting, setting_putting}
 use Rattle.rd_state.specs.Moves.{moved_in}
@@ -58,7 +58,7 @@ moving i how (Ok s) = Ok (record s { windows = map (moved_in i how) s.windows })
 -- a state in which a window became another
 abbrev pub changing : ℕ → (WindowState → WindowState) → Result StateValue Refused → Result StateValue Refused
 changing number f (Err refusal) = Err refusal
-changing number f (Ok s) = Ok (record s { windows = with_window number f s.windows })
+changing number f (Ok s) = Ok (record s { windows = with_entry number f s.windows })
 
 -- a state with other objects
 abbrev pub with_objects : StateValue → Result ObjectLists Refused → Result StateValue Refused
@@ -121,7 +121,7 @@ abbrev pub removing : StateValue → ℕ → Result StateValue Refused
 removing s window = in_window s window (λ w.
     on_tree (remove_tree s.tree window) (λ tree. record s {
       tree = tree;
-      windows = without_window window s.windows;
+      windows = without_entry window s.windows;
       selected = if s.selected == window then first_leaf (sibling window s.tree.windows) else s.selected;
     }))
 
@@ -212,4 +212,4 @@ step s (MarginPut name overlay string) = edited s name (margin_putting s.objects
 -- a window's view and its point as a layout settles them
 abbrev pub settled : StateValue → ℕ → Anchor → ℕ → StateValue
 settled s window anchor point =
-    record s { windows = with_window window (λ old. record old { anchor = anchor; point = point; forced = false; pending = pos 0 }) s.windows }
+    record s { windows = with_entry window (λ old. record old { anchor = anchor; point = point; forced = false; pending = pos 0 }) s.windows }

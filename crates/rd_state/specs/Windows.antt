@@ -1,4 +1,4 @@
--- The windows of a state by their numbers, and what the tree says of each.
+-- Entries by their numbers, the windows of a state among them, and what the tree says of each window.
 use Rattle.std.specs.Prelude.{◌≡◌, ℕ, ◌+◌, ◌==◌, Bool, is_some, if◌then◌else◌, Option, None, Some, List, [], ◌∷◌, slice_get, unwrap_or}
 use Rattle.std.specs.List.{position_or_len}
 use Rattle.std.specs.Option.{option_or}
@@ -30,12 +30,12 @@ becoming number f [] = []
 becoming number f (e ∷ rest) = if e.0 == number then kept_as e.0 (f e.1) rest else e ∷ becoming number f rest
 
 -- where it became something else
-abbrev pub with_window : {X : Type 0} → ℕ → (X → X) → List (ℕ × X) → List (ℕ × X)
-with_window number f es = becoming number (λ x. Some (f x)) es
+abbrev pub with_entry : {X : Type 0} → ℕ → (X → X) → List (ℕ × X) → List (ℕ × X)
+with_entry number f es = becoming number (λ x. Some (f x)) es
 
 -- where it went
-abbrev pub without_window : {X : Type 0} → ℕ → List (ℕ × X) → List (ℕ × X)
-without_window number es = becoming number (λ x. None) es
+abbrev pub without_entry : {X : Type 0} → ℕ → List (ℕ × X) → List (ℕ × X)
+without_entry number es = becoming number (λ x. None) es
 
 -- no number stands twice
 abbrev pub AreApart : List (ℕ × WindowState) → Type 0

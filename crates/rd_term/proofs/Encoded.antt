@@ -112,7 +112,8 @@ module _ (region : Option (ℕ × ℕ)) (rows : Rows) (cursor : Option (ℕ × �
       (ne_eqb (192 + code / 64) 27 (λ e. omega arith)) (le-ltb (192 + code / 64) 128 (omega arith)) (begun-two (code / 64) m n)
       (le-ltb (128 + code % 64) 128 (omega arith)) (le-ltb 191 (128 + code % 64) (omega arith)) (omega arith)
 
-  -- three bytes and four, by the bits that the first gives: with none set and with the most set the second has other bounds
+  -- three bytes and four, by the bits that the first gives: at 0 the second has another least bound, and at one place (13, before the
+  -- surrogates; 4, the last codes) another greatest
   by-bits : (base n due least last most second : ℕ) {P : Type 0}
       → begun (base + 0) ≡ read 0 due least 191 → begun (base + last) ≡ read last due 128 most → (1 ≤ n → n ≢ last → begun (base + n) ≡ read n due 128 191)
       → (n ≡ 0 → least ≤ second) → (n ≡ last → second ≤ most) → 128 ≤ second → second ≤ 191

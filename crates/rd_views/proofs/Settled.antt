@@ -12,7 +12,7 @@ use Rattle.rd_state.specs.Shown.{IsShownAt}
 use Rattle.rd_state.specs.States.{ContentValue, StateValue}
 use Rattle.rd_state.specs.Steps.{settled}
 use Rattle.rd_state.specs.Valid.{IsValid}
-use Rattle.rd_state.specs.Windows.{AreApart, content_in, shown_content, window_of, with_window}
+use Rattle.rd_state.specs.Windows.{AreApart, content_in, shown_content, window_of, with_entry}
 use Rattle.rd_state.specs.declared.window.WindowState.{WindowState}
 use Rattle.rd_text.specs.Texts.{IsAccessible}
 use Rattle.rd_tree.proofs.Rooms.{found_number}
@@ -22,7 +22,7 @@ use Rattle.rd_ucd.specs.Data.{Data}
 use Rattle.rd_layout.specs.Screens.{settled_at, settled_by, settled_state}
 use Rattle.rd_layout.specs.Sessions.{SessionValue, layout_of}
 use Rattle.rd_layout.specs.Windows.{place_of, places, view_in, wanted_of, window_shape, window_source}
-use Rattle.rd_state.proofs.ByNumber.{NumberedWindow, apart-became, under-became, under-here, under-there, some-with, window-other, window-same, window-with}
+use Rattle.rd_state.proofs.ByNumber.{NumberedWindow, apart-became, under-became, under-here, under-there, some-with, entry-other, window-same, window-with}
 use Rattle.rd_layout.proofs.Known.{Last}
 use Rattle.rd_layout.proofs.Placed.{placed-here, placed-there}
 use Rattle.rd_views.specs.Layings.{AreDesired, AreOnce, CanSettle, IsDesiredBy, all_settled}
@@ -36,7 +36,7 @@ abbrev pub settle_to : Chosen → WindowState → WindowState
 settle_to c w = record w { anchor = c.anchor; point = c.point; forced = false; pending = pos 0 }
 
 abbrev pub windows_settled : List LaidWindow → List Last → List NumberedWindow → List NumberedWindow
-windows_settled (x ∷ xs) (e ∷ es) ws = windows_settled xs es (with_window e.0 (settle_to x.chosen) ws)
+windows_settled (x ∷ xs) (e ∷ es) ws = windows_settled xs es (with_entry e.0 (settle_to x.chosen) ws)
 windows_settled _ _ ws = ws
 
 state-is : (xs : List LaidWindow) (es : List Last) (s : StateValue) → all_settled xs es s ≡ record s { windows = windows_settled xs es s.windows }
@@ -73,18 +73,18 @@ same-windows (u ∷ us) (w ∷ ws) same apart found =
     ]) in
     λ i. (parts.0 i, value i) ∷ rest i
 
-with-numbers : (n : ℕ) (f : WindowState → WindowState) (ws : List NumberedWindow) → map (λ (e : NumberedWindow). e.0) (with_window n f ws) ≡ map (λ (e : NumberedWindow). e.0) ws
+with-numbers : (n : ℕ) (f : WindowState → WindowState) (ws : List NumberedWindow) → map (λ (e : NumberedWindow). e.0) (with_entry n f ws) ≡ map (λ (e : NumberedWindow). e.0) ws
 with-numbers n f [] = refl
 with-numbers n f (w ∷ ws) = by (w.0 == n) (with-numbers n f ws) where
-  by : (t : Bool) → map (λ (e : NumberedWindow). e.0) (with_window n f ws) ≡ map (λ (e : NumberedWindow). e.0) ws
-      → map (λ (e : NumberedWindow). e.0) (if t then (w.0, f w.1) ∷ ws else w ∷ with_window n f ws) ≡ w.0 ∷ map (λ (e : NumberedWindow). e.0) ws
+  by : (t : Bool) → map (λ (e : NumberedWindow). e.0) (with_entry n f ws) ≡ map (λ (e : NumberedWindow). e.0) ws
+      → map (λ (e : NumberedWindow). e.0) (if t then (w.0, f w.1) ∷ ws else w ∷ with_entry n f ws) ≡ w.0 ∷ map (λ (e : NumberedWindow). e.0) ws
   by true rest = refl
   by false rest = ap (λ (ns : List ℕ). w.0 ∷ ns) rest
 
 settled-numbers : (xs : List LaidWindow) (es : List Last) (ws : List NumberedWindow) → map (λ (e : NumberedWindow). e.0) (windows_settled xs es ws) ≡ map (λ (e : NumberedWindow). e.0) ws
 settled-numbers [] es ws = refl
 settled-numbers (x ∷ xs) [] ws = refl
-settled-numbers (x ∷ xs) (e ∷ es) ws = settled-numbers xs es (with_window e.0 (settle_to x.chosen) ws) ∙ with-numbers e.0 (settle_to x.chosen) ws
+settled-numbers (x ∷ xs) (e ∷ es) ws = settled-numbers xs es (with_entry e.0 (settle_to x.chosen) ws) ∙ with-numbers e.0 (settle_to x.chosen) ws
 
 map-numbers : (f : ℕ → WindowState → WindowState) (ws : List NumberedWindow) → map (λ (e : NumberedWindow). e.0) (map (λ (e : NumberedWindow). (e.0, f e.0 e.1)) ws) ≡ map (λ (e : NumberedWindow). e.0) ws
 map-numbers f [] = refl
@@ -120,13 +120,13 @@ found-settled n [] es ws once = refl
 found-settled n (x ∷ xs) [] ws once = refl
 found-settled n (x ∷ xs) (e ∷ es) ws once =
     let f = settle_to x.chosen in
-    found-settled n xs es (with_window e.0 f ws) once.1 ∙ elim (cases_eq e.0 n) [
+    found-settled n xs es (with_entry e.0 f ws) once.1 ∙ elim (cases_eq e.0 n) [
       | inl p ↦
-          ap (λ (c : Option Chosen). settle_found c (window_of n (with_window e.0 f ws))) (chosen-none n xs es (ap (λ (k : ℕ). layout_of k es) (sym p) ∙ once.0))
-          ∙ (ap (λ (k : ℕ). window_of n (with_window k f ws)) p
+          ap (λ (c : Option Chosen). settle_found c (window_of n (with_entry e.0 f ws))) (chosen-none n xs es (ap (λ (k : ℕ). layout_of k es) (sym p) ∙ once.0))
+          ∙ (ap (λ (k : ℕ). window_of n (with_entry k f ws)) p
           ∙ (window-same n f ws ∙ ap (λ (c : Option Chosen). settle_found c (window_of n ws)) (sym (chosen-here n x xs e es p))))
       | inr q ↦
-          ap (settle_found (chosen_for n xs es)) (window-other e.0 n f ws (λ r. q (sym r)))
+          ap (settle_found (chosen_for n xs es)) (entry-other e.0 n f ws (λ r. q (sym r)))
           ∙ ap (λ (c : Option Chosen). settle_found c (window_of n ws)) (sym (chosen-there n x xs e es q))
     ]
 
@@ -183,7 +183,7 @@ module _ (v : SessionValue) where
 -- ---- windows can be settled
 
 -- a window that is found behind another's settling was there before it, and shows the same buffer
-pub shown-before : (n m : ℕ) (c : Chosen) (ws : List NumberedWindow) (w : WindowState) → window_of n (with_window m (settle_to c) ws) ≡ Some w → (u : WindowState) × (window_of n ws ≡ Some u) × (u.buffer ≡ w.buffer)
+pub shown-before : (n m : ℕ) (c : Chosen) (ws : List NumberedWindow) (w : WindowState) → window_of n (with_entry m (settle_to c) ws) ≡ Some w → (u : WindowState) × (window_of n ws ≡ Some u) × (u.buffer ≡ w.buffer)
 shown-before n m c ws w at = elim (window-with m n (settle_to c) ws) [
   | inl p ↦ (w, sym p ∙ at, refl)
   | inr p ↦

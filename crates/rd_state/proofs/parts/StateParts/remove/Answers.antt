@@ -2,7 +2,7 @@ use Rattle.std.proofs.Common.{◌==◌, if◌then◌else◌, refl, ap, ◌∙◌
 use Rattle.rd_script.specs.declared.op.Op.TheVariants.{Remove}
 use Rattle.rd_tree.specs.Calls.{Configuration, remove_tree}
 use Rattle.rd_tree.specs.Windows.{first_leaf, sibling}
-use Rattle.rd_state.specs.Windows.{without_window}
+use Rattle.rd_state.specs.Windows.{without_entry}
 use Rattle.rd_state.specs.contracts.parts.StateParts.{the_view}
 use Rattle.rd_state.specs.declared.window.WindowState.{WindowState}
 use Rattle.rd_state.specs.States.{StateValue}
@@ -22,7 +22,7 @@ returns-in_err-heir-clause-applies c =
     let n = c.args.window in
     let after : StateValue → WindowState → Configuration → StateValue = λ x w d. record x {
       tree = d;
-      windows = without_window n x.windows;
+      windows = without_entry n x.windows;
       selected = if x.selected == n then first_leaf (sibling n x.tree.windows) else x.selected;
     } in
     refuses c.from_residual-in_err-heir.result (Remove n) c.args.self.now (record t { tree = c.remove.new.self }) (refused_tree c.in_err-heir.field-0.0)
