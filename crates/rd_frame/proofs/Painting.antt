@@ -87,15 +87,18 @@ narrower n m rows less h = each-weaker (λ row. n ≤ length row) (λ row. m ≤
 pub just-wide : {C : Type 0} (n : ℕ) (rows : List (List C)) → AllByRecursion (λ row. length row ≡ n) rows → AreWide n rows
 just-wide n rows h = each-weaker (λ row. length row ≡ n) (λ row. n ≤ length row) (λ row a. omega (arith, a)) rows h
 
-over-wide : {C : Type 0} (n column : ℕ) (news rows : List (List C)) → AreWide n rows → AreWide n (laid_over column news rows)
-over-wide n column [] rows h = h
-over-wide n column (new ∷ news) [] h = tt
-over-wide n column (new ∷ news) (row ∷ rows) h = (written-at_least n column new row h.0, over-wide n column news rows h.1)
+-- what holds of each row, and of a row over which one of the new ones is written, holds of each row where all are laid
+over-each : {C : Type 0} (P Q : List C → Type 0) (column : ℕ) → ((new row : List C) → Q new → P row → P (written_over column new row)) → (news rows : List (List C)) → AllByRecursion Q news → AllByRecursion P rows
+    → AllByRecursion P (laid_over column news rows)
+over-each P Q column keeps [] rows k h = h
+over-each P Q column keeps (new ∷ news) [] k h = tt
+over-each P Q column keeps (new ∷ news) (row ∷ rows) k h = (keeps new row k.0 h.0, over-each P Q column keeps news rows k.1 h.1)
 
-pub at-wide : {C : Type 0} (n y column : ℕ) (news rows : List (List C)) → AreWide n rows → AreWide n (laid_at y column news rows)
-at-wide n zero column news rows h = over-wide n column news rows h
-at-wide n (suc y) column news [] h = tt
-at-wide n (suc y) column news (row ∷ rows) h = (h.0, at-wide n y column news rows h.1)
+pub at-each : {C : Type 0} (P Q : List C → Type 0) (column : ℕ) → ((new row : List C) → Q new → P row → P (written_over column new row)) → (y : ℕ) (news rows : List (List C)) → AllByRecursion Q news → AllByRecursion P rows
+    → AllByRecursion P (laid_at y column news rows)
+at-each P Q column keeps zero news rows k h = over-each P Q column keeps news rows k h
+at-each P Q column keeps (suc y) news [] k h = tt
+at-each P Q column keeps (suc y) news (row ∷ rows) k h = (h.0, at-each P Q column keeps y news rows k h.1)
 
 -- rows beside rows that were laid
 over-beside : {C : Type 0} (column at w : ℕ) (lefts rights rows : List (List C)) → at ≡ column + w → length lefts ≡ length rights → AllByRecursion (λ row. length row ≡ w) lefts → AreWide column rows
@@ -157,17 +160,6 @@ at-length zero column news rows = over-length column news rows
 at-length (suc y) column news [] = refl
 at-length (suc y) column news (row ∷ rows) = ap suc (at-length y column news rows)
 
-over-grid : {C : Type 0} (w n column : ℕ) (news rows : List (List C)) → AllByRecursion (λ row. length row ≡ w) rows → AllByRecursion (λ row. length row ≡ n) news → column + n ≤ w → AllByRecursion (λ row. length row ≡ w) (laid_over column news rows)
-over-grid w n column [] rows h k room = h
-over-grid w n column (new ∷ news) [] h k room = tt
-over-grid w n column (new ∷ news) (row ∷ rows) h k room =
-    (let a = h.0 in let b = k.0 in written-length column new row (omega arith) ∙ h.0, over-grid w n column news rows h.1 k.1 room)
-
-pub at-grid : {C : Type 0} (w n y column : ℕ) (news rows : List (List C)) → AllByRecursion (λ row. length row ≡ w) rows → AllByRecursion (λ row. length row ≡ n) news → column + n ≤ w → AllByRecursion (λ row. length row ≡ w) (laid_at y column news rows)
-at-grid w n zero column news rows h k room = over-grid w n column news rows h k room
-at-grid w n (suc y) column news [] h k room = tt
-at-grid w n (suc y) column news (row ∷ rows) h k room = (h.0, at-grid w n y column news rows h.1 k room)
-
 -- ---- windows
 
 painted-both : {C : Type 0} (rows_of : Placed → List (List C)) (first second : List Placed) (rows : List (List C)) → painted rows_of (first ++ second) rows ≡ painted rows_of second (painted rows_of first rows)
@@ -201,7 +193,8 @@ painted-composed rows_of (Split side size first second) rect rows h f wide =
     painted-both rows_of (placed first a) (placed second b) rows
     ∙ (ap (painted rows_of (placed second b)) (painted-composed rows_of first a rows h.0 (filled_first rows_of side size first second rect f) (narrower (rect.x + rect.width) (a.x + a.width) rows within.0.1 wide))
     ∙ (painted-composed rows_of second b laid h.1 (filled_second rows_of side size first second rect f)
-    (at-wide (b.x + b.width) a.y a.x (composed rows_of first a) rows (narrower (rect.x + rect.width) (b.x + b.width) rows within.1.1 wide))
+    (at-each (λ row. b.x + b.width ≤ length row) (λ new. Unit {0}) a.x (λ new row any n. written-at_least (b.x + b.width) a.x new row n) a.y (composed rows_of first a) rows
+    (recursion_from_All (λ new. Unit {0}) (composed rows_of first a) (λ k d inside. tt)) (narrower (rect.x + rect.width) (b.x + b.width) rows within.1.1 wide))
     ∙ parts-laid rows_of side size first second rect rows h f (narrower (rect.x + rect.width) rect.x rows (omega arith) wide)))
 
 -- ---- a whole screen

@@ -17,7 +17,7 @@ use Rattle.rd_frame.specs.Paints.{painted}
 use Rattle.rd_frame.specs.Turns.{IsTurn}
 use Rattle.rd_term.proofs.Shapes.{grid-width}
 use Rattle.rd_frame.proofs.Filling.{window-size}
-use Rattle.rd_frame.proofs.Painting.{laid_at, at-rectangle, at-length, at-grid}
+use Rattle.rd_frame.proofs.Painting.{laid_at, at-each, at-rectangle, at-length, written-length}
 
 stands-on : (width height : ℕ) (window : Placed) (rows : List (List Cell)) → StandsIn window (frame width height) → width_of rows ≡ width → length rows ≡ height + 1 → StandsOn window rows
 stands-on width height window rows stands wide tall =
@@ -29,7 +29,8 @@ size-kept : (width height columns count : ℕ) (y column : ℕ) (news rows : Lis
 size-kept width height columns count y column news rows size new room = (
   at-length y column news rows ∙ size.0,
   All-from_recursion (λ row. length row ≡ width) (laid_at y column news rows)
-      (at-grid width columns y column news rows (recursion_from_All (λ row. length row ≡ width) rows size.1) (recursion_from_All (λ row. length row ≡ columns) news new.1) room),
+      (at-each (λ row. length row ≡ width) (λ new. length new ≡ columns) column (λ new row n m. written-length column new row (omega (arith, n, m, room)) ∙ m) y news rows
+      (recursion_from_All (λ row. length row ≡ columns) news new.1) (recursion_from_All (λ row. length row ≡ width) rows size.1)),
 )
 
 pub painted-turn : (f : FrameValues) (i : ℕ) (window : Placed) (rows : List (List Cell)) → FitsFrame f → HasSize f.tree.width (f.tree.height + 1) rows → StandsIn window (frame_of f.tree) → slice_get (placed f.tree.windows (frame_of f.tree)) i ≡ Some window → IsTurn f i window rows
