@@ -76,32 +76,50 @@ abbrev pub shows : ℕ → ℕ → Option Picture → Tty
 shows width height None = unknown width height
 shows width height (Some screen) = record (unknown width height) { rows = known screen.rows; pen = Some plain }
 
--- a terminal of this size that reads nothing is ready to be brought to a sound target
-pub is-ready : (width height : ℕ) (current : Option Picture) (target : Picture) (t : Tty) → t.confused ≡ false → t.reading ≡ Between → length t.rows ≡ height → IsGrid width t.rows
-    → IsCurrent width height current t → width ≤ 400 → height ≤ 200 → IsOfSize width height target → IsSound target → IsReady width height current target t
-is-ready width height current target t sure between rows each now wide tall size sound = record {
-  sure = sure;
-  between = between;
-  rows = rows;
-  each = each;
+-- how a terminal stands where a frame has this size, and where this is known of its screen
+pub record AtFrame (width height : ℕ) (current : Option Picture) (t : Tty) : Type 0 where
+  pub sure : t.confused ≡ false
+  pub between : t.reading ≡ Between
+  pub rows : length t.rows ≡ height
+  pub each : IsGrid width t.rows
+  pub now : IsCurrent width height current t
+
+-- a new terminal
+pub unknown-at : (width height : ℕ) → AtFrame width height None (unknown width height)
+unknown-at width height =
+    let row : List (Option Cell) = replicate width None in
+    record {
+      sure = refl;
+      between = refl;
+      rows = length-replicate height row;
+      each = All-replicate (λ (r : List (Option Cell)). length r ≡ width) height row (length-replicate width None);
+      now = tt;
+    }
+
+-- a terminal that stands so is ready to be brought to a sound target
+pub is-ready : (width height : ℕ) (current : Option Picture) (target : Picture) (t : Tty) → AtFrame width height current t → width ≤ 400 → height ≤ 200 → IsOfSize width height target
+    → IsSound target → IsReady width height current target t
+is-ready width height current target t at wide tall size sound = record {
+  sure = at.sure;
+  between = at.between;
+  rows = at.rows;
+  each = at.each;
   wide = wide;
   tall = tall;
   size = size;
   whole = sound.whole;
   colours = sound.colours;
-  now = now;
+  now = at.now;
 }
 
 module _ (laws : SendLaws) (s : StateValue) (target : Picture) (bands : List Band) (limit : Option ℕ) (wide : s.width ≤ 400) (tall : s.height ≤ 200)
     (size : IsOfSize s.width s.height target) (sound : IsSound target) (within : AreWithin s.height bands) where
   ready : (current : Option Picture) → FitsFrame current s → IsReady s.width s.height current target (shows s.width s.height current)
-  ready None fits =
-      let row : List (Option Cell) = replicate s.width None in
-      is-ready s.width s.height None target (unknown s.width s.height) refl refl (length-replicate s.height row)
-      (All-replicate (λ (r : List (Option Cell)). length r ≡ s.width) s.height row (length-replicate s.width None)) tt wide tall size sound
+  ready None fits = is-ready s.width s.height None target (unknown s.width s.height) (unknown-at s.width s.height) wide tall size sound
   ready (Some screen) fits =
-      is-ready s.width s.height (Some screen) target (shows s.width s.height (Some screen)) refl refl (length-map screen.rows (map Some) ∙ fits.0.rows)
-      (grid-known s.width screen.rows fits.0.each) (fits.0, refl, refl) wide tall size sound
+      let rows : length (known screen.rows) ≡ s.height = length-map screen.rows (map Some) ∙ fits.0.rows in
+      is-ready s.width s.height (Some screen) target (shows s.width s.height (Some screen))
+      (record { sure = refl; between = refl; rows = rows; each = grid-known s.width screen.rows fits.0.each; now = (fits.0, refl, refl) }) wide tall size sound
 
   sized : (current : Option Picture) → FitsFrame current s → HaveOneSize current target × IfSome current (λ screen. IsScreen screen × IsSound screen)
   sized None fits = (tt, tt)

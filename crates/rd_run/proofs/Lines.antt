@@ -1,10 +1,7 @@
 -- A session stands behind each line of a run, and the terminal shows its screen where that is known.
 use Rattle.std.proofs.Common.{◌≡◌, ℕ, Bool, true, false, List, [], ◌∷◌, length, map, Option, None, Some, Ok, is_some, if◌then◌else◌, refl, sym, ap, ◌∙◌, subst, subst₂, true≢false}
-use Rattle.std.proofs.Common.{replicate}
-use Rattle.std.proofs.lemmas.List.{length-replicate, length-map}
-use Rattle.std.proofs.lemmas.List.Elements.{All-replicate}
+use Rattle.std.proofs.lemmas.List.{length-map}
 use Rattle.std.specs.Prelude.{IfSome}
-use Rattle.rd_base.specs.declared.cell.Cell.{Cell}
 use Rattle.rd_lineshift.specs.Choices.{AreWithin}
 use Rattle.rd_lineshift.specs.Plans.{shifted_update}
 use Rattle.rd_lineshift.specs.declared.band.Band.{Band}
@@ -14,10 +11,9 @@ use Rattle.rd_state.specs.States.{StateValue}
 use Rattle.rd_state.specs.Valid.{IsValid}
 use Rattle.rd_term.specs.Pictures.{Picture, IsGrid, IsOfSize, IsScreen}
 use Rattle.rd_term.specs.Terminals.{Tty, unknown, feed_bytes, Shows, known}
-use Rattle.rd_term.specs.declared.reading.Reading.TheVariants.{Between}
 use Rattle.rd_ucd.specs.Data.{Data}
 use Rattle.rd_term.proofs.Shapes.{grid-known}
-use Rattle.rd_update.specs.Laws.{IsReady, IsUpdated, IsCurrent, IsSound}
+use Rattle.rd_update.specs.Laws.{IsReady, IsUpdated, IsSound}
 use Rattle.rd_update.specs.Plans.{HaveOneSize}
 use Rattle.rd_update.specs.Updates.{Update}
 use Rattle.rd_layout.specs.Copies.{redisplayed as redisplayed_session}
@@ -26,7 +22,7 @@ use Rattle.rd_layout.specs.Screens.{laid_out}
 use Rattle.rd_layout.specs.Sessions.{IsStep, SessionValue, behind, is_frame, opened as opened_session, session_step}
 use Rattle.rd_layout.specs.Since.{FitsFrame, IsSession}
 use Rattle.rd_layout.specs.declared.outcome.Outcome.{Outcome}
-use Rattle.rd_layout.proofs.Sending.{is-ready}
+use Rattle.rd_layout.proofs.Sending.{AtFrame, is-ready, unknown-at}
 use Rattle.rd_run.specs.Runs.{AreOfOneSize, Effect, Input, IsOn, LeadsOn, Mode, Standing, World, after, effect, is_sent, is_shown, opened, outcome_at, quiet, redisplayed, refused, run, run_line, stepped, terminal_after, unshown}
 use Rattle.rd_run.specs.declared.status.ScriptFault.TheVariants as faults
 use Rattle.rd_run.proofs.Effects.{effect-is, shown-done}
@@ -48,14 +44,6 @@ pub record RunLaws : Type 0 where
 
 -- ---- where a run stands, with its terminal
 
--- how a terminal stands where a frame has this size, and where this is known of its screen
-pub record AtFrame (width height : ℕ) (current : Option Picture) (t : Tty) : Type 0 where
-  pub sure : t.confused ≡ false
-  pub between : t.reading ≡ Between
-  pub rows : length t.rows ≡ height
-  pub each : IsGrid width t.rows
-  pub now : IsCurrent width height current t
-
 pub record IsAt (v : SessionValue) (t : Tty) : Type 0 where
   pub session : IsSession v
   pub there : AtFrame v.state.width v.state.height v.current t
@@ -69,17 +57,7 @@ frame-at v next c t session same now there = record {
 
 -- a new terminal
 fresh-at : (v : SessionValue) → IsSession v → v.current ≡ None → IsAt v (unknown v.state.width v.state.height)
-fresh-at v session none =
-    let n = v.state.height in
-    let w = v.state.width in
-    let blank : List (Option Cell) = replicate w None in
-    frame-at v v None (unknown w n) session (refl, refl) none (record {
-      sure = refl;
-      between = refl;
-      rows = length-replicate n blank;
-      each = All-replicate (λ row. length row ≡ w) n blank (length-replicate w None);
-      now = tt;
-    })
+fresh-at v session none = frame-at v v None (unknown v.state.width v.state.height) session (refl, refl) none (unknown-at v.state.width v.state.height)
 
 -- a session whose screen is unknown
 forgotten-at : (v : SessionValue) (t : Tty) → IsAt v t → IsAt (record v { current = None }) t
@@ -101,8 +79,7 @@ ready : (laws : RunLaws) (v : SessionValue) (t : Tty) → IsAt v t → IsReady v
 ready laws v t h =
     let target = laws.targets v.files v.state h.session.state in
     let frame = h.session.state.frame in
-    let there = h.there in
-    is-ready v.state.width v.state.height v.current (laid_out v.files v.state).picture t there.sure there.between there.rows there.each there.now frame.narrow frame.low target.0 target.1
+    is-ready v.state.width v.state.height v.current (laid_out v.files v.state).picture t h.there frame.narrow frame.low target.0 target.1
 
 -- behind the bytes of an update
 updated-at : (v next : SessionValue) (u : Update) (target : Picture) (t : Tty) → IsSession next → AreOfOneSize v.state next.state → next.current ≡ Some u.screen
