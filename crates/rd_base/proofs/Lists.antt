@@ -1,10 +1,10 @@
 -- What holds of each element of a list, and what a list is from one of its places.
-use Rattle.std.proofs.Common.{◌≡◌, ◌≢◌, ◌⊎◌, ℕ, zero, suc, ◌+◌, ◌-◌, ◌<◌, ◌≤◌, nat_le, nat_lt, ◌==◌, Bool, true, false, not, ◌&&◌, ◌||◌, List, [], ◌∷◌, ◌++◌, length, length-append, take, drop, get_or, None, Some, is_some, inl, inr, All, refl, sym, subst, ap, ap₂, cond, ◌∙◌, arith, map, set}
+use Rattle.std.proofs.Common.{◌≡◌, ◌≢◌, ◌⊎◌, ℕ, zero, suc, ◌+◌, ◌-◌, ◌<◌, ◌≤◌, nat_le, nat_lt, ◌==◌, Bool, true, false, not, ◌&&◌, ◌||◌, List, [], ◌∷◌, ◌++◌, length, length-append, length-drop, take, drop, get_or, None, Some, is_some, inl, inr, All, refl, sym, subst, ap, ap₂, cond, ◌∙◌, arith, map, min, set}
 use Rattle.std.specs.Prelude.{IfSome, slice_get, slice_range}
 use Rattle.std.specs.List.{AllByRecursion, count_by, find, list_any, position_or_len, range_with_len}
 use Rattle.std.proofs.lemmas.Bool.{cases_lt, ne_eqb}
 use Rattle.std.proofs.lemmas.Bool.Decides.{nat_tests}
-use Rattle.std.proofs.lemmas.List.{get_or_append_left, get_or_past, drop_more, drop_all, drop-set-lt, drop-drop, drop-take, take_more}
+use Rattle.std.proofs.lemmas.List.{length-take, get_or_append_left, get_or_past, drop_more, drop_all, drop-set-lt, drop-drop, drop-take, take_more}
 use Rattle.std.proofs.lemmas.List.Folds.{find_at}
 use Rattle.std.proofs.lemmas.List.Sums.{passes_at_first, sum_by-append, sum_by-cons}
 use Rattle.std.proofs.Math.Seq.{drop-append_seam}
@@ -61,6 +61,12 @@ get-drop (suc n) (x ∷ xs) (suc i) j e = get-drop n xs i j (omega arith)
 -- what stands at a place of a mapped list was made of what stands there
 pub get-map : {X Y : Type 0} (f : X → Y) (xs : List X) (i : ℕ) (y : Y) → slice_get (map f xs) i ≡ Some y → (x : X) × (slice_get xs i ≡ Some x) × (f x ≡ y)
 get-map f xs i y h = map-some f (slice_get xs i) y (sym (slice_get-map f xs i) ∙ h)
+
+-- how long a list is of which the part from a place up to another gives way to a new one
+pub length-replaced : {X : Type 0} (from end : ℕ) (new xs : List X)
+    → length (take from xs ++ (new ++ drop end xs)) ≡ min from (length xs) + length new + (length xs - end)
+length-replaced from end new xs =
+    length-append (take from xs) (new ++ drop end xs) ∙ omega (arith, length-take from xs, length-append new (drop end xs), length-drop end xs)
 
 -- what heads the rest from a place stands there
 pub drop-cons : {X : Type 0} (xs : List X) (a : ℕ) (x : X) (rest : List X) → drop a xs ≡ x ∷ rest → (slice_get xs a ≡ Some x) × (drop (a + 1) xs ≡ rest)

@@ -2,8 +2,8 @@
 ghost use Rattle.std.specs.Prelude.{◌≡◌, ◌<◌, ◌-◌, option_map, IfSome, drop, length};
 ghost use Rattle.rd_base.specs.Cuts.{cut};
 
-/// What stands before the first of a byte, and what stands behind it; None exactly where the byte stands nowhere. It looks at each byte
-/// up to that one.
+/// What stands before the first of a byte, and what stands behind it; None exactly where the byte stands nowhere. It looks at no byte
+/// behind that first one.
 pub fn cut(byte: u8, bytes: &[u8]) -> Option<(&[u8], &[u8])>
     ensures value { option_map (λ parts. (parts.0.now, parts.1.now)) result ≡ cut byte bytes.now }
     ensures shorter { IfSome result (λ parts. length parts.1.now < length bytes.now) }

@@ -1,9 +1,9 @@
 -- Rectangles that are painted one after the other.
 use Rattle.std.proofs.Common.{◌≡◌, ℕ, zero, suc, ◌+◌, ◌≤◌, List, [], ◌∷◌, ◌++◌, length, take, drop, refl, sym, ◌∙◌, ap, arith, append_assoc, length-append}
 use Rattle.std.specs.List.{AllByRecursion}
-use Rattle.std.proofs.lemmas.List.{append-nil, length-take, length-take-le, length-drop, take_at, drop_at, drop-drop, drop_all}
+use Rattle.std.proofs.lemmas.List.{append-nil, length-take-le, length-drop, take_at, drop_at, drop-drop, drop_all}
 use Rattle.std.proofs.lemmas.List.Elements.{recursion_from_All}
-use Rattle.rd_base.proofs.Lists.{each-weaker}
+use Rattle.rd_base.proofs.Lists.{each-weaker, length-replaced}
 use Rattle.rd_base.specs.Cells.{row_at}
 use Rattle.rd_term.specs.Pictures.{with_cells, written_over}
 use Rattle.rd_tree.specs.declared.placed.Placed.{Placed}
@@ -41,20 +41,11 @@ written-behind {C = C} column at first second row inside e =
 
 -- the columns of a row that is written over, where the cells have room
 pub written-length : {C : Type 0} (column : ℕ) (cells row : List C) → column + length cells ≤ length row → length (written_over column cells row) ≡ length row
-written-length column cells row room =
-    length-append (take column row) (cells ++ drop (column + length cells) row)
-    ∙ omega (arith, length-take column row, length-append cells (drop (column + length cells) row), length-drop (column + length cells) row)
+written-length column cells row room = length-replaced column (column + length cells) cells row ∙ omega arith
 
 -- it gets no shorter
 pub written-at_least : {C : Type 0} (n column : ℕ) (cells row : List C) → n ≤ length row → n ≤ length (written_over column cells row)
-written-at_least n column cells row h =
-    omega (
-      arith,
-      length-append (take column row) (cells ++ drop (column + length cells) row),
-      length-take column row,
-      length-append cells (drop (column + length cells) row),
-      length-drop (column + length cells) row,
-    )
+written-at_least n column cells row h = omega (arith, length-replaced column (column + length cells) cells row)
 
 -- a whole row is written anew
 pub written-whole : {C : Type 0} (cells row : List C) → length row ≡ length cells → written_over 0 cells row ≡ cells

@@ -1,18 +1,13 @@
 -- Edits that are in range leave a text with an accessible range in it.
-use Rattle.std.proofs.Common.{◌≡◌, ℕ, ◌+◌, ◌-◌, ◌≤◌, List, ◌++◌, length, take, drop, arith, length-append, length-drop}
-use Rattle.std.proofs.lemmas.List.{length-take}
+use Rattle.std.proofs.Common.{◌≡◌, ℕ, ◌+◌, ◌-◌, ◌≤◌, List, ◌++◌, length, take, drop, ap, ◌∙◌, arith, append_assoc}
+use Rattle.rd_base.proofs.Lists.{length-replaced}
 use Rattle.rd_text.specs.Texts.{TextValue, IsText, most_characters, IsAccessible, inserted, deleted, narrowed, widened}
 use Rattle.rd_text.specs.Answers.{IsAccessibleRange, IsRangeOfAll}
 use Rattle.rd_text.proofs.Ranges.{length-gap}
 
 -- the length of a list with others put in
 pub length-grown : (xs new : List ℕ) (i : ℕ) → i ≤ length xs → length (take i xs ++ new ++ drop i xs) ≡ length xs + length new
-length-grown xs new i h =
-    let outer = length-append (take i xs ++ new) (drop i xs) in
-    let inner = length-append (take i xs) new in
-    let front = length-take i xs in
-    let back = length-drop i xs in
-    omega (arith, outer, inner, front, back)
+length-grown xs new i h = ap length (append_assoc (take i xs) new (drop i xs)) ∙ length-replaced i i new xs ∙ omega arith
 
 pub inserted-is_text : (t : TextValue) (pos : ℕ) (new : List ℕ) → IsText t → IsAccessible t pos → length t.text + length new ≤ most_characters → IsText (inserted t pos new)
 inserted-is_text t pos new s a room =

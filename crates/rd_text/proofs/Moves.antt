@@ -3,8 +3,9 @@ use Rattle.std.proofs.Common.{◌≡◌, ℕ, ◌+◌, ◌-◌, ◌*◌, ◌<◌
 use Rattle.std.specs.Prelude.{IsTrue, slice_range}
 use Rattle.std.proofs.lemmas.Bool.{cases_lt}
 use Rattle.std.proofs.Common.{inl, inr}
-use Rattle.std.proofs.lemmas.List.{ext_get_or, take_at, drop_at, drop-drop, length-take-le, length-append, length-drop, append_assoc, get_or_append_left, get_or-append_right, get_or-take, get_or-drop}
+use Rattle.std.proofs.lemmas.List.{ext_get_or, take_at, drop_at, drop-drop, length-take-le, length-append, append_assoc, get_or_append_left, get_or-append_right, get_or-take, get_or-drop}
 use Rattle.rd_base.specs.Chars.{is_code}
+use Rattle.rd_base.proofs.Lists.{length-replaced}
 use Rattle.rd_text.specs.Stretches.{summary}
 use Rattle.rd_text.specs.Gaps.{IsGapped, IsCopied, IsRecounted}
 use Rattle.rd_text.specs.declared.stretch.Stretch.{Stretch}
@@ -158,11 +159,7 @@ module _ (old new : List ℕ) (olds news : List Stretch) (at back first last : �
   written_size =
       let order = right.order in
       let within = right.within in
-      let a = front_size in
-      let b = length-append (take at old ++ text) (drop (at + length text) old) in
-      let d = length-drop (at + length text) old in
-      let e = ap length joined in
-      omega arith
+      ap length is ∙ length-replaced at (at + length text) text old ∙ omega arith
 
   written_below : (k : ℕ) → k < at → get_or new k 0 ≡ get_or old k 0
   written_below k less =

@@ -4,11 +4,11 @@ use Rattle.std.specs.Prelude.{slice_range}
 use Rattle.std.specs.List.{count_by, prefix_len, suffix_len}
 use Rattle.std.proofs.Math.Seq.{take-add}
 use Rattle.std.proofs.lemmas.Bool.{eq-eqb, ne_eqb, cond-true, cond-false}
-use Rattle.std.proofs.lemmas.List.{drop-drop, length-take-le, length-drop, length-append, ext_get_or, get_or_append_left, get_or-append_right, get_or-take, get_or-drop, reverse-append, length-reverse}
+use Rattle.std.proofs.lemmas.List.{drop-drop, length-take-le, ext_get_or, get_or_append_left, get_or-append_right, get_or-take, get_or-drop, reverse-append, length-reverse}
 use Rattle.std.proofs.lemmas.List.Edits.{length-between, get_or-between}
 use Rattle.std.proofs.lemmas.List.Folds.{prefix_len-append}
 use Rattle.std.proofs.Common.{reverse}
-use Rattle.rd_base.proofs.Lists.{count-append}
+use Rattle.rd_base.proofs.Lists.{count-append, length-replaced}
 use Rattle.rd_text.specs.Pieces.{IsPart}
 
 pub range_split : (xs : List ℕ) (from mid to : ℕ) → from ≤ mid → mid ≤ to → slice_range xs from to ≡ slice_range xs from mid ++ slice_range xs mid to
@@ -33,11 +33,7 @@ range_same xs ys a b c d ab size cd bx dy same =
 -- a list without what stands at the places of a gap
 module _ (xs : List ℕ) (front back : ℕ) (order : front ≤ back) (within : back ≤ length xs) where
   pub length-gap : length (take front xs ++ drop back xs) ≡ front + (length xs - back)
-  length-gap =
-      let a = length-append (take front xs) (drop back xs) in
-      let b : length (take front xs) ≡ front = length-take-le front xs (omega arith) in
-      let c = length-drop back xs in
-      omega arith
+  length-gap = length-replaced front back [] xs ∙ omega arith
 
   pub gap_front : (k d : ℕ) → k < front → get_or (take front xs ++ drop back xs) k d ≡ get_or xs k d
   gap_front k d less =
