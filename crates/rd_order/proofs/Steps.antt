@@ -124,21 +124,6 @@ pub record IsTurnedBy (j a b q r : ℕ) : Type 0 where
 abbrev pub AreRuns : (ℕ → ℕ) → ℕ → ℕ → ℕ → ℕ → ℕ → ℕ → Type 0
 AreRuns f n base m j a b = (i : ℕ) → m < i → i ≤ m + j → IsRun f n (base + i) a b
 
--- entering the runs
-pub enter : (f : ℕ → ℕ) (n base m j p q r a b : ℕ) → AreRuns f n base m j a b → a ≤ q → q < b → IsTurnedBy j a b q r
-    → Comes f n base m p q → Comes f n base (j + m) p r
-enter f n base m zero p q r a b runs from to turn c = Comes-equal f n base p (omega arith) (sym (turn.even refl)) c
-enter f n base m (suc j) p q r a b runs from to turn c =
-    let even = turn.even in let odd = turn.odd in
-    let s = a + b - suc r in
-    let r_in : (a ≤ r) × (r < b) = elim (cases_eq (j % 2) 0) [ inl e ↦ (omega arith, omega arith) | inr o ↦ (omega arith, omega arith) ] in
-    let r_from = r_in.0 in let r_to = r_in.1 in
-    let before : IsTurnedBy j a b q s = record { even = λ e. omega arith; odd = λ e. omega arith } in
-    let below = enter f n base m j p q s a b (λ i more less. runs i more (omega arith)) from to before c in
-    let all : suc (j + m) ≡ suc j + m = omega arith in
-    let run : IsRun f n (base + suc (j + m)) a b = runs (suc (j + m)) (omega arith) (omega arith) in
-    Comes-equal f n base p all refl (s, below, inr (record { a = a; b = b; run = run; from = omega arith; to = omega arith; image = omega arith }))
-
 -- one turn back
 came : (f : ℕ → ℕ) (n k a b q : ℕ) → IsRun f n k a b → a ≤ q → q < b → (base m p : ℕ) → base + suc m ≡ k → Comes f n base (suc m) p q
     → Comes f n base m p (a + b - suc q)
@@ -151,17 +136,24 @@ came f n k a b q run from to base m p e (r, c, inr t) =
     let e1 = one.0 in let e2 = one.1 in
     Comes-equal f n base p refl (omega arith) c
 
--- leaving the runs
-pub leave : (f : ℕ → ℕ) (n base m j p q r a b : ℕ) → AreRuns f n base m j a b → a ≤ q → q < b → IsTurnedBy j a b q r
-    → Comes f n base (j + m) p q → Comes f n base m p r
-leave f n base m zero p q r a b runs from to turn c = Comes-equal f n base p (omega arith) (sym (turn.even refl)) c
-leave f n base m (suc j) p q r a b runs from to turn c =
+-- into the runs or out of them
+across : (f : ℕ → ℕ) (n base m j p q r a b : ℕ) → AreRuns f n base m j a b → a ≤ q → q < b → IsTurnedBy j a b q r
+    → (Comes f n base m p q → Comes f n base (j + m) p r) × (Comes f n base (j + m) p r → Comes f n base m p q)
+across f n base m zero p q r a b runs from to turn =
+    let same = turn.even refl in
+    (λ c. Comes-equal f n base p (omega arith) (sym same) c, λ c. Comes-equal f n base p (omega arith) same c)
+across f n base m (suc j) p q r a b runs from to turn =
     let even = turn.even in let odd = turn.odd in
-    let all : suc j + m ≡ suc (j + m) = omega arith in
-    let run : IsRun f n (base + suc (j + m)) a b = runs (suc (j + m)) (omega arith) (omega arith) in
-    let back = came f n (base + suc (j + m)) a b q run from to base (j + m) p refl (Comes-equal f n base p all refl c) in
-    let before : IsTurnedBy j a b (a + b - suc q) r = record { even = λ e. omega arith; odd = λ e. omega arith } in
-    leave f n base m j p (a + b - suc q) r a b (λ i more less. runs i more (omega arith)) (omega arith) (omega arith) before back
+    let s = a + b - suc r in
+    let r_in : (a ≤ r) × (r < b) = elim (cases_eq (j % 2) 0) [ inl e ↦ (omega arith, omega arith) | inr o ↦ (omega arith, omega arith) ] in
+    let r_from = r_in.0 in let r_to = r_in.1 in
+    let before : IsTurnedBy j a b q s = record { even = λ e. omega arith; odd = λ e. omega arith } in
+    let below = across f n base m j p q s a b (λ i more less. runs i more (omega arith)) from to before in
+    let all : suc (j + m) ≡ suc j + m = omega arith in
+    let run : IsRun f n (base + suc (j + m)) a b = runs (suc (j + m)) (omega arith) (omega arith) in (
+      λ c. Comes-equal f n base p all refl (s, below.0 c, inr (record { a = a; b = b; run = run; from = omega arith; to = omega arith; image = omega arith })),
+      λ c. below.1 (came f n (base + suc (j + m)) a b r run r_from r_to base (j + m) p refl (Comes-equal f n base p (sym all) refl c)),
+    )
 
 pub turned_by : (times a b q r : ℕ) → a ≤ q → q < b → r ≡ (if times % 2 == 0 then q else a + (b - 1 - q)) → IsTurnedBy times a b q r × (a ≤ r) × (r < b)
 turned_by times a b q r from to e = elim (cases_eq (times % 2) 0) [
@@ -187,15 +179,17 @@ pub entered : (f : ℕ → ℕ) (n base level lowest a b p q r : ℕ) → base �
 entered f n base level lowest a b p q r up rise run high from to turn c =
     let runs = runs-between f n base level lowest a b up rise run.order run.within high run.before run.after in
     let all : (lowest - level) + (level - base) ≡ lowest - base = omega arith in
-    Comes-equal f n base p all refl (enter f n base (level - base) (lowest - level) p q r a b runs from to turn c)
+    Comes-equal f n base p all refl ((across f n base (level - base) (lowest - level) p q r a b runs from to turn).0 c)
 
 -- the runs that are left at once: those from a level down to the highest level beside them
 pub left_at : (f : ℕ → ℕ) (n base level outer a b p q r : ℕ) → base ≤ outer → outer < level → IsRun f n level a b → BeginsLow f (outer + 1) a
-    → (b < n → f b < outer + 1) → a ≤ q → q < b → IsTurnedBy (level - outer) a b q r → Comes f n base (level - base) p q → Comes f n base (outer - base) p r
+    → (b < n → f b < outer + 1) → a ≤ r → r < b → IsTurnedBy (level - outer) a b q r → Comes f n base (level - base) p q → Comes f n base (outer - base) p r
 left_at f n base level outer a b p q r up fall run low_before low_after from to turn c =
     let runs = runs-between f n base outer level a b up fall run.order run.within run.high low_before low_after in
     let all : level - base ≡ (level - outer) + (outer - base) = omega arith in
-    leave f n base (outer - base) (level - outer) p q r a b runs from to turn (Comes-equal f n base p all refl c)
+    let even = turn.even in let odd = turn.odd in
+    let back : IsTurnedBy (level - outer) a b r q = record { even = λ e. omega arith; odd = λ e. omega arith } in
+    (across f n base (outer - base) (level - outer) p r q a b runs from to back).1 (Comes-equal f n base p all refl c)
 
 -- at the end of the line in the direction of the base nothing is left
 pub last : (base m p q : ℕ) (levels : List ℕ) → m ≡ 0 → Comes (λ i. get_or levels i 0) (length levels) base m p q

@@ -52,5 +52,5 @@ loop-beside-preserved c =
       place = omega arith;
       high = λ _. let h = facts.run.high c.turned-place.result from to in omega arith;
       comes = λ p at. left_at (slice_index c.args.levels.now) (length c.args.levels.now) c.args.base c.loop-beside.level outer run.start run.end p
-          c.loop-beside.place c.turned-place.result up fall facts.run before (λ less. let h = beside_it.after less in omega arith) facts.from facts.to turn.0 (inv.comes p at);
+          c.loop-beside.place c.turned-place.result up fall facts.run before (λ less. let h = beside_it.after less in omega arith) from to turn.0 (inv.comes p at);
     }
