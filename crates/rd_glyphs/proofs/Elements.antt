@@ -17,7 +17,6 @@ use Rattle.rd_base.specs.declared.element.Look.{Look}
 use Rattle.rd_base.specs.declared.element.Look.TheVariants as look
 use Rattle.rd_base.specs.declared.element.Origin.{Origin}
 use Rattle.rd_ucd.specs.Lookup.{class_of}
-use Rattle.rd_ucd.specs.declared.spans.Pair.{Pair}
 use Rattle.rd_objects.specs.Tables.{TableValue, IsTable, is_glyph_character, is_glyph_text}
 use Rattle.rd_objects.specs.Widths.{columns}
 use Rattle.rd_objects.proofs.Entries.{entry-text}
@@ -25,9 +24,9 @@ use Rattle.rd_objects.proofs.Widths.{few-columns}
 use Rattle.rd_objects.specs.declared.run.Slot.TheVariants.{Escape, Control}
 use Rattle.rd_glyphs.specs.declared.shown.Shown.{Shown}
 use Rattle.rd_glyphs.specs.declared.shown.Shown.TheVariants.{Caret, Octal, Space, Mark, Itself}
-use Rattle.rd_glyphs.specs.Characters.{PartValues, AreSoundParts, HasOrigin, TakesColumns, ShowsColumns, IsShortElement, is_control, is_formatting, shown_as, mirrored, looks_of, element_of, glyph_elements, entry_of, own_looks, elements_by, elements_of, tab_of}
+use Rattle.rd_glyphs.specs.Characters.{PartValues, AreSoundParts, HasOrigin, TakesColumns, ShowsColumns, IsShortElement, is_control, is_formatting, shown_as, looks_of, element_of, glyph_elements, entry_of, own_looks, elements_by, elements_of, tab_of}
 use Rattle.rd_glyphs.specs.MarkRoles.{is_empty_entry}
-use Rattle.rd_glyphs.proofs.Measures.{character-measured, slot_or-is, shown-by, shown_as-measured, mirrored-measured, looks-measured}
+use Rattle.rd_glyphs.proofs.Measures.{ShowsMeasured, character-measured, slot_or-is, shown-by, shown_as-measured, mirror-measured, mirrored-keeps, looks-measured}
 
 -- what holds of the elements of a character
 pub record AreOfCharacter (face : Attributes) (origin : Origin) (es : List Element) : Type 0 where
@@ -47,13 +46,6 @@ pub shown_as-columns : (arrow : Bool) (class : Class) (code : ℕ) → ShowsColu
 shown_as-columns arrow class code =
     shown-by ShowsColumns (is_control code) arrow (nat_le 1114112 code) (nat_le 128 code && nat_le code 159) (is_formatting class code) (columns code == 0) code
     (λ control. tt) (λ byte. tt) tt (λ control raw high none. tt) (λ none. itself-columns code (grind (arith, nat_tests)))
-
-pub mirrored-columns : (pairs : List Pair) (odd : Bool) (shown : Shown) → ShowsColumns shown → ShowsColumns (mirrored pairs odd shown)
-mirrored-columns pairs odd (Caret letter) s = s
-mirrored-columns pairs odd (Octal byte) s = s
-mirrored-columns pairs odd Space s = s
-mirrored-columns pairs odd (Mark code) s = s
-mirrored-columns pairs odd (Itself code width) s = s
 
 -- ---- what is put for it
 
@@ -75,13 +67,13 @@ own-columns : (parts : PartValues) (ch : ℕ) (odd : Bool) → AreSoundParts par
 own-columns parts ch odd is =
     looks-columns _ _ _ (slot_or-is Escape parts.table 92 is.table (omega arith) (omega arith)).width
     (slot_or-is Control parts.table 94 is.table (omega arith) (omega arith)).width
-    (mirrored-columns parts.mirrors odd _ (shown_as-columns parts.settings.ctl_arrow (class_of parts.classes ch) ch))
+    (mirrored-keeps ShowsColumns (λ code width other s. s) parts.mirrors odd _ (shown_as-columns parts.settings.ctl_arrow (class_of parts.classes ch) ch))
 
 own-measured : (parts : PartValues) (ch : ℕ) (odd : Bool) → AreSoundParts parts → IsTrue (is_code ch) → All IsMeasuredLook (own_looks parts ch odd)
 own-measured parts ch odd is code =
     looks-measured _ _ _ (slot_or-is Escape parts.table 92 is.table (omega arith) (omega arith)).measured
     (slot_or-is Control parts.table 94 is.table (omega arith) (omega arith)).measured
-    (mirrored-measured parts.mirrors odd _ (shown_as-measured parts.settings.ctl_arrow (class_of parts.classes ch) ch code))
+    (mirrored-keeps ShowsMeasured mirror-measured parts.mirrors odd _ (shown_as-measured parts.settings.ctl_arrow (class_of parts.classes ch) ch code))
 
 -- ---- columns
 

@@ -13,6 +13,7 @@ use Rattle.rd_ucd.specs.Lookup.{mirror_in}
 use Rattle.rd_base.specs.Chars.{is_scalar, is_code}
 use Rattle.rd_base.specs.Cells.{single, with_mark}
 use Rattle.rd_base.specs.Glyphs.{IsMeasured, IsMeasuredLook}
+use Rattle.rd_base.proofs.Choices.{either}
 use Rattle.rd_base.proofs.Equals.{glyphs-same}
 use Rattle.rd_base.proofs.Rows.{single-measured, printable-measured, zeros}
 use Rattle.rd_base.specs.declared.cell.Glyph.{Glyph}
@@ -133,7 +134,7 @@ itself-measured code some = (own (is_scalar code) some, own-columns code (column
   own true some = refl
   own false some = absurd (some refl)
 
-mirror-measured : (code width : ℕ) (other : Option ℕ) → ShowsMeasured (Itself code width) → ShowsMeasured (Itself (turned code width other) width)
+pub mirror-measured : (code width : ℕ) (other : Option ℕ) → ShowsMeasured (Itself code width) → ShowsMeasured (Itself (turned code width other) width)
 mirror-measured code width None s = s
 mirror-measured code width (Some other) s = by-width (columns other == width) refl where
   by-width : (same : Bool) → (columns other == width) ≡ same → ShowsMeasured (Itself (if same then other else code) width)
@@ -142,17 +143,15 @@ mirror-measured code width (Some other) s = by-width (columns other == width) re
       let own : columns other ≡ width = grind (arith, nat_tests) in
       subst (λ (n : ℕ). ShowsMeasured (Itself other n)) own (itself-measured other (omega (arith, s.2)))
 
-mirrored-by : (odd : Bool) (pairs : List Pair) (code width : ℕ) → ShowsMeasured (Itself code width) → ShowsMeasured (Itself (if odd then turned code width (mirror_in pairs code) else code) width)
-mirrored-by false pairs code width s = s
-mirrored-by true pairs code width s = mirror-measured code width (mirror_in pairs code) s
-
--- a character that is shown itself and its mirror
-pub mirrored-measured : (pairs : List Pair) (odd : Bool) (shown : Shown) → ShowsMeasured shown → ShowsMeasured (mirrored pairs odd shown)
-mirrored-measured pairs odd (Caret letter) s = s
-mirrored-measured pairs odd (Octal byte) s = s
-mirrored-measured pairs odd Space s = s
-mirrored-measured pairs odd (Mark code) s = s
-mirrored-measured pairs odd (Itself code width) s = mirrored-by odd pairs code width s
+-- what holds of a character that is shown itself and of its mirror holds of what is mirrored
+pub mirrored-keeps : (P : Shown → Type 0) → ((code width : ℕ) (other : Option ℕ) → P (Itself code width) → P (Itself (turned code width other) width))
+    → (pairs : List Pair) (odd : Bool) (shown : Shown) → P shown → P (mirrored pairs odd shown)
+mirrored-keeps P mirror pairs odd (Itself code width) s =
+    either (λ (n : ℕ). P (Itself n width)) odd (turned code width (mirror_in pairs code)) code (mirror code width (mirror_in pairs code) s) s
+mirrored-keeps P mirror pairs odd (Caret letter) s = s
+mirrored-keeps P mirror pairs odd (Octal byte) s = s
+mirrored-keeps P mirror pairs odd Space s = s
+mirrored-keeps P mirror pairs odd (Mark code) s = s
 
 -- what holds of each way in which a character can be shown holds of the one that its tests choose
 pub shown-by : (P : Shown → Type 0) (control arrow raw high formatting none : Bool) (code : ℕ) → (control ≡ true → P (Caret (caret code))) → ((byte : ℕ) → P (Octal byte)) → P Space

@@ -37,14 +37,16 @@ look-whole : (face : Attributes) (l : Look) → IsMeasuredLook l → IsRowAfter 
 look-whole face (look.Glyph g) measured = glyph-whole g.width g face measured refl
 look-whole face other measured = blanks-whole (look_columns other) face
 
-fitted-by : (face : Attributes) (room : ℕ) (l : Look) (cells : List Cell) → IsMeasuredLook l → IsRowAfter 0 cells → (fits : Bool) → IsRowAfter 0 (if fits then cells_of face l ++ cells else blanks room face)
-fitted-by face room l cells measured row true = behind-whole 0 (cells_of face l) cells (look-whole face l measured) row
-fitted-by face room l cells measured row false = blanks-whole room face
-
-fitted-whole : (face : Attributes) (room : ℕ) (ls : List Look) → AllByRecursion IsMeasuredLook ls → IsRowAfter 0 (fitted face room ls)
-fitted-whole face room [] each = blanks-whole room face
-fitted-whole face room (l ∷ ls) each =
-    fitted-by face room l (fitted face (room - look_columns l) ls) each.0 (fitted-whole face (room - look_columns l) ls each.1) (nat_le (look_columns l) room)
+-- what holds of blanks, and of a look's cells before what it holds of, holds of looks in so many columns
+fitted-has : (P : ℕ → List Cell → Type 0) (Q : Look → Type 0) (face : Attributes)
+    → ((room : ℕ) (l : Look) (cells : List Cell) → Q l → look_columns l ≤ room → P (room - look_columns l) cells → P room (cells_of face l ++ cells))
+    → ((room : ℕ) → P room (blanks room face)) → (room : ℕ) (ls : List Look) → AllByRecursion Q ls → P room (fitted face room ls)
+fitted-has P Q face join none room [] each = none room
+fitted-has P Q face join none room (l ∷ ls) each = by-room (nat_le (look_columns l) room) refl (fitted-has P Q face join none (room - look_columns l) ls each.1) where
+  by-room : (fits : Bool) → nat_le (look_columns l) room ≡ fits → P (room - look_columns l) (fitted face (room - look_columns l) ls)
+      → P room (if fits then cells_of face l ++ fitted face (room - look_columns l) ls else blanks room face)
+  by-room true e rest = join room l (fitted face (room - look_columns l) ls) each.0 (grind (arith, nat_tests)) rest
+  by-room false e rest = none room
 
 -- ---- looks
 
@@ -122,7 +124,8 @@ plain_looks-measured classes text codes =
 -- each glyph of a plain line stands whole
 pub plain-whole : (classes : List Span) (face : Attributes) (width : ℕ) (text : List ℕ) → All (λ c. IsTrue (is_code c)) text → IsRowAfter 0 (plain_cells classes face width text)
 plain-whole classes face width text codes =
-    fitted-whole face width (plain_looks classes text)
+    fitted-has (λ room. IsRowAfter 0) IsMeasuredLook face (λ room l cells measured fits row. behind-whole 0 (cells_of face l) cells (look-whole face l measured) row)
+    (λ room. blanks-whole room face) width (plain_looks classes text)
     (recursion_from_All IsMeasuredLook (plain_looks classes text) (plain_looks-measured classes text (recursion_from_All (λ (c : ℕ). IsTrue (is_code c)) text codes)))
 
 -- ---- columns
@@ -160,30 +163,19 @@ narrow-grows held next glyph h n e =
 plain_looks-narrow : (classes : List Span) (text : List ℕ) → All TakesColumns (plain_looks classes text)
 plain_looks-narrow classes text = plain_looks-all TakesColumns IsNarrowPart (λ part is. is.looks) narrow-grows classes text (parts-narrow classes text)
 
-fitted-length : (face : Attributes) (room : ℕ) (ls : List Look) → AllByRecursion TakesColumns ls → length (fitted face room ls) ≡ room
-fitted-length face room [] each = length-replicate room (Blank face)
-fitted-length face room (l ∷ ls) each = by-room (nat_le (look_columns l) room) refl (fitted-length face (room - look_columns l) ls each.1) where
-  by-room : (fits : Bool) → nat_le (look_columns l) room ≡ fits → length (fitted face (room - look_columns l) ls) ≡ room - look_columns l → length (if fits then cells_of face l ++ fitted face (room - look_columns l) ls else blanks room face) ≡ room
-  by-room true e rest =
-      let sum = length-append (cells_of face l) (fitted face (room - look_columns l) ls) in
-      let first = look_length (look_columns l) l face each.0.0 in
-      let fits : look_columns l ≤ room = grind (arith, nat_tests) in
-      omega arith
-  by-room false e rest = length-replicate room (Blank face)
-
 -- a plain line has exactly its columns
 pub plain-length : (classes : List Span) (face : Attributes) (width : ℕ) (text : List ℕ) → length (plain_cells classes face width text) ≡ width
-plain-length classes face width text = fitted-length face width (plain_looks classes text) (recursion_from_All TakesColumns (plain_looks classes text) (plain_looks-narrow classes text))
+plain-length classes face width text =
+    fitted-has (λ room cells. length cells ≡ room) TakesColumns face (λ room l cells takes fits rest.
+    let sum = length-append (cells_of face l) cells in
+    let first = look_length (look_columns l) l face takes.0 in
+    omega arith)
+    (λ room. length-replicate room (Blank face)) width (plain_looks classes text) (recursion_from_All TakesColumns (plain_looks classes text) (plain_looks-narrow classes text))
 
 -- ---- colours
 
-fitted-coloured : (face : Attributes) (room : ℕ) (ls : List Look) → HasColours face → All IsColoured (fitted face room ls)
-fitted-coloured face room [] c = blanks-coloured room face c
-fitted-coloured face room (l ∷ ls) c = by-room (nat_le (look_columns l) room) (fitted-coloured face (room - look_columns l) ls c) where
-  by-room : (fits : Bool) → All IsColoured (fitted face (room - look_columns l) ls) → All IsColoured (if fits then cells_of face l ++ fitted face (room - look_columns l) ls else blanks room face)
-  by-room true rest = All-append IsColoured (cells_of face l) (fitted face (room - look_columns l) ls) (look-coloured (look_columns l) l face c) rest
-  by-room false rest = blanks-coloured room face c
-
 -- the colours of a plain line are those of its face
 pub plain-coloured : (classes : List Span) (face : Attributes) (width : ℕ) (text : List ℕ) → HasColours face → All IsColoured (plain_cells classes face width text)
-plain-coloured classes face width text c = fitted-coloured face width (plain_looks classes text) c
+plain-coloured classes face width text c =
+    fitted-has (λ room. All IsColoured) (λ l. Unit {0}) face (λ room l cells one fits rest. All-append IsColoured (cells_of face l) cells (look-coloured (look_columns l) l face c) rest)
+    (λ room. blanks-coloured room face c) width (plain_looks classes text) (recursion_from_All (λ l. Unit {0}) (plain_looks classes text) (λ k d inside. tt))
