@@ -102,38 +102,15 @@ record Counted (rows : List LaidRow) (lead left lines first wrap : ℕ) : Type 0
   count : length rows ≡ lines + continued
   weight : weight_of rows + first ≡ lead + left + lines * first + continued * wrap
 
-counted-last : (row lead left lines first wrap : ℕ) → row ≡ lead + left → lines ≡ 1 → (row + 0) + first ≡ lead + left + lines * first + 0 * wrap
-counted-last row lead left lines first wrap h k = rw k (let one : 1 * first ≡ first = grind arith in let none : 0 * wrap ≡ 0 = grind arith in omega (arith, one, none, h))
-
-counted-line : (row w lead xs rest here lines first wrap continued : ℕ) → row ≡ lead + xs → here ≡ 1 → w + first ≡ first + rest + lines * first + continued * wrap
-    → (row + w) + first ≡ lead + (xs + rest) + (here + lines) * first + continued * wrap
-counted-line row w lead xs rest here lines first wrap continued h k i =
-    rw k (let step : (1 + lines) * first ≡ first + lines * first = grind arith in omega (arith, step, h, i))
-
-counted-wrap : (row w lead xs rest here lines first wrap continued : ℕ) → row ≡ lead + xs → here ≡ 0 → w + first ≡ wrap + rest + lines * first + continued * wrap
-    → (row + w) + first ≡ lead + (xs + rest) + (here + lines) * first + (continued + 1) * wrap
-counted-wrap row w lead xs rest here lines first wrap continued h k i =
-    let same : (here + lines) * first ≡ lines * first = ap (λ k. k * first) (let e : here + lines ≡ lines = omega (arith, k) in e) in
-    let step : (continued + 1) * wrap ≡ continued * wrap + wrap = grind arith in
-    omega (arith, same, step, h, i)
-
-counted-step : (c : Cutting) (lead : List Placed) (spot2 : Spot) (r : LaidRow) (xs rest : List Element) (n : ℕ) (b : Bool) → r.weight ≡ length lead + length xs
-    → lines_in xs ≡ (if b then 1 else 0) → Counted (rows_within n c (if b then c.first else c.wrap) spot2 rest) (length (if b then c.first else c.wrap)) (length rest) (lines_in rest) (length c.first) (length c.wrap)
-    → Counted (r ∷ rows_within n c (if b then c.first else c.wrap) spot2 rest) (length lead) (length xs + length rest) (lines_in xs + lines_in rest) (length c.first) (length c.wrap)
-counted-step c lead spot2 r xs rest n true weight lines later =
-    let count = later.count in
-    record {
-      continued = later.continued;
-      count = omega (arith, count, lines);
-      weight = counted-line r.weight _ (length lead) (length xs) (length rest) (lines_in xs) (lines_in rest) (length c.first) (length c.wrap) later.continued weight lines later.weight;
-    }
-counted-step c lead spot2 r xs rest n false weight lines later =
-    let count = later.count in
-    record {
-      continued = later.continued + 1;
-      count = omega (arith, count, lines);
-      weight = counted-wrap r.weight _ (length lead) (length xs) (length rest) (lines_in xs) (lines_in rest) (length c.first) (length c.wrap) later.continued weight lines later.weight;
-    }
+-- one row more, which holds so many line ends, one or none: where it holds none the row behind it is a further row of its line
+counted-more : (r : LaidRow) (rows : List LaidRow) (lead next xs left here lines first wrap more : ℕ) → r.weight ≡ lead + xs → here + more ≡ 1 → next ≡ here * first + more * wrap
+    → Counted rows next left lines first wrap → Counted (r ∷ rows) lead (xs + left) (here + lines) first wrap
+counted-more r rows lead next xs left here lines first wrap more row one begins later =
+    let count = later.count in let weight = later.weight in
+    let all : weight_of (r ∷ rows) ≡ r.weight + weight_of rows = refl in
+    let ended : (here + lines) * first ≡ here * first + lines * first = grind arith in
+    let turned : (later.continued + more) * wrap ≡ later.continued * wrap + more * wrap = grind arith in
+    record { continued = later.continued + more; count = omega arith; weight = omega arith }
 
 no-line : (x : Element) (xs : List Element) (b : Bool) → is_line_end x.look ≡ b → lines_in (x ∷ xs) ≡ 0 → line_ends (x ∷ xs) ≡ true → (lines_in xs ≡ 0 → line_ends xs ≡ true → ⊥) → ⊥
 no-line x xs true h none some rest = absurd (let ends = line_end-ends x.look h in let more : 1 + lines_in xs ≡ 0 = rw ends at none in omega (arith, more))
@@ -154,13 +131,15 @@ counted-rest : (c : Cutting) (lead : List Placed) (spot2 : Spot) (r : LaidRow) (
 counted-rest c lead spot2 r xs [] n b weight lines end rest =
     let all : IsTrue (ends_once xs) = subst (λ ys. IsTrue (ends_once ys)) (append-nil xs) end in
     let one = line-end-counts xs b lines (ends_once-all xs all) in
-    rw (none-left n c (if b then c.first else c.wrap) spot2) (record {
-      continued = 0;
-      count = omega (arith, one);
-      weight = counted-last r.weight (length lead) (length xs + 0) (lines_in xs + 0) (length c.first) (length c.wrap) (omega (arith, weight)) (omega (arith, one));
-    })
-counted-rest c lead spot2 r xs (f ∷ fs) n b weight lines end rest =
-    counted-step c lead spot2 r xs (f ∷ fs) n b weight lines (rest (ends_once-parts xs f fs end).1)
+    rw (none-left n c (if b then c.first else c.wrap) spot2)
+    (counted-more r [] (length lead) (length c.first) (length xs) 0 (lines_in xs) 0 (length c.first) (length c.wrap) 0 weight (omega (arith, one)) (rw one (omega arith))
+    (record { continued = 0; count = refl; weight = omega arith }))
+counted-rest c lead spot2 r xs (f ∷ fs) n true weight lines end rest =
+    counted-more r _ (length lead) (length c.first) (length xs) (length (f ∷ fs)) (lines_in xs) (lines_in (f ∷ fs)) (length c.first) (length c.wrap) 0
+    weight (omega (arith, lines)) (rw lines (omega arith)) (rest (ends_once-parts xs f fs end).1)
+counted-rest c lead spot2 r xs (f ∷ fs) n false weight lines end rest =
+    counted-more r _ (length lead) (length c.wrap) (length xs) (length (f ∷ fs)) (lines_in xs) (lines_in (f ∷ fs)) (length c.first) (length c.wrap) 1
+    weight (omega (arith, lines)) (rw lines (omega arith)) (rest (ends_once-parts xs f fs end).1)
 
 pub length-placed : (shape : ShapeValues) (spot : Spot) (xs : List Element) → length (place_all shape spot xs) ≡ length xs
 length-placed shape spot [] = refl
