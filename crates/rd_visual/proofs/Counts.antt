@@ -1,5 +1,5 @@
 -- Each position is covered by one item.
-use Rattle.std.proofs.Common.{◌≡◌, ℕ, suc, ◌+◌, ◌^◌, ◌<◌, ◌≤◌, nat_lt, Bool, true, false, cond, if◌then◌else◌, List, [], ◌∷◌, ◌++◌, length, map, All, inr, Option, None, Some, refl, sym, ap, subst, ◌∙◌, arith}
+use Rattle.std.proofs.Common.{◌≡◌, ℕ, suc, ◌+◌, ◌^◌, ◌<◌, ◌≤◌, Bool, true, cond, List, [], ◌∷◌, ◌++◌, length, map, All, inr, Some, refl, sym, ap, subst, ◌∙◌, arith}
 use Rattle.std.specs.Prelude.{count_by, slice_get}
 use Rattle.std.specs.List.{flat_map}
 use Rattle.std.proofs.lemmas.Bool.Decides.{nat_tests}
@@ -27,24 +27,18 @@ use Rattle.rd_visual.specs.Tiles.{AreTiled, IsTiled}
 use Rattle.rd_visual.specs.declared.range.Range.{Range}
 use Rattle.rd_visual.proofs.Listing.{tile-fits}
 use Rattle.rd_visual.proofs.Neighbours.{AreSome}
-use Rattle.rd_visual.proofs.Reordered.{order-stands, turns-permute}
+use Rattle.rd_visual.proofs.Reordered.{order-stands, range-has, turns-permute}
 
 -- each range of an item has a position
 
 some-append : (xs ys : List Range) → AreSome xs → AreSome ys → AreSome (xs ++ ys)
 some-append xs ys some more = each-append (λ (r : Range). r.from < r.to) xs ys some more
 
-some-by : (b : Bool) (start : ℕ) (x : Item) → nat_lt x.from x.to ≡ b → AreSome (if b then record { from = start + x.from; to = start + x.to } ∷ [] else [])
-some-by true start x e = let less : x.from < x.to = grind (arith, nat_tests) in (omega (arith, less), tt)
-some-by false start x e = tt
-
-range-some : (start : ℕ) (o : Option Item) → AreSome (range_by start o)
-range-some start None = tt
-range-some start (Some x) = some-by (nat_lt x.from x.to) start x refl
-
 turns-some : (start : ℕ) (items : List Item) (ts : List Turn) → AreSome (ranges_in_turn start items ts)
 turns-some start items [] = tt
-turns-some start items (t ∷ ts) = some-append (range_by start (slice_get items t.index)) (ranges_in_turn start items ts) (range-some start (slice_get items t.index)) (turns-some start items ts)
+turns-some start items (t ∷ ts) =
+    some-append (range_by start (slice_get items t.index)) (ranges_in_turn start items ts)
+    (range-has (λ (r : Range). r.from < r.to) start (slice_get items t.index) (λ x at less. omega (arith, less))) (turns-some start items ts)
 
 pub block-some : (s : BufferValue) (objects : ObjectLists) (files : Data) (b : Block) → AreSome (block_ranges s objects files b)
 block-some s objects files b =

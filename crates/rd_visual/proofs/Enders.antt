@@ -1,11 +1,11 @@
 -- The ender of a block has the last range, in visual order and in order of position.
-use Rattle.std.proofs.Common.{◌≡◌, inl, inr, ℕ, zero, suc, ◌+◌, ◌<◌, ◌≤◌, nat_lt, Bool, true, false, if◌then◌else◌, List, [], ◌∷◌, ◌++◌, length, All, Some, refl, ap, subst, ◌∙◌, arith, append-nil}
+use Rattle.std.proofs.Common.{◌≡◌, inl, inr, ℕ, ◌+◌, ◌<◌, ◌≤◌, nat_lt, true, if◌then◌else◌, List, [], ◌∷◌, ◌++◌, length, All, Some, ap, subst, ◌∙◌, arith, append-nil}
 use Rattle.std.specs.Prelude.{slice_get}
 use Rattle.std.specs.List.{flat_map}
 use Rattle.std.proofs.lemmas.Bool.Decides.{nat_tests}
 use Rattle.std.proofs.lemmas.Grind.{flat_map-append}
-use Rattle.std.proofs.lemmas.List.Elements.{All-nil, All-cons, All-append, All-head, All-tail}
-use Rattle.rd_base.proofs.Lists.{at-seam}
+use Rattle.std.proofs.lemmas.List.Elements.{All-nil, All-cons, All-append, All-from_recursion, All-head, All-tail}
+use Rattle.rd_base.proofs.Lists.{all-at, at-seam, get-first}
 use Rattle.rd_objects.specs.Things.{ObjectLists}
 use Rattle.rd_ucd.specs.Data.{Data}
 use Rattle.rd_props.specs.Buffers.{BufferValue}
@@ -22,6 +22,7 @@ use Rattle.rd_visual.specs.Motion.{range_by, ranges_in_turn}
 use Rattle.rd_visual.specs.Order.{EndsWithEnder, block_items, ordered_ranges, range_of, ranges_in_order}
 use Rattle.rd_visual.specs.Tiles.{IsTiled}
 use Rattle.rd_visual.specs.declared.range.Range.{Range}
+use Rattle.rd_visual.proofs.Reordered.{range-has}
 
 -- ---- what the others cover lies before it
 
@@ -43,33 +44,23 @@ tiled since to (x ∷ xs) ender (inr next) some =
 abbrev EndsBy : ℕ → Range → Type 0
 EndsBy place r = r.to ≤ place
 
-by-before : (b : Bool) (start place : ℕ) (x : Item) → nat_lt x.from x.to ≡ b → LiesBefore place x → All (EndsBy (start + place)) (if b then range_of start x ∷ [] else [])
-by-before true start place x e lies =
-    let less : x.from < x.to = grind (arith, nat_tests) in
-    All-cons (EndsBy (start + place)) (range_of start x) [] (omega (arith, lies less)) (All-nil (EndsBy (start + place)))
-by-before false start place x e lies = All-nil (EndsBy (start + place))
-
-range-before : (start place : ℕ) (x : Item) → LiesBefore place x → All (EndsBy (start + place)) (range_by start (Some x))
-range-before start place x lies = by-before (nat_lt x.from x.to) start place x refl lies
+range-before : (start place : ℕ) (others : List Item) (k : ℕ) → All (LiesBefore place) others → All (EndsBy (start + place)) (range_by start (slice_get others k))
+range-before start place others k lie =
+    All-from_recursion (EndsBy (start + place)) (range_by start (slice_get others k))
+    (range-has (EndsBy (start + place)) start (slice_get others k) (λ x there less. omega (arith, all-at (LiesBefore place) others k x lie there less)))
 
 order-before : (start place : ℕ) (others : List Item) → All (LiesBefore place) others → All (EndsBy (start + place)) (ranges_in_order start others)
 order-before start place [] lie = All-nil (EndsBy (start + place))
 order-before start place (x ∷ xs) lie =
     All-append (EndsBy (start + place)) (range_by start (Some x)) (ranges_in_order start xs)
-    (range-before start place x (All-head (LiesBefore place) x xs lie)) (order-before start place xs (All-tail (LiesBefore place) x xs lie))
-
-place-before : (start place : ℕ) (others : List Item) (ender : Item) (k : ℕ) → All (LiesBefore place) others → k < length others
-    → All (EndsBy (start + place)) (range_by start (slice_get (others ++ ender ∷ []) k))
-place-before start place [] ender k lie less = absurd (omega (arith, less))
-place-before start place (x ∷ xs) ender zero lie less = range-before start place x (All-head (LiesBefore place) x xs lie)
-place-before start place (x ∷ xs) ender (suc k) lie less = place-before start place xs ender k (All-tail (LiesBefore place) x xs lie) (omega (arith, less))
+    (range-before start place (x ∷ xs) 0 lie) (order-before start place xs (All-tail (LiesBefore place) x xs lie))
 
 turns-before : (start place : ℕ) (others : List Item) (ender : Item) (ts : List Turn) → All (LiesBefore place) others → All (λ t. t.index < length others) ts
     → All (EndsBy (start + place)) (ranges_in_turn start (others ++ ender ∷ []) ts)
 turns-before start place others ender [] lie low = All-nil (EndsBy (start + place))
 turns-before start place others ender (t ∷ ts) lie low =
     All-append (EndsBy (start + place)) (range_by start (slice_get (others ++ ender ∷ []) t.index)) (ranges_in_turn start (others ++ ender ∷ []) ts)
-    (place-before start place others ender t.index lie (All-head (λ u. u.index < length others) t ts low))
+    (rw (get-first others (ender ∷ []) t.index (All-head (λ u. u.index < length others) t ts low)) (range-before start place others t.index lie))
     (turns-before start place others ender ts lie (All-tail (λ u. u.index < length others) t ts low))
 
 -- ---- its range comes last

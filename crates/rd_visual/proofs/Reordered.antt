@@ -1,6 +1,7 @@
 -- The ranges of items in order of position, and in visual order.
-use Rattle.std.proofs.Common.{◌≡◌, inl, inr, ℕ, ◌+◌, ◌<◌, nat_lt, Bool, true, false, if◌then◌else◌, List, [], ◌∷◌, ◌++◌, map, Option, Some, refl, sym, ap, ◌∙◌, arith, true≢false}
+use Rattle.std.proofs.Common.{◌≡◌, inl, inr, ℕ, ◌+◌, ◌<◌, nat_lt, Bool, true, false, if◌then◌else◌, List, [], ◌∷◌, ◌++◌, map, Option, None, Some, refl, sym, ap, ◌∙◌, arith, true≢false}
 use Rattle.std.specs.Prelude.{count_by, slice_get}
+use Rattle.std.specs.List.{AllByRecursion}
 use Rattle.std.proofs.lemmas.Bool.Decides.{nat_tests}
 use Rattle.rd_base.proofs.Lists.{count-append}
 use Rattle.rd_base.specs.Lists.{total}
@@ -15,6 +16,14 @@ use Rattle.rd_stack.specs.Lines.{item_class, item_code, item_turns}
 use Rattle.rd_visual.specs.Motion.{range_by, ranges_in_turn, ranges_of}
 use Rattle.rd_visual.specs.Order.{StandBetween, range_of, ranges_in_order}
 use Rattle.rd_visual.specs.declared.range.Range.{Range}
+
+-- what holds of each range of an item that covers a position holds of the ranges of an item
+pub range-has : (P : Range → Type 0) (start : ℕ) (o : Option Item) → ((x : Item) → o ≡ Some x → x.from < x.to → P (range_of start x)) → AllByRecursion P (range_by start o)
+range-has P start None has = tt
+range-has P start (Some x) has = by-covers (nat_lt x.from x.to) refl where
+  by-covers : (covers : Bool) → nat_lt x.from x.to ≡ covers → AllByRecursion P (if covers then range_of start x ∷ [] else [])
+  by-covers true e = (has x refl (grind (arith, nat_tests)), tt)
+  by-covers false e = tt
 
 -- ranges in order stand one behind the other
 
