@@ -1,5 +1,5 @@
 -- Cells in place of others: the columns of characters that are cut, and rows that are filled part by part.
-use Rattle.std.proofs.Common.{◌≡◌, if◌then◌else◌, ℕ, zero, suc, ◌+◌, ◌-◌, ◌<◌, ◌≤◌, Bool, true, false, List, [], ◌∷◌, ◌++◌, length, get_or, set, take, drop, map, replicate, Option, None, Some, refl, sym, ap, ◌∙◌, arith, append_assoc, drop_of_length-le}
+use Rattle.std.proofs.Common.{◌≡◌, if◌then◌else◌, ℕ, zero, suc, ◌+◌, ◌-◌, ◌<◌, ◌≤◌, Bool, List, [], ◌∷◌, ◌++◌, length, get_or, set, take, drop, map, replicate, Option, None, Some, refl, sym, ap, ◌∙◌, arith, append_assoc, drop_of_length-le}
 use Rattle.std.proofs.lemmas.List.{take_at, drop_at, set_at, drop_more, drop-drop, take-append-drop, length-append, length-take-le, length-replicate, length-drop, length-map}
 use Rattle.rd_base.proofs.Rows.{glyph_length}
 use Rattle.rd_base.specs.Faces.{Attributes}
@@ -8,7 +8,7 @@ use Rattle.rd_base.specs.declared.cell.Glyph.{Glyph}
 use Rattle.rd_base.specs.declared.cell.Cell.{Cell}
 use Rattle.rd_term.specs.Overwriting.{is_later, first_column, later_columns, overwritten}
 use Rattle.rd_term.specs.Walks.{passing}
-use Rattle.rd_term.proofs.Walks.{back-le}
+use Rattle.rd_term.proofs.Walks.{back-le, later-chosen}
 
 abbrev pub Row : Type 0
 Row = List (Option Cell)
@@ -126,10 +126,6 @@ length-overwritten row cells column to e le =
     ap length (overwritten-is row column to cells e)
     ∙ length-append (front row column) (cells ++ behind row to)
     ∙ omega (arith, length-append cells (behind row to), length-append (replicate left None) (drop (to + left) row), length-replicate {A = Option Cell} left None, length-drop (to + later_columns (drop to row)) row)
-
-pub later-chosen : (later : Bool) (n m : ℕ) → n ≤ m → (if later then suc n else 0) ≤ suc m
-later-chosen true n m le = omega arith
-later-chosen false n m le = omega arith
 
 pub later-within : (row : Row) → later_columns row ≤ length row
 later-within [] = omega arith

@@ -1,5 +1,6 @@
 -- How far a test of places passes, one place after another.
-use Rattle.std.proofs.Common.{◌≡◌, if◌then◌else◌, ℕ, zero, suc, ◌+◌, ◌-◌, ◌<◌, ◌≤◌, Bool, true, false, refl, arith}
+use Rattle.std.proofs.Common.{◌≡◌, if◌then◌else◌, ℕ, zero, suc, ◌+◌, ◌-◌, ◌<◌, ◌≤◌, Bool, true, false, inl, inr, refl, sym, ap, ◌∙◌, arith}
+use Rattle.std.proofs.lemmas.Bool.{cases_eq}
 use Rattle.rd_term.specs.Walks.{back_while, passing}
 
 pub chosen-le : (b : Bool) (n place : ℕ) → n ≤ place → (if b then n else suc place) ≤ suc place
@@ -37,3 +38,36 @@ back-none test (suc place) e = absurd (omega arith)
 
 pub on-none : (test : ℕ → Bool) (place more : ℕ) → more ≡ 0 → passing test place more ≡ 0
 on-none test place more e = rw e refl
+
+pub later-chosen : (later : Bool) (n m : ℕ) → n ≤ m → (if later then suc n else 0) ≤ suc m
+later-chosen true n m le = omega arith
+later-chosen false n m le = omega arith
+
+pub on-le : (test : ℕ → Bool) (place more : ℕ) → passing test place more ≤ more
+on-le test place zero = omega arith
+on-le test place (suc more) = later-chosen (test place) (passing test (suc place) more) more (on-le test (suc place) more)
+
+on-stops-chosen : (test : ℕ → Bool) (place n : ℕ) (b : Bool) → test place ≡ b → test (suc place + n) ≡ false → test (place + (if b then suc n else 0)) ≡ false
+on-stops-chosen test place n true e h =
+    let next : place + suc n ≡ suc place + n = omega arith in
+    ap test next ∙ h
+on-stops-chosen test place n false e h =
+    let here : place + 0 ≡ place = omega arith in
+    ap test here ∙ e
+
+-- where the test fails behind the last place, it fails at the place at which the walk stops
+pub on-stops : (test : ℕ → Bool) (place more : ℕ) → test (place + more) ≡ false → test (place + passing test place more) ≡ false
+on-stops test place zero e = e
+on-stops test place (suc more) e =
+    let next : suc place + more ≡ place + suc more = omega arith in
+    on-stops-chosen test place (passing test (suc place) more) (test place) refl (on-stops test (suc place) more (ap test next ∙ e))
+
+-- and the walk passes no place at which the test fails
+pub on-least : (test : ℕ → Bool) (place more k : ℕ) → test k ≡ false → place ≤ k → place + passing test place more ≤ k
+on-least test place zero k e le = omega arith
+on-least test place (suc more) k e le = elim (cases_eq k place) [
+  | inl same ↦ omega (arith, le, on-fails test place (suc more) (ap test (sym same) ∙ e))
+  | inr other ↦
+      let rest = on-least test (suc place) more k e (omega (arith, le, other)) in
+      omega (arith, later-chosen (test place) (passing test (suc place) more) (k - suc place) (omega (arith, rest)), other, le)
+]

@@ -1,6 +1,6 @@
 -- The interval of a row that is sent is the least one that holds all differences and cuts no character.
-use Rattle.std.proofs.Common.{◌≡◌, if◌then◌else◌, ◌⊎◌, inl, inr, ◌||◌, ℕ, zero, suc, ◌+◌, ◌-◌, ◌<◌, ◌≤◌, Bool, true, false, List, [], ◌∷◌, length, get_or, drop, refl, sym, ap, ap₂, ◌∙◌, arith}
-use Rattle.std.proofs.lemmas.List.{get_or-take, get_or-drop, length-drop}
+use Rattle.std.proofs.Common.{◌≡◌, if◌then◌else◌, ◌⊎◌, inl, inr, ◌||◌, ℕ, zero, suc, ◌-◌, ◌<◌, ◌≤◌, Bool, true, false, List, [], ◌∷◌, length, get_or, refl, sym, ap, ap₂, ◌∙◌, arith}
+use Rattle.std.proofs.lemmas.List.{get_or-take}
 use Rattle.std.proofs.lemmas.Bool.{cases_eq, cases_lt}
 use Rattle.rd_base.specs.Glyphs.{IsRowAfter}
 use Rattle.rd_base.specs.declared.cell.Cell.{Cell}
@@ -9,9 +9,9 @@ use Rattle.rd_term.specs.Pictures.{blank}
 use Rattle.rd_update.specs.Laws.{IsLeastInterval}
 use Rattle.rd_base.specs.Equals.{same_cell}
 use Rattle.rd_base.proofs.Equals.{cell-itself}
-use Rattle.rd_term.proofs.Cutting.{later-chosen}
-use Rattle.rd_update.specs.Updates.{first_difference, end_before, end_of_differences, is_rest, goes_on, begin_before, going_on, begin_of, end_of}
-use Rattle.rd_update.proofs.Spans.{front-same, first_before, behind-here, behind-step, last-step, end_within, begin-le, begin-is, going-stops}
+use Rattle.rd_term.proofs.Walks.{on-least}
+use Rattle.rd_update.specs.Updates.{first_difference, end_before, end_of_differences, is_rest, goes_on, begin_before, begin_of, end_of}
+use Rattle.rd_update.proofs.Spans.{front-same, first_before, behind-here, behind-step, last-step, end_within, begin-le, begin-is, end-is}
 
 -- ---- the first and the last difference
 
@@ -64,36 +64,12 @@ begin-greatest : (old new : List Cell) (x column : ℕ) → goes_on old new x �
 begin-greatest old new x zero f le = le
 begin-greatest old new x (suc column) f le = begin-greatest-step old new x column (goes_on old new (suc column)) refl f (begin-greatest old new x column f) le
 
-going-least-here : (b : Bool) (n : ℕ) → b ≡ false → (if b then suc n else 0) ≤ 0
-going-least-here true n e = absurd (cc)
-going-least-here false n e = omega arith
-
-going-least : (xs ys : List Cell) (k : ℕ) → goes_on xs ys k ≡ false → going_on xs ys ≤ k
-going-least [] [] k e = omega arith
-going-least [] (y ∷ ys) k e = omega arith
-going-least (x ∷ xs) [] k e = omega arith
-going-least (x ∷ xs) (y ∷ ys) zero e = going-least-here (is_rest x || is_rest y) (going_on xs ys) e
-going-least (x ∷ xs) (y ∷ ys) (suc k) e = later-chosen (is_rest x || is_rest y) (going_on xs ys) k (going-least xs ys k e)
-
-goes-drop : (old new : List Cell) (n k : ℕ) → goes_on (drop n old) (drop n new) k ≡ goes_on old new (n + k)
-goes-drop old new n k = ap₂ (λ a b. is_rest a || is_rest b) (get_or-drop n old k blank) (get_or-drop n new k blank)
-
 -- a row of whole characters begins with none that goes on
 row-begins : (cells : List Cell) → IsRowAfter 0 cells → is_rest (get_or cells 0 blank) ≡ false
 row-begins [] h = refl
 row-begins (Blank f ∷ cells) h = refl
 row-begins (First g f ∷ cells) h = refl
 row-begins (Rest ∷ cells) h = absurd h
-
-going-zero-step : (b : Bool) (n : ℕ) → (if b then suc n else 0) ≡ 0 → b ≡ false
-going-zero-step true n e = absurd (omega arith)
-going-zero-step false n e = refl
-
-going-zero : (xs ys : List Cell) → length xs ≡ length ys → going_on xs ys ≡ 0 → goes_on xs ys 0 ≡ false
-going-zero [] [] n e = refl
-going-zero [] (y ∷ ys) n e = absurd (cc)
-going-zero (x ∷ xs) [] n e = absurd (cc)
-going-zero (x ∷ xs) (y ∷ ys) n e = going-zero-step (is_rest x || is_rest y) (going_on xs ys) e
 
 begin-cuts-none : (old new : List Cell) (column : ℕ) → IsRowAfter 0 old → IsRowAfter 0 new → (column ≡ 0) ⊎ (goes_on old new column ≡ false) → goes_on old new column ≡ false
 begin-cuts-none old new column h k (inl e) =
@@ -107,14 +83,7 @@ pub interval-least : (old new : List Cell) → length old ≡ length new → IsR
 interval-least old new same h k some =
     let first = first_difference old new in
     let last = end_of_differences old new in
-    let more = going_on (drop last old) (drop last new) in
     let le = begin-le old new (first_difference old new) in
-    let long : length (drop last old) ≡ length (drop last new) = length-drop last old ∙ ap (λ n. n - last) same ∙ sym (length-drop last new) in
-    let longer : length (drop more (drop last old)) ≡ length (drop more (drop last new)) = length-drop more (drop last old) ∙ ap (λ n. n - more) long ∙ sym (length-drop more (drop last new)) in
-    let zero_more : more + 0 ≡ more = omega arith in
-    let at_end : goes_on old new (end_of old new) ≡ false =
-    sym (goes-drop old new last more) ∙ sym (ap (goes_on (drop last old) (drop last new)) zero_more) ∙ sym (goes-drop (drop last old) (drop last new) more 0)
-    ∙ going-zero (drop more (drop last old)) (drop more (drop last new)) longer (going-stops (drop last old) (drop last new)) in
     record {
       holds = λ j d lt e. (
         elim (cases_lt j (first_difference old new)) [
@@ -126,7 +95,7 @@ interval-least old new same h k some =
           | inr past ↦ absurd (let a : true ≡ false = sym (behind-last j d old new same lt past) ∙ e in cc)
         ],
       );
-      whole = (begin-cuts-none old new (begin_of old new) h k (begin-is old new first), at_end);
+      whole = (begin-cuts-none old new (begin_of old new) h k (begin-is old new first), end-is old new same);
       least = λ from to holds none.
           let inside = end_within old new in
           let order = first_before old new some in
@@ -134,8 +103,6 @@ interval-least old new same h k some =
           let j = last - 1 in
           let next : suc (last - 1) ≡ end_of_differences old new = omega (arith, some) in
           let to_last = holds j blank (omega (arith, inside, next)) (last-differs blank old new j next) in
-          let past : end_of_differences old new + (to - end_of_differences old new) ≡ to = omega (arith, to_last.1, next) in
-          let free : goes_on (drop last old) (drop last new) (to - last) ≡ false = goes-drop old new last (to - last) ∙ ap (goes_on old new) past ∙ none.1 in
-          let few = going-least (drop last old) (drop last new) (to - last) free in
-          (begin-greatest old new from first none.0 from_first.0, omega (arith, few, past));
+          let few = on-least (goes_on old new) last (length new - last) to none.1 (omega (arith, to_last.1, next)) in
+          (begin-greatest old new from first none.0 from_first.0, few);
     }

@@ -14,14 +14,16 @@ use Rattle.rd_base.specs.declared.cell.Cell.{Cell}
 use Rattle.rd_base.specs.declared.cell.Cell.TheVariants.{Blank, First, Rest}
 use Rattle.rd_term.specs.Overwriting.{first_column, later_columns}
 use Rattle.rd_term.specs.Pictures.{blank}
+use Rattle.rd_term.specs.Walks.{passing}
 use Rattle.rd_term.specs.Terminals.{Tty, feed_bytes, known, erased_from, feed_byte}
 use Rattle.rd_term.proofs.Cutting.{Row, front as front_of, behind, overwritten-is, map-replicate}
 use Rattle.rd_term.proofs.Encoded.{Rows, standing}
+use Rattle.rd_term.proofs.Walks.{on-le}
 use Rattle.std.proofs.lemmas.List.Sums.{fold-append}
-use Rattle.rd_update.specs.Updates.{move, erase_to_end, text_by, pen_behind, dress, first_difference, end_of_differences, going_on, goes_on, begin_of, end_of, used, differs, row_bytes, rows_bytes, rows_after, allows, less_one}
+use Rattle.rd_update.specs.Updates.{move, erase_to_end, text_by, pen_behind, dress, first_difference, end_of_differences, goes_on, begin_of, end_of, used, differs, row_bytes, rows_bytes, rows_after, allows, less_one}
 use Rattle.rd_update.proofs.Dressing.{dress_fed}
 use Rattle.rd_update.proofs.Sequences.{move_fed}
-use Rattle.rd_update.proofs.Spans.{front-same, back-same, no-difference, first_before, end_within, blank-from, three-parts, begin-le, begin-is, begin-first, going-le, going-stops, going-whole, at-whole}
+use Rattle.rd_update.proofs.Spans.{front-same, back-same, no-difference, first_before, end_within, blank-from, three-parts, begin-le, begin-is, end-is, begin-first, at-whole}
 use Rattle.rd_update.proofs.Texts.{TextFed, text_fed}
 
 -- a terminal with these rows and a plain pen between two sequences, wherever its cursor is
@@ -67,9 +69,9 @@ later-blanks zero = refl
 later-blanks (suc n) = refl
 
 -- from its begin the interval holds whole characters
-begin-whole : (old new : List Cell) (a : ℕ) → a < length old → a < length new → IsRowAfter 0 new → (a ≡ 0) ⊎ (goes_on old new a ≡ false) → IsRowAfter 0 (drop a new)
-begin-whole old new a p q h (inl e) = subst (λ k. IsRowAfter 0 (drop k new)) (sym e) h
-begin-whole old new a p q h (inr e) = (whole-cut a 0 new h (at-whole old new a p q e).1 (omega (arith, q))).1
+begin-whole : (old new : List Cell) (a : ℕ) → a < length new → IsRowAfter 0 new → (a ≡ 0) ⊎ (goes_on old new a ≡ false) → IsRowAfter 0 (drop a new)
+begin-whole old new a q h (inl e) = subst (λ k. IsRowAfter 0 (drop k new)) (sym e) h
+begin-whole old new a q h (inr e) = (whole-cut a 0 new h (at-whole old new a e).1 (omega (arith, q))).1
 
 -- ---- the end of a row
 
@@ -164,18 +166,8 @@ begin-same old new =
 end-same : (old new : List Cell) → length old ≡ length new → drop (end_of old new) new ≡ drop (end_of old new) old
 end-same old new same =
     let e = end_of_differences old new in
-    let n = going_on (drop e old) (drop e new) in
+    let n = passing (goes_on old new) e (length new - e) in
     sym (drop-drop n e new) ∙ ap (drop n) (back-same old new same) ∙ drop-drop n e old
-
--- no character goes on at its end
-end-whole : (old new : List Cell) → length old ≡ length new → (later_columns (map Some (drop (end_of old new) old)) ≡ 0) × (later_columns (map Some (drop (end_of old new) new)) ≡ 0)
-end-whole old new same =
-    let e = end_of_differences old new in
-    let n = going_on (drop e old) (drop e new) in
-    let stops : going_on (drop (end_of old new) old) (drop (end_of old new) new) ≡ 0 =
-    ap (λ xs. going_on xs (drop (end_of old new) new)) (sym (drop-drop n e old)) ∙ ap (λ xs. going_on (drop n (drop e old)) xs) (sym (drop-drop n e new)) ∙ going-stops (drop e old) (drop e new) in
-    let long : length (drop (end_of old new) old) ≡ length (drop (end_of old new) new) = length-drop (end_of old new) old ∙ ap (λ k. k - end_of old new) same ∙ sym (length-drop (end_of old new) new) in
-    going-whole (drop (end_of old new) old) (drop (end_of old new) new) long stops
 
 -- the text ends where a character does
 text-ends : (old new : List Cell) (k m : ℕ) → length old ≡ length new → m ≡ min (end_of old new) k → used new ≤ k → later_columns (map Some (drop m new)) ≡ 0
@@ -185,7 +177,7 @@ text-ends old new k m same e le = elim (cases_lt k (end_of old new)) [
       ap (λ j. later_columns (map Some (drop j new))) is ∙ ap (λ xs. later_columns (map Some xs)) (blank-from new k le) ∙ later-blanks (length new - k)
   | inr more ↦
       let is : m ≡ end_of old new = omega (arith, e) in
-      ap (λ j. later_columns (map Some (drop j new))) is ∙ (end-whole old new same).1
+      ap (λ j. later_columns (map Some (drop j new))) is ∙ (at-whole old new (end_of old new) (end-is old new same)).1
 ]
 
 -- behind the text the row is blank, or as it was
@@ -209,8 +201,8 @@ row_fed region above below old new cursor wait latest w few old_wide new_wide na
     let before : first_difference old new < end_of_differences old new = first_before old new some in
     let begins : begin_of old new ≤ first_difference old new = begin-le old new (first_difference old new) in
     let inside : end_of_differences old new ≤ length new = end_within old new in
-    let behind_last : going_on (drop last old) (drop last new) ≤ length (drop last new) = going-le (drop last old) (drop last new) in
-    let most : end_of old new ≤ length new = omega (arith, behind_last, length-drop last new, inside) in
+    let behind_last = on-le (goes_on old new) last (length new - last) in
+    let most : end_of old new ≤ length new = omega (arith, behind_last, inside) in
     let order : begin_of old new < end_of old new = omega arith in
     let same : length old ≡ length new = old_wide ∙ sym new_wide in
     let past : used new ≤ k = omega arith in
@@ -231,8 +223,8 @@ row_fed region above below old new cursor wait latest w few old_wide new_wide na
     ∙ ap (map Some) (three-parts a m new (omega arith)) in
     let starts : first_column (front ++ (mid ++ back)) (length front) ≡ length front =
     subst (λ j. first_column (front ++ (mid ++ back)) j ≡ j) (sym front_length) (subst (λ r. first_column r a ≡ a) row_old (begin-first old new a here (begin-is old new first))) in
-    let ends = end-whole old new same in
-    let from_begin : IsRowAfter 0 (drop a new) = begin-whole old new a here (omega arith) row (begin-is old new first) in
+    let ends = at-whole old new b (end-is old new same) in
+    let from_begin : IsRowAfter 0 (drop a new) = begin-whole old new a (omega arith) row (begin-is old new first) in
     let sum : begin_of old new + (m - begin_of old new) ≡ m = omega arith in
     let stops : later_columns (map Some (drop (m - a) (drop a new))) ≡ 0 = ap (λ xs. later_columns (map Some xs)) (drop-drop (m - a) a new ∙ ap (λ j. drop j new) sum) ∙ text-ends old new k m same refl past in
     let whole : IsRowAfter 0 cells = (whole-cut (m - a) 0 (drop a new) from_begin stops (omega (arith, length-drop a new))).0 in

@@ -1,18 +1,17 @@
 -- Where two rows differ: what is before the first difference, behind the last one, and blank to the end.
-use Rattle.std.proofs.Common.{◌≡◌, if◌then◌else◌, ◌⊎◌, inl, inr, ◌||◌, ℕ, zero, suc, ◌+◌, ◌-◌, ◌<◌, ◌≤◌, Bool, true, false, List, [], ◌∷◌, ◌++◌, length, get_or, map, take, drop, replicate, None, Some, refl, sym, ap, ap₂, ◌∙◌, arith, drop_of_length-le}
+use Rattle.std.proofs.Common.{◌≡◌, if◌then◌else◌, ◌⊎◌, inl, inr, ◌||◌, ℕ, zero, suc, ◌+◌, ◌-◌, ◌<◌, ◌≤◌, Bool, true, false, List, [], ◌∷◌, ◌++◌, length, get_or, map, take, drop, replicate, None, Some, refl, sym, ap, ap₂, ◌∙◌, arith}
 use Rattle.std.proofs.lemmas.Bool.{or_parts}
 use Rattle.std.proofs.lemmas.Bool.Decides.{nat_tests}
-use Rattle.std.proofs.lemmas.List.{take-append-drop, drop-drop, drop-replicate, length-replicate, drop_more, get_or-map}
+use Rattle.std.proofs.lemmas.List.{take-append-drop, drop-drop, drop-replicate, length-replicate, get_or-map, get_or_past}
 use Rattle.rd_base.specs.declared.cell.Cell.{Cell}
 use Rattle.rd_base.specs.declared.cell.Cell.TheVariants.{Blank, First, Rest}
 use Rattle.rd_term.specs.Pictures.{blank, blank_row}
 use Rattle.rd_term.specs.Overwriting.{is_later, later_columns, first_column}
 use Rattle.rd_base.specs.Equals.{same_cell}
 use Rattle.rd_base.proofs.Equals.{cell-told}
-use Rattle.rd_term.specs.Walks.{passing}
-use Rattle.rd_term.proofs.Cutting.{two-parts, later-chosen}
-use Rattle.rd_term.proofs.Walks.{back-le}
-use Rattle.rd_update.specs.Updates.{first_difference, end_before, end_of_differences, used, differs, is_rest, goes_on, begin_before, going_on}
+use Rattle.rd_term.proofs.Cutting.{two-parts}
+use Rattle.rd_term.proofs.Walks.{back-le, on-stops}
+use Rattle.rd_update.specs.Updates.{first_difference, end_before, end_of_differences, used, differs, is_rest, goes_on, begin_before, end_of}
 
 -- ---- before the first difference and behind the last
 
@@ -125,61 +124,31 @@ pub begin-is : (old new : List Cell) (column : ℕ) → (begin_before old new co
 begin-is old new zero = inl refl
 begin-is old new (suc column) = begin-is-chosen old new column (goes_on old new (suc column)) refl (begin-is old new column)
 
-pub going-passing : (old new : List Cell) (column more : ℕ) → column + more ≡ length old → column + more ≡ length new
-    → passing (goes_on old new) column more ≡ going_on (drop column old) (drop column new)
-going-passing old new column zero p q = sym (ap₂ going_on (drop_of_length-le old (omega arith)) (drop_of_length-le new (omega arith)))
-going-passing old new column (suc more) p q =
-    let next : column + 1 ≡ suc column = omega arith in
-    ap (λ n. if goes_on old new column then suc n else 0)
-    (going-passing old new (suc column) more (omega arith) (omega arith) ∙ ap (λ k. going_on (drop k old) (drop k new)) (sym next))
-    ∙ sym (ap₂ going_on (drop_more old column blank (omega arith)) (drop_more new column blank (omega arith)))
-
-pub going-le : (xs ys : List Cell) → going_on xs ys ≤ length ys
-going-le [] [] = omega arith
-going-le [] (y ∷ ys) = omega arith
-going-le (x ∷ xs) [] = omega arith
-going-le (x ∷ xs) (y ∷ ys) = later-chosen (is_rest x || is_rest y) (going_on xs ys) (length ys) (going-le xs ys)
-
-going-stops-chosen : (b : Bool) (n : ℕ) (x y : Cell) (xs ys : List Cell) → (is_rest x || is_rest y) ≡ b → going_on (drop n xs) (drop n ys) ≡ 0
-    → going_on (drop (if b then suc n else 0) (x ∷ xs)) (drop (if b then suc n else 0) (y ∷ ys)) ≡ 0
-going-stops-chosen true n x y xs ys e h = h
-going-stops-chosen false n x y xs ys e h = rw e refl
-
-pub going-stops : (xs ys : List Cell) → going_on (drop (going_on xs ys) xs) (drop (going_on xs ys) ys) ≡ 0
-going-stops [] [] = refl
-going-stops [] (y ∷ ys) = refl
-going-stops (x ∷ xs) [] = refl
-going-stops (x ∷ xs) (y ∷ ys) = going-stops-chosen (is_rest x || is_rest y) (going_on xs ys) x y xs ys refl (going-stops xs ys)
+-- no character goes on at the end of the interval
+pub end-is : (old new : List Cell) → length old ≡ length new → goes_on old new (end_of old new) ≡ false
+end-is old new same =
+    let end = end_of_differences old new in
+    let within = end_within old new in
+    let last : end + (length new - end) ≡ length new = omega arith in
+    on-stops (goes_on old new) end (length new - end)
+    (ap (goes_on old new) last ∙ ap₂ (λ a b. is_rest a || is_rest b) (get_or_past old (length new) blank (omega arith)) (get_or_past new (length new) blank (omega arith)))
 
 -- ---- cells that begin with no later column
 
-neither-zero : (a b : Bool) (n : ℕ) → (if a || b then suc n else 0) ≡ 0 → (a ≡ false) × (b ≡ false)
-neither-zero false false n e = (refl, refl)
-neither-zero false true n e = absurd (cc)
-neither-zero true b n e = absurd (cc)
+whole-from : (column : ℕ) (cells : List Cell) → is_rest (get_or cells column blank) ≡ false → later_columns (map Some (drop column cells)) ≡ 0
+whole-from zero [] e = refl
+whole-from (suc column) [] e = refl
+whole-from zero (Blank f ∷ cells) e = refl
+whole-from zero (First g f ∷ cells) e = refl
+whole-from zero (Rest ∷ cells) e = absurd (cc)
+whole-from (suc column) (x ∷ cells) e = whole-from column cells e
 
-whole-cons : (x : Cell) (cells : List Cell) → is_rest x ≡ false → later_columns (map Some (x ∷ cells)) ≡ 0
-whole-cons (Blank f) cells e = refl
-whole-cons (First g f) cells e = refl
-whole-cons Rest cells e = absurd (cc)
-
--- where no character goes on, both rows begin with none
-pub going-whole : (xs ys : List Cell) → length xs ≡ length ys → going_on xs ys ≡ 0 → (later_columns (map Some xs) ≡ 0) × (later_columns (map Some ys) ≡ 0)
-going-whole [] [] n e = (refl, refl)
-going-whole [] (y ∷ ys) n e = absurd (cc)
-going-whole (x ∷ xs) [] n e = absurd (cc)
-going-whole (x ∷ xs) (y ∷ ys) n e =
-    let both = neither-zero (is_rest x) (is_rest y) (going_on xs ys) e in
-    (whole-cons x xs both.0, whole-cons y ys both.1)
-
--- the same from a column on
-pub at-whole : (old new : List Cell) (column : ℕ) → column < length old → column < length new → goes_on old new column ≡ false
+-- where no character goes on, both rows go on with none
+pub at-whole : (old new : List Cell) (column : ℕ) → goes_on old new column ≡ false
     → (later_columns (map Some (drop column old)) ≡ 0) × (later_columns (map Some (drop column new)) ≡ 0)
-at-whole old new column p q e =
-    let both = or_parts (is_rest (get_or old column blank)) (is_rest (get_or new column blank)) e in (
-      ap (λ xs. later_columns (map Some xs)) (drop_more old column blank p) ∙ whole-cons (get_or old column blank) (drop (column + 1) old) both.0,
-      ap (λ xs. later_columns (map Some xs)) (drop_more new column blank q) ∙ whole-cons (get_or new column blank) (drop (column + 1) new) both.1,
-    )
+at-whole old new column e =
+    let both = or_parts (is_rest (get_or old column blank)) (is_rest (get_or new column blank)) e in
+    (whole-from column old both.0, whole-from column new both.1)
 
 is-later-some : (x : Cell) → is_later (Some x) ≡ is_rest x
 is-later-some (Blank f) = refl

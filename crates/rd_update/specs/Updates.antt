@@ -10,7 +10,7 @@ use Rattle.rd_base.specs.declared.cell.Cell.{Cell}
 use Rattle.rd_base.specs.declared.cell.Cell.TheVariants.{Blank, First, Rest}
 use Rattle.rd_term.specs.Pens.{numbers_of_face}
 use Rattle.rd_term.specs.Pictures.{Picture, blank, blank_row}
-use Rattle.rd_term.specs.Walks.{back_while}
+use Rattle.rd_term.specs.Walks.{back_while, passing}
 
 -- ---- where two rows differ
 
@@ -44,19 +44,15 @@ goes_on old new column = is_rest (slice_index_or old column blank) || is_rest (s
 abbrev pub begin_before : List Cell → List Cell → ℕ → ℕ
 begin_before old new column = back_while (goes_on old new) column
 
--- how many columns follow at which one goes on
-abbrev pub going_on : List Cell → List Cell → ℕ
-going_on (x ∷ xs) (y ∷ ys) = if is_rest x || is_rest y then suc (going_on xs ys) else 0
-going_on _ _ = 0
-
--- the least interval that holds all columns at which two rows differ, and cuts no character of either
+-- the least interval that holds all columns at which two rows differ, and cuts no character of either: its end stands behind
+-- those columns that follow the last difference at which one goes on
 abbrev pub begin_of : List Cell → List Cell → ℕ
 begin_of old new = begin_before old new (first_difference old new)
 
 abbrev pub end_of : List Cell → List Cell → ℕ
 end_of old new =
     let end = end_of_differences old new in
-    end + going_on (drop end old) (drop end new)
+    end + passing (goes_on old new) end (length new - end)
 
 -- the first column from which a row is blank and plain to its end
 abbrev pub used : List Cell → ℕ

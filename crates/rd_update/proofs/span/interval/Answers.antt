@@ -1,6 +1,7 @@
-use Rattle.std.proofs.Common.{◌<◌, ◌∙◌, ◌+◌, ◌-◌, ap, rules, arith, length, drop}
-use Rattle.rd_update.specs.Updates.{begin_before, goes_on, going_on}
-use Rattle.rd_update.proofs.Spans.{first_before, end_within, going-passing}
+use Rattle.std.proofs.Common.{◌<◌, ◌∙◌, ◌+◌, ◌-◌, ap, rules, arith, length}
+use Rattle.rd_term.specs.Walks.{passing}
+use Rattle.rd_update.specs.Updates.{begin_before, goes_on}
+use Rattle.rd_update.proofs.Spans.{first_before, end_within}
 use Rattle.rd_update.proofs.span.interval.Goals as goal
 
 pub back_while-requires : goal.back_while-requires
@@ -28,11 +29,8 @@ pub returns-clause-end : goal.returns-clause-end
 returns-clause-end c =
     let old = c.args.old.now in
     let new = c.args.new.now in
-    let most = end_within c.args.old.now c.args.new.now in
-    let left = length c.args.new.now - c.args.differing.end in
-    let passing_all = going-passing old new c.args.differing.end left (omega (arith, c.requires.end, most, c.requires.length)) (omega (arith, c.requires.end, most)) in
     c.on_while.ensures.value (goes_on old new) (λ column answer on before told. search rules)
-    ∙ ap (λ n. c.args.differing.end + n) passing_all ∙ ap (λ end. end + going_on (drop end old) (drop end new)) c.requires.end
+    ∙ ap (λ end. end + passing (goes_on old new) end (length new - end)) c.requires.end
 
 pub returns-clause-order : goal.returns-clause-order
 returns-clause-order c =
