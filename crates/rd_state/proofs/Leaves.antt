@@ -1,6 +1,6 @@
 -- What a window tree says of its windows, and how it changes.
-use Rattle.std.proofs.Common.{◌≡◌, ◌≢◌, ℕ, ◌≤◌, ◌==◌, ◌||◌, Bool, true, false, is_some, if◌then◌else◌, Option, None, Some, sym, ap, refl, ◌∙◌, arith}
-use Rattle.std.proofs.lemmas.Bool.{eqb-true, false_from_ne_true, cond-false, cond_both, cond-true, eq-eqb, ne_eqb, or_left, or_right}
+use Rattle.std.proofs.Common.{◌≡◌, ◌≢◌, ℕ, ◌≤◌, ◌==◌, ◌||◌, Bool, true, false, is_some, if◌then◌else◌, Option, None, Some, sym, ap, refl, ◌∙◌, inl, inr, arith}
+use Rattle.std.proofs.lemmas.Bool.{cases_eq, eqb-true, false_from_ne_true, cond-false, cond_both, cond-true, eq-eqb, ne_eqb, or_left, or_right}
 use Rattle.std.proofs.lemmas.Iterator.Adapters.{option_map_id}
 use Rattle.rd_base.proofs.Choices.{is_some-map, none-both, or-first, map-or, map-some, none-of}
 use Rattle.std.specs.Prelude.{option_map}
@@ -45,9 +45,6 @@ leaf-here n m mode margins h = cond-true (m == n) (Some (mode, margins)) None (e
 leaf-first : (n : ℕ) (first second : Windows) → holds n first ≡ true → option_or (leaf_at n first) (leaf_at n second) ≡ leaf_at n first
 leaf-first n first second h = or-first (leaf_at n first) (leaf_at n second) (leaf-some n first h)
 
-or-second : (n : ℕ) (first second : Windows) → holds n first ≡ false → option_or (leaf_at n first) (leaf_at n second) ≡ leaf_at n second
-or-second n first second h = ap (λ (o : Option Leaf). option_or o (leaf_at n second)) (leaf-none n first h)
-
 -- ---- what is placed
 
 abbrev pub facts : Placed → Leaf
@@ -87,20 +84,25 @@ leaf-other n k other (Split side size first second) ne none =
     (λ h. ap (λ (o : Option Leaf). option_or o (leaf_at k second)) (leaf-other n k other first ne none))
     (λ h. ap (option_or (leaf_at k first)) (leaf-other n k other second ne none))
 
-pub leaf-same : (n : ℕ) (other : Bool → ℕ → Windows) (g : Leaf → Leaf) (ws : Windows) → ((mode : Bool) (margins : ℕ) → leaf_at n (other mode margins) ≡ Some (g (mode, margins)))
-    → leaf_at n (replaced n other ws) ≡ option_map g (leaf_at n ws)
-leaf-same n other g (Window m mode margins) gives = cond_both (m == n) (other mode margins) (Window m mode margins) (λ ws. leaf_at n ws ≡ option_map g (leaf_at n (Window m mode margins)))
+-- a window that can only stand where another does, which is not among them
+gone : (n k : ℕ) (ws : Windows) → (k ≢ n → leaf_at k ws ≡ None) → holds n ws ≡ false → leaf_at k ws ≡ None
+gone n k ws none h = elim (cases_eq k n) [ | inl p ↦ rw p (leaf-none n ws h) | inr ne ↦ none ne ]
+
+-- what is put in place of a window has this one, and nothing else has it
+pub leaf-replaced : (n k : ℕ) (other : Bool → ℕ → Windows) (g : Leaf → Leaf) (ws : Windows)
+    → ((mode : Bool) (margins : ℕ) → leaf_at k (other mode margins) ≡ Some (g (mode, margins))) → (k ≢ n → leaf_at k ws ≡ None)
+    → leaf_at k (replaced n other ws) ≡ option_map g (leaf_at n ws)
+leaf-replaced n k other g (Window m mode margins) gives none = cond_both (m == n) (other mode margins) (Window m mode margins)
+    (λ ws. leaf_at k ws ≡ option_map g (leaf_at n (Window m mode margins)))
     (λ h. gives mode margins ∙ sym (ap (option_map g) (leaf-here n m mode margins (eqb-true m n h))))
-    (λ h. let past = cond-false (m == n) (Some (mode, margins)) None h in past ∙ sym (ap (option_map g) past))
-leaf-same n other g (Split side size first second) gives =
+    (λ h. gone n k (Window m mode margins) none h ∙ sym (ap (option_map g) (cond-false (m == n) (Some (mode, margins)) None h)))
+leaf-replaced n k other g (Split side size first second) gives none =
+    let parts = λ (ne : k ≢ n). none-both (leaf_at k first) (leaf_at k second) (none ne) in
     cond_both (holds n first) (Split side size (replaced n other first) second) (Split side size first (replaced n other second))
-    (λ ws. leaf_at n ws ≡ option_map g (option_or (leaf_at n first) (leaf_at n second)))
-    (λ h. ap (λ (o : Option Leaf). option_or o (leaf_at n second)) (leaf-same n other g first gives)
-    ∙ (or-first (option_map g (leaf_at n first)) (leaf_at n second) (is_some-map g (leaf_at n first) (leaf-some n first h))
-    ∙ sym (ap (option_map g) (leaf-first n first second h))))
-    (λ h. ap (option_or (leaf_at n first)) (leaf-same n other g second gives)
-    ∙ (ap (λ (o : Option Leaf). option_or o (option_map g (leaf_at n second))) (leaf-none n first h)
-    ∙ sym (ap (option_map g) (or-second n first second h))))
+    (λ ws. leaf_at k ws ≡ option_map g (option_or (leaf_at n first) (leaf_at n second)))
+    (λ h. rw (leaf-replaced n k other g first gives (λ ne. (parts ne).0), leaf-first n first second h)
+        (or-first (option_map g (leaf_at n first)) (leaf_at k second) (is_some-map g (leaf_at n first) (leaf-some n first h))))
+    (λ h. rw (gone n k first (λ ne. (parts ne).0) h, leaf-none n first h) (leaf-replaced n k other g second gives (λ ne. (parts ne).1)))
 
 -- ---- splits
 
@@ -113,8 +115,8 @@ split-other n k side size new ws ne far = leaf-other n k (halves n side size new
 
 pub split-same : (n : ℕ) (side : Side) (size new : ℕ) (ws : Windows) → leaf_at n (split_at n side size new ws) ≡ leaf_at n ws
 split-same n side size new ws =
-    leaf-same n (halves n side size new) (λ x. x) ws
-    (λ mode margins. ap (λ (o : Option Leaf). option_or o (leaf_at n (Window new mode margins))) (leaf-here n n mode margins refl))
+    leaf-replaced n n (halves n side size new) (λ x. x) ws
+    (λ mode margins. ap (λ (o : Option Leaf). option_or o (leaf_at n (Window new mode margins))) (leaf-here n n mode margins refl)) (λ ne. absurd (ne refl))
     ∙ option_map_id (leaf_at n ws)
 
 new-half : (n : ℕ) (side : Side) (size new : ℕ) (mode : Bool) (margins : ℕ) → n ≢ new → leaf_at new (halves n side size new mode margins) ≡ Some (mode, margins)
@@ -122,18 +124,8 @@ new-half n side size new mode margins ne =
     ap (λ (o : Option Leaf). option_or o (leaf_at new (Window new mode margins))) (leaf-past new n mode margins ne) ∙ leaf-here new new mode margins refl
 
 pub split-new : (n : ℕ) (side : Side) (size new : ℕ) (ws : Windows) → n ≢ new → leaf_at new ws ≡ None → leaf_at new (split_at n side size new ws) ≡ leaf_at n ws
-split-new n side size new (Window m mode margins) ne none =
-    cond_both (m == n) (halves n side size new mode margins) (Window m mode margins) (λ ws. leaf_at new ws ≡ leaf_at n (Window m mode margins))
-    (λ h. new-half n side size new mode margins ne ∙ sym (leaf-here n m mode margins (eqb-true m n h)))
-    (λ h. none ∙ sym (cond-false (m == n) (Some (mode, margins)) None h))
-split-new n side size new (Split s z first second) ne none =
-    let parts = none-both (leaf_at new first) (leaf_at new second) none in
-    cond_both (holds n first) (Split s z (split_at n side size new first) second) (Split s z first (split_at n side size new second))
-    (λ ws. leaf_at new ws ≡ option_or (leaf_at n first) (leaf_at n second))
-    (λ h. ap (λ (o : Option Leaf). option_or o (leaf_at new second)) (split-new n side size new first ne parts.0)
-    ∙ (ap (option_or (leaf_at n first)) parts.1 ∙ (or-none (leaf_at n first) ∙ sym (leaf-first n first second h))))
-    (λ h. ap (option_or (leaf_at new first)) (split-new n side size new second ne parts.1)
-    ∙ (ap (λ (o : Option Leaf). option_or o (leaf_at n second)) parts.0 ∙ sym (or-second n first second h)))
+split-new n side size new ws ne none =
+    leaf-replaced n new (halves n side size new) (λ x. x) ws (λ mode margins. new-half n side size new mode margins ne) (λ _. none) ∙ option_map_id (leaf_at n ws)
 
 -- ---- removals
 

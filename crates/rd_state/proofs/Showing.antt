@@ -28,7 +28,7 @@ use Rattle.rd_state.specs.Steps.{in_window, changing, on_tree, splitting, removi
 use Rattle.rd_state.proofs.Below.{TreeLaws}
 use Rattle.rd_state.proofs.ByNumber.{NumberedWindow, Hands, each-entry, each-without, window-end, apart-end, window-gone, entry-past, none-past, apart-becoming, get-window}
 use Rattle.rd_state.proofs.Keeping.{window-placed, windows-changed}
-use Rattle.rd_state.proofs.Leaves.{Leaf, leaf-resized, leaf-same, leaf-other, split-same, split-other, split-new, removed-same, removed-other, heir-held, is_some-leaf, unmade}
+use Rattle.rd_state.proofs.Leaves.{Leaf, leaf-resized, leaf-replaced, leaf-other, split-same, split-other, split-new, removed-same, removed-other, heir-held, is_some-leaf, unmade}
 use Rattle.rd_state.proofs.StepParts.{found, unless, tree-if, treed-if, placing-if}
 use Rattle.rd_state.proofs.Tests.{is_accessible-means}
 use Rattle.rd_state.proofs.Options.{map-map, one-value, or-none}
@@ -162,7 +162,8 @@ retold-valid s number f g r v means gives keep =
     let is = means d at in
     let new : Configuration = record s.tree { windows = replaced number (retold number g) s.tree.windows } in
     let here : leaf_at number new.windows ≡ option_map g (leaf_at number s.tree.windows)
-    = leaf-same number (retold number g) g s.tree.windows (λ mode margins. cond-true (number == number) _ None (eq-eqb number number refl) ∙ ap (λ (x : Leaf). Some x) (both-parts (g (mode, margins)))) in
+    = leaf-replaced number number (retold number g) g s.tree.windows
+        (λ mode margins. cond-true (number == number) _ None (eq-eqb number number refl) ∙ ap (λ (x : Leaf). Some x) (both-parts (g (mode, margins)))) (λ ne. absurd (ne refl)) in
     let others : (k : ℕ) → k ≢ number → leaf_at k new.windows ≡ leaf_at k s.tree.windows
     = λ k q. leaf-other number k (retold number g) s.tree.windows q (λ mode margins. cond-false (number == k) _ None (ne_eqb number k (λ p. q (sym p)))) in
     subst IsValid (ap (λ (x : Configuration). record s { tree = x; windows = with_entry number f s.windows }) is.1)
