@@ -4,6 +4,7 @@ use Rattle.std.specs.Prelude.{if◌then◌else◌, find, fold, slice_get, option
 use Rattle.std.specs.List.{list_any}
 use Rattle.std.specs.Option.{option_map_or}
 use Rattle.std.specs.Str.{bytes_eq}
+use Rattle.std.proofs.Math.Bool.{or-false}
 use Rattle.std.proofs.lemmas.Bool.{or_parts}
 use Rattle.std.proofs.lemmas.List.{map-append, append-nil}
 use Rattle.std.proofs.lemmas.List.Folds.{find-append}
@@ -41,18 +42,9 @@ has_row-is us s = sym (list_any-map (λ r. bytes_eq r.id (name_of s)) row us)
 
 -- ---- names
 
-named_in : (ss : List Setting) (name : Text) → find (λ a. not (is_some a.index) && has_long a name) (map rule ss) ≡ option_map rule (find (λ s. bytes_eq (name_of s) name) ss)
-named_in [] name = refl
-named_in (s ∷ ss) name = go (bytes_eq (name_of s) name) (named_in ss name)
-  where
-    go : (b : Bool) → find (λ a. not (is_some a.index) && has_long a name) (map rule ss) ≡ option_map rule (find (λ s. bytes_eq (name_of s) name) ss)
-        → (if true && (b || false) then Some (rule s) else find (λ a. not (is_some a.index) && has_long a name) (map rule ss))
-        ≡ option_map rule (if b then Some s else find (λ s. bytes_eq (name_of s) name) ss)
-    go true rest = refl
-    go false rest = rest
-
 pub named-is : (name : Text) → arg_by_long shape.rules name ≡ option_map rule (named name)
-named-is name = named_in settings name
+named-is name =
+    sym (find-map (λ a. not (is_some a.index) && has_long a name) rule settings) ∙ (λ i. option_map rule (find (λ s. or-false (bytes_eq (name_of s) name) i) settings))
 
 -- ---- one use
 
