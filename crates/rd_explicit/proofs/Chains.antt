@@ -3,6 +3,7 @@ use Rattle.std.proofs.Common.{◌≡◌, ℕ, zero, suc, ◌+◌, ◌-◌, ◌<�
 use Rattle.std.proofs.lemmas.List.{get_or-drop, drop-set-add, set-get_or, drop-drop, length-drop}
 use Rattle.std.proofs.lemmas.List.Elements.{All-cons, All-nil}
 use Rattle.std.proofs.lemmas.Bool.{cases_Bool, eq-eqb, ne_eqb, ltb-true}
+use Rattle.rd_base.proofs.Choices.{either}
 use Rattle.rd_base.specs.Classes.{direction_of, is_initiator, is_removed}
 use Rattle.rd_base.specs.declared.class.Class.{Class}
 use Rattle.rd_base.specs.declared.line.Seq.{Seq}
@@ -170,10 +171,7 @@ first-within : (base : ℕ) (cs : List Class) (ls : List ℕ) (b i : ℕ) → Fi
 first-within base [] ls b i = tt
 first-within base (c ∷ cs) [] b i = tt
 first-within base (c ∷ cs) (l ∷ ls) b i =
-    elim (is_removed c) as (λ r. FirstWithin i (suc (length cs)) (first_of (if r then x9_items base b (i + 1) cs ls else item_at base b i c cs l (x9_items base l (i + 1) cs ls) ∷ x9_items base l (i + 1) cs ls))) [
-      | true ↦ one_more i (length cs) _ (first-within base cs ls b (i + 1))
-      | false ↦ (omega arith, omega arith)
-    ]
+    either (λ xs. FirstWithin i (suc (length cs)) (first_of xs)) (is_removed c) _ _ (one_more i (length cs) _ (first-within base cs ls b (i + 1))) (omega arith, omega arith)
 
 bd9_matching_pdi-within : (i a n : ℕ) → Within i n (if nat_lt a n then Some (i + a) else None)
 bd9_matching_pdi-within i a n = elim (cases_Bool (nat_lt a n)) [
@@ -182,17 +180,11 @@ bd9_matching_pdi-within i a n = elim (cases_Bool (nat_lt a n)) [
 ]
 
 partner-within : (i : ℕ) (c : Class) (cs : List Class) → Within (i + 1) (length cs) (partner_of i c cs)
-partner-within i c cs = elim (is_initiator c) as (λ b. Within (i + 1) (length cs) (if b then bd9_matching_pdi (i + 1) cs else None)) [
-  | true ↦ bd9_matching_pdi-within (i + 1) (length (content cs)) (length cs)
-  | false ↦ tt
-]
+partner-within i c cs = either (Within (i + 1) (length cs)) (is_initiator c) _ None (bd9_matching_pdi-within (i + 1) (length (content cs)) (length cs)) tt
 
 bd13_follower-in : (i n l : ℕ) (o : Option First) (partner : Option ℕ) → FirstWithin i n o → Within i n partner → Within i n (bd13_follower o l partner)
 bd13_follower-in i n l None partner first within = within
-bd13_follower-in i n l (Some y) partner first within = elim (l == y.level) as (λ b. Within i n (if b then Some y.index else partner)) [
-  | true ↦ first
-  | false ↦ within
-]
+bd13_follower-in i n l (Some y) partner first within = either (Within i n) (l == y.level) (Some y.index) partner first within
 
 pub bd13_follower-within : (base : ℕ) (c : Class) (cs : List Class) (ls : List ℕ) (b i l : ℕ)
     → Within (i + 1) (length cs) (bd13_follower (first_of (x9_items base b (i + 1) cs ls)) l (partner_of i c cs))
@@ -276,10 +268,8 @@ chain-ascends [] i n None h = tt
 chain-ascends [] i n (Some w) h = tt
 chain-ascends (k ∷ ks) i n None h = tt
 chain-ascends (k ∷ ks) i n (Some w) h =
-    elim (w == i) as (λ b. Ascends i n (if b then i ∷ chain (i + 1) k.next ks else chain (i + 1) (Some w) ks)) [
-      | true ↦ (omega arith, omega arith, chain-ascends ks (i + 1) n k.next (omega arith))
-      | false ↦ ascends_from i (i + 1) n _ (omega arith) (chain-ascends ks (i + 1) n (Some w) (omega arith))
-    ]
+    either (Ascends i n) (w == i) _ _ (omega arith, omega arith, chain-ascends ks (i + 1) n k.next (omega arith))
+    (ascends_from i (i + 1) n _ (omega arith) (chain-ascends ks (i + 1) n (Some w) (omega arith)))
 
 pub gathered-ascends : (cs : List Class) (ls : List ℕ) (ks : List Link) (bs : List Bool) (b i n : ℕ) → i + length ks ≤ n
     → (j : ℕ) (d : Seq) → j < length (gathered b i cs ls ks bs) → Ascends 0 n (get_or (gathered b i cs ls ks bs) j d).indexes

@@ -13,6 +13,7 @@ use Rattle.rd_explicit.specs.Follow.{bd13_follower, x10_level_behind}
 use Rattle.rd_explicit.specs.Links.{link_at, chain, chain_end, gathered, seq_at, IsLinkedFrom, LeadsOn, unmatched, first_of, beginning, without_beginning}
 use Rattle.rd_explicit.specs.Sequences.{partner_of, x9_items}
 use Rattle.rd_explicit.proofs.Chains.{gathered-step, bd13_follower-within, Within, jumps-on}
+use Rattle.rd_base.proofs.Choices.{either}
 use Rattle.rd_base.proofs.Lists.{drop-at}
 
 length-without : (f : Option ℕ) (bs : List Bool) → length (without_beginning f bs) ≡ length bs
@@ -84,10 +85,7 @@ follows-within base i l c classes levels old partner f within joins matches foll
 
 pub beginning-within : (i n : ℕ) (f : Option ℕ) (bs : List Bool) → IfSome f (λ w. (i < w) × (w < n)) → IfSome (beginning f bs) (λ w. (i < w) × (w < n))
 beginning-within i n None bs h = tt
-beginning-within i n (Some f) bs h = elim (get_or bs f false) as (λ b. IfSome (if b then Some f else None) (λ w. (i < w) × (w < n))) [
-  | true ↦ h
-  | false ↦ tt
-]
+beginning-within i n (Some f) bs h = either (λ o. IfSome o (λ w. (i < w) × (w < n))) (get_or bs f false) (Some f) None h tt
 
 pub leads-on : (n : ℕ) (ks : List Link) (i : ℕ) (k : Link) → LeadsOn n ks → i < length ks → IfSome k.next (λ w. (i < w) × (w < n)) → LeadsOn n (set ks i k)
 leads-on n ks i k leads within next = λ j d h.
