@@ -1,24 +1,22 @@
 -- Blocks that stand one behind the other, and their rows.
-use Rattle.std.proofs.Common.{◌≡◌, ℕ, ◌+◌, ◌-◌, ◌<◌, ◌≤◌, inl, inr, Bool, true, false, cond, ◌||◌, ◌&&◌, ◌==◌, leb, ltb, min, List, [], ◌∷◌, ◌++◌, length, refl, sym, ap, ◌∙◌, subst, arith, zero-add}
-use Rattle.std.proofs.lemmas.Bool.{cases_Bool, le-ltb, lt-ltb}
+use Rattle.std.proofs.Common.{◌≡◌, ℕ, ◌+◌, ◌-◌, ◌<◌, ◌≤◌, Bool, true, false, cond, not, ◌||◌, ◌&&◌, ◌==◌, leb, ltb, min, List, [], ◌∷◌, ◌++◌, length, refl, sym, ap, ◌∙◌, subst, arith, zero-add}
+use Rattle.std.proofs.lemmas.Bool.{le-ltb, lt-ltb}
 use Rattle.std.proofs.lemmas.Bool.Decides.{nat_tests}
-use Rattle.std.proofs.lemmas.List.Folds.{list_any-append}
 use Rattle.std.specs.List.{list_any}
-use Rattle.rd_base.proofs.Lists.{get-second}
+use Rattle.rd_base.proofs.Lists.{get-second, none_counted}
 use Rattle.rd_base.specs.declared.settings.Anchor.{Anchor}
 use Rattle.rd_matrix.proofs.Counting.{count-cons}
-use Rattle.rd_matrix.proofs.Covering.{Fit, none-covers, whole-fit}
+use Rattle.rd_matrix.proofs.Covering.{Fit, count-block, count-fit, count_at, covering, whole-fit}
 use Rattle.rd_matrix.proofs.HeldLemmas.{end-any, later-start}
 use Rattle.rd_matrix.specs.Blocks.{IsWithin, StandFrom, end_from, first_start}
 use Rattle.rd_matrix.specs.Columns.{covers}
-use Rattle.rd_matrix.specs.Entries.{all_rows, entries_of, numbered}
-use Rattle.rd_matrix.specs.Sources.{AreRowsOf, IsSource, SourceValues, begins_of, rows_at}
+use Rattle.rd_matrix.specs.Entries.{EntryMeaning, all_rows, numbered}
+use Rattle.rd_matrix.specs.Sources.{AreRowsOf, IsSource, SourceValues, rows_at}
 use Rattle.rd_matrix.specs.declared.block.Block.{Block}
 use Rattle.rd_rows.specs.Rows.{RowMeaning}
 use Rattle.rd_rows.specs.Shapes.{IsShape, ShapeValues}
 use Rattle.rd_start.specs.Chosen.{anchor_row, begins_item, row_in_block}
-use Rattle.rd_start.proofs.Lists.{one-passes}
-use Rattle.rd_start.proofs.Tests.{in-range, range-parts}
+use Rattle.rd_start.proofs.Tests.{in-range}
 
 pub fit-front : (rows : Block → List RowMeaning) (from : ℕ) (xs ys : List Block) → Fit rows from (xs ++ ys) → Fit rows from xs
 fit-front rows from [] ys h = tt
@@ -32,47 +30,27 @@ pub end-append : (from : ℕ) (xs ys : List Block) → end_from from (xs ++ ys) 
 end-append from [] ys = refl
 end-append from (x ∷ xs) ys = end-append x.end xs ys
 
-pub fit-le : (rows : Block → List RowMeaning) (from : ℕ) (bs : List Block) → Fit rows from bs → from ≤ end_from from bs
-fit-le rows from [] h = omega arith
-fit-le rows from (b ∷ bs) h = omega (arith, h.0, h.1, fit-le rows b.end bs h.3)
+some-of-two : (a b : Bool) (m n : ℕ) → (m == 0) ≡ not a → b ≡ not (n == 0) → (a || b) ≡ not (m + n == 0)
+some-of-two a b m n h k = grind (arith, nat_tests)
 
-any-numbered : (point start number : ℕ) (rows : List RowMeaning) → list_any (begins_item point) (numbered start number rows) ≡ list_any (covers start point) (begins_of rows)
-any-numbered point start number [] = refl
-any-numbered point start number (r ∷ rows) =
-    ap (λ b. list_any (covers start point) r.begins || b) (any-numbered point start (number + 1) rows)
-    ∙ sym (list_any-append (covers start point) r.begins (begins_of rows))
+-- an item that covers a position begins in a row of these, where some item of them covers it
+any-counted : (point : ℕ) (es : List EntryMeaning) → list_any (begins_item point) es ≡ not (count_at point es == 0)
+any-counted point [] = refl
+any-counted point (e ∷ es) =
+    some-of-two (begins_item point e) (list_any (begins_item point) es) (covering point e) (count_at point es) (none_counted (covers e.start point) e.row.begins) (any-counted point es)
+
+any-told : (point : ℕ) (es : List EntryMeaning) (t : Bool) → count_at point es ≡ cond t 1 0 → list_any (begins_item point) es ≡ t
+any-told point es true one = any-counted point es ∙ ap (λ n. not (n == 0)) one
+any-told point es false none = any-counted point es ∙ ap (λ n. not (n == 0)) none
 
 -- an item that covers a position begins in a row of the block that holds the position, and of no other
 pub any-block : (point start end : ℕ) (rows : List RowMeaning) → AreRowsOf start end rows
     → list_any (begins_item point) (numbered start 0 rows) ≡ (leb start point && ltb point end)
-any-block point start end rows h =
-    any-numbered point start 0 rows
-    ∙ elim (cases_Bool (leb start point && ltb point end)) [
-      | inl here ↦
-          let inside = range-parts start end point here in
-          one-passes (covers start point) (begins_of rows) (h.once point inside.0 inside.1) ∙ sym here
-      | inr out ↦ none-covers start end point (begins_of rows) h.inside out ∙ sym out
-    ]
-
-nothing-between : (from point : ℕ) → (leb from point && ltb point from) ≡ false
-nothing-between from point = grind (arith, nat_tests)
-
-joined-tests : (from start point middle end : ℕ) → start ≡ from → start < middle → middle ≤ end
-    → ((leb start point && ltb point middle) || (leb middle point && ltb point end)) ≡ (leb from point && ltb point end)
-joined-tests from start point middle end same low high = grind (arith, nat_tests)
+any-block point start end rows h = any-told point (numbered start 0 rows) (leb start point && ltb point end) (count-block point start end rows h)
 
 pub any-fit : (rows : Block → List RowMeaning) (from point : ℕ) (bs : List Block) → Fit rows from bs
     → list_any (begins_item point) (all_rows rows bs) ≡ (leb from point && ltb point (end_from from bs))
-any-fit rows from point [] h = sym (nothing-between from point)
-any-fit rows from point (b ∷ bs) h =
-    let here = any-block point b.start b.end (rows b) h.2 in
-    let rest = any-fit rows b.end point bs h.3 in
-    let start = h.0 in
-    let some = h.1 in
-    let far = fit-le rows b.end bs h.3 in
-    list_any-append (begins_item point) (entries_of rows b) (all_rows rows bs)
-    ∙ (ap (λ t. t || list_any (begins_item point) (all_rows rows bs)) here
-    ∙ (ap (λ t. (leb b.start point && ltb point b.end) || t) rest ∙ joined-tests from b.start point b.end (end_from b.end bs) start some far))
+any-fit rows from point bs h = any-told point (all_rows rows bs) (leb from point && ltb point (end_from from bs)) (count-fit rows from point bs h)
 
 -- an item that covers a position of a source begins in one of its rows
 pub some-begins : (m : SourceValues) (shape : ShapeValues) (point : ℕ) → IsSource m → IsShape shape → IsWithin point m.blocks → list_any (begins_item point) (rows_at m shape) ≡ true

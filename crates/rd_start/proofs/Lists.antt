@@ -1,9 +1,9 @@
 -- Places in joined lists, searches there and among the rows round a row, and what holds of all of one.
-use Rattle.std.proofs.Common.{◌≡◌, ℕ, zero, suc, ◌+◌, ◌-◌, ◌<◌, ◌≤◌, inl, inr, Bool, true, false, cond, not, eqb, leb, ltb, List, [], ◌∷◌, ◌++◌, length, map, get_or, Option, None, Some, refl, sym, ap, ap₂, ◌∙◌, arith, zero-add}
+use Rattle.std.proofs.Common.{◌≡◌, ℕ, zero, suc, ◌+◌, ◌-◌, ◌<◌, ◌≤◌, Bool, true, false, cond, not, eqb, leb, ltb, List, [], ◌∷◌, ◌++◌, length, map, get_or, Option, None, Some, refl, sym, ap, ap₂, ◌∙◌, arith, zero-add}
 use Rattle.std.proofs.Math.Nat.{add-suc, add-zero}
 use Rattle.std.proofs.Math.Numerals.{add-one}
-use Rattle.std.proofs.lemmas.Bool.{cases_Bool, le-ltb, lt-ltb, or_parts}
-use Rattle.std.specs.List.{All, AllByRecursion, find, flat_map, fold, list_any, position, position_or_len, count_by}
+use Rattle.std.proofs.lemmas.Bool.{le-ltb, lt-ltb, or_parts}
+use Rattle.std.specs.List.{All, AllByRecursion, find, flat_map, fold, list_any, position, position_or_len}
 use Rattle.std.proofs.lemmas.List.{append-nil, length-map}
 use Rattle.std.proofs.lemmas.List.Elements.{All-append, All-nil, All-tail}
 use Rattle.std.proofs.lemmas.Bool.Decides.{nat_tests}
@@ -11,7 +11,7 @@ use Rattle.std.proofs.lemmas.List.Folds.{find-append, list_any_none, prefix_len-
 use Rattle.std.specs.Option.{option_or}
 use Rattle.rd_base.proofs.Choices.{either, none-of}
 use Rattle.rd_base.proofs.Lists.{all-one, is_some-found}
-use Rattle.rd_matrix.proofs.Passing.{first-inside, none-counted}
+use Rattle.rd_matrix.proofs.Passing.{first-inside}
 use Rattle.rd_start.specs.Starts.{above_at, around, both_at}
 
 -- what holds of all that each element gives
@@ -47,13 +47,6 @@ first-none p xs none = ap (position_or_len p) (sym (append-nil xs)) ∙ (first-b
 first-mapped : {X Y : Type 0} (p : Y → Bool) (f : X → Y) (xs : List X) → position_or_len p (map f xs) ≡ position_or_len (λ x. p (f x)) xs
 first-mapped p f [] = refl
 first-mapped p f (x ∷ xs) = ap (λ n. cond (not (p (f x))) (1 + n) 0) (first-mapped p f xs)
-
-pub one-passes : {X : Type 0} (p : X → Bool) (xs : List X) → count_by p xs ≡ 1 → list_any p xs ≡ true
-one-passes p xs one =
-    elim (cases_Bool (list_any p xs)) [
-      | inl some ↦ some
-      | inr none ↦ absurd (omega (arith, none-counted p xs none))
-    ]
 
 -- a search among the rows round a row
 pub find-first : (p : ℕ → Bool) (row far : ℕ) → p row ≡ true → find p (around row far) ≡ Some row

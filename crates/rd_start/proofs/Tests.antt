@@ -1,6 +1,6 @@
 -- Ranges of numbers, as tests.
 use Rattle.std.proofs.Common.{◌≡◌, ℕ, ◌<◌, ◌≤◌, true, false, ◌&&◌, leb, ltb}
-use Rattle.std.proofs.lemmas.Bool.{and_from, and_left, and_parts, and_right, le-leb, le-ltb, leb-true, lt-leb, lt-ltb, ltb-true}
+use Rattle.std.proofs.lemmas.Bool.{and_from, and_left, and_right, le-leb, le-ltb, lt-leb, lt-ltb}
 
 pub in-range : (from to k : ℕ) → from ≤ k → k < to → (leb from k && ltb k to) ≡ true
 in-range from to k low high = and_from (leb from k) (ltb k to) (le-leb from k low) (lt-ltb k to high)
@@ -10,6 +10,3 @@ below-range from to k low = and_left (leb from k) (ltb k to) (lt-leb from k low)
 
 pub above-range : (from to k : ℕ) → to ≤ k → (leb from k && ltb k to) ≡ false
 above-range from to k high = and_right (leb from k) (ltb k to) (le-ltb k to high)
-
-pub range-parts : (from to k : ℕ) → (leb from k && ltb k to) ≡ true → (from ≤ k) × (k < to)
-range-parts from to k e = let both = and_parts (leb from k) (ltb k to) e in (leb-true from k both.0, ltb-true k to both.1)
