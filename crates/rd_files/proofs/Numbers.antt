@@ -3,6 +3,7 @@ use Rattle.std.proofs.Common.{◌+◌, ◌<◌, ◌≤◌, ◌^◌, ℕ, suc, �
 use Rattle.std.specs.Prelude.{if◌then◌else◌, nat_lt, slice_index_or}
 use Rattle.std.specs.List.{slice_split}
 use Rattle.std.specs.Option.{option_to_list}
+use Rattle.std.specs.Str.Lines.{strip_carriage_return}
 use Rattle.std.proofs.lemmas.List.Splits.{length-slice_split}
 use Rattle.std.proofs.lemmas.List.Sums.{count_by-le-length}
 use Rattle.rd_base.specs.declared.class.Class.{Class}
@@ -16,7 +17,6 @@ use Rattle.rd_ucd.specs.declared.entries.EntryKind.TheVariants.{Alone, First, La
 use Rattle.rd_ucd.specs.declared.entries.DataEntry.{DataEntry}
 use Rattle.rd_ucd.specs.declared.entries.Opened.{Opened}
 use Rattle.rd_ucd.specs.Codes.{code_of}
-use Rattle.rd_ucd.specs.Pieces.{chomped}
 use Rattle.rd_ucd.specs.Names.{named}
 use Rattle.rd_ucd.specs.Results.{Answers, behind}
 use Rattle.rd_ucd.specs.Lines.{entries_in, fields_of, numbered}
@@ -78,10 +78,10 @@ coded-within most n (Some code) kind None h = h
 coded-within most n (Some code) kind (Some class) h = tt
 
 entry-within : (most n : ℕ) (line : List ℕ) → IsLine most n → IsWithin most (entry_of n line)
-entry-within most n line h = go (nat_lt 4 (length (fields_of (chomped line))))
+entry-within most n line h = go (nat_lt 4 (length (fields_of (strip_carriage_return line))))
   where
     fields : List (List ℕ)
-    fields = fields_of (chomped line)
+    fields = fields_of (strip_carriage_return line)
 
     go : (b : Bool)
         → IsWithin most (if b then coded n (code_of (slice_index_or fields 0 [])) (kind_of_name (slice_index_or fields 1 [])) (named (slice_index_or fields 4 [])) else Err (ucd.BadLine n))

@@ -1,6 +1,7 @@
 -- The class file: lines in the form of `UnicodeData.txt`, and the ranges of codes that they stand for.
 use Rattle.std.specs.Prelude.{ℕ, suc, nat_eq, nat_lt, ◌==◌, Bool, true, false, not, ◌&&◌, if◌then◌else◌, List, [], ◌∷◌, length, slice_index_or, Option, None, Some, option_to_list, Result, Ok, Err, codes}
 use Rattle.std.specs.List.{ends_with}
+use Rattle.std.specs.Str.Lines.{strip_carriage_return}
 use Rattle.rd_base.specs.declared.class.Class.{Class}
 use Rattle.rd_ucd.specs.declared.fault.UcdFault.{UcdFault}
 use Rattle.rd_ucd.specs.declared.fault.UcdFault.TheVariants.{BadLine, BadCode, BadClass, NotAscending, BadRange}
@@ -9,7 +10,6 @@ use Rattle.rd_ucd.specs.declared.entries.EntryKind.{EntryKind}
 use Rattle.rd_ucd.specs.declared.entries.EntryKind.TheVariants.{Alone, First, Last}
 use Rattle.rd_ucd.specs.declared.entries.DataEntry.{DataEntry}
 use Rattle.rd_ucd.specs.declared.entries.Opened.{Opened}
-use Rattle.rd_ucd.specs.Pieces.{chomped}
 use Rattle.rd_ucd.specs.Lines.{lines_of, fields_of, entries_in}
 use Rattle.rd_ucd.specs.Results.{behind}
 use Rattle.rd_ucd.specs.Codes.{code_of}
@@ -33,11 +33,11 @@ entry_of_fields n fields =
 
 -- an empty line is passed over
 abbrev pub is_empty_line : List ℕ → Bool
-is_empty_line line = length (chomped line) == 0
+is_empty_line line = length (strip_carriage_return line) == 0
 
 -- the entry of line n
 abbrev pub entry_of : ℕ → List ℕ → Result DataEntry UcdFault
-entry_of n line = entry_of_fields n (fields_of (chomped line))
+entry_of n line = entry_of_fields n (fields_of (strip_carriage_return line))
 
 abbrev pub is_last : EntryKind → Bool
 is_last Last = true

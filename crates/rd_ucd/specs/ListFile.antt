@@ -1,16 +1,17 @@
 -- Files that list codes with something each: lines in the form of `BidiMirroring.txt` and `BidiBrackets.txt`.
 use Rattle.std.specs.Prelude.{ℕ, suc, nat_lt, ◌==◌, Bool, if◌then◌else◌, List, [], ◌∷◌, length, slice_index_or, Option, Some, Result, Ok, Err}
+use Rattle.std.specs.Str.Lines.{strip_carriage_return}
 use Rattle.rd_ucd.specs.declared.fault.UcdFault.{UcdFault}
 use Rattle.rd_ucd.specs.declared.fault.UcdFault.TheVariants.{BadLine, BadCode, NotAscending}
 use Rattle.rd_ucd.specs.declared.listing.Codes.{Codes}
-use Rattle.rd_ucd.specs.Pieces.{chomped, uncommented, trimmed}
+use Rattle.rd_ucd.specs.Pieces.{uncommented, trimmed}
 use Rattle.rd_ucd.specs.Codes.{code_of}
 use Rattle.rd_ucd.specs.Lines.{lines_of, fields_of, entries_in}
 use Rattle.rd_ucd.specs.Results.{behind}
 
 -- what counts of a line: what stands before a comment
 abbrev pub counting : List ℕ → List ℕ
-counting line = uncommented (chomped line)
+counting line = uncommented (strip_carriage_return line)
 
 -- a line of nothing but blanks is passed over
 abbrev pub is_blank_line : List ℕ → Bool

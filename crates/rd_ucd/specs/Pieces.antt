@@ -1,11 +1,6 @@
 -- Pieces of bytes.
-use Rattle.std.specs.Prelude.{ℕ, ◌==◌, Bool, ◌&&◌, ◌||◌, if◌then◌else◌, List, [], ◌∷◌, length, slice_index_or}
-use Rattle.std.specs.List.{slice_split}
-
--- a line without one byte 13 at its end
-abbrev pub chomped : List ℕ → List ℕ
-chomped [] = []
-chomped (b ∷ bs) = if b == 13 && (length bs == 0) then [] else b ∷ chomped bs
+use Rattle.std.specs.Prelude.{ℕ, ◌==◌, ◌-◌, Bool, ◌||◌, List, [], length, take, drop, slice_index_or}
+use Rattle.std.specs.List.{slice_split, prefix_len, suffix_len}
 
 -- what stands before the first `#`
 abbrev pub uncommented : List ℕ → List ℕ
@@ -17,12 +12,10 @@ is_blank b = (b == 32) || (b == 9)
 
 -- without the blanks at the beginning, at the end, and at both
 abbrev pub trimmed_front : List ℕ → List ℕ
-trimmed_front [] = []
-trimmed_front (b ∷ bs) = if is_blank b then trimmed_front bs else b ∷ bs
+trimmed_front bs = drop (prefix_len is_blank bs) bs
 
 abbrev pub trimmed_back : List ℕ → List ℕ
-trimmed_back [] = []
-trimmed_back (b ∷ bs) = if is_blank b && (length (trimmed_back bs) == 0) then [] else b ∷ trimmed_back bs
+trimmed_back bs = take (length bs - suffix_len is_blank bs) bs
 
 abbrev pub trimmed : List ℕ → List ℕ
 trimmed bs = trimmed_back (trimmed_front bs)

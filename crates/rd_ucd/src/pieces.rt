@@ -1,8 +1,9 @@
 //! Cutting bytes into lines, and lines into fields.
 ghost use Rattle.std.specs.Prelude.{◌≡◌, ◌==◌, ◌<◌, ◌≤◌, [], ◌∷◌, length, drop, MatchOption, slice_index_or};
 ghost use Rattle.std.specs.List.{slice_split};
+ghost use Rattle.std.specs.Str.Lines.{strip_carriage_return};
 ghost use Rattle.rd_ucd.specs.Lines.{fields_of};
-ghost use Rattle.rd_ucd.specs.Pieces.{chomped, uncommented, trimmed, trimmed_front, trimmed_back, is_blank};
+ghost use Rattle.rd_ucd.specs.Pieces.{uncommented, trimmed, trimmed_front, trimmed_back, is_blank};
 
 use rd_base::cut;
 
@@ -37,7 +38,7 @@ pub fn field(line: &[u8], index: usize) -> Option<&[u8]>
 
 /// A line without the byte 13 at its end.
 pub fn without_return(line: &[u8]) -> &[u8]
-    ensures { result.now ≡ chomped line.now }
+    ensures { result.now ≡ strip_carriage_return line.now }
 {
     if line.is_empty() {
         return line;
