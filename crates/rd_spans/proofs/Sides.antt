@@ -4,6 +4,8 @@ use Rattle.std.specs.Prelude.{is_some, min, nat_lt, nat_eq, slice_get, slice_ind
 use Rattle.std.proofs.lemmas.Bool.Decides.{nat_tests}
 use Rattle.std.proofs.lemmas.Bool.{eqb-true, eq-eqb, lt-ltb, le-ltb, cases_lt}
 use Rattle.std.proofs.lemmas.List.{replicate-append-replicate, replicate_more, length-replicate, take_all, length-reverse, reverse-append, get_or_append_left, get_or-append_right, get_or-replicate, get_or_past, get_or-reverse, take-append-le, reverse-reverse, length_push}
+use Rattle.std.proofs.lemmas.List.Elements.{All-replicate}
+use Rattle.rd_base.proofs.Lists.{all-read}
 use Rattle.rd_spans.specs.declared.run.ValueRun.{ValueRun}
 use Rattle.rd_spans.specs.Values.{value_at, IsTrimmed}
 use Rattle.rd_spans.specs.Sides.{values_from, values_of, Rises, reach, size_of, value_in, top, same_value, has_value, meet, needs, values_of_both, AreMoved, IsLighter, GapMoved}
@@ -314,19 +316,9 @@ cut-whole new old end h e is = sym (take_all end (values_of new) (omega (arith, 
 
 -- the last runs without a value are taken
 pub nothing-more : (xs : List (Option ℕ)) (n : ℕ) (value : Option ℕ) (p : ℕ) → value ≡ None → value_at (xs ++ replicate n value) p ≡ value_at xs p
-nothing-more xs n value p none =
-    elim (cases_lt p (length xs)) [
-      | inl less ↦ get_or_append_left xs (replicate n value) None p less
-      | inr more ↦
-          get_or-append_right xs (replicate n value) (length xs) p None refl more
-          ∙ (all-none n (p - length xs) ∙ sym (get_or_past xs p None more))
-    ] where
-      all-none : (n i : ℕ) → value_at (replicate n value) i ≡ None
-      all-none n i =
-          elim (cases_lt i n) [
-            | inl less ↦ get_or-replicate n i value None less ∙ none
-            | inr more ↦ get_or_past (replicate n value) i None (omega (arith, length-replicate n value))
-          ]
+nothing-more [] n value p none = all-read (λ v. v ≡ None) (replicate n value) p None (All-replicate (λ v. v ≡ None) n value none) refl
+nothing-more (x ∷ xs) n value zero none = refl
+nothing-more (x ∷ xs) n value (suc p) none = nothing-more xs n value p none
 
 pub trim-values : (old rs : List ValueRun) (r : ValueRun) (p : ℕ) → old ≡ rs ++ r ∷ [] → r.value ≡ None → value_at (values_of rs) p ≡ value_at (values_of old) p
 trim-values old rs r p e none =
