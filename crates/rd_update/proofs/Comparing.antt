@@ -62,7 +62,7 @@ used-less : (row : List Cell) (k : ℕ) → k < length row → used row ≤ k + 
 used-less row k lt le e =
     used-within-chosen row k le e (λ most.
     ap (λ c. same_cell c (get_or row k blank)) (sym (get_or-replicate (length row) k blank blank lt))
-    ∙ last-differs blank (blank_row (length row)) row k (omega (arith, le, most)))
+    ∙ last-differs same_cell blank (blank_row (length row)) row k (omega (arith, le, most)))
 
 -- and any other cell is the last one
 used-here : (row : List Cell) (k : ℕ) → k < length row → used row ≤ k + 1 → same_cell blank (get_or row k blank) ≡ false → k + 1 ≡ used row
@@ -71,7 +71,7 @@ used-here row k lt le e = elim (cases_lt k (used row)) [
   | inr ge ↦ absurd (
       let f =
       ap (λ c. same_cell c (get_or row k blank)) (sym (get_or-replicate (length row) k blank blank lt))
-      ∙ behind-last k blank (blank_row (length row)) row (length-replicate (length row) blank) lt ge in
+      ∙ behind-last same_cell k blank (blank_row (length row)) row (length-replicate (length row) blank) lt ge in
       cc)
 ]
 

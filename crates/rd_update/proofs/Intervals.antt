@@ -10,7 +10,7 @@ use Rattle.rd_update.specs.Laws.{IsLeastInterval}
 use Rattle.rd_base.specs.Equals.{same_cell}
 use Rattle.rd_base.proofs.Equals.{cell-itself}
 use Rattle.rd_term.proofs.Walks.{on-least}
-use Rattle.rd_update.specs.Updates.{first_difference, end_before, end_of_differences, is_rest, goes_on, begin_before, begin_of, end_of}
+use Rattle.rd_update.specs.Updates.{first_difference, end_before, end_unlike, end_of_differences, is_rest, goes_on, begin_before, begin_of, end_of}
 use Rattle.rd_update.proofs.Spans.{front-same, first_before, behind-here, behind-step, last-step, end_within, begin-le, begin-is, end-is}
 
 -- ---- the first and the last difference
@@ -23,12 +23,13 @@ before-first k d old new lt =
     ∙ cell-itself (get_or old k d)
 
 -- from the end of the differences on cells are the same
-pub behind-last : (k : ℕ) (d : Cell) (old new : List Cell) → length old ≡ length new → k < length new → end_of_differences old new ≤ k → same_cell (get_or old k d) (get_or new k d) ≡ true
-behind-last k d [] [] n lt le = absurd (omega arith)
-behind-last k d [] (y ∷ ys) n lt le = absurd (cc)
-behind-last k d (x ∷ xs) [] n lt le = absurd (cc)
-behind-last zero d (x ∷ xs) (y ∷ ys) n lt le = behind-here (same_cell x y) (end_of_differences xs ys) le
-behind-last (suc k) d (x ∷ xs) (y ∷ ys) n lt le = behind-last k d xs ys (omega arith) (omega arith) (behind-step (same_cell x y) (end_of_differences xs ys) k le)
+pub behind-last : {X : Type 0} (same : X → X → Bool) (k : ℕ) (d : X) (old new : List X) → length old ≡ length new → k < length new → end_unlike same old new ≤ k
+    → same (get_or old k d) (get_or new k d) ≡ true
+behind-last same k d [] [] n lt le = absurd (omega arith)
+behind-last same k d [] (y ∷ ys) n lt le = absurd (cc)
+behind-last same k d (x ∷ xs) [] n lt le = absurd (cc)
+behind-last same zero d (x ∷ xs) (y ∷ ys) n lt le = behind-here (same x y) (end_unlike same xs ys) le
+behind-last same (suc k) d (x ∷ xs) (y ∷ ys) n lt le = behind-last same k d xs ys (omega arith) (omega arith) (behind-step (same x y) (end_unlike same xs ys) k le)
 
 -- at the first difference, and at the last, cells differ
 first-differs-step : (same : Bool) (n e : ℕ) (x y d : Cell) (xs ys : List Cell) → same_cell x y ≡ same → (0 < e → same_cell (get_or xs n d) (get_or ys n d) ≡ false)
@@ -43,12 +44,12 @@ first-differs d [] (y ∷ ys) p = absurd (omega arith)
 first-differs d (x ∷ xs) [] p = absurd (omega arith)
 first-differs d (x ∷ xs) (y ∷ ys) p = first-differs-step (same_cell x y) (first_difference xs ys) (end_of_differences xs ys) x y d xs ys refl (first-differs d xs ys) p
 
-pub last-differs : (d : Cell) (old new : List Cell) (j : ℕ) → suc j ≡ end_of_differences old new → same_cell (get_or old j d) (get_or new j d) ≡ false
-last-differs d [] [] j p = absurd (omega arith)
-last-differs d [] (y ∷ ys) j p = absurd (omega arith)
-last-differs d (x ∷ xs) [] j p = absurd (omega arith)
-last-differs d (x ∷ xs) (y ∷ ys) j p =
-    last-step (λ k. same_cell (get_or (x ∷ xs) k d) (get_or (y ∷ ys) k d) ≡ false) (same_cell x y) (end_of_differences xs ys) j (λ s. s) (last-differs d xs ys) p
+pub last-differs : {X : Type 0} (same : X → X → Bool) (d : X) (old new : List X) (j : ℕ) → suc j ≡ end_unlike same old new → same (get_or old j d) (get_or new j d) ≡ false
+last-differs same d [] [] j p = absurd (omega arith)
+last-differs same d [] (y ∷ ys) j p = absurd (omega arith)
+last-differs same d (x ∷ xs) [] j p = absurd (omega arith)
+last-differs same d (x ∷ xs) (y ∷ ys) j p =
+    last-step (λ k. same (get_or (x ∷ xs) k d) (get_or (y ∷ ys) k d) ≡ false) (same x y) (end_unlike same xs ys) j (λ s. s) (last-differs same d xs ys) p
 
 -- ---- columns at which no character goes on
 
@@ -92,17 +93,17 @@ interval-least old new same h k some =
         ],
         elim (cases_lt j (end_of_differences old new)) [
           | inl less ↦ omega (arith, less)
-          | inr past ↦ absurd (let a : true ≡ false = sym (behind-last j d old new same lt past) ∙ e in cc)
+          | inr past ↦ absurd (let a : true ≡ false = sym (behind-last same_cell j d old new same lt past) ∙ e in cc)
         ],
       );
       whole = (begin-cuts-none old new (begin_of old new) h k (begin-is old new first), end-is old new same);
       least = λ from to holds none.
-          let inside = end_within old new in
+          let inside = end_within same_cell old new in
           let order = first_before old new some in
           let from_first = holds first blank (omega (arith, order, inside)) (first-differs blank old new some) in
           let j = last - 1 in
           let next : suc (last - 1) ≡ end_of_differences old new = omega (arith, some) in
-          let to_last = holds j blank (omega (arith, inside, next)) (last-differs blank old new j next) in
+          let to_last = holds j blank (omega (arith, inside, next)) (last-differs same_cell blank old new j next) in
           let few = on-least (goes_on old new) last (length new - last) to none.1 (omega (arith, to_last.1, next)) in
           (begin-greatest old new from first none.0 from_first.0, few);
     }

@@ -12,6 +12,7 @@ use Rattle.rd_base.specs.Faces.{plain}
 use Rattle.rd_base.specs.Glyphs.{IsRowAfter}
 use Rattle.rd_base.specs.declared.cell.Cell.{Cell}
 use Rattle.rd_base.specs.declared.cell.Cell.TheVariants.{Blank, First, Rest}
+use Rattle.rd_base.specs.Equals.{same_cell}
 use Rattle.rd_term.specs.Overwriting.{first_column, later_columns}
 use Rattle.rd_term.specs.Pictures.{blank}
 use Rattle.rd_term.specs.Walks.{passing}
@@ -200,7 +201,7 @@ row_fed region above below old new cursor wait latest w few old_wide new_wide na
     let some : 0 < end_of_differences old new = grind (arith, nat_tests) in
     let before : first_difference old new < end_of_differences old new = first_before old new some in
     let begins : begin_of old new ≤ first_difference old new = begin-le old new (first_difference old new) in
-    let inside : end_of_differences old new ≤ length new = end_within old new in
+    let inside : end_of_differences old new ≤ length new = end_within same_cell old new in
     let behind_last = on-le (goes_on old new) last (length new - last) in
     let most : end_of old new ≤ length new = omega (arith, behind_last, inside) in
     let order : begin_of old new < end_of old new = omega arith in

@@ -11,7 +11,7 @@ use Rattle.rd_base.specs.Equals.{same_cell}
 use Rattle.rd_base.proofs.Equals.{cell-told}
 use Rattle.rd_term.proofs.Cutting.{two-parts}
 use Rattle.rd_term.proofs.Walks.{back-le, on-stops}
-use Rattle.rd_update.specs.Updates.{first_difference, end_before, end_of_differences, used, differs, is_rest, goes_on, begin_before, end_of}
+use Rattle.rd_update.specs.Updates.{first_difference, end_before, end_unlike, end_of_differences, used, differs, is_rest, goes_on, begin_before, end_of}
 
 -- ---- before the first difference and behind the last
 
@@ -60,7 +60,7 @@ first_before [] (y ∷ ys) p = absurd (omega arith)
 first_before (x ∷ xs) [] p = absurd (omega arith)
 first_before (x ∷ xs) (y ∷ ys) p = first-step (same_cell x y) (first_difference xs ys) (end_of_differences xs ys) (first_before xs ys) p
 
-pub end-step : (same : Bool) (end n : ℕ) → end ≤ n → end_before same end ≤ suc n
+end-step : (same : Bool) (end n : ℕ) → end ≤ n → end_before same end ≤ suc n
 end-step true zero n h = omega arith
 end-step false zero n h = omega arith
 end-step true (suc end) n h = omega arith
@@ -86,11 +86,11 @@ last-step D false zero (suc j) here behind p = absurd (omega arith)
 last-step D same (suc end) zero here behind p = absurd (omega arith)
 last-step D same (suc end) (suc j) here behind p = behind j (omega arith)
 
-pub end_within : (old new : List Cell) → end_of_differences old new ≤ length new
-end_within [] [] = omega arith
-end_within [] (y ∷ ys) = omega arith
-end_within (x ∷ xs) [] = omega arith
-end_within (x ∷ xs) (y ∷ ys) = end-step (same_cell x y) (end_of_differences xs ys) (length ys) (end_within xs ys)
+pub end_within : {X : Type 0} (same : X → X → Bool) (old new : List X) → end_unlike same old new ≤ length new
+end_within same [] [] = omega arith
+end_within same [] (y ∷ ys) = omega arith
+end_within same (x ∷ xs) [] = omega arith
+end_within same (x ∷ xs) (y ∷ ys) = end-step (same x y) (end_unlike same xs ys) (length ys) (end_within same xs ys)
 
 -- from the column from which a row is blank it is blank
 pub blank-from : (row : List Cell) (k : ℕ) → used row ≤ k → drop k row ≡ replicate (length row - k) blank
@@ -128,7 +128,7 @@ begin-is old new (suc column) = begin-is-chosen old new column (goes_on old new 
 pub end-is : (old new : List Cell) → length old ≡ length new → goes_on old new (end_of old new) ≡ false
 end-is old new same =
     let end = end_of_differences old new in
-    let within = end_within old new in
+    let within = end_within same_cell old new in
     let last : end + (length new - end) ≡ length new = omega arith in
     on-stops (goes_on old new) end (length new - end)
     (ap (goes_on old new) last ∙ ap₂ (λ a b. is_rest a || is_rest b) (get_or_past old (length new) blank (omega arith)) (get_or_past new (length new) blank (omega arith)))

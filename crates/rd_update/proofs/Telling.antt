@@ -9,18 +9,19 @@ use Rattle.std.proofs.lemmas.List.{take_more}
 use Rattle.std.proofs.lemmas.List.Concat.{flat_map-append}
 use Rattle.std.proofs.lemmas.List.Elements.{All-append, All-from_recursion, recursion_from_All}
 use Rattle.std.proofs.lemmas.List.Sums.{suffix_len_is}
-use Rattle.std.proofs.lemmas.Slice.Zip.{length-zip}
+use Rattle.std.proofs.lemmas.Slice.Zip.{get_or-zip, length-zip}
 use Rattle.rd_base.proofs.Choices.{none-chosen}
 use Rattle.rd_lanes.specs.Kernels.{differs as words_differ, first_difference as first_word, last_difference as last_word}
 use Rattle.rd_base.specs.Cells.{words_of, IsSmall, AreOnlyOf}
 use Rattle.rd_base.specs.Equals.{same_cell}
 use Rattle.rd_base.specs.declared.cell.Cell.{Cell}
 use Rattle.rd_base.specs.declared.cell.Cell.TheVariants.{Blank, First, Rest}
-use Rattle.rd_update.specs.Updates.{first_difference, end_before, end_of_differences}
+use Rattle.rd_update.specs.Updates.{first_difference, end_before, end_unlike, end_of_differences}
 use Rattle.rd_update.specs.Words.{row_words, AreTold, columns_from, columns_of_words, differing_columns}
 use Rattle.rd_update.specs.declared.span.Columns.{Columns}
 use Rattle.rd_base.proofs.Equals.{cell-told, cell-itself}
-use Rattle.rd_update.proofs.Spans.{first_before, behind-here, behind-step, end-step, end_within, last-step}
+use Rattle.rd_update.proofs.Intervals.{behind-last, last-differs}
+use Rattle.rd_update.proofs.Spans.{first_before, end_within}
 
 -- ---- the words of two cells
 
@@ -57,6 +58,14 @@ words-same x y told small =
     subst (λ z. same_cell x z ≡ true) (sym same) (cell-itself x))
     (λ e. subst (λ z. (word x 0 == word z 0 && word x 1 == word z 1 && word x 2 == word z 2) ≡ true) (cell-told x y e) (words-itself x))
 
+length-row : (cells : List Cell) → length (row_words cells) ≡ 3 * length cells
+length-row [] = omega arith
+length-row (x ∷ cells) = ap (λ ws. length (ws ++ row_words cells)) (three-words x) ∙ omega (arith, length-row cells)
+
+-- as many words for rows as wide
+pub words-even : (xs ys : List Cell) (olds news : List ℕ) → length xs ≡ length ys → olds ≡ row_words xs → news ≡ row_words ys → length olds ≡ length news
+words-even xs ys olds news n a b = ap length a ∙ length-row xs ∙ ap (λ k. 3 * k) n ∙ sym (ap length b ∙ length-row ys)
+
 -- ---- the first word that differs
 
 first-chosen : (a b c : Bool) (r f : ℕ) → r / 3 ≡ f
@@ -79,10 +88,9 @@ first-words (x ∷ xs) (y ∷ ys) n p q =
 
 -- ---- the last word that differs
 
--- the place after the last pair that differs, and 0 where none does
-abbrev end_of_pairs : List (ℕ × ℕ) → ℕ
-end_of_pairs [] = 0
-end_of_pairs (p ∷ ps) = end_before (p.0 == p.1) (end_of_pairs ps)
+-- the place after the last word that differs, and 0 where none does
+abbrev end_of_words : List ℕ → List ℕ → ℕ
+end_of_words = end_unlike (λ a b. a == b)
 
 end-chosen : (a b c : Bool) (r f : ℕ) → (r + 2) / 3 ≡ f → (end_before a (end_before b (end_before c r)) + 2) / 3 ≡ end_before (a && b && c) f
 end-chosen a b c (suc r) (suc f) e = omega (arith, e)
@@ -98,40 +106,32 @@ end-chosen false false true zero zero e = omega arith
 end-chosen false false false zero zero e = omega arith
 
 end-words : (xs ys : List Cell) → length xs ≡ length ys → AllByRecursion IsTold xs → AllByRecursion IsSmall ys
-    → (end_of_pairs (zip (row_words xs) (row_words ys)) + 2) / 3 ≡ end_of_differences xs ys
+    → (end_of_words (row_words xs) (row_words ys) + 2) / 3 ≡ end_of_differences xs ys
 end-words [] [] n p q = omega arith
 end-words [] (y ∷ ys) n p q = absurd (omega arith)
 end-words (x ∷ xs) [] n p q = absurd (omega arith)
 end-words (x ∷ xs) (y ∷ ys) n p q =
-    ap₂ (λ ws vs. (end_of_pairs (zip (ws ++ row_words xs) (vs ++ row_words ys)) + 2) / 3) (three-words x) (three-words y)
-    ∙ end-chosen (word x 0 == word y 0) (word x 1 == word y 1) (word x 2 == word y 2) (end_of_pairs (zip (row_words xs) (row_words ys))) (end_of_differences xs ys)
+    ap₂ (λ ws vs. (end_of_words (ws ++ row_words xs) (vs ++ row_words ys) + 2) / 3) (three-words x) (three-words y)
+    ∙ end-chosen (word x 0 == word y 0) (word x 1 == word y 1) (word x 2 == word y 2) (end_of_words (row_words xs) (row_words ys)) (end_of_differences xs ys)
     (end-words xs ys (omega arith) p.1 q.1)
     ∙ ap (λ b. end_before b (end_of_differences xs ys)) (words-same x y p.0 q.0)
 
-end-le : (ps : List (ℕ × ℕ)) → end_of_pairs ps ≤ length ps
-end-le [] = omega arith
-end-le (p ∷ ps) = end-step (p.0 == p.1) (end_of_pairs ps) (length ps) (end-le ps)
-
--- from that place on pairs do not differ
-behind-end : (ps : List (ℕ × ℕ)) (d : ℕ × ℕ) (k : ℕ) → end_of_pairs ps ≤ k → k < length ps → not (words_differ (get_or ps k d)) ≡ true
-behind-end [] d k le lt = absurd (omega arith)
-behind-end (p ∷ ps) d zero le lt = ap (λ b. not (not b)) (behind-here (p.0 == p.1) (end_of_pairs ps) le)
-behind-end (p ∷ ps) d (suc k) le lt = behind-end ps d k (behind-step (p.0 == p.1) (end_of_pairs ps) k le) (omega arith)
-
--- at the last of them they do
-at-end : (ps : List (ℕ × ℕ)) (d : ℕ × ℕ) (j : ℕ) → suc j ≡ end_of_pairs ps → not (words_differ (get_or ps j d)) ≡ false
-at-end [] d j e = absurd (omega (arith, e))
-at-end (p ∷ ps) d j e =
-    last-step (λ k. not (words_differ (get_or (p ∷ ps) k d)) ≡ false) (p.0 == p.1) (end_of_pairs ps) j (λ differ. ap (λ b. not (not b)) differ) (at-end ps d) e
-
-end-suffix : (ps : List (ℕ × ℕ)) → suffix_len (λ p. not (words_differ p)) ps ≡ length ps - end_of_pairs ps
-end-suffix ps = suffix_len_is (λ p. not (words_differ p)) ps (end_of_pairs ps) (0, 0) (end-le ps) (behind-end ps (0, 0)) (λ some. at-end ps (0, 0) (end_of_pairs ps - 1) (omega (arith, some)))
+-- the last pair of words that differs tells the same
+suffix-words : (xs ys : List Cell) → length xs ≡ length ys → AllByRecursion IsTold xs → AllByRecursion IsSmall ys → let ps = zip (row_words xs) (row_words ys) in
+    (length ps - suffix_len (λ p. not (words_differ p)) ps + 2) / 3 ≡ end_of_differences xs ys
+suffix-words xs ys n p q =
+    let ws = row_words xs in
+    let vs = row_words ys in
+    let even = words-even xs ys ws vs n refl refl in
+    let le = end_within (λ a b. a == b) ws vs in
+    let long = length-zip ws vs in
+    let pair = λ (k : ℕ) (lt : k < length vs). ap (λ p. not (words_differ p)) (get_or-zip ws vs k (0, 0) (omega (arith, lt, even)) lt) in
+    let suffix = suffix_len_is (λ p. not (words_differ p)) (zip ws vs) (end_of_words ws vs) (0, 0) (omega (arith, le, long, even))
+    (λ k from lt. let past : k < length vs = omega (arith, lt, long, even) in pair k past ∙ ap (λ b. not (not b)) (behind-last (λ a b. a == b) k 0 ws vs even past from))
+    (λ some. pair (end_of_words ws vs - 1) (omega (arith, some, le)) ∙ ap (λ b. not (not b)) (last-differs (λ a b. a == b) 0 ws vs (end_of_words ws vs - 1) (omega (arith, some)))) in
+    omega (arith, suffix, le, long, even, end-words xs ys n p q)
 
 -- ---- the columns
-
-length-row : (cells : List Cell) → length (row_words cells) ≡ 3 * length cells
-length-row [] = omega arith
-length-row (x ∷ cells) = ap (λ ws. length (ws ++ row_words cells)) (three-words x) ∙ omega (arith, length-row cells)
 
 some-chosen : (b : Bool) (n k : ℕ) → Some k ≡ (if b then Some n else None) → (k ≡ n) × (b ≡ true)
 some-chosen true n k e = (cc, refl)
@@ -147,13 +147,9 @@ columns-some xs ys n p q first last f l =
     let ps = zip (row_words xs) (row_words ys) in
     let from = some-chosen (nat_lt (position_or_len words_differ ps) (length ps)) (position_or_len words_differ ps) first f in
     let behind = some-chosen (nat_lt (suffix_len (λ p. not (words_differ p)) ps) (length ps)) (length ps - suffix_len (λ p. not (words_differ p)) ps - 1) last l in
-    let suffix = end-suffix ps in
-    let le = end-le ps in
     let lt : suffix_len (λ p. not (words_differ p)) (zip (row_words xs) (row_words ys)) < length (zip (row_words xs) (row_words ys)) = grind (arith, nat_tests) in
-    let end = end-words xs ys n p q in
-    let last_is : last ≡ end_of_pairs (zip (row_words xs) (row_words ys)) - 1 = omega (arith, behind.0, suffix, le, lt) in
-    let some : 0 < end_of_pairs (zip (row_words xs) (row_words ys)) = omega (arith, suffix, le, lt) in
-    let e : last / 3 + 1 ≡ end_of_differences xs ys = omega (arith, last_is, end, some) in
+    let end = suffix-words xs ys n p q in
+    let e : last / 3 + 1 ≡ end_of_differences xs ys = omega (arith, behind.0, end, lt) in
     let b : first / 3 ≡ first_difference xs ys = ap (λ k. k / 3) from.0 ∙ first-words xs ys n p q in
     let differ : nat_lt 0 (end_of_differences xs ys) ≡ true = grind (arith, nat_tests) in
     rw differ (ap (λ (c : Columns). Some c) (columns-same (first / 3) (last / 3 + 1) (first_difference xs ys) (end_of_differences xs ys) b e))
@@ -167,7 +163,7 @@ columns-none-last xs ys n p q l =
     let ps = zip (row_words xs) (row_words ys) in
     let none = (none-chosen (nat_lt (suffix_len (λ p. not (words_differ p)) ps) (length ps)) (length ps - suffix_len (λ p. not (words_differ p)) ps - 1) None (sym l)).0 in
     let ge : length (zip (row_words xs) (row_words ys)) ≤ suffix_len (λ p. not (words_differ p)) (zip (row_words xs) (row_words ys)) = grind (arith, nat_tests) in
-    none-differ xs ys (omega (arith, end-suffix ps, end-le ps, ge, end-words xs ys n p q))
+    none-differ xs ys (omega (arith, ge, suffix-words xs ys n p q))
 
 columns-none-first : (xs ys : List Cell) → length xs ≡ length ys → AllByRecursion IsTold xs → AllByRecursion IsSmall ys
     → None ≡ first_word (row_words xs) (row_words ys) → None ≡ differing_columns xs ys
@@ -178,7 +174,7 @@ columns-none-first xs ys n p q f =
     let first : length ys ≤ first_difference xs ys = omega (arith, ge, length-zip (row_words xs) (row_words ys), length-row xs, length-row ys, first-words xs ys n p q, n) in
     elim (cases_eq (end_of_differences xs ys) 0) [
       | inl same ↦ none-differ xs ys same
-      | inr some ↦ absurd (omega (arith, first, end_within xs ys, first_before xs ys (omega (arith, some))))
+      | inr some ↦ absurd (omega (arith, first, end_within same_cell xs ys, first_before xs ys (omega (arith, some))))
     ]
 
 columns-chosen : (xs ys : List Cell) → length xs ≡ length ys → AllByRecursion IsTold xs → AllByRecursion IsSmall ys
@@ -194,10 +190,6 @@ columns-told xs ys olds news n a b told small other =
     let each = recursion_from_All IsTold xs (λ k d lt. (small k d lt, told k d lt)) in
     ap₂ columns_of_words a b
     ∙ columns-chosen xs ys n each (recursion_from_All IsSmall ys other) (first_word (row_words xs) (row_words ys)) (last_word (row_words xs) (row_words ys)) refl refl
-
--- as many words for rows as wide
-pub words-even : (xs ys : List Cell) (olds news : List ℕ) → length xs ≡ length ys → olds ≡ row_words xs → news ≡ row_words ys → length olds ≡ length news
-words-even xs ys olds news n a b = ap length a ∙ length-row xs ∙ ap (λ k. 3 * k) n ∙ sym (ap length b ∙ length-row ys)
 
 -- ---- words that are read one after another
 

@@ -19,15 +19,18 @@ abbrev pub first_difference : List Cell → List Cell → ℕ
 first_difference (x ∷ xs) (y ∷ ys) = if same_cell x y then suc (first_difference xs ys) else 0
 first_difference _ _ = 0
 
--- the column after the last one at which two rows differ, and 0 where they do not
+-- the place after the last one at which two lists differ, and 0 where they do not
 abbrev pub end_before : Bool → ℕ → ℕ
 end_before same (suc end) = suc (suc end)
 end_before true zero = 0
 end_before false zero = 1
 
+abbrev pub end_unlike : {X : Type 0} → (X → X → Bool) → List X → List X → ℕ
+end_unlike same (x ∷ xs) (y ∷ ys) = end_before (same x y) (end_unlike same xs ys)
+end_unlike same _ _ = 0
+
 abbrev pub end_of_differences : List Cell → List Cell → ℕ
-end_of_differences (x ∷ xs) (y ∷ ys) = end_before (same_cell x y) (end_of_differences xs ys)
-end_of_differences _ _ = 0
+end_of_differences old new = end_unlike same_cell old new
 
 -- ---- the interval that is sent
 

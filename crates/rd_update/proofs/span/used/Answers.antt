@@ -12,4 +12,4 @@ pub returns : goal.returns
 returns c =
     let row = c.args.row.now in
     c.back_while.ensures.value (λ (column : ℕ). same_cell blank (get_or row (column - 1) blank)) (λ column answer some up told. search rules)
-    ∙ used-back row (length row) (end_within (blank_row (length row)) row) (omega arith)
+    ∙ used-back row (length row) (end_within same_cell (blank_row (length row)) row) (omega arith)
