@@ -34,19 +34,22 @@ parts-fewer first second n e =
     let whole = length-append (leaves first) (leaves second) in
     (omega (arith, whole, leaves-some second), omega (arith, whole, leaves-some first))
 
+-- where both parts of a split rectangle have what they need, so has the whole; the first part lies within it, and keeps its size
+-- where the rectangle is shared anew; and what each part needs is met in the whole rectangle
+parts-met : (side : Side) (size : ℕ) (first second : Windows) (rect : Rect) → NeedsMet first (first_part side size rect) → NeedsMet second (second_part side size rect)
+    → NeedsMet (Split side size first second) rect × ((size ≤ along side rect) × (first_size side size second rect ≡ size)) × (NeedsMet first rect × NeedsMet second rect)
+parts-met Right size first second rect a b =
+    let c = columns-some second in
+    ((omega arith, omega arith), (omega arith, omega arith), ((omega arith, a.1), (omega arith, b.1)))
+parts-met Below size first second rect a b =
+    let c = rows-some second in
+    ((omega arith, omega arith), (omega arith, omega arith), ((a.0, omega arith), (b.0, omega arith)))
+
 -- where each window has room, the needs of all are met
 pub room_needs : (windows : Windows) (rect : Rect) → HasRoom windows rect → NeedsMet windows rect
 room_needs (Window number mode margins) rect h = h
-room_needs (Split Right size first second) rect h =
-    let a = room_needs first (first_part Right size rect) h.0 in
-    let b = room_needs second (second_part Right size rect) h.1 in
-    let c = columns-some second in
-    (omega arith, omega arith)
-room_needs (Split Below size first second) rect h =
-    let a = room_needs first (first_part Below size rect) h.0 in
-    let b = room_needs second (second_part Below size rect) h.1 in
-    let c = rows-some second in
-    (omega arith, omega arith)
+room_needs (Split side size first second) rect h =
+    (parts-met side size first second rect (room_needs first (first_part side size rect) h.0) (room_needs second (second_part side size rect) h.1)).0
 
 pub room_first_parts : (windows : Windows) (rect : Rect) → HasRoom windows rect → FirstPartsFit windows
 room_first_parts (Window number mode margins) rect h = tt
@@ -57,14 +60,8 @@ room_first_parts (Split Below size first second) rect h =
 
 -- a first part lies within the split rectangle, and keeps its size where the rectangle is shared anew
 pub room_within : (side : Side) (size : ℕ) (first second : Windows) (rect : Rect) → HasRoom (Split side size first second) rect → (size ≤ along side rect) × (first_size side size second rect ≡ size)
-room_within Right size first second rect h =
-    let b = room_needs second (second_part Right size rect) h.1 in
-    let c = columns-some second in
-    (omega arith, omega arith)
-room_within Below size first second rect h =
-    let b = room_needs second (second_part Below size rect) h.1 in
-    let c = rows-some second in
-    (omega arith, omega arith)
+room_within side size first second rect h =
+    (parts-met side size first second rect (room_needs first (first_part side size rect) h.0) (room_needs second (second_part side size rect) h.1)).1
 
 parts-in_frame : (side : Side) (size : ℕ) (rect : Rect) → InFrame rect → size ≤ along side rect → InFrame (first_part side size rect) × InFrame (second_part side size rect)
 parts-in_frame Right size rect h w = ((omega arith, h.1), (omega arith, h.1))
@@ -82,19 +79,6 @@ parts_lie {windows} {side} {size} {first} {second} {n} rect is room inside count
     let framed = parts-in_frame side size rect inside (room_within side size first second rect h).0 in
     ((fewer.0, (h.0, framed.0)), (fewer.1, (h.1, framed.1)))
 
--- what each part of a split rectangle that has room needs is met in the whole rectangle
-parts-needs : (side : Side) (size : ℕ) (first second : Windows) (rect : Rect) → HasRoom (Split side size first second) rect → NeedsMet first rect × NeedsMet second rect
-parts-needs Right size first second rect h =
-    let a = room_needs first (first_part Right size rect) h.0 in
-    let b = room_needs second (second_part Right size rect) h.1 in
-    let w = room_within Right size first second rect h in
-    ((omega arith, a.1), (omega arith, b.1))
-parts-needs Below size first second rect h =
-    let a = room_needs first (first_part Below size rect) h.0 in
-    let b = room_needs second (second_part Below size rect) h.1 in
-    let w = room_within Below size first second rect h in
-    ((a.0, omega arith), (b.0, omega arith))
-
 -- where a rectangle is shared anew, both parts have what they need, and lie in it
 pub shared : (side : Side) (size : ℕ) (first second : Windows) (rect : Rect) → FirstPartsFit (Split side size first second) → NeedsMet (Split side size first second) rect → NeedsMet first (first_part side (first_size side size second rect) rect) × NeedsMet second (second_part side (first_size side size second rect) rect) × (first_size side size second rect ≤ along side rect)
 shared Right size first second rect p n = ((omega arith, omega arith), (omega arith, omega arith), omega arith)
@@ -110,7 +94,7 @@ pub parts_fill : {windows : Windows} {side : Side} {size : ℕ} {first second : 
 parts_fill {windows} {side} {size} {first} {second} rect is room =
     let h = rw is at room in
     let fit = first_parts-split side size first second (room_first_parts (Split side size first second) rect h) in
-    let needs = parts-needs side size first second rect h in
+    let needs = (parts-met side size first second rect (room_needs first (first_part side size rect) h.0) (room_needs second (second_part side size rect) h.1)).2 in
     ((fit.0, needs.0), (fit.1, needs.1))
 
 -- each part of a rectangle that is shared anew has fewer windows, has what it needs, and lies in the frame
