@@ -1,12 +1,12 @@
 -- All numbers, in the order in which a look-up comes to them.
-use Rattle.std.proofs.Common.{◌≡◌, ℕ, ◌+◌, ◌-◌, ◌<◌, ◌≤◌, List, [], ◌∷◌, ◌++◌, length, map, get_or, drop, Option, Some, refl, sym, ap, subst, ◌∙◌, arith, length-append}
+use Rattle.std.proofs.Common.{◌≡◌, ℕ, ◌+◌, ◌-◌, ◌<◌, ◌≤◌, List, ◌++◌, length, map, get_or, Option, Some, None, refl, sym, ap, subst, ◌∙◌, arith, length-append}
 use Rattle.std.specs.Prelude.{slice_get}
 use Rattle.std.specs.List.{range_with_len}
 use Rattle.std.specs.List.Sorted.{IsPermutation}
-use Rattle.std.proofs.lemmas.List.FromFn.{length-range_with_len, get_or-range_with_len}
+use Rattle.std.proofs.lemmas.List.FromFn.{fill_by_all, length-range_with_len, get_or-range_with_len}
 use Rattle.std.proofs.lemmas.List.Sorted.{IsPermutation-append_left, IsPermutation-map, length_permutation}
 use Rattle.std.proofs.lemmas.Option.{slice_get-get_or}
-use Rattle.rd_base.proofs.Lists.{drop-cons, get-second, range-split}
+use Rattle.rd_base.proofs.Lists.{get-second, range-split}
 use Rattle.rd_overlays.specs.declared.overlay.Overlay.{Overlay}
 use Rattle.rd_overlays.specs.declared.bounds.Bounds.{Bounds}
 use Rattle.rd_overlays.specs.declared.way.Way.{Way}
@@ -44,21 +44,14 @@ passed-whole slots order size whole =
     = ap (λ (a : ℕ). range_with_len 0 m ++ range_with_len a (n - m)) first ∙ (sym (range-split 0 m (n - m)) ∙ ap (range_with_len 0) e) in
     subst P parts (IsPermutation-append_left (range_with_len m (n - m)) (range_with_len 0 m) order whole)
 
--- by number they are all overlays
-all-by : (all : List (Option Overlay)) (a : ℕ) (rest : List (Option Overlay)) → drop a all ≡ rest → map (overlay_at all) (range_with_len a (length rest)) ≡ rest
-all-by all a [] e = refl
-all-by all a (s ∷ rest) e =
-    let (at, next) = drop-cons all a s rest e in
-    ap (λ (o : Option Overlay). o ∷ map (overlay_at all) (range_with_len (a + 1) (length rest))) (ap live at)
-    ∙ ap (λ (os : List (Option Overlay)). s ∷ os) (all-by all (a + 1) rest next)
-
 pub edge-of_all : (way : Way) (pos : ℕ) (slots : List (Option Overlay)) (order : List ℕ) → length order ≤ length slots → IsPermutation (range_with_len 0 (length order)) order
     → edge_in way pos slots (passed order (length slots)) ≡ nearest_edge way pos slots
 edge-of_all way pos slots order size whole =
     let numbers = range_with_len 0 (length slots) in
     let now = passed order (length slots) in
     let shuffled = IsPermutation-map (overlay_at slots) numbers now (passed-whole slots order size whole) in
-    same-edge way pos (map (overlay_at slots) numbers) (map (overlay_at slots) now) shuffled ∙ ap (nearest_edge way pos) (all-by slots 0 slots refl)
+    let all = fill_by_all (overlay_at slots) slots (length slots) None refl (λ k inside. sym (ap live (slice_get-get_or slots k None inside))) in
+    same-edge way pos (map (overlay_at slots) numbers) (map (overlay_at slots) now) shuffled ∙ ap (nearest_edge way pos) (sym all)
 
 pub built-index : (slots : List (Option Overlay)) (numbers sorted order : List ℕ) (bounds : List Bounds) → numbers ≡ range_with_len 0 (length slots)
     → IsPermutation numbers sorted → order ≡ sorted → IsBounded slots order bounds → IsIndex slots order bounds
