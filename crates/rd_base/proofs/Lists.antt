@@ -66,7 +66,8 @@ get-map f xs i y h = map-some f (slice_get xs i) y (sym (slice_get-map f xs i) �
 pub length-replaced : {X : Type 0} (from end : ℕ) (new xs : List X)
     → length (take from xs ++ (new ++ drop end xs)) ≡ min from (length xs) + length new + (length xs - end)
 length-replaced from end new xs =
-    length-append (take from xs) (new ++ drop end xs) ∙ omega (arith, length-take from xs, length-append new (drop end xs), length-drop end xs)
+    length-append (take from xs) (new ++ drop end xs)
+    ∙ omega (arith, length-take from xs, length-append new (drop end xs), length-drop end xs)
 
 -- what heads the rest from a place stands there
 pub drop-cons : {X : Type 0} (xs : List X) (a : ℕ) (x : X) (rest : List X) → drop a xs ≡ x ∷ rest → (slice_get xs a ≡ Some x) × (drop (a + 1) xs ≡ rest)
