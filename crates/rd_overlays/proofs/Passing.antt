@@ -50,7 +50,8 @@ edge-of_all way pos slots order size whole =
     let numbers = range_with_len 0 (length slots) in
     let now = passed order (length slots) in
     let shuffled = IsPermutation-map (overlay_at slots) numbers now (passed-whole slots order size whole) in
-    let all = fill_by_all (overlay_at slots) slots (length slots) None refl (λ k inside. sym (ap live (slice_get-get_or slots k None inside))) in
+    let all = fill_by_all (overlay_at slots) slots (length slots) None refl
+    (λ k inside. sym (ap live (slice_get-get_or slots k None inside))) in
     same-edge way pos (map (overlay_at slots) numbers) (map (overlay_at slots) now) shuffled ∙ ap (nearest_edge way pos) (sym all)
 
 pub built-index : (slots : List (Option Overlay)) (numbers sorted order : List ℕ) (bounds : List Bounds) → numbers ≡ range_with_len 0 (length slots)
