@@ -1,17 +1,16 @@
 -- What holds of all objects where one more is made.
 use Rattle.std.proofs.Common.{◌≡◌, ℕ, ◌<◌, ◌≤◌, true, false, not, List, [], ◌∷◌, ◌++◌, length, length-append, append_assoc, append-nil, Option, Some, None, refl, sym, arith}
-use Rattle.std.specs.Prelude.{nat_le, nat_lt, slice_get, IfSome, reverse, option_map}
+use Rattle.std.specs.Prelude.{nat_le, nat_lt, slice_get, IfSome}
 use Rattle.std.specs.List.{All, AllByRecursion, list_all}
 use Rattle.std.proofs.lemmas.Bool.{not-false}
 use Rattle.std.proofs.lemmas.Bool.Decides.{nat_tests}
 use Rattle.std.proofs.lemmas.List.Elements.{recursion_from_All, All-from_recursion, All-nil, All-push, All-weaker}
-use Rattle.std.proofs.lemmas.List.Sorted.{All-permutation, IsPermutation-reverse}
 use Rattle.std.proofs.lemmas.List.Sums.{AllPass-from_list_all}
 use Rattle.rd_base.proofs.Choices.{if-else, none-chosen}
 use Rattle.rd_base.specs.Faces.{Attributes, plain}
 use Rattle.rd_base.specs.Cells.{HasColours}
 use Rattle.rd_base.proofs.Colours.{plain-coloured}
-use Rattle.rd_base.proofs.Lists.{all-at, all-read, found-each, get-first}
+use Rattle.rd_base.proofs.Lists.{all-at, all-read, get-first}
 use Rattle.rd_objects.specs.declared.run.Run.{Run}
 use Rattle.rd_objects.specs.declared.run.RunKind.{RunKind}
 use Rattle.rd_objects.specs.declared.run.RunKind.TheVariants.{Face, Display}
@@ -22,6 +21,7 @@ use Rattle.rd_objects.specs.Texts.{TextValue, with_run, face_by, spec_by, face_r
 use Rattle.rd_objects.specs.Tables.{TableValue, IsTable}
 use Rattle.rd_objects.specs.Things.{ObjectLists, nothing_made, is_numbered, is_made, is_inside, string_fault, is_spec_made, spec_fault, full_fault, string_added, spec_added, face_added, table_added, IsSmallSpec}
 use Rattle.rd_objects.specs.Sound.{AreCodes, IsString, AreObjects, NamesMade, IsClosed, AreRight, GoesOn, Extends}
+use Rattle.rd_objects.proofs.Entries.{last-gives}
 
 -- what an answer without a fault tells
 record NoStringFault (o : ObjectLists) (chars : List ℕ) (runs : List Run) : Type 0 where
@@ -219,11 +219,7 @@ same_tables old new number e p = goes_kept old.tables new.tables number e.tables
 
 -- what holds of all that runs give holds of what the last one over a place gives
 given_at-each : {T : Type 0} (P : T → Type 0) (runs : List (RunOf T)) (i : ℕ) → All (λ run. P run.value) runs → IfSome (given_at runs i) P
-given_at-each {T} P runs i all =
-    mapped _ (found-each (λ run. P run.value) (λ run. covers run.from run.to i) (reverse runs) (All-permutation (λ run. P run.value) runs (reverse runs) (IsPermutation-reverse runs) all)) where
-      mapped : (o : Option (RunOf T)) → IfSome o (λ run. P run.value) → IfSome (option_map (λ run. run.value) o) P
-      mapped None h = h
-      mapped (Some run) h = h
+given_at-each P runs i = last-gives P (λ run. run.value) (λ run. covers run.from run.to i) runs
 
 some_made : (specs number : ℕ) (o : Option ℕ) → IfSome o (λ n. n < specs) → o ≡ Some number → number < specs
 some_made specs number (Some n) p e = let s : n ≡ number = cc in omega arith

@@ -1,7 +1,7 @@
 -- Display tables.
-use Rattle.std.specs.Prelude.{◌≡◌, ℕ, nat_le, nat_lt, ◌==◌, Bool, not, ◌&&◌, ◌||◌, IsTrue, if◌then◌else◌, List, [], ◌∷◌, length, All, Option, None, Some}
-use Rattle.std.specs.List.{list_all}
-use Rattle.std.specs.Option.{option_or}
+use Rattle.std.specs.Prelude.{◌≡◌, ℕ, nat_le, nat_lt, ◌==◌, Bool, not, ◌&&◌, ◌||◌, IsTrue, List, [], length, reverse, All, Option, None, Some}
+use Rattle.std.specs.List.{find, list_all}
+use Rattle.std.specs.Option.{option_map}
 use Rattle.rd_base.specs.declared.limits.TheConstants.{ENTRY_GLYPHS}
 use Rattle.rd_base.specs.Chars.{is_scalar}
 use Rattle.rd_base.specs.declared.cell.Glyph.{Glyph}
@@ -47,8 +47,7 @@ is_slot_glyph g = is_glyph_character g && (g.width == 1)
 
 -- what the entry that was put last for a code shows
 abbrev pub entry_in : List TableEntry → ℕ → Option (List Glyph)
-entry_in [] code = None
-entry_in (e ∷ es) code = option_or (entry_in es code) (if e.code == code then Some e.text else None)
+entry_in entries code = option_map (λ e. e.text) (find (λ e. e.code == code) (reverse entries))
 
 abbrev pub slot_of : Slot → TableValue → Option Glyph
 slot_of Truncation table = table.truncation

@@ -4,15 +4,14 @@ use Rattle.std.specs.Prelude.{IfSome}
 use Rattle.rd_base.specs.declared.cell.Glyph.{Glyph}
 use Rattle.rd_objects.specs.declared.table.TableEntry.{TableEntry}
 use Rattle.rd_objects.specs.Tables.{TableValue, entry_in, is_glyph_text}
-use Rattle.rd_objects.proofs.Entries.{entry-text, last-found}
+use Rattle.rd_objects.proofs.Entries.{entry-text}
 use Rattle.rd_objects.proofs.table.Table.entry.Goals.{After-last_entry}
 use Rattle.rd_objects.proofs.table.Table.entry.Goals as goal
 
 found : (c : After-last_entry) → option_map (λ (e : TableEntry). e.text) (option_map (λ entry. entry.now) c.last_entry.result) ≡ entry_in c.args.self.now.entries c.args.code
 found c =
     ap (option_map (λ (e : TableEntry). e.text)) c.last_entry.ensures
-    ∙ (last-found c.as_slice.result.now c.args.code
-    ∙ ap (λ (es : List TableEntry). entry_in es c.args.code) (c.as_slice.ensures ∙ ap (λ (t : TableValue). t.entries) c.self.view_is))
+    ∙ ap (λ (es : List TableEntry). entry_in es c.args.code) (c.as_slice.ensures ∙ ap (λ (t : TableValue). t.entries) c.self.view_is)
 
 pub returns-in-Some-clause-value : goal.returns-in-Some-clause-value
 returns-in-Some-clause-value c =
