@@ -1,11 +1,11 @@
 -- The first change behind a position, and the last up to it, where one more property is looked at.
-use Rattle.std.proofs.Common.{◌≡◌, ◌⊎◌, inl, inr, ℕ, zero, suc, ◌+◌, ◌-◌, ◌<◌, ◌≤◌, min, max, List, ◌∷◌, drop, length, get_or, Option, None, Some, sym, ap, subst, ◌∙◌, arith}
+use Rattle.std.proofs.Common.{◌≡◌, ◌⊎◌, inl, inr, ℕ, zero, suc, ◌+◌, ◌-◌, ◌<◌, ◌≤◌, min, max, List, ◌∷◌, drop, length, get_or, Option, None, Some, unwrap_or, sym, ap, subst, ◌∙◌, arith}
 use Rattle.std.proofs.lemmas.Bool.{cases_lt}
 use Rattle.std.proofs.lemmas.List.{drop_more}
 use Rattle.rd_spans.specs.Values.{value_at, IsNextChange, IsFirstAlike}
 use Rattle.rd_overlays.specs.declared.overlay.Overlay.{Overlay}
 use Rattle.rd_props.specs.Buffers.{values_of}
-use Rattle.rd_props.specs.Stops.{AreSame, Differs, HasEdge, IsFirstChange, IsLastChange, sooner}
+use Rattle.rd_props.specs.Stops.{AreSame, Differs, HasEdge, IsFirstChange, IsLastChange}
 
 same-cons : (values : List (Option ℕ)) (spans : List (List (Option ℕ))) (p q : ℕ) → value_at values p ≡ value_at values q → AreSame (values_of spans) p q → AreSame (values_of (values ∷ spans)) p q
 same-cons values spans p q here rest zero = here
@@ -20,10 +20,12 @@ reason-cons values spans slots p pos stop (inl (kind, other)) = inl (suc kind, o
 reason-cons values spans slots p pos stop (inr edge) = inr edge
 
 one-more : (values : List (Option ℕ)) (spans : List (List (Option ℕ))) (slots : List (Option Overlay)) (end pos stop : ℕ) (o : Option ℕ) → end < 4294967296
-    → IsFirstChange (values_of spans) slots end pos stop → IsNextChange values pos o → IsFirstChange (values_of (values ∷ spans)) slots end pos (sooner stop o)
+    → IsFirstChange (values_of spans) slots end pos stop → IsNextChange values pos o → IsFirstChange (values_of (values ∷ spans)) slots end pos (min stop (unwrap_or o stop))
 one-more values spans slots end pos stop None small first next =
     let within = first.within in
-    record {
+    let same : stop ≡ min stop stop = omega arith in
+    let P : ℕ → Type 0 = IsFirstChange (values_of (values ∷ spans)) slots end pos in
+    subst P same record {
       later = first.later;
       within = within;
       same = λ p l m. same-cons values spans p pos (next p l (omega arith)) (first.same p l m);
@@ -56,7 +58,7 @@ carried : (P : List (List (Option ℕ)) → ℕ → Type 0) (xs ys : List (List 
 carried P xs ys x y lists numbers h = subst (λ zs. P zs y) lists (subst (P xs) (sym numbers) h)
 
 pub from-back : (spans : List (List (Option ℕ))) (slots : List (Option Overlay)) (i j end pos stop new : ℕ) (values : List (Option ℕ)) (o : Option ℕ) → end < 4294967296 → i ≡ j + 1 → i ≤ length spans
-    → values ≡ get_or spans j values → IsNextChange values pos o → IsFirstChange (values_of (drop i spans)) slots end pos stop → new ≡ sooner stop o
+    → values ≡ get_or spans j values → IsNextChange values pos o → IsFirstChange (values_of (drop i spans)) slots end pos stop → new ≡ min stop (unwrap_or o stop)
     → IsFirstChange (values_of (drop j spans)) slots end pos new
 from-back spans slots i j end pos stop new values o small next within at change first is =
     carried (λ xs x. IsFirstChange (values_of xs) slots end pos x) _ _ _ new (from-one spans i j values next within at) is

@@ -1,5 +1,5 @@
 -- The first edge of an overlay behind a position, and the last up to it.
-use Rattle.std.proofs.Common.{◌≡◌, ◌⊎◌, inl, inr, ℕ, zero, suc, ◌<◌, ◌≤◌, min, max, Bool, true, false, if◌then◌else◌, List, [], ◌∷◌, Option, None, Some, refl, sym, subst, arith}
+use Rattle.std.proofs.Common.{◌≡◌, ◌⊎◌, inl, inr, ℕ, zero, suc, ◌<◌, ◌≤◌, min, max, Bool, true, false, if◌then◌else◌, List, [], ◌∷◌, Option, None, Some, unwrap_or, refl, sym, subst, arith}
 use Rattle.std.proofs.lemmas.Bool.{cases_lt}
 use Rattle.std.proofs.lemmas.Bool.Decides.{nat_tests}
 use Rattle.rd_overlays.specs.declared.overlay.Overlay.{Overlay}
@@ -7,7 +7,7 @@ use Rattle.rd_overlays.specs.declared.way.Way.{Way}
 use Rattle.rd_overlays.specs.declared.way.Way.TheVariants.{Next, Last}
 use Rattle.rd_overlays.specs.Overlays.{closer, nearer, is_on, reached, slot_edge, nearest_edge, next_edge, last_edge}
 use Rattle.rd_props.specs.Buffers.{values_of}
-use Rattle.rd_props.specs.Stops.{HasEdge, IsFirstChange, IsLastChange, sooner, later}
+use Rattle.rd_props.specs.Stops.{HasEdge, IsFirstChange, IsLastChange}
 
 -- a place stands on the way from a position
 abbrev IsOn : Way → ℕ → ℕ → Type 0
@@ -114,8 +114,8 @@ IsFirstEdge slots end pos stop = IsFirstChange (values_of []) slots end pos stop
 abbrev IsLastEdge : List (Option Overlay) → ℕ → ℕ → ℕ → Type 0
 IsLastEdge slots begin pos stop = IsLastChange (values_of []) slots begin pos stop
 
-first-by : (slots : List (Option Overlay)) (end pos : ℕ) (o : Option ℕ) → pos < end → IsNearest Next (HasEdge slots) pos o → IsFirstEdge slots end pos (sooner end o)
-first-by slots end pos None p nearest = record { later = p; within = omega arith; same = λ q l m kind. refl; no_edge = λ q l m h. nearest q l h; reason = λ l. absurd (omega arith) }
+first-by : (slots : List (Option Overlay)) (end pos : ℕ) (o : Option ℕ) → pos < end → IsNearest Next (HasEdge slots) pos o → IsFirstEdge slots end pos (min end (unwrap_or o end))
+first-by slots end pos None p nearest = record { later = omega arith; within = omega arith; same = λ q l m kind. refl; no_edge = λ q l m h. nearest q l h; reason = λ l. absurd (omega arith) }
 first-by slots end pos (Some q) p nearest =
     let below = nearest.0 in
     record {
@@ -126,8 +126,8 @@ first-by slots end pos (Some q) p nearest =
       reason = λ l. let e : q ≡ min end q = omega arith in let P : ℕ → Type 0 = HasEdge slots in inr (subst P e nearest.1);
     }
 
-last-by : (slots : List (Option Overlay)) (begin pos : ℕ) (o : Option ℕ) → begin ≤ pos → IsNearest Last (HasEdge slots) pos o → IsLastEdge slots begin pos (later begin o)
-last-by slots begin pos None p nearest = record { within = omega arith; before = p; same = λ q l m kind. refl; no_edge = λ q l m h. nearest q m h; reason = λ l. absurd (omega arith) }
+last-by : (slots : List (Option Overlay)) (begin pos : ℕ) (o : Option ℕ) → begin ≤ pos → IsNearest Last (HasEdge slots) pos o → IsLastEdge slots begin pos (max begin (unwrap_or o begin))
+last-by slots begin pos None p nearest = record { within = omega arith; before = omega arith; same = λ q l m kind. refl; no_edge = λ q l m h. nearest q m h; reason = λ l. absurd (omega arith) }
 last-by slots begin pos (Some q) p nearest =
     let below = nearest.0 in
     record {
@@ -138,14 +138,14 @@ last-by slots begin pos (Some q) p nearest =
       reason = λ l. let e : q ≡ max begin q = omega arith in let P : ℕ → Type 0 = HasEdge slots in inr (subst P e nearest.1);
     }
 
-pub first-edge : (slots : List (Option Overlay)) (end pos stop : ℕ) (o : Option ℕ) → pos < end → o ≡ next_edge pos slots → stop ≡ sooner end o → IsFirstEdge slots end pos stop
+pub first-edge : (slots : List (Option Overlay)) (end pos stop : ℕ) (o : Option ℕ) → pos < end → o ≡ next_edge pos slots → stop ≡ min end (unwrap_or o end) → IsFirstEdge slots end pos stop
 first-edge slots end pos stop o p e is =
     let P : ℕ → Type 0 = IsFirstEdge slots end pos in
-    let Q : Option ℕ → Type 0 = λ x. IsFirstEdge slots end pos (sooner end x) in
+    let Q : Option ℕ → Type 0 = λ x. IsFirstEdge slots end pos (min end (unwrap_or x end)) in
     subst P (sym is) (subst Q (sym e) (first-by slots end pos (next_edge pos slots) p (list-nearest Next pos slots)))
 
-pub last-edge : (slots : List (Option Overlay)) (begin pos stop : ℕ) (o : Option ℕ) → begin ≤ pos → o ≡ last_edge pos slots → stop ≡ later begin o → IsLastEdge slots begin pos stop
+pub last-edge : (slots : List (Option Overlay)) (begin pos stop : ℕ) (o : Option ℕ) → begin ≤ pos → o ≡ last_edge pos slots → stop ≡ max begin (unwrap_or o begin) → IsLastEdge slots begin pos stop
 last-edge slots begin pos stop o p e is =
     let P : ℕ → Type 0 = IsLastEdge slots begin pos in
-    let Q : Option ℕ → Type 0 = λ x. IsLastEdge slots begin pos (later begin x) in
+    let Q : Option ℕ → Type 0 = λ x. IsLastEdge slots begin pos (max begin (unwrap_or x begin)) in
     subst P (sym is) (subst Q (sym e) (last-by slots begin pos (last_edge pos slots) p (list-nearest Last pos slots)))

@@ -1,5 +1,5 @@
 -- How far nothing changes.
-use Rattle.std.specs.Prelude.{◌≡◌, ◌⊎◌, ℕ, ◌-◌, ◌<◌, ◌≤◌, min, max, List, [], Option, None, Some}
+use Rattle.std.specs.Prelude.{◌≡◌, ◌⊎◌, ℕ, ◌-◌, ◌<◌, ◌≤◌, List, [], Option, Some}
 use Rattle.rd_overlays.specs.declared.overlay.Overlay.{Overlay}
 use Rattle.rd_overlays.specs.Overlays.{overlay_at}
 use Rattle.rd_objects.specs.Things.{ObjectLists}
@@ -50,13 +50,3 @@ IsLastStop s pos stop = IsLastChange s.properties s.overlays s.text.begin pos st
 pub record LookAlike (s : BufferValue) (objects : ObjectLists) (pos stop : ℕ) : Type 0 where
   pub appearance : (p : ℕ) → pos < p → p < stop → appearance_at s objects p ≡ appearance_at s objects pos
   pub strings : (p : ℕ) → pos < p → p < stop → strings_at s p ≡ []
-
--- the lesser of a place and one that may be missing
-abbrev pub sooner : ℕ → Option ℕ → ℕ
-sooner stop None = stop
-sooner stop (Some other) = min stop other
-
--- the greater of a place and one that may be missing
-abbrev pub later : ℕ → Option ℕ → ℕ
-later stop None = stop
-later stop (Some other) = max stop other

@@ -1,39 +1,19 @@
 //! How far nothing changes.
 ghost use Rattle.std.specs.Prelude.{◌≡◌, ◌<◌, ◌≤◌, []};
 ghost use Rattle.rd_props.specs.Buffers.{meaning, values_of};
-ghost use Rattle.rd_props.specs.Stops.{IsNextStop, IsLastStop, IsFirstChange, IsLastChange, sooner, later};
+ghost use Rattle.rd_props.specs.Stops.{IsNextStop, IsLastStop, IsFirstChange, IsLastChange};
 
 use crate::state::View;
 use rd_base::Pos;
 use rd_overlays::Overlays;
 use rd_spans::Spans;
 
-/// The lesser of a place and one that may be missing.
-fn sooner(stop: Pos, other: Option<Pos>) -> Pos
-    ensures { result ≡ sooner stop other }
-{
-    match other {
-        None => stop,
-        Some(other) => stop.min(other),
-    }
-}
-
-/// The greater of a place and one that may be missing.
-fn later(stop: Pos, other: Option<Pos>) -> Pos
-    ensures { result ≡ later stop other }
-{
-    match other {
-        None => stop,
-        Some(other) => stop.max(other),
-    }
-}
-
 /// The first place behind a position where an overlay starts or ends, up to an end.
 fn first_edge(overlays: &Overlays, pos: Pos, end: Pos) -> Pos
     requires { pos < end }
     ensures { IsFirstChange (values_of []) overlays.now end pos result }
 {
-    sooner(end, overlays.next_edge(pos))
+    end.min(overlays.next_edge(pos).unwrap_or(end))
 }
 
 /// The first place behind a position where one of these properties changes or an overlay starts or ends, up to an end.
@@ -45,7 +25,7 @@ fn first_change(overlays: &Overlays, spans: &[Spans], pos: Pos, end: Pos) -> Pos
     let mut i = spans.len();
     while 0 < i {
         i -= 1;
-        stop = sooner(stop, spans[i].next_change(pos));
+        stop = stop.min(spans[i].next_change(pos).unwrap_or(stop));
     }
     stop
 }
@@ -69,7 +49,7 @@ fn last_edge(overlays: &Overlays, pos: Pos, begin: Pos) -> Pos
     requires { begin ≤ pos }
     ensures { IsLastChange (values_of []) overlays.now begin pos result }
 {
-    later(begin, overlays.last_edge(pos))
+    begin.max(overlays.last_edge(pos).unwrap_or(begin))
 }
 
 /// The last place up to a position where one of these properties changes from the place before or an overlay starts or ends, from a

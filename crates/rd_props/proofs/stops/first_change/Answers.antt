@@ -1,4 +1,4 @@
-use Rattle.std.proofs.Common.{◌-◌, arith}
+use Rattle.std.proofs.Common.{◌-◌, min, ap, ◌∙◌, arith}
 use Rattle.rd_props.proofs.Changes.{from-back}
 use Rattle.rd_props.proofs.stops.first_change.Goals as goal
 
@@ -8,6 +8,6 @@ loop-i-preserved c =
     let some = c.loop-i-test.true in
     record {
       within = omega arith;
-      first = from-back c.args.spans.now c.args.overlays.now c.loop-i.i (c.loop-i.i - 1) c.args.end c.args.pos c.loop-i.stop c.sooner-stop.result c.index-spans-i.result c.next_change.result
-          c.ranges.end.fits (omega arith) within c.index-spans-i.is c.next_change.ensures c.loop-i.invariant.first c.sooner-stop.ensures;
+      first = from-back c.args.spans.now c.args.overlays.now c.loop-i.i (c.loop-i.i - 1) c.args.end c.args.pos c.loop-i.stop c.min-stop.result c.index-spans-i.result c.next_change.result
+          c.ranges.end.fits (omega arith) within c.index-spans-i.is c.next_change.ensures c.loop-i.invariant.first (c.min-stop.ensures ∙ ap (min _) c.unwrap_or.ensures);
     }
