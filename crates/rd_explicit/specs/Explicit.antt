@@ -17,12 +17,9 @@ top (e ∷ es) = e
 abbrev pub x1_start : ℕ → State
 x1_start base = record { stack = record { level = base; direction = None; isolate = false } ∷ []; overflow_isolates = 0; overflow_embeddings = 0; valid_isolates = 0 }
 
--- the least odd level above another, and the least even one
-abbrev pub odd_above : ℕ → ℕ
-odd_above level = if level % 2 == 0 then level + 1 else level + 2
-
-abbrev pub even_above : ℕ → ℕ
-even_above level = if level % 2 == 0 then level + 2 else level + 1
+-- the least level above another that is odd, for 1, or even, for 0
+abbrev pub level_above : ℕ → ℕ → ℕ
+level_above parity level = if level % 2 == parity then level + 2 else level + 1
 
 -- at most max_depth (BD2), and nothing has overflowed
 abbrev pub is_valid : ℕ → State → Bool
@@ -37,19 +34,19 @@ embedded level direction s =
 
 -- X2: RLE opens an embedding at the next odd level
 abbrev pub x2_right_to_left_embedding : State → State
-x2_right_to_left_embedding s = embedded (odd_above (top s.stack).level) None s
+x2_right_to_left_embedding s = embedded (level_above 1 (top s.stack).level) None s
 
 -- X3: LRE opens an embedding at the next even level
 abbrev pub x3_left_to_right_embedding : State → State
-x3_left_to_right_embedding s = embedded (even_above (top s.stack).level) None s
+x3_left_to_right_embedding s = embedded (level_above 0 (top s.stack).level) None s
 
 -- X4: RLO opens an override to R at the next odd level
 abbrev pub x4_right_to_left_override : State → State
-x4_right_to_left_override s = embedded (odd_above (top s.stack).level) (Some R) s
+x4_right_to_left_override s = embedded (level_above 1 (top s.stack).level) (Some R) s
 
 -- X5: LRO opens an override to L at the next even level
 abbrev pub x5_left_to_right_override : State → State
-x5_left_to_right_override s = embedded (even_above (top s.stack).level) (Some L) s
+x5_left_to_right_override s = embedded (level_above 0 (top s.stack).level) (Some L) s
 
 -- for X5a to X5c, an isolate at a level
 abbrev pub isolated : ℕ → State → State
@@ -59,11 +56,11 @@ isolated level s =
 
 -- X5a: RLI opens an isolate at the next odd level
 abbrev pub x5a_right_to_left_isolate : State → State
-x5a_right_to_left_isolate s = isolated (odd_above (top s.stack).level) s
+x5a_right_to_left_isolate s = isolated (level_above 1 (top s.stack).level) s
 
 -- X5b: LRI opens an isolate at the next even level
 abbrev pub x5b_left_to_right_isolate : State → State
-x5b_left_to_right_isolate s = isolated (even_above (top s.stack).level) s
+x5b_left_to_right_isolate s = isolated (level_above 0 (top s.stack).level) s
 
 -- for X5c, whether P2 and P3 found a level, and it is 1
 abbrev pub is_level_one : Option ℕ → Bool

@@ -1,7 +1,7 @@
 //! Rules X1 to X8 of UAX 9, each a method of the state that the rules keep, a function, or an arm of the step that says which rule a
 //! class takes.
 ghost use Rattle.std.specs.Prelude.{◌≡◌, ◌<◌, ◌≤◌, ◌^◌, ◌∷◌, length, if◌then◌else◌};
-ghost use Rattle.rd_explicit.specs.Explicit.{x1_start, top, odd_above, even_above, is_valid, embedded, isolated, x5c_first_strong_isolate, x6_level_and_override, x6a_pop_directional_isolate, x7_pop_directional_format, x8_paragraph_separator, x9_removed, after, given, Rises, IsReady, GoesOn};
+ghost use Rattle.rd_explicit.specs.Explicit.{x1_start, top, level_above, is_valid, embedded, isolated, x5c_first_strong_isolate, x6_level_and_override, x6a_pop_directional_isolate, x7_pop_directional_format, x8_paragraph_separator, x9_removed, after, given, Rises, IsReady, GoesOn};
 
 use crate::isolate::x5c_starts_right;
 use crate::stack::{DirectionalStatus, Stack};
@@ -98,9 +98,9 @@ impl State {
     {
         let level = self.stack.top().level;
         if self.overflow_isolates == 0 && self.overflow_embeddings == 0 && x5c_starts_right(rest) {
-            self.isolate(odd_above(level));
+            self.isolate(level_above(1, level));
         } else {
-            self.isolate(even_above(level));
+            self.isolate(level_above(0, level));
         }
     }
 
@@ -149,17 +149,17 @@ impl State {
         let entry = self.stack.top();
         match class {
             // X2: an RLE opens an embedding at the next odd level.
-            Class::RLE => self.embed(odd_above(entry.level), None),
+            Class::RLE => self.embed(level_above(1, entry.level), None),
             // X3: an LRE opens an embedding at the next even level.
-            Class::LRE => self.embed(even_above(entry.level), None),
+            Class::LRE => self.embed(level_above(0, entry.level), None),
             // X4: an RLO opens an override to R at the next odd level.
-            Class::RLO => self.embed(odd_above(entry.level), Some(Class::R)),
+            Class::RLO => self.embed(level_above(1, entry.level), Some(Class::R)),
             // X5: an LRO opens an override to L at the next even level.
-            Class::LRO => self.embed(even_above(entry.level), Some(Class::L)),
+            Class::LRO => self.embed(level_above(0, entry.level), Some(Class::L)),
             // X5a: an RLI opens an isolate at the next odd level.
-            Class::RLI => self.isolate(odd_above(entry.level)),
+            Class::RLI => self.isolate(level_above(1, entry.level)),
             // X5b: an LRI opens an isolate at the next even level.
-            Class::LRI => self.isolate(even_above(entry.level)),
+            Class::LRI => self.isolate(level_above(0, entry.level)),
             Class::FSI => self.x5c_first_strong_isolate(rest),
             Class::PDI => {
                 self.x6a_pop_directional_isolate();
@@ -177,22 +177,17 @@ impl State {
     }
 }
 
-/// The least odd level above another (X2, X4, X5a).
-fn odd_above(level: u8) -> u8
+/// The least level above another that is odd, for 1, or even, for 0 (X2 to X5b).
+fn level_above(parity: u8, level: u8) -> u8
     requires { level ≤ 125 }
-    ensures odd { result ≡ odd_above level }
+    ensures value { result ≡ level_above parity level }
     ensures above { level < result }
 {
-    if level % 2 == 0 { level + 1 } else { level + 2 }
-}
-
-/// The least even level above another (X3, X5, X5b).
-fn even_above(level: u8) -> u8
-    requires { level ≤ 125 }
-    ensures even { result ≡ even_above level }
-    ensures above { level < result }
-{
-    if level % 2 == 0 { level + 2 } else { level + 1 }
+    if level % 2 == parity {
+        level + 2
+    } else {
+        level + 1
+    }
 }
 
 /// X6: a character takes the level of the last entry, and its override, where it has one, as type. So do those of X5a to X6a.
