@@ -1,6 +1,6 @@
 -- The windows of a frame, in their order and by their numbers.
-use Rattle.std.proofs.Common.{◌≡◌, ◌≢◌, ℕ, ◌+◌, ◌-◌, ◌<◌, ◌≤◌, ◌==◌, Bool, true, false, if◌then◌else◌, Option, None, Some, List, [], ◌∷◌, ◌++◌, get_or, is_some, length, map, unwrap_or, sym, ap, refl, ◌∙◌, arith, nat_le}
-use Rattle.std.proofs.lemmas.Bool.{leb-true, leb-false, cond-false, cond-true, eq-eqb, ne_eqb}
+use Rattle.std.proofs.Common.{◌≡◌, ℕ, ◌+◌, ◌-◌, ◌<◌, ◌≤◌, ◌==◌, Bool, true, false, if◌then◌else◌, Option, None, Some, List, [], ◌∷◌, ◌++◌, get_or, is_some, length, map, unwrap_or, sym, ap, refl, ◌∙◌, arith, nat_le}
+use Rattle.std.proofs.lemmas.Bool.{leb-true, leb-false}
 use Rattle.std.proofs.lemmas.List.{length-map}
 use Rattle.std.proofs.lemmas.List.Elements.{All-from_get_or, All-nil, recursion_from_All}
 use Rattle.std.proofs.lemmas.Option.{slice_get-get_or, slice_get-map}
@@ -19,23 +19,11 @@ use Rattle.rd_state.specs.declared.window.WindowState.{WindowState}
 use Rattle.rd_tree.specs.Calls.{frame_of}
 use Rattle.rd_tree.proofs.Keeping.{found_held}
 use Rattle.rd_tree.proofs.Standing.{held_times}
-use Rattle.rd_tree.specs.Windows.{Windows, leaves, of_number, times, window_at}
+use Rattle.rd_tree.specs.Windows.{leaves, times}
 use Rattle.rd_tree.specs.declared.placed.Placed.{Placed}
-use Rattle.rd_tree.specs.declared.rect.Rect.{Rect}
 use Rattle.rd_layout.specs.Laws.{PlaceLaws}
 use Rattle.rd_layout.specs.Redisplays.{band_of, bands_of}
 use Rattle.rd_layout.specs.Windows.{of_place, of_window, of_windows, place_of, places}
-
--- ---- a window that is found was made
-
-pub placed-here : (n : ℕ) (p : Placed) (ps : List Placed) → p.number ≡ n → of_number n (p ∷ ps) ≡ Some p
-placed-here n p ps h = cond-true (p.number == n) (Some p) (of_number n ps) (eq-eqb p.number n h)
-
-pub placed-there : (n : ℕ) (p : Placed) (ps : List Placed) → p.number ≢ n → of_number n (p ∷ ps) ≡ of_number n ps
-placed-there n p ps h = cond-false (p.number == n) (Some p) (of_number n ps) (ne_eqb p.number n h)
-
-pub found-once : (n : ℕ) (windows : Windows) (rect : Rect) (p : Placed) → window_at n windows rect ≡ Some p → 1 ≤ times n windows
-found-once n windows rect p h = held_times n windows (sym (found_held n windows rect) ∙ ap is_some h)
 
 -- ---- the windows of a state
 
@@ -85,7 +73,7 @@ module _ (laws : PlaceLaws) (s : StateValue) (valid : IsValid s) where
 
   pub made-number : (number : ℕ) (p : Placed) → place_of number s ≡ Some p → number < s.tree.made
   made-number number p at =
-      let one = found-once number s.tree.windows (frame_of s.tree) p at in
+      let one = held_times number s.tree.windows (sym (found_held number s.tree.windows (frame_of s.tree)) ∙ ap is_some at) in
       by (times number s.tree.windows) refl one (nat_le s.tree.made number) refl
     where
       by : (n : ℕ) → times number s.tree.windows ≡ n → 1 ≤ n → (t : Bool) → nat_le s.tree.made number ≡ t → number < s.tree.made

@@ -2,7 +2,7 @@ mod Answering
 pub mod Composing
 pub mod Free
 pub mod Keeping
-mod Listing
+pub mod Listing
 pub mod Rooms
 mod Siblings
 pub mod Standing

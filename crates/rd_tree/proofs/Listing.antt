@@ -1,42 +1,68 @@
--- The windows of a tree in order.
-use Rattle.std.proofs.Common.{◌≡◌, ℕ, zero, suc, ◌≤◌, Bool, true, ◌==◌, List, Option, None, Some, inl, inr, refl, sym, ap, ◌∙◌, arith}
+-- The windows of a tree in order, where no number stands twice.
+use Rattle.std.proofs.Common.{◌≡◌, ◌≢◌, inl, inr, ℕ, zero, suc, ◌≤◌, ◌==◌, List, [], ◌∷◌, ◌++◌, Option, None, Some, is_some, refl, sym, ap, ap₂, ◌∙◌, arith}
 use Rattle.std.specs.Prelude.{slice_get}
 use Rattle.std.specs.Option.{option_map, option_or}
-use Rattle.std.proofs.lemmas.Option.{get_or_from_slice_get, same_Some, slice_get-map, slice_get_within}
-use Rattle.std.proofs.lemmas.Bool.{eq-eqb}
-use Rattle.std.proofs.lemmas.List.Folds.{list_any_at}
+use Rattle.std.proofs.lemmas.Option.{none-some, same_Some, slice_get-map}
+use Rattle.std.proofs.lemmas.Bool.{cases_eq, cond-false, cond-true, eq-eqb, ne_eqb}
 use Rattle.rd_tree.specs.declared.rect.Rect.{Rect}
 use Rattle.rd_tree.specs.declared.placed.Placed.{Placed}
-use Rattle.rd_tree.specs.Windows.{Windows, Window, Split, first_part, second_part, leaves, placed, window_at, holds, times}
-use Rattle.rd_tree.proofs.Keeping.{placed_among}
-use Rattle.rd_tree.proofs.Standing.{in_one, listed, not_found, once_in_first, two_lists}
+use Rattle.rd_tree.specs.Windows.{Windows, Window, Split, first_part, second_part, leaves, of_number, placed, window_at, times}
+use Rattle.rd_tree.proofs.Keeping.{found_held}
+use Rattle.rd_tree.proofs.Rooms.{of_number-append}
+use Rattle.rd_tree.proofs.Standing.{listed, not_found, once_in_first}
 
-number_of_leaf : (number : ℕ) (mode : Bool) (margins : ℕ) (rect : Rect) (window : Placed) → Some (record { number = number; mode = mode; margins = margins; rect = rect }) ≡ Some window → (number == window.number) ≡ true
-number_of_leaf number mode margins rect window e =
-    eq-eqb number window.number (ap (λ (p : Placed). p.number) (same_Some (record { number = number; mode = mode; margins = margins; rect = rect }) window e))
+pub placed-here : (n : ℕ) (p : Placed) (ps : List Placed) → p.number ≡ n → of_number n (p ∷ ps) ≡ Some p
+placed-here n p ps h = cond-true (p.number == n) (Some p) (of_number n ps) (eq-eqb p.number n h)
 
-listed_held : (windows : Windows) (rect : Rect) (i : ℕ) (window : Placed) → slice_get (placed windows rect) i ≡ Some window → holds window.number windows ≡ true
-listed_held windows rect i window e =
-    let same = eq-eqb _ window.number (ap (λ (p : Placed). p.number) (get_or_from_slice_get (placed windows rect) i window window e)) in
-    placed_among window.number windows rect ∙ list_any_at (λ (p : Placed). p.number == window.number) (placed windows rect) i window (slice_get_within (placed windows rect) i window e) same
+pub placed-there : (n : ℕ) (p : Placed) (ps : List Placed) → p.number ≢ n → of_number n (p ∷ ps) ≡ of_number n ps
+placed-there n p ps h = cond-false (p.number == n) (Some p) (of_number n ps) (ne_eqb p.number n h)
 
--- where no number stands twice, each window that is listed is found by its number
-pub listed_found : (windows : Windows) (rect : Rect) → ((n : ℕ) → times n windows ≤ 1) → (i : ℕ) (window : Placed) → slice_get (placed windows rect) i ≡ Some window → window_at window.number windows rect ≡ Some window
-listed_found (Window number mode margins) rect once zero window e = rw (number_of_leaf number mode margins rect window e) e
-listed_found (Window number mode margins) rect once (suc i) window e = absurd (cc)
-listed_found (Split side size first second) rect once i window e =
+-- no window has the number of another
+abbrev pub AreApart : List Placed → Type 0
+AreApart [] = Unit {0}
+AreApart (p ∷ ps) = (of_number p.number ps ≡ None) × AreApart ps
+
+-- no number of the first list is one of the second
+abbrev Differ : List Placed → List Placed → Type 0
+Differ ps qs = (n : ℕ) (p : Placed) → of_number n ps ≡ Some p → of_number n qs ≡ None
+
+rest-differs : (p : Placed) (ps qs : List Placed) → Differ (p ∷ ps) qs → Differ ps qs
+rest-differs p ps qs differ n q at = elim (cases_eq p.number n) [
+  | inl e ↦ differ n p (placed-here n p ps e)
+  | inr e ↦ differ n q (placed-there n p ps e ∙ at)
+]
+
+both-apart : (ps qs : List Placed) → AreApart ps → AreApart qs → Differ ps qs → AreApart (ps ++ qs)
+both-apart [] qs h g differ = g
+both-apart (p ∷ ps) qs h g differ = (
+  of_number-append p.number ps qs ∙ ap₂ option_or h.0 (differ p.number p (placed-here p.number p ps refl)),
+  both-apart ps qs h.1 g (rest-differs p ps qs differ),
+)
+
+pub placed-apart : (windows : Windows) (rect : Rect) → ((n : ℕ) → times n windows ≤ 1) → AreApart (placed windows rect)
+placed-apart (Window number mode margins) rect once = (refl, tt)
+placed-apart (Split side size first second) rect once =
     let a = first_part side size rect in
     let b = second_part side size rect in
-    let n = window.number in
-    elim (in_one (placed first a) (placed second b) i window e) [
-      | inl p ↦
-          let found = listed_found first a (λ m. omega (arith, once m)) p.0 window p.1 in
-          two_lists n side size first second rect ∙ ap (λ (o : Option Placed). option_or o (window_at n second b)) found
-      | inr p ↦
-          let found = listed_found second b (λ m. omega (arith, once m)) p.0 window p.1 in
-          let away = once_in_first n first second (once n) (listed_held second b p.0 window p.1) in
-          two_lists n side size first second rect ∙ (ap (λ (o : Option Placed). option_or o (window_at n second b)) (not_found n first a away) ∙ found)
+    both-apart (placed first a) (placed second b)
+    (placed-apart first a (λ n. omega (arith, once n)))
+    (placed-apart second b (λ n. omega (arith, once n)))
+    (λ n p at. not_found n second b (once_in_first n second first (omega (arith, once n)) (sym (found_held n first a) ∙ ap is_some at)))
+
+-- each window of a list is found by its number
+apart-found : (ps : List Placed) (i : ℕ) (window : Placed) → AreApart ps → slice_get ps i ≡ Some window → of_number window.number ps ≡ Some window
+apart-found [] i window apart e = absurd (cc)
+apart-found (p ∷ ps) zero window apart e = placed-here window.number p ps (ap (λ (q : Placed). q.number) (same_Some p window e)) ∙ e
+apart-found (p ∷ ps) (suc i) window apart e =
+    let found = apart-found ps i window apart.1 e in
+    elim (cases_eq p.number window.number) [
+      | inl same ↦ absurd (none-some window (sym apart.0 ∙ ap (λ n. of_number n ps) same ∙ found))
+      | inr other ↦ placed-there window.number p ps other ∙ found
     ]
+
+-- so is each of a tree
+pub listed_found : (windows : Windows) (rect : Rect) → ((n : ℕ) → times n windows ≤ 1) → (i : ℕ) (window : Placed) → slice_get (placed windows rect) i ≡ Some window → window_at window.number windows rect ≡ Some window
+listed_found windows rect once i window e = apart-found (placed windows rect) i window (placed-apart windows rect once) e
 
 in_order : (windows : Windows) (rect : Rect) (number i : ℕ) (o : Option Placed) → ((n : ℕ) → times n windows ≤ 1) → slice_get (placed windows rect) i ≡ o → option_map (λ (window : Placed). window.number) o ≡ Some number → window_at number windows rect ≡ o
 in_order windows rect number i None once e f = absurd (cc)

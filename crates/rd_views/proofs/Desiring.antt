@@ -8,6 +8,7 @@ use Rattle.rd_start.specs.Chosen.{chosen_of}
 use Rattle.rd_state.specs.States.{StateValue}
 use Rattle.rd_state.specs.Windows.{window_of}
 use Rattle.rd_state.specs.declared.window.WindowState.{WindowState}
+use Rattle.rd_tree.proofs.Listing.{AreApart, placed-here, placed-there}
 use Rattle.rd_tree.specs.Windows.{of_number}
 use Rattle.rd_tree.specs.declared.placed.Placed.{Placed}
 use Rattle.rd_ucd.specs.Data.{Data}
@@ -20,10 +21,8 @@ use Rattle.rd_layout.specs.Sessions.{SessionValue, layout_of}
 use Rattle.rd_layout.specs.Windows.{of_place, of_window, view_in, wanted_of, window_shape, window_source}
 use Rattle.rd_layout.proofs.Known.{Last}
 use Rattle.rd_state.proofs.ByNumber.{under-there}
-use Rattle.rd_layout.proofs.Placed.{placed-here, placed-there}
 use Rattle.rd_views.specs.Layings.{AreDesired, AreOnce, IsDesiredAt, IsDesiredBy, layout_in, layout_taken, layouts_taken, no_layout, shown_by, views_taken, window_in}
 use Rattle.rd_views.specs.declared.desired.LaidWindow.{LaidWindow}
-use Rattle.rd_views.proofs.Placing.{AreApart}
 
 -- ---- one window
 

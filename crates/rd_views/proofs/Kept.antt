@@ -10,12 +10,12 @@ use Rattle.rd_layout.proofs.Known.{Last}
 use Rattle.rd_layout.proofs.Placed.{placed-at}
 use Rattle.rd_layout.proofs.Sending.{sent-anew}
 use Rattle.rd_state.specs.States.{StateValue}
+use Rattle.rd_tree.proofs.Listing.{placed-apart}
 use Rattle.rd_tree.specs.Calls.{frame_of}
 use Rattle.rd_ucd.specs.Data.{Data}
 use Rattle.rd_views.specs.Layings.{AreDesired, AreOnce, CanSettle, all_settled, layouts_taken}
 use Rattle.rd_views.specs.declared.desired.LaidWindow.{LaidWindow}
 use Rattle.rd_views.proofs.Desiring.{laid-out, once}
-use Rattle.rd_views.proofs.Placing.{placed-apart}
 use Rattle.rd_views.proofs.Settled.{ChosenLaw, can-settle, state-settled}
 
 abbrev pub LeadOn : Type 0

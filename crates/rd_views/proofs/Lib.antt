@@ -2,7 +2,6 @@ mod Answering
 mod Desiring
 mod Kept
 mod Passing
-mod Placing
 mod Premises
 mod Settled
 mod Showing
