@@ -1,13 +1,13 @@
 -- What each window of a valid state shows has the sizes of its rectangle.
-use Rattle.std.proofs.Common.{◌≡◌, ℕ, suc, ◌-◌, ◌^◌, ◌<◌, ◌≤◌, Bool, true, false, is_some, if◌then◌else◌, Option, None, Some, Result, Ok, Err, List, [], ◌∷◌, length, drop, sym, ap, refl, subst, ◌∙◌, arith, length-take, length-drop}
+use Rattle.std.proofs.Common.{◌≡◌, ℕ, ◌-◌, ◌^◌, ◌<◌, ◌≤◌, Bool, true, false, is_some, if◌then◌else◌, Option, None, Some, Result, Ok, Err, List, [], length, drop, sym, ap, refl, subst, ◌∙◌, arith, length-take, length-drop}
 use Rattle.std.proofs.lemmas.List.{length-map}
 use Rattle.std.proofs.lemmas.List.Sums.{count_by-le-length}
-use Rattle.std.proofs.lemmas.List.Elements.{All-from_recursion, All-map, All-take, All-drop, recursion_from_All}
-use Rattle.std.specs.List.{All, AllByRecursion, find}
+use Rattle.std.proofs.lemmas.List.Elements.{All-from_recursion, All-map, All-take, All-drop}
+use Rattle.std.specs.List.{All, find}
 use Rattle.std.specs.Option.{option_and_then}
-use Rattle.std.proofs.lemmas.Option.{option_and_then_some}
+use Rattle.std.proofs.lemmas.Option.{option_and_then_some, slice_get_within}
 use Rattle.std.specs.Prelude.{IfSome, IsTrue, option_map, slice_get, slice_index_or}
-use Rattle.rd_base.proofs.Choices.{some-of}
+use Rattle.rd_base.proofs.Choices.{if-value, some-of}
 use Rattle.rd_base.specs.Chars.{is_code}
 use Rattle.rd_base.specs.declared.element.Element.{Element}
 use Rattle.rd_base.proofs.Lists.{all-at, found-each}
@@ -23,9 +23,10 @@ use Rattle.rd_frame.specs.Held.{glyph_row}
 use Rattle.rd_margins.specs.Cells.{IsMargin}
 use Rattle.rd_margins.specs.Marks.{margin_string}
 use Rattle.rd_matrix.specs.Columns.{covers, shown_column}
-use Rattle.rd_matrix.specs.Cursors.{column_shown, cursor_in, or_below}
+use Rattle.rd_matrix.specs.Cursors.{cursor_in}
 use Rattle.rd_matrix.specs.Entries.{EntryMeaning}
 use Rattle.rd_matrix.specs.Sources.{rows_at}
+use Rattle.rd_matrix.proofs.Covering.{cursor-row}
 use Rattle.rd_matrix.proofs.EachRow.{rows-each}
 use Rattle.rd_modeline.specs.Formats.{fault_in, pieces_of}
 use Rattle.rd_modeline.specs.Values.{FactValues}
@@ -80,20 +81,15 @@ column-hold (Some b) row width wide h = by row.reversed where
   by true = omega (arith, h, wide)
   by false = h
 
-below-hold : (here : Option ℕ) (below : Option (ℕ × ℕ)) (count width : ℕ) → IfSome here (λ c. c < width) → IfSome below (λ place. (place.0 < count) × (place.1 < width))
-    → IfSome (or_below here below) (λ place. (place.0 < suc count) × (place.1 < width))
-below-hold (Some c) below count width h k = (omega arith, h)
-below-hold None None count width h k = tt
-below-hold None (Some place) count width h k = let low = k.0 in (omega arith, k.1)
-
-pub cursor-hold : (width point : ℕ) (es : List EntryMeaning) → AllByRecursion (λ (e : EntryMeaning). length e.row.cells ≡ width) es → AllByRecursion (λ (e : EntryMeaning). All (λ (b : Begin). b.column < width) e.row.begins) es
-    → IfSome (cursor_in point es) (λ place. (place.0 < length es) × (place.1 < width))
-cursor-hold width point [] wide columns = tt
-cursor-hold width point (e ∷ es) wide columns =
-    below-hold (column_shown point e) (cursor_in point es) (length es) width
-    (column-hold (find (covers e.start point) e.row.begins) e.row width wide.0
-    (found-each (λ b. b.column < width) (covers e.start point) e.row.begins columns.0))
-    (cursor-hold width point es wide.1 columns.1)
+pub cursor-hold : (width point : ℕ) (es : List EntryMeaning) → All (λ (e : EntryMeaning). length e.row.cells ≡ width) es → All (λ (e : EntryMeaning). All (λ (b : Begin). b.column < width) e.row.begins) es
+    → (place : ℕ × ℕ) → cursor_in point es ≡ Some place → (place.0 < length es) × (place.1 < width)
+cursor-hold width point es wide columns place at =
+    let row = cursor-row point es place at in
+    let e = row.0 in
+    let cells = all-at (λ (x : EntryMeaning). length x.row.cells ≡ width) es place.0 e wide row.1 in
+    let begins = all-at (λ (x : EntryMeaning). All (λ (b : Begin). b.column < width) x.row.begins) es place.0 e columns row.1 in
+    let column = column-hold (find (covers e.start point) e.row.begins) e.row width cells (found-each (λ b. b.column < width) (covers e.start point) e.row.begins begins) in
+    (slice_get_within es place.0 e row.1, subst (λ o. IfSome o (λ c. c < width)) row.2 column)
 
 -- ---- windows and their leaves
 
@@ -180,14 +176,9 @@ module _ (laws : FitLaws) (files : Data) (s : StateValue) (valid : IsValid s) wh
       let columns = in-view (λ (e : EntryMeaning). All (λ (b : Begin). b.column < body_width s.width p) e.row.begins) w p
       (laws.columns (seen (shown_content s w)) s.objects files (window_shape s w p) (is-shape laws.views s valid p.number w p at)) in
       let taken = length-take (body_height p) (drop (start_row (window_source files s w) (window_shape s w p) (wanted_of s w p)) (rows_at (window_source files s w) (window_shape s w p))) in
-      by (length rows) (omega (arith, taken)) (cursor_in (view_in files s w p).point rows)
-      (cursor-hold (body_width s.width p) (view_in files s w p).point rows
-      (recursion_from_All (λ (e : EntryMeaning). length e.row.cells ≡ body_width s.width p) rows (λ k d less. (whole k d less).wide))
-      (recursion_from_All (λ (e : EntryMeaning). All (λ (b : Begin). b.column < body_width s.width p) e.row.begins) rows columns))
-    where
-      by : (count : ℕ) → count ≤ body_height p → (o : Option (ℕ × ℕ)) → IfSome o (λ place. (place.0 < count) × (place.1 < body_width s.width p)) → IfSome o (IsInBody s.width p)
-      by count few None h = tt
-      by count few (Some place) h = let low = h.0 in record { row = omega arith; column = h.1 }
+      if-value (IsInBody s.width p) (cursor_in (view_in files s w p).point rows) (λ place at.
+      let held = cursor-hold (body_width s.width p) (view_in files s w p).point rows (λ k d less. (whole k d less).wide) columns place at in
+      record { row = omega (arith, taken, held.0); column = held.1 })
 
   selected-fits : (o : Option Placed) → place_of s.selected s ≡ o → IfSome o (λ (p : Placed). IfSome (cursor_by files s (window_of s.selected s.windows) o) (IsInBody s.width p))
   selected-fits None at = tt

@@ -1,15 +1,19 @@
--- Blocks that stand one behind the other with rows of their own, and how many items of rows cover a position.
-use Rattle.std.proofs.Common.{◌≡◌, ℕ, suc, ◌+◌, ◌<◌, ◌≤◌, inl, inr, Bool, cond, List, [], ◌∷◌, refl, sym, ap, ap₂, ◌∙◌, arith}
+-- Blocks that stand one behind the other with rows of their own, how many items of rows cover a position, and the row that has
+-- the cursor.
+use Rattle.std.proofs.Common.{◌≡◌, ℕ, suc, ◌+◌, ◌<◌, ◌≤◌, inl, inr, Bool, cond, List, [], ◌∷◌, Option, None, Some, refl, sym, ap, ap₂, ◌∙◌, subst, add-one, arith}
 use Rattle.std.specs.List.{count_by}
 use Rattle.std.proofs.lemmas.Bool.{cases_Bool}
 use Rattle.std.proofs.lemmas.Bool.Decides.{nat_tests}
 use Rattle.std.proofs.lemmas.List.Folds.{list_any_none}
+use Rattle.std.proofs.lemmas.Option.{same_Some}
+use Rattle.std.specs.Prelude.{slice_get}
 use Rattle.rd_base.proofs.Choices.{one-at-most}
 use Rattle.rd_base.proofs.Lists.{count-append, lies, lies-apart, lies-empty, total-append}
 use Rattle.rd_base.specs.Lists.{total}
 use Rattle.rd_matrix.proofs.Passing.{none-counted}
 use Rattle.rd_matrix.specs.Blocks.{IsAmong, StandFrom, end_from, first_start}
 use Rattle.rd_matrix.specs.Columns.{covers}
+use Rattle.rd_matrix.specs.Cursors.{column_shown, cursor_in, or_below}
 use Rattle.rd_matrix.specs.Entries.{EntryMeaning, all_rows, entries_of, numbered}
 use Rattle.rd_matrix.specs.Sources.{AreRowsOf, IsSource, SourceValues, begins_of, rows_at}
 use Rattle.rd_matrix.specs.declared.block.Block.{Block}
@@ -72,3 +76,20 @@ pub few-whole : (m : SourceValues) (shape : ShapeValues) (point : ℕ) → IsSou
 few-whole m shape point source is =
     let start = first_start m.blocks in
     omega (arith, count-fit (λ b. m.rows_of b shape) start point m.blocks (whole-fit m shape source is), one-at-most (lies point start (end_from start m.blocks)))
+
+-- the row at a place shows the item that covers a point, and shows it in the place's column
+abbrev pub HasCursor : ℕ → List EntryMeaning → ℕ × ℕ → Type 0
+HasCursor point es place = (e : EntryMeaning) × (slice_get es place.0 ≡ Some e) × (column_shown point e ≡ Some place.1)
+
+cursor-by : (point : ℕ) (e : EntryMeaning) (es : List EntryMeaning) (here : Option ℕ) (below : Option (ℕ × ℕ)) (place : ℕ × ℕ) → column_shown point e ≡ here
+    → ((p : ℕ × ℕ) → below ≡ Some p → HasCursor point es p) → or_below here below ≡ Some place → HasCursor point (e ∷ es) place
+cursor-by point e es (Some c) below place here later at = subst (HasCursor point (e ∷ es)) (same_Some (0, c) place at) (e, refl, here)
+cursor-by point e es None None place here later at = absurd cc
+cursor-by point e es None (Some p) place here later at =
+    let found = later p refl in
+    subst (HasCursor point (e ∷ es)) (same_Some (p.0 + 1, p.1) place at) (found.0, rw add-one found.1, found.2)
+
+-- so does the row at the cursor's place
+pub cursor-row : (point : ℕ) (es : List EntryMeaning) (place : ℕ × ℕ) → cursor_in point es ≡ Some place → HasCursor point es place
+cursor-row point [] place at = absurd cc
+cursor-row point (e ∷ es) place at = cursor-by point e es (column_shown point e) (cursor_in point es) place refl (cursor-row point es) at

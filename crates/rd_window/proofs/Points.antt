@@ -1,12 +1,12 @@
 -- Where the item that covers a point begins, among all rows of a source and in a view.
-use Rattle.std.proofs.Common.{◌≡◌, ℕ, suc, ◌+◌, ◌-◌, ◌<◌, ◌≤◌, inl, inr, true, false, cond, ◌||◌, List, [], ◌∷◌, length, take, drop, slice_get, option_map, is_some, Option, None, Some, refl, sym, ap, ◌∙◌, arith}
+use Rattle.std.proofs.Common.{◌≡◌, ℕ, ◌+◌, ◌-◌, ◌<◌, ◌≤◌, inl, inr, true, false, cond, ◌||◌, List, [], ◌∷◌, length, take, drop, slice_get, option_map, is_some, Option, None, Some, refl, sym, ap, ◌∙◌, arith}
 use Rattle.std.proofs.lemmas.Bool.{cases_Bool}
 use Rattle.std.proofs.lemmas.List.{length-take}
 use Rattle.std.proofs.lemmas.Option.{slice_get_within}
 use Rattle.std.proofs.lemmas.Map.Keys.{any_passes_from_place}
 use Rattle.std.specs.List.{count_by, find, list_any}
 use Rattle.rd_base.proofs.Lists.{count-cons, is_some-found}
-use Rattle.rd_matrix.proofs.Covering.{count_at, few-whole}
+use Rattle.rd_matrix.proofs.Covering.{count_at, cursor-row, few-whole}
 use Rattle.rd_matrix.proofs.Passing.{at-position, one-position, some-counted}
 use Rattle.rd_matrix.specs.Blocks.{IsWithin}
 use Rattle.rd_matrix.specs.Columns.{covers, shown_column}
@@ -50,27 +50,6 @@ begins-shown point e =
     sym (some-mapped (shown_column e.row) (option_map (λ (b : Begin). b.column) found)
     ∙ (some-mapped (λ (b : Begin). b.column) found ∙ is_some-found (covers e.start point) e.row.begins))
 
--- the row at a place has the beginning
-abbrev HasBeginning : ℕ → List EntryMeaning → ℕ → Type 0
-HasBeginning point es row = (e : EntryMeaning) × (slice_get es row ≡ Some e) × (begins_item point e ≡ true)
-
-cursor-by : (point : ℕ) (e : EntryMeaning) (es : List EntryMeaning) (here : Option ℕ) (below : Option (ℕ × ℕ)) (place : ℕ × ℕ) → column_shown point e ≡ here
-    → ((p : ℕ × ℕ) → below ≡ Some p → HasBeginning point es p.0) → or_below here below ≡ Some place → HasBeginning point (e ∷ es) place.0
-cursor-by point e es (Some c) below place here later at =
-    let same : (0, c) ≡ place = cc in
-    let row : place.0 ≡ 0 = sym (ap (λ (p : ℕ × ℕ). p.0) same) in
-    (e, ap (slice_get (e ∷ es)) row, begins-shown point e ∙ ap is_some here)
-cursor-by point e es None None place here later at = absurd cc
-cursor-by point e es None (Some p) place here later at =
-    let same : (p.0 + 1, p.1) ≡ place = cc in
-    let row : place.0 ≡ suc p.0 = sym (ap (λ (q : ℕ × ℕ). q.0) same) ∙ omega arith in
-    let found = later p refl in
-    (found.0, ap (slice_get (e ∷ es)) row ∙ found.1, found.2)
-
-cursor-row : (point : ℕ) (es : List EntryMeaning) (place : ℕ × ℕ) → cursor_in point es ≡ Some place → HasBeginning point es place.0
-cursor-row point [] place at = absurd cc
-cursor-row point (e ∷ es) place at = cursor-by point e es (column_shown point e) (cursor_in point es) place refl (λ p below. cursor-row point es p below) at
-
 neither-some : (here : Option ℕ) (below : Option (ℕ × ℕ)) → or_below here below ≡ None → (here ≡ None) × (below ≡ None)
 neither-some (Some c) below at = absurd cc
 neither-some None (Some p) at = absurd cc
@@ -92,13 +71,14 @@ module _ {m : SourceValues} {shape : ShapeValues} (w : Wanted) (source : IsSourc
   point-shown i height place at =
       let rows = rows_at m shape in
       let found = cursor-row w.point (take height (drop i rows)) place at in
+      let begins = begins-shown w.point found.0 ∙ ap is_some found.2 in
       let taken = slice_get_within (take height (drop i rows)) place.0 found.0 found.1 in
       let size = length-take height (drop i rows) in
       let low : place.0 < height = omega (arith, taken, size) in
       let there = sym (in-view rows i height place.0 low) ∙ found.1 in
       let less = rows-counted w.point rows in
       let few = few-whole m shape w.point source is in
-      (one-position (begins_item w.point) rows (i + place.0) found.0 (omega (arith, less, few)) there found.2, low, slice_get_within rows (i + place.0) found.0 there)
+      (one-position (begins_item w.point) rows (i + place.0) found.0 (omega (arith, less, few)) there begins, low, slice_get_within rows (i + place.0) found.0 there)
 
   -- and where it does not
   pub point-hidden : (i height : ℕ) → IsWithin w.point m.blocks → cursor_in w.point (take height (drop i (rows_at m shape))) ≡ None
