@@ -121,17 +121,6 @@ and_then-ok : {A B : Type 0} (f : A → Result B OpFault) (r : Result A OpFault)
 and_then-ok f (Ok a) b e = (a, refl, e)
 and_then-ok f (Err g) b e = absurd (cc)
 
-both-gives : {A B : Type 0} (f : Fields A) (g : Fields B) (P : A → Type 0) (Q : B → Type 0) → Gives f P → Gives g Q → Gives (both f g) (λ x. P x.0 × Q x.1)
-both-gives f g P Q hf hg = record {
-  given = λ ms x e.
-      let first = and_then-ok (λ a. and_then (λ b. Ok (a, b)) (g.taken ms)) (f.taken ms) x e in
-      let second = and_then-ok (λ b. Ok (first.0, b)) (g.taken ms) x first.2 in
-      let same = ok-same (first.0, second.0) x second.2 in
-      subst (λ y. P y.0 × Q y.1) same (hf.given ms first.0 first.1, hg.given ms second.0 second.1);
-  free = λ ms. and_then-free (λ a. and_then (λ b. Ok (a, b)) (g.taken ms)) (f.taken ms)
-      (λ a e. and_then-free (λ b. Ok (a, b)) (g.taken ms) (λ b e. ok-free (a, b)) (hg.free ms)) (hf.free ms);
-}
-
 made-as : {A B : Type 0} (f : A → B) (fields : Fields A) (P : A → Type 0) (Q : B → Type 0) → Gives fields P → ((a : A) → P a → Q (f a)) → Gives (made f fields) Q
 made-as f fields P Q h so = record {
   given = λ ms x e.
@@ -173,6 +162,11 @@ then_by-gives first keys second P Q h so = record {
       (so of.0 (h.given ms of.0 of.1)).given ms x of.2;
   free = λ ms. and_then-free (λ a. (second a).taken ms) (first.taken ms) (λ a e. (so a (h.given ms a e)).free ms) (h.free ms);
 }
+
+-- both of two fields are what is made behind the first of what the second gives
+both-gives : {A B : Type 0} (f : Fields A) (g : Fields B) (P : A → Type 0) (Q : B → Type 0) → Gives f P → Gives g Q → Gives (both f g) (λ x. P x.0 × Q x.1)
+both-gives f g P Q hf hg =
+    then_by-gives f g.keys (λ a. made (λ b. (a, b)) g) P (λ x. P x.0 × Q x.1) hf (λ a p. made-as (λ b. (a, b)) g Q (λ x. P x.0 × Q x.1) hg (λ b q. (p, q)))
 
 any-finds : {T : Type 0} (kind : Data → Option T) → Finds kind (λ x. Unit {0})
 any-finds kind = record { found = λ d x e. tt }
