@@ -109,32 +109,25 @@ kept-past : {X : Type 0} (n m : ℕ) (o : Option X) (rest : List (ℕ × X)) →
 kept-past n m None rest other = refl
 kept-past n m (Some x) rest other = under-there m (n, x) rest other
 
--- the others stay
-pub entry-past : {X : Type 0} (n m : ℕ) (f : X → Option X) (es : List (ℕ × X)) → m ≢ n → under m (becoming n f es) ≡ under m es
+-- the others stay, and so does the number itself where nothing stands under it
+pub entry-past : {X : Type 0} (n m : ℕ) (f : X → Option X) (es : List (ℕ × X)) → (m ≡ n → under m es ≡ None) → under m (becoming n f es) ≡ under m es
 entry-past n m f [] ne = refl
 entry-past n m f (e ∷ rest) ne = elim (cases_eq e.0 n) [
   | inl p ↦
-      let other : e.0 ≢ m = λ r. ne (sym r ∙ p) in
+      let other : e.0 ≢ m = λ r. none-some e.1 (sym (ne (sym r ∙ p)) ∙ under-here m e rest r) in
       ap (under m) (becoming-here n f e rest p) ∙ (kept-past e.0 m (f e.1) rest other ∙ sym (under-there m e rest other))
   | inr q ↦ ap (under m) (becoming-there n f e rest q) ∙ elim (cases_eq e.0 m) [
     | inl r ↦ under-here m e (becoming n f rest) r ∙ sym (under-here m e rest r)
-    | inr r ↦ under-there m e (becoming n f rest) r ∙ (entry-past n m f rest ne ∙ sym (under-there m e rest r))
+    | inr r ↦ under-there m e (becoming n f rest) r ∙ (entry-past n m f rest (λ s. sym (under-there m e rest r) ∙ ne s) ∙ sym (under-there m e rest r))
   ]
 ]
 
 pub entry-other : {X : Type 0} (n m : ℕ) (f : X → X) (es : List (ℕ × X)) → m ≢ n → under m (with_entry n f es) ≡ under m es
-entry-other n m f es ne = entry-past n m (λ x. Some (f x)) es ne
+entry-other n m f es ne = entry-past n m (λ x. Some (f x)) es (λ s. absurd (ne s))
 
 -- none comes
 pub none-past : (n m : ℕ) (f : WindowState → Option WindowState) (ws : List NumberedWindow) → window_of m ws ≡ None → window_of m (becoming n f ws) ≡ None
-none-past n m f [] h = refl
-none-past n m f (e ∷ rest) h =
-    let other : e.0 ≢ m = λ p. none-some e.1 (sym h ∙ under-here m e rest p) in
-    let further : window_of m rest ≡ None = sym (under-there m e rest other) ∙ h in
-    elim (cases_eq e.0 n) [
-      | inl p ↦ ap (window_of m) (becoming-here n f e rest p) ∙ (kept-past e.0 m (f e.1) rest other ∙ further)
-      | inr q ↦ ap (window_of m) (becoming-there n f e rest q) ∙ (under-there m e (becoming n f rest) other ∙ none-past n m f rest further)
-    ]
+none-past n m f ws h = entry-past n m f ws (λ s. h) ∙ h
 
 apart-kept : (n : ℕ) (o : Option WindowState) (rest : List NumberedWindow) → window_of n rest ≡ None → AreApart rest → AreApart (kept_as n o rest)
 apart-kept n None rest none h = h
@@ -265,7 +258,7 @@ module _ (R : ℕ → WindowState → WindowState → Type 0) (stays : (number :
   pub each-without : (n : ℕ) (ws : List NumberedWindow) → AreApart ws → Each R ws (without_entry n ws)
   each-without n ws apart number w v h k = elim (cases_eq number n) [
     | inl p ↦ absurd (none-some v (sym (window-gone n ws apart) ∙ (ap (λ (m : ℕ). window_of m (without_entry n ws)) (sym p) ∙ k)))
-    | inr q ↦ stays-found number ws w v h (sym (entry-past n number (λ x. None) ws q) ∙ k)
+    | inr q ↦ stays-found number ws w v h (sym (entry-past n number (λ x. None) ws (λ s. absurd (q s))) ∙ k)
   ]
 
 -- ---- places and numbers

@@ -86,7 +86,7 @@ leaf-other n k other (Split side size first second) ne none =
 
 -- a window that can only stand where another does, which is not among them
 gone : (n k : ℕ) (ws : Windows) → (k ≢ n → leaf_at k ws ≡ None) → holds n ws ≡ false → leaf_at k ws ≡ None
-gone n k ws none h = elim (cases_eq k n) [ | inl p ↦ rw p (leaf-none n ws h) | inr ne ↦ none ne ]
+gone n k ws none h = elim (cases_eq k n) [ inl p ↦ rw p (leaf-none n ws h) | inr ne ↦ none ne ]
 
 -- what is put in place of a window has this one, and nothing else has it
 pub leaf-replaced : (n k : ℕ) (other : Bool → ℕ → Windows) (g : Leaf → Leaf) (ws : Windows)
@@ -101,7 +101,7 @@ leaf-replaced n k other g (Split side size first second) gives none =
     cond_both (holds n first) (Split side size (replaced n other first) second) (Split side size first (replaced n other second))
     (λ ws. leaf_at k ws ≡ option_map g (option_or (leaf_at n first) (leaf_at n second)))
     (λ h. rw (leaf-replaced n k other g first gives (λ ne. (parts ne).0), leaf-first n first second h)
-        (or-first (option_map g (leaf_at n first)) (leaf_at k second) (is_some-map g (leaf_at n first) (leaf-some n first h))))
+    (or-first (option_map g (leaf_at n first)) (leaf_at k second) (is_some-map g (leaf_at n first) (leaf-some n first h))))
     (λ h. rw (gone n k first (λ ne. (parts ne).0) h, leaf-none n first h) (leaf-replaced n k other g second gives (λ ne. (parts ne).1)))
 
 -- ---- splits

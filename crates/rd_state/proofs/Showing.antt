@@ -163,7 +163,7 @@ retold-valid s number f g r v means gives keep =
     let new : Configuration = record s.tree { windows = replaced number (retold number g) s.tree.windows } in
     let here : leaf_at number new.windows ≡ option_map g (leaf_at number s.tree.windows)
     = leaf-replaced number number (retold number g) g s.tree.windows
-        (λ mode margins. cond-true (number == number) _ None (eq-eqb number number refl) ∙ ap (λ (x : Leaf). Some x) (both-parts (g (mode, margins)))) (λ ne. absurd (ne refl)) in
+    (λ mode margins. cond-true (number == number) _ None (eq-eqb number number refl) ∙ ap (λ (x : Leaf). Some x) (both-parts (g (mode, margins)))) (λ ne. absurd (ne refl)) in
     let others : (k : ℕ) → k ≢ number → leaf_at k new.windows ≡ leaf_at k s.tree.windows
     = λ k q. leaf-other number k (retold number g) s.tree.windows q (λ mode margins. cond-false (number == k) _ None (ne_eqb number k (λ p. q (sym p)))) in
     subst IsValid (ap (λ (x : Configuration). record s { tree = x; windows = with_entry number f s.windows }) is.1)
@@ -265,7 +265,7 @@ removed-windows s d number w v valid there many is found =
           ∙ sym (ap (option_map leaf_of) (ap (λ (x : ℕ). window_of x left) p ∙ window-gone number s.windows v.windows.apart))))
       | inr q ↦
           ap (leaf_at k) is ∙ (removed-other number k s.tree.windows (frame_of s.tree) q
-          ∙ (v.windows.leaves k ∙ sym (ap (option_map leaf_of) (entry-past number k (λ x. None) s.windows q))))
+          ∙ (v.windows.leaves k ∙ sym (ap (option_map leaf_of) (entry-past number k (λ x. None) s.windows (λ e. absurd (q e))))))
     ] in
     record {
       tree = valid;
@@ -276,7 +276,7 @@ removed-windows s d number w v valid there many is found =
       selected = cond_both (s.selected == number) heir s.selected (λ n. IsSome (window_of n left))
           (λ h. some-window (window_of heir left) (sym (ap (λ (o : Option Leaf). is_some o) (leaves heir))
           ∙ (is_some-leaf heir d.windows ∙ (ap (holds heir) is ∙ heir-held number s.tree.windows (frame_of s.tree)))))
-          (λ h. subst IsSome (sym (entry-past number s.selected (λ x. None) s.windows (eqb-false s.selected number h))) v.windows.selected);
+          (λ h. subst IsSome (sym (entry-past number s.selected (λ x. None) s.windows (λ e. absurd (eqb-false s.selected number h e)))) v.windows.selected);
     }
 
 pub removing-valid : (laws : TreeLaws) (s : StateValue) (number : ℕ) → IsValid s → IfOk (removing s number) IsValid
