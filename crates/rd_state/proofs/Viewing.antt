@@ -1,6 +1,6 @@
 -- What the ops on a window's view leave.
 use Rattle.std.proofs.Common.{◌≡◌, ℕ, ◌<◌, ◌≤◌, Bool, true, false, if◌then◌else◌, IsTrue, ℤ, pos, ◌+ℤ◌, neg_ℤ, ◌≤ℤ◌, FitsSigned, w64, to_z, of_z, Some, Result, Ok, Err, List, length, set, get_or, ap, subst, sym, ◌∙◌, arith}
-use Rattle.std.proofs.lemmas.Bool.{and_parts, cond-false, cond-true}
+use Rattle.std.proofs.lemmas.Bool.{and_parts}
 use Rattle.std.proofs.lemmas.Bool.Decides.{nat_tests}
 use Rattle.std.proofs.lemmas.Int.{ints, to_z-of_z}
 use Rattle.std.proofs.lemmas.Option.{slice_get_past}
@@ -50,20 +50,15 @@ shows-none s t n i e name same there past =
 
 -- ---- a position in the buffer that is shown
 
-pub places-window : (s t : StateValue) (n i place : ℕ) (e : NumberedWindow) (f : WindowState → WindowState) (b : BufferValue) → t ≡ s → IsFound n i t.windows e → slice_get t.buffers e.1.buffer ≡ Some b
-    → is_accessible b.content.text place ≡ true → placing s n place f ≡ Ok (record t { windows = set t.windows i (e.0, f e.1) })
-places-window s t n i place e f b same there at inside =
+pub placing-is : (s t : StateValue) (n i place : ℕ) (e : NumberedWindow) (f : WindowState → WindowState) (b : BufferValue) (inside : Bool) → t ≡ s → IsFound n i t.windows e
+    → slice_get t.buffers e.1.buffer ≡ Some b → is_accessible b.content.text place ≡ inside
+    → placing s n place f ≡ (if inside then Ok (record t { windows = set t.windows i (e.0, f e.1) }) else Err OutOfRange)
+placing-is s t n i place e f b inside same there at is =
     let done : StateValue → BufferValue → Result StateValue Refused = λ x c. if is_accessible c.content.text place then changing n f (Ok x) else Err OutOfRange in
     at-window s t n i e (λ x w. in_shown x w (done x)) same there
     ∙ (ap (λ o. with_found NoBuffer o (done t)) at
-    ∙ (cond-true (is_accessible b.content.text place) (changing n f (Ok t)) (Err OutOfRange) inside ∙ ap (λ xs. Ok (record t { windows = xs })) (sym (there.changed f))))
-
-pub place-refused : (s t : StateValue) (n i place : ℕ) (e : NumberedWindow) (f : WindowState → WindowState) (b : BufferValue) → t ≡ s → IsFound n i t.windows e → slice_get t.buffers e.1.buffer ≡ Some b
-    → is_accessible b.content.text place ≡ false → placing s n place f ≡ Err OutOfRange
-place-refused s t n i place e f b same there at outside =
-    let done : StateValue → BufferValue → Result StateValue Refused = λ x c. if is_accessible c.content.text place then changing n f (Ok x) else Err OutOfRange in
-    at-window s t n i e (λ x w. in_shown x w (done x)) same there
-    ∙ (ap (λ o. with_found NoBuffer o (done t)) at ∙ cond-false (is_accessible b.content.text place) (changing n f (Ok t)) (Err OutOfRange) outside)
+    ∙ (ap (λ y. if y then changing n f (Ok t) else Err OutOfRange) is
+    ∙ ap (λ xs. if inside then Ok (record t { windows = xs }) else Err OutOfRange) (sym (there.changed f))))
 
 -- what is set of a window, where a position was found that is accessible in the buffer that it shows
 pub sets-placed : (s t : StateValue) (n i place short : ℕ) (e : NumberedWindow) (f : ℕ → WindowState → WindowState) → t ≡ s → i ≡ place_in n s.windows → i < length s.windows → short ≡ place

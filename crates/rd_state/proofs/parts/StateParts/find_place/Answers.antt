@@ -1,11 +1,11 @@
-use Rattle.std.proofs.Common.{◌≡◌, Err, subst, ap, sym, ◌∙◌}
+use Rattle.std.proofs.Common.{◌≡◌, true, false, Err, subst, ap, sym, ◌∙◌}
 use Rattle.rd_state.specs.contracts.parts.StateParts.{the_view}
 use Rattle.rd_state.specs.declared.window.WindowState.{WindowState}
 use Rattle.rd_state.specs.Steps.{placing}
 use Rattle.rd_state.specs.Valid.{IsValid}
 use Rattle.rd_state.proofs.Finding.{found-in, sets-window}
 use Rattle.rd_state.proofs.Sharing.{if-refused}
-use Rattle.rd_state.proofs.Viewing.{shown-made, places-window, place-refused}
+use Rattle.rd_state.proofs.Viewing.{shown-made, placing-is}
 use Rattle.rd_state.proofs.parts.StateParts.find_place.Goals as goal
 
 pub accessible-requires : goal.accessible-requires
@@ -24,7 +24,7 @@ returns-in_err-place-clause-refused c =
     let b = c.in_err-place.ensures.exact in
     if-refused c.from_residual-in_err-place.result c.in_err-place.field-0.0 (λ x. (f : WindowState → WindowState) → placing c.args.self.now n c.args.pos f ≡ Err x)
     c.from_residual-in_err-place.ensures.1
-    (λ f. place-refused c.args.self.now t n c.in_ok-i.i c.args.pos c.index.result.now f b.0 c.self.view_is there b.1 b.2 ∙ ap (λ e. Err e) (sym c.in_err-place.ensures.refused))
+    (λ f. placing-is c.args.self.now t n c.in_ok-i.i c.args.pos c.index.result.now f b.0 false c.self.view_is there b.1 b.2 ∙ ap (λ e. Err e) (sym c.in_err-place.ensures.refused))
 
 pub returns-clause-placed : goal.returns-clause-placed
 returns-clause-placed c =
@@ -32,5 +32,5 @@ returns-clause-placed c =
     let n = c.args.window in
     let there = found-in t c.as_slice.result.now n c.in_ok-i.i c.index.result.now c.as_slice.ensures.value c.in_ok-i.ensures.0 c.in_ok-i.ensures.1 c.index.ensures in
     let b = c.in_ok-place.ensures.exact in
-    λ f. places-window c.args.self.now t n c.in_ok-i.i c.args.pos c.index.result.now f b.0 c.self.view_is there b.1 b.2
+    λ f. placing-is c.args.self.now t n c.in_ok-i.i c.args.pos c.index.result.now f b.0 true c.self.view_is there b.1 b.2
     ∙ sym (sets-window c.args.self.now t n c.in_ok-i.i c.index.result.now f c.self.view_is there)
