@@ -1,6 +1,6 @@
 -- What is chosen, from what was found.
 use Rattle.std.proofs.Common.{◌≡◌, ℕ, ◌+◌, ◌<◌, ◌≤◌, Bool, true, false, cond, min, max, ltb, List, [], ◌∷◌, take, drop, None, Some, refl, sym, ap, ◌∙◌, arith}
-use Rattle.std.proofs.lemmas.Bool.{le-ltb, lt-ltb}
+use Rattle.std.proofs.lemmas.Bool.{cond-false, cond-true, le-ltb, lt-ltb}
 use Rattle.std.proofs.lemmas.Bool.Decides.{nat_tests}
 use Rattle.std.specs.List.{find, reduce}
 use Rattle.std.specs.Option.{option_map, unwrap_or}
@@ -22,14 +22,16 @@ use Rattle.rd_start.proofs.Spans.{span_of-greatest, span_of-least}
 abbrev chosen_at : List EntryMeaning → ℕ → ℕ → Chosen
 chosen_at rows j point = record { anchor = anchor_at rows j; point = point }
 
-pub chosen-free : (m : SourceValues) (shape : ShapeValues) (w : Wanted) (j : ℕ) → w.forced ≡ false → following w (places_of m shape w) ≡ j
-    → record { anchor = anchor_at (rows_at m shape) j; point = w.point } ≡ chosen_of m shape w
-chosen-free m shape w j free e =
+chosen-by : (m : SourceValues) (shape : ShapeValues) (w : Wanted) (j p : ℕ) → start_of w (places_of m shape w) ≡ j → p ≡ point_from w (places_of m shape w) j (rows_at m shape)
+    → chosen_at (rows_at m shape) j p ≡ chosen_of m shape w
+chosen-by m shape w j p start point =
     let at = places_of m shape w in
     let rows = rows_at m shape in
-    let start = ap (λ b. cond b (scrolled w at) (following w at)) free ∙ e in
-    let point = ap (λ b. cond b (forced_point w (start_of w at) at.point (take w.height (drop (start_of w at) rows))) w.point) free in
-    ap (λ n. chosen_at rows n w.point) (sym start) ∙ ap (chosen_at rows (start_of w at)) (sym point)
+    ap (λ n. chosen_at rows n p) (sym start) ∙ ap (chosen_at rows (start_of w at)) (point ∙ ap (λ n. point_from w at n rows) (sym start))
+
+pub chosen-free : (m : SourceValues) (shape : ShapeValues) (w : Wanted) (j : ℕ) → w.forced ≡ false → following w (places_of m shape w) ≡ j
+    → record { anchor = anchor_at (rows_at m shape) j; point = w.point } ≡ chosen_of m shape w
+chosen-free m shape w j free e = chosen-by m shape w j w.point (cond-false w.forced _ _ free ∙ e) (sym (cond-false w.forced _ _ free))
 
 pub follows-found : (w : Wanted) (at : Places) (j : ℕ) → find (suits w at) (around at.old w.conservatively) ≡ Some j → following w at ≡ j
 follows-found w at j e = ap (λ o. unwrap_or o (centred w at)) e
@@ -43,14 +45,7 @@ follows-old w at e = follows-found w at at.old (find-first (suits w at) at.old w
 pub chosen-forced : (m : SourceValues) (shape : ShapeValues) (w : Wanted) (j p : ℕ) → w.forced ≡ true → scrolled w (places_of m shape w) ≡ j
     → p ≡ forced_point w j (places_of m shape w).point (take w.height (drop j (rows_at m shape)))
     → record { anchor = anchor_at (rows_at m shape) j; point = p } ≡ chosen_of m shape w
-chosen-forced m shape w j p forced e point =
-    let at = places_of m shape w in
-    let rows = rows_at m shape in
-    let start : start_of w at ≡ j = ap (λ b. cond b (scrolled w at) (following w at)) forced ∙ e in
-    let moved : point_from w at (start_of w at) rows ≡ forced_point w (start_of w at) at.point (take w.height (drop (start_of w at) rows)) =
-    ap (λ b. cond b (forced_point w (start_of w at) at.point (take w.height (drop (start_of w at) rows))) w.point) forced in
-    let same : p ≡ point_from w at (start_of w at) rows = point ∙ (ap (λ n. forced_point w n at.point (take w.height (drop n rows))) (sym start) ∙ sym moved) in
-    ap (λ n. chosen_at rows n p) (sym start) ∙ ap (chosen_at rows (start_of w at)) same
+chosen-forced m shape w j p forced e point = chosen-by m shape w j p (cond-true w.forced _ _ forced ∙ e) (point ∙ sym (cond-true w.forced _ _ forced))
 
 shown : (start height row : ℕ) → start ≤ row → row < start + height → is_in_view height start row ≡ true
 shown start height row low high = grind (arith, nat_tests)
