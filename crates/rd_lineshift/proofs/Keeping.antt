@@ -1,5 +1,5 @@
 -- The new current screen of an update that may begin with a shift.
-use Rattle.std.proofs.Common.{◌≡◌, ℕ, true, List, length, Option, None, Some, subst, ◌∙◌, arith}
+use Rattle.std.proofs.Common.{◌≡◌, ℕ, List, length, Option, None, Some, subst, ◌∙◌, arith}
 use Rattle.std.specs.Prelude.{IfSome}
 use Rattle.rd_term.specs.Pictures.{Picture, IsScreen, blank_row, width_of}
 use Rattle.rd_update.specs.Laws.{IsSound}
@@ -65,24 +65,18 @@ only-screens (Some screen) p = p.0
 
 -- ---- by the laws of updates
 
-pub reached : ((current : Option Picture) (target : Picture) (limit : Option ℕ) → HaveOneSize current target → (update current target limit).done ≡ true → (update current target limit).screen ≡ target)
+-- what holds of each update holds of one that may begin with a shift
+pub by-updates : (P : Option Picture → Picture → Option ℕ → Type 0)
+    → ((current : Option Picture) (target : Picture) (limit : Option ℕ) → HaveOneSize current target → P current target limit)
     → (current : Option Picture) (target : Picture) (bands : List Band) (limit : Option ℕ) → HaveOneSize current target → IfSome current (λ screen. IsScreen screen)
-    → AreWithin (length target.rows) bands → (shifted_update current target bands limit).done ≡ true → (shifted_update current target bands limit).screen ≡ target
-reached law current target bands limit h p within done =
-    law (after_shift (choice current target bands) current) target limit
-    (after-sized current target (choice current target bands) h p (taken-fits (length target.rows) current target bands within)) done
-
-pub sized : ((current : Option Picture) (target : Picture) (limit : Option ℕ) → HaveOneSize current target → HaveOneSize (Some (update current target limit).screen) target)
-    → (current : Option Picture) (target : Picture) (bands : List Band) (limit : Option ℕ) → HaveOneSize current target → IfSome current (λ screen. IsScreen screen)
-    → AreWithin (length target.rows) bands → HaveOneSize (Some (shifted_update current target bands limit).screen) target
-sized law current target bands limit h p within =
-    law (after_shift (choice current target bands) current) target limit
-    (after-sized current target (choice current target bands) h p (taken-fits (length target.rows) current target bands within))
+    → AreWithin (length target.rows) bands → P (after_shift (choice current target bands) current) target limit
+by-updates P law current target bands limit h p within =
+    let taken = choice current target bands in
+    law (after_shift taken current) target limit (after-sized current target taken h p (taken-fits (length target.rows) current target bands within))
 
 pub sound : ((current : Option Picture) (target : Picture) (limit : Option ℕ) → HaveOneSize current target → IfSome current (λ screen. IsSound screen) → IsSound target → IsSound (update current target limit).screen)
     → (current : Option Picture) (target : Picture) (bands : List Band) (limit : Option ℕ) → HaveOneSize current target → IfSome current (λ screen. IsScreen screen × IsSound screen)
     → AreWithin (length target.rows) bands → IsSound target → IsSound (shifted_update current target bands limit).screen
 sound law current target bands limit h p within t =
-    let taken = choice current target bands in
-    let fits = taken-fits (length target.rows) current target bands within in
-    law (after_shift taken current) target limit (after-sized current target taken h (only-screens current p) fits) (after-sound current target taken h p fits) t
+    by-updates (λ c t l. IfSome c (λ screen. IsSound screen) → IsSound t → IsSound (update c t l).screen) law current target bands limit h (only-screens current p) within
+    (after-sound current target (choice current target bands) h p (taken-fits (length target.rows) current target bands within)) t
