@@ -87,29 +87,24 @@ moves_of f n k q within = elim (cases_lt (f q) k) [
       (found.0 + found.1 - suc q, inr t)
 ]
 
-pub Moves-within : (f : ℕ → ℕ) (n k q r : ℕ) → Moves f n k q r → q < n → r < n
-Moves-within f n k q r (inl low) within = omega arith
-Moves-within f n k q r (inr t) within =
-    let w = t.run.within in let i = t.image in let g = t.from in let h = t.to in omega arith
+-- what stands in the line comes to a place of the line, and from one
+Moves-within : (f : ℕ → ℕ) (n k q r : ℕ) → Moves f n k q r → (q < n → r < n) × (r < n → q < n)
+Moves-within f n k q r (inl low) = (λ h. omega arith, λ h. omega arith)
+Moves-within f n k q r (inr t) =
+    let w = t.run.within in let i = t.image in let g = t.from in let h = t.to in (λ less. omega arith, λ less. omega arith)
 
-pub Moves-source : (f : ℕ → ℕ) (n k q r : ℕ) → Moves f n k q r → r < n → q < n
-Moves-source f n k q r (inl low) within = omega arith
-Moves-source f n k q r (inr t) within =
-    let w = t.run.within in let h = t.to in omega arith
-
-pub Comes-within : (f : ℕ → ℕ) (n base m p q : ℕ) → Comes f n base m p q → p < n → q < n
-Comes-within f n base zero p q c within = omega arith
-Comes-within f n base (suc m) p q (r, c, moves) within = Moves-within f n (base + suc m) r q moves (Comes-within f n base m p r c within)
-
-pub Comes-source : (f : ℕ → ℕ) (n base m p q : ℕ) → Comes f n base m p q → q < n → p < n
-Comes-source f n base zero p q c within = omega arith
-Comes-source f n base (suc m) p q (r, c, moves) within = Comes-source f n base m p r c (Moves-source f n (base + suc m) r q moves within)
+pub Comes-within : (f : ℕ → ℕ) (n base m p q : ℕ) → Comes f n base m p q → (p < n → q < n) × (q < n → p < n)
+Comes-within f n base zero p q c = (λ h. omega arith, λ h. omega arith)
+Comes-within f n base (suc m) p q (r, c, moves) =
+    let first = Comes-within f n base m p r c in
+    let last = Moves-within f n (base + suc m) r q moves in
+    (λ h. last.0 (first.0 h), λ h. first.1 (last.1 h))
 
 pub comes_of : (f : ℕ → ℕ) (n base m p : ℕ) → p < n → (q : ℕ) × Comes f n base m p q
 comes_of f n base zero p within = (p, refl)
 comes_of f n base (suc m) p within =
     let c = comes_of f n base m p within in
-    let moved = moves_of f n (base + suc m) c.0 (Comes-within f n base m p c.0 c.1 within) in
+    let moved = moves_of f n (base + suc m) c.0 ((Comes-within f n base m p c.0 c.1).0 within) in
     (moved.0, (c.0, c.1, moved.1))
 
 -- two ways to give levels that agree on what is high, up to a level
@@ -134,5 +129,5 @@ Comes-agree f g n most base zero p q agree below within c = c
 Comes-agree f g n most base (suc m) p q agree below within (r, c, moves) = (
   r,
   Comes-agree f g n most base m p r agree (omega arith) within c,
-  Moves-agree f g n most (base + suc m) r q agree below (Comes-within f n base m p r c within) moves,
+  Moves-agree f g n most (base + suc m) r q agree below ((Comes-within f n base m p r c).0 within) moves,
 )

@@ -152,7 +152,7 @@ l2_reversed_down-comes levels base (suc n) xs p q within (r, c, moves) =
     let on_ys : Comes (level_in levels ys) (length xs) base n p r = Comes-agree (level_in levels xs) (level_in levels ys) (length xs) k base n p r (l2_reversed-agree levels k xs) (omega arith) within c in
     let C : ℕ → Type 0 = λ len. Comes (level_in levels ys) len base n p r in
     let low = l2_reversed_down-comes levels base n ys p r (omega arith) (subst C size on_ys) in
-    let r_within = Comes-within (level_in levels xs) (length xs) base n p r c within in
+    let r_within = (Comes-within (level_in levels xs) (length xs) base n p r c).0 within in
     low ∙ l2_reversed-moves levels k [] xs xs refl (λ i from to. absurd (omega arith)) r q r_within moves
 
 pub l2_reversed_down-length : (levels : List ℕ) (base n : ℕ) (xs : List ℕ) → length (l2_reversed_down levels base n xs) ≡ length xs
@@ -176,7 +176,7 @@ l2_visual_order-comes base levels p q within c =
     let agree : Agree (λ i. get_or levels i 0) (level_in levels xs) n (base + m) = λ k i below less. let e = same i less in ((λ h. omega arith), (λ h. omega arith)) in
     let on_xs = Comes-agree (λ i. get_or levels i 0) (level_in levels xs) n (base + m) base m p q agree (omega arith) within c in
     let C : ℕ → Type 0 = λ len. Comes (level_in levels xs) len base m p q in
-    l2_reversed_down-comes levels base m xs p q (omega arith) (subst C (sym size) on_xs) ∙ at q (Comes-within (λ i. get_or levels i 0) n base m p q c within)
+    l2_reversed_down-comes levels base m xs p q (omega arith) (subst C (sym size) on_xs) ∙ at q ((Comes-within (λ i. get_or levels i 0) n base m p q c).0 within)
 
 pub highest-bounds : (levels : List ℕ) (i : ℕ) → i < length levels → get_or levels i 0 ≤ highest levels
 highest-bounds (level ∷ levels) zero within = omega arith

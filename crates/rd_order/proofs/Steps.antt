@@ -6,7 +6,7 @@ use Rattle.std.proofs.lemmas.Bool.Decides.{nat_tests}
 use Rattle.std.proofs.lemmas.Option.{slice_get_within, slice_get-get_or, slice_get_past}
 use Rattle.rd_order.specs.Order.{highest, l2_visual_order}
 use Rattle.rd_order.specs.Places.{AreHigh, BeginsLow, IsRun, Comes, IsNextTo, IsBeside}
-use Rattle.rd_order.proofs.Places.{same_run, comes_of, Comes-within, Comes-source}
+use Rattle.rd_order.proofs.Places.{same_run, comes_of, Comes-within}
 use Rattle.rd_order.proofs.Reversals.{l2_visual_order-length, l2_visual_order-comes, highest-bounds}
 
 -- what `Comes` says holds of equal numbers too
@@ -49,7 +49,7 @@ shows base m p q levels high low within c =
     let f : ℕ → ℕ = λ i. get_or levels i 0 in
     let total = highest levels - base in
     let whole = Comes-equal f (length levels) base p (all-reversals base m q levels high within) refl (climb f (length levels) base m (total - m) p q low c) in
-    let p_within = Comes-source f (length levels) base m p q c within in
+    let p_within = (Comes-within f (length levels) base m p q c).1 within in
     let size = l2_visual_order-length base levels in
     slice_get-get_or (l2_visual_order base levels) p 0 (omega arith) ∙ ap Some (l2_visual_order-comes base levels p q p_within whole)
 
@@ -73,7 +73,7 @@ placed base p q levels at =
 pub gives-within : (base p q : ℕ) (levels : List ℕ) → slice_get (l2_visual_order base levels) p ≡ Some q → (p < length levels) × (q < length levels)
 gives-within base p q levels at =
     let whole = placed base p q levels at in
-    (whole.0, Comes-within (λ i. get_or levels i 0) (length levels) base (highest levels - base) p q whole.1 whole.0)
+    (whole.0, (Comes-within (λ i. get_or levels i 0) (length levels) base (highest levels - base) p q whole.1).0 whole.0)
 
 -- where an index stands in the order, what stands there after the reversals above its own level
 pub known : (base p q : ℕ) (levels : List ℕ) (m : ℕ) → get_or levels q 0 ≤ base + m → (0 < m → base + m ≤ get_or levels q 0)
