@@ -1,7 +1,8 @@
 -- The types before a place and between two places (N0).
-use Rattle.std.proofs.Common.{◌≡◌, ℕ, suc, ◌+◌, ◌-◌, ◌<◌, true, false, ◌||◌, List, [], ◌∷◌, ◌++◌, length, take, drop, get_or, refl, sym, ap, ◌∙◌, arith}
+use Rattle.std.proofs.Common.{◌≡◌, ℕ, suc, ◌+◌, ◌-◌, ◌<◌, true, false, ◌||◌, List, ◌∷◌, length, take, drop, get_or, sym, ap, ◌∙◌, arith}
 use Rattle.std.specs.Prelude.{if◌then◌else◌}
-use Rattle.std.proofs.lemmas.List.{drop_more, take_more}
+use Rattle.std.proofs.lemmas.List.{drop_more}
+use Rattle.std.proofs.lemmas.List.Sums.{fold_more}
 use Rattle.rd_base.specs.declared.class.Class.{Class}
 use Rattle.rd_base.specs.declared.class.Class.TheVariants.{L, R}
 use Rattle.rd_brackets.specs.Sides.{counts_as, holds, last_side}
@@ -20,13 +21,9 @@ pub holds-past : (side : Class) (ts : List Class) (k closing : ℕ) → k < clos
 holds-past side ts k closing less inside fails =
     sym (ap (holds side) (first-between ts k closing less inside) ∙ ap (λ t. t || holds side (take (closing - (k + 1)) (drop (k + 1) ts))) fails)
 
-last-more : (before : Class) (ts : List Class) (t : Class) → last_side before (ts ++ t ∷ []) ≡ (if counts_as L t then L else (if counts_as R t then R else last_side before ts))
-last-more before [] t = refl
-last-more before (u ∷ us) t = last-more (if counts_as L u then L else (if counts_as R u then R else before)) us t
-
 module _ (before : Class) (ts : List Class) (n m : ℕ) (next : n ≡ m + 1) (inside : m < length ts) where
   cut : last_side before (take n ts) ≡ (if counts_as L (get_or ts m L) then L else (if counts_as R (get_or ts m L) then R else last_side before (take m ts)))
-  cut = ap (λ k. last_side before (take k ts)) next ∙ ap (last_side before) (take_more ts m L inside) ∙ last-more before (take m ts) (get_or ts m L)
+  cut = ap (λ k. last_side before (take k ts)) next ∙ fold_more _ before ts m L inside
 
   pub last-left : counts_as L (get_or ts m L) ≡ true → last_side before (take n ts) ≡ L
   last-left counts = cut ∙ ap (λ t. if t then L else (if counts_as R (get_or ts m L) then R else last_side before (take m ts))) counts

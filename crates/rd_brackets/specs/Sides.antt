@@ -1,5 +1,5 @@
 -- The types of paired brackets (UAX 9, rule N0), over the types of one isolating run sequence.
-use Rattle.std.specs.Prelude.{ℕ, suc, ◌-◌, Bool, true, false, ◌||◌, if◌then◌else◌, List, [], ◌∷◌, length, take, drop, slice_index, slice_set, Option, None, Some, unwrap_or}
+use Rattle.std.specs.Prelude.{ℕ, suc, ◌-◌, Bool, true, false, ◌||◌, if◌then◌else◌, List, [], ◌∷◌, length, take, drop, slice_index, slice_set, fold, Option, None, Some, unwrap_or}
 use Rattle.rd_base.specs.Classes.{direction_of}
 use Rattle.rd_base.specs.declared.class.Class.{Class}
 use Rattle.rd_base.specs.declared.class.Class.TheVariants.{L, R, EN, AN, NSM, ON}
@@ -26,8 +26,7 @@ opposite side = L
 
 -- the direction of the last strong type, where it was known before these types
 abbrev pub last_side : Class → List Class → Class
-last_side before [] = before
-last_side before (t ∷ ts) = last_side (if counts_as L t then L else (if counts_as R t then R else before)) ts
+last_side before ts = fold (λ side t. if counts_as L t then L else (if counts_as R t then R else side)) before ts
 
 -- N0: the direction that both brackets of a pair take, by the embedding direction, the last strong direction before the opening
 -- bracket, and the types between the two. N0 b: the embedding direction, where it stands between them. N0 c: where the opposite one
