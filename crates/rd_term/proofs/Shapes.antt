@@ -45,15 +45,13 @@ whole-kept rows new cursor next latest region h n grid place =
 pub grid-cleared : (w : ℕ) (rows : Rows) → IsGrid w rows → IsGrid w (map cleared rows)
 grid-cleared w rows h = All-map (λ row. length row ≡ w) cleared rows (λ k d lt. length-replicate (length (get_or rows k d)) (Some blank) ∙ h k d lt)
 
-pub grid-down : (w n : ℕ) (rows : Rows) → IsGrid w rows → IsGrid w (moved_down n rows)
-grid-down w n rows h =
+pub grid-moved : (way : RowMove) (w n : ℕ) (rows : Rows) → IsGrid w rows → IsGrid w (moved way n rows)
+grid-moved Down w n rows h =
     let kept = length rows - n in
     All-append (λ row. length row ≡ w) (map cleared (drop kept rows)) (take kept rows)
     (grid-cleared w (drop kept rows) (All-drop (λ row. length row ≡ w) kept rows h))
     (All-take (λ row. length row ≡ w) kept rows h)
-
-pub grid-up : (w n : ℕ) (rows : Rows) → IsGrid w rows → IsGrid w (moved_up n rows)
-grid-up w n rows h =
+grid-moved Up w n rows h =
     All-append (λ row. length row ≡ w) (drop n rows) (map cleared (take n rows))
     (All-drop (λ row. length row ≡ w) n rows h)
     (grid-cleared w (take n rows) (All-take (λ row. length row ≡ w) n rows h))
@@ -68,10 +66,6 @@ pub length-up : (n : ℕ) (rows : Rows) → length (moved_up n rows) ≡ length 
 length-up n rows =
     length-append (drop n rows) (map cleared (take n rows))
     ∙ omega (arith, length-map (take n rows) cleared, length-drop n rows, length-take n rows)
-
-pub grid-moved : (way : RowMove) (w n : ℕ) (rows : Rows) → IsGrid w rows → IsGrid w (moved way n rows)
-grid-moved Down w n rows h = grid-down w n rows h
-grid-moved Up w n rows h = grid-up w n rows h
 
 pub length-moved : (way : RowMove) (n : ℕ) (rows : Rows) → length (moved way n rows) ≡ length rows
 length-moved Down n rows = length-down n rows
