@@ -178,19 +178,7 @@ pub other-step : (order : List ℕ) (bounds : List Bounds) (number : ℕ) (slot 
 other-step order bounds number slot place other h =
     from_before order bounds number slot place (λ c there at. absurd (other (get_or_from_slice_get order (place - 1) number 0 there))) h
 
--- what has no other edges can come in place of an overlay
-pub kept-bounded : (slots : List (Option Overlay)) (order : List ℕ) (bounds : List Bounds) (number : ℕ) (before after : Option Overlay)
-    → ((b : Bounds) → SlotHolds b before → SlotHolds b after) → slice_get slots number ≡ Some before → IsBounded slots order bounds
-    → IsBounded (slice_set slots number after) order bounds
-kept-bounded slots order bounds number before after step at h = record {
-  room = h.room;
-  holds = λ place k b there at_bounds.
-      let held = h.holds place k b there at_bounds in
-      set-holds (SlotHolds b) slots number after k
-      (λ e. step b (subst (λ (s : Option Overlay). SlotHolds b s) (ap (overlay_at slots) e ∙ ap live at) held)) held;
-}
-
--- so can what lies within the bounds of each block in which its number stands
+-- what lies within the bounds of each block in which a number stands can come in place of its overlay
 pub widened-bounded : (slots : List (Option Overlay)) (order : List ℕ) (old new : List Bounds) (number : ℕ) (slot : Option Overlay)
     → length new ≡ length old
     → ((place : ℕ) (c : Bounds) (other : Option Overlay) → ((b : Bounds) → slice_get old place ≡ Some b → SlotHolds b other) → slice_get new place ≡ Some c → SlotHolds c other)
@@ -204,6 +192,14 @@ widened-bounded slots order old new number slot size kept holds h =
           set-holds (SlotHolds c) slots number slot k (λ e. holds place c (there ∙ ap Some e) at)
           (kept (place / 256) c (overlay_at slots k) (λ b at_old. h.holds place k b there at_old) at);
     }
+
+-- so can what has no other edges
+pub kept-bounded : (slots : List (Option Overlay)) (order : List ℕ) (bounds : List Bounds) (number : ℕ) (before after : Option Overlay)
+    → ((b : Bounds) → SlotHolds b before → SlotHolds b after) → slice_get slots number ≡ Some before → IsBounded slots order bounds
+    → IsBounded (slice_set slots number after) order bounds
+kept-bounded slots order bounds number before after step at h =
+    widened-bounded slots order bounds bounds number after refl (λ place b other held. held b)
+    (λ place b there at_bounds. step b (subst (λ (s : Option Overlay). SlotHolds b s) (ap live at) (h.holds place number b there at_bounds))) h
 
 -- a number of the index is below the count of its numbers
 range-below : (m : ℕ) → All (λ k. k < m) (range_with_len 0 m)
