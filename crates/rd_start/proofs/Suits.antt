@@ -1,6 +1,6 @@
 -- Rows of a strip that suit as a start.
-use Rattle.std.proofs.Common.{◌≡◌, ℕ, ◌+◌, ◌-◌, ◌<◌, ◌≤◌, ◌⊎◌, inl, inr, Bool, true, false, cond, ◌==◌, leb, ltb, List, [], ◌∷◌, length, Option, None, Some, Result, Ok, Err, refl, sym, ap, subst, ◌∙◌, arith}
-use Rattle.std.proofs.lemmas.Bool.{and_right, eq-eqb, le-leb, lt-leb, ltb-false, ltb-true, ne_eqb}
+use Rattle.std.proofs.Common.{◌≡◌, ℕ, ◌+◌, ◌-◌, ◌<◌, ◌≤◌, ◌⊎◌, inl, inr, Bool, true, false, cond, ltb, List, [], ◌∷◌, Option, None, Some, Result, Ok, Err, refl, sym, ap, subst, ◌∙◌, arith}
+use Rattle.std.proofs.lemmas.Bool.{and_right, le-leb, lt-leb}
 use Rattle.std.proofs.lemmas.Bool.Decides.{nat_tests}
 use Rattle.std.specs.List.{find}
 use Rattle.rd_matrix.specs.Sources.{SourceValues}
@@ -33,48 +33,26 @@ point-is m w sweep e = ap (λ p. row_of p (all_rows (rows_in m sweep) m.blocks))
 
 -- the rows that are wanted at an edge of a view: all of the margin where the strip's row there is hidden or a block stands beyond it,
 -- and none where the text ends
-no-margin : (t : Bool) (margin : ℕ) → margin ≡ 0 → margin ≡ cond t 0 margin
-no-margin true margin none = none
-no-margin false margin none = refl
-
 pub wanted-zero : (edge : Edge) (w : Wanted) (count start : ℕ) → margin_of w ≡ 0 → margin_of w ≡ wanted_at edge w count start
-wanted-zero Top w count start none = no-margin (start == 0) (margin_of w) none
-wanted-zero Bottom w count start none = no-margin (leb count (start + w.height)) (margin_of w) none
+wanted-zero Top w count start none = grind (arith, nat_tests)
+wanted-zero Bottom w count start none = grind (arith, nat_tests)
 
 pub wanted-inside : (edge : Edge) (m : SourceValues) (s : Strip) (w : Wanted) (start : ℕ) → IsStrip m s → hides_edge edge w s start ≡ true
     → margin_of w ≡ wanted_at edge w (count_in m s.sweep m.blocks) (first_row m s + start)
-wanted-inside Top m s w start h hidden =
-    let low = ltb-true 0 start hidden in
-    let t = ne_eqb (first_row m s + start) 0 (λ e. omega (arith, e, low)) in
-    sym (ap (λ b. cond b 0 (margin_of w)) t)
-wanted-inside Bottom m s w start h hidden =
-    let low = ltb-true (start + w.height) (length s.strip_rows.items) hidden in
-    let all = all-inside m s h in
-    let t = lt-leb (count_in m s.sweep m.blocks) (first_row m s + start + w.height) (omega (arith, low, all)) in
-    sym (ap (λ b. cond b 0 (margin_of w)) t)
+wanted-inside Top m s w start h hidden = grind (arith, nat_tests)
+wanted-inside Bottom m s w start h hidden = let all = all-inside m s h in grind (arith, nat_tests)
 
 pub wanted-none : (edge : Edge) (m : SourceValues) (s : Strip) (w : Wanted) (start : ℕ) → hides_edge edge w s start ≡ false → EndsAt edge m s
     → 0 ≡ wanted_at edge w (count_in m s.sweep m.blocks) (first_row m s + start)
-wanted-none Top m s w start shown ends =
-    let low = ltb-false 0 start shown in
-    let t = eq-eqb (first_row m s + start) 0 (omega (arith, low, ends)) in
-    sym (ap (λ b. cond b 0 (margin_of w)) t)
-wanted-none Bottom m s w start shown ends =
-    let low = ltb-false (start + w.height) (length s.strip_rows.items) shown in
-    let t = le-leb (count_in m s.sweep m.blocks) (first_row m s + start + w.height) (omega (arith, low, ends)) in
-    sym (ap (λ b. cond b 0 (margin_of w)) t)
+wanted-none Top m s w start shown ends = grind (arith, nat_tests)
+wanted-none Bottom m s w start shown ends = grind (arith, nat_tests)
 
 pub wanted-some : (edge : Edge) (m : SourceValues) (s : Strip) (w : Wanted) (start : ℕ) (b : Block) → IsStrip m s → Reaches m s (start + w.height) → StandsBeyond m s edge b
     → margin_of w ≡ wanted_at edge w (count_in m s.sweep m.blocks) (first_row m s + start)
-wanted-some Top m s w start b h reached next =
-    let low = more-above m s b h next in
-    let t = ne_eqb (first_row m s + start) 0 (λ e. omega (arith, e, low)) in
-    sym (ap (λ b. cond b 0 (margin_of w)) t)
+wanted-some Top m s w start b h reached next = let low = more-above m s b h next in grind (arith, nat_tests)
 wanted-some Bottom m s w start b h reached next =
     let more = more-below m s b h next in
-    let low : first_row m s + start + w.height < count_in m s.sweep m.blocks = elim reached [ inl far ↦ omega arith | inr all ↦ omega arith ] in
-    let t = lt-leb (count_in m s.sweep m.blocks) (first_row m s + start + w.height) (omega arith) in
-    sym (ap (λ b. cond b 0 (margin_of w)) t)
+    elim reached [ inl far ↦ grind (arith, nat_tests) | inr all ↦ grind (arith, nat_tests) ]
 
 not-above : (height above below start row : ℕ) → row < start → is_inside height above below start row ≡ false
 not-above height above below start row low = grind (arith, nat_tests)
