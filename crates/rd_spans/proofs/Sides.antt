@@ -6,6 +6,7 @@ use Rattle.std.proofs.lemmas.Bool.{eqb-true, eq-eqb, lt-ltb, le-ltb, cases_lt}
 use Rattle.std.proofs.lemmas.List.{replicate-append-replicate, replicate_more, length-replicate, take_all, length-reverse, reverse-append, get_or_append_left, get_or-append_right, get_or-replicate, get_or_past, get_or-reverse, take-append-le, reverse-reverse, length_push}
 use Rattle.std.proofs.lemmas.List.Elements.{All-replicate}
 use Rattle.rd_base.proofs.Lists.{all-read}
+use Rattle.std.proofs.lemmas.List.Sums.{fold_push}
 use Rattle.rd_spans.specs.declared.run.ValueRun.{ValueRun}
 use Rattle.rd_spans.specs.Values.{value_at, IsTrimmed}
 use Rattle.rd_spans.specs.Sides.{values_from, values_of, Rises, reach, size_of, value_in, top, same_value, has_value, meet, needs, values_of_both, AreMoved, IsLighter, GapMoved}
@@ -25,8 +26,7 @@ same_value-refl (Some a) = eq-eqb a a refl
 -- runs and a last one
 
 pub reach-push : (k : ℕ) (rs : List ValueRun) (r : ValueRun) → reach k (rs ++ r ∷ []) ≡ r.end
-reach-push k [] r = refl
-reach-push k (q ∷ rs) r = reach-push q.end rs r
+reach-push k rs r = fold_push _ k rs r
 
 pub reach-least : (k : ℕ) (rs : List ValueRun) → Rises k rs → k ≤ reach k rs
 reach-least k [] h = omega arith

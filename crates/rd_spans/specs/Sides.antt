@@ -1,6 +1,6 @@
 -- How the values are kept: runs on both sides of a gap. Each run reaches from the end of the one before it to its own. The runs behind the
 -- gap count from the last position with a value backwards.
-use Rattle.std.specs.Prelude.{◌≡◌, ℕ, ◌+◌, ◌-◌, ◌<◌, ◌≤◌, nat_lt, nat_eq, Bool, true, false, if◌then◌else◌, List, [], ◌∷◌, ◌++◌, length, min, replicate, reverse, take, Option, None, Some}
+use Rattle.std.specs.Prelude.{◌≡◌, ℕ, ◌+◌, ◌-◌, ◌<◌, ◌≤◌, nat_lt, nat_eq, Bool, true, false, if◌then◌else◌, List, [], ◌∷◌, ◌++◌, length, min, replicate, reverse, take, fold, Option, None, Some}
 use Rattle.rd_spans.specs.declared.run.ValueRun.{ValueRun}
 use Rattle.rd_spans.specs.Values.{IsTrimmed}
 
@@ -19,8 +19,7 @@ Rises k (r ∷ rs) = (k < r.end) × Rises r.end rs
 
 -- where the last run ends
 abbrev pub reach : ℕ → List ValueRun → ℕ
-reach k [] = k
-reach k (r ∷ rs) = reach r.end rs
+reach k rs = fold (λ _ (r : ValueRun). r.end) k rs
 
 abbrev pub size_of : List ValueRun → ℕ
 size_of runs = reach 0 runs
