@@ -3,6 +3,7 @@ use Rattle.std.proofs.Common.{◌≡◌, ℕ, zero, suc, ◌+◌, ◌≤◌, Lis
 use Rattle.std.specs.List.{AllByRecursion}
 use Rattle.std.proofs.lemmas.List.{append-nil, length-take-le, length-drop, take_at, drop_at, drop-drop, drop_all}
 use Rattle.std.proofs.lemmas.List.Elements.{recursion_from_All}
+use Rattle.std.proofs.lemmas.List.Sums.{fold-append}
 use Rattle.rd_base.proofs.Lists.{each-weaker, length-replaced}
 use Rattle.rd_base.specs.Cells.{row_at}
 use Rattle.rd_term.specs.Pictures.{with_cells, written_over}
@@ -15,7 +16,7 @@ use Rattle.rd_tree.specs.Calls.{frame}
 use Rattle.rd_tree.specs.Compositions.{beside, composed, HasSize, FillTheirRectangles}
 use Rattle.rd_tree.proofs.Composing.{composed-size, filled_first, filled_second}
 use Rattle.rd_tree.proofs.Standing.{parts_within}
-use Rattle.rd_frame.specs.Paints.{laid_over, with_rectangle, painted, with_echo}
+use Rattle.rd_frame.specs.Paints.{laid_over, painted, with_echo}
 
 -- ---- a row
 
@@ -153,10 +154,6 @@ at-length (suc y) column news (row ∷ rows) = ap suc (at-length y column news r
 
 -- ---- windows
 
-painted-both : {C : Type 0} (rows_of : Placed → List (List C)) (first second : List Placed) (rows : List (List C)) → painted rows_of (first ++ second) rows ≡ painted rows_of second (painted rows_of first rows)
-painted-both rows_of [] second rows = refl
-painted-both rows_of (window ∷ first) second rows = painted-both rows_of first second (with_rectangle window.rect (rows_of window) rows)
-
 -- the second part of a split rectangle, laid over the first
 parts-laid : {C : Type 0} (rows_of : Placed → List (List C)) (side : Side) (size : ℕ) (first second : Windows) (rect : Rect) (rows : List (List C)) → HasRoom (Split side size first second) rect → FillTheirRectangles rows_of (placed (Split side size first second) rect) → AreWide rect.x rows
     → let a = first_part side size rect in
@@ -181,7 +178,7 @@ painted-composed rows_of (Split side size first second) rect rows h f wide =
     let b = second_part side size rect in
     let within = parts_within side size first second rect h in
     let laid = laid_at a.y a.x (composed rows_of first a) rows in
-    painted-both rows_of (placed first a) (placed second b) rows
+    fold-append _ rows (placed first a) (placed second b)
     ∙ (ap (painted rows_of (placed second b)) (painted-composed rows_of first a rows h.0 (filled_first rows_of side size first second rect f) (narrower (rect.x + rect.width) (a.x + a.width) rows within.0.1 wide))
     ∙ (painted-composed rows_of second b laid h.1 (filled_second rows_of side size first second rect f)
     (at-each (λ row. b.x + b.width ≤ length row) (λ new. Unit {0}) a.x (λ new row any n. written-at_least (b.x + b.width) a.x new row n) a.y (composed rows_of first a) rows

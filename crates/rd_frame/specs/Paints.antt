@@ -1,5 +1,5 @@
 -- Screens over which rectangles are painted.
-use Rattle.std.specs.Prelude.{ℕ, List, [], ◌∷◌, ◌++◌, take, drop}
+use Rattle.std.specs.Prelude.{ℕ, List, [], ◌∷◌, ◌++◌, take, drop, fold}
 use Rattle.rd_tree.specs.declared.placed.Placed.{Placed}
 use Rattle.rd_tree.specs.declared.rect.Rect.{Rect}
 use Rattle.rd_term.specs.Pictures.{written_over}
@@ -20,8 +20,7 @@ with_rectangle rect news rows = laid_from rect.y rect.x news rows
 
 -- the rows of a screen over which windows are painted, one after the other
 abbrev pub painted : {C : Type 0} → (Placed → List (List C)) → List Placed → List (List C) → List (List C)
-painted rows_of [] rows = rows
-painted rows_of (window ∷ windows) rows = painted rows_of windows (with_rectangle window.rect (rows_of window) rows)
+painted rows_of windows rows = fold (λ rows window. with_rectangle window.rect (rows_of window) rows) rows windows
 
 -- the rows of a screen with others in place of its last, which is the echo area
 abbrev pub with_echo : {C : Type 0} → List C → List (List C) → List (List C)
