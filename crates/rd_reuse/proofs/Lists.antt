@@ -1,6 +1,6 @@
 -- Lists that are joined, and what is left of them.
 use Rattle.std.proofs.Common.{◌≡◌, ℕ, zero, suc, ◌-◌, ◌<◌, ◌≤◌, List, [], ◌∷◌, ◌++◌, length, take, drop, sym, ap, ◌∙◌, arith}
-use Rattle.std.proofs.lemmas.List.{append_assoc, length-append, length-drop, length-take}
+use Rattle.std.proofs.lemmas.List.{append_assoc, drop-append-le, length-append, length-drop, length-take}
 
 take-both : {X : Type 0} (n : ℕ) (xs ys : List X) → take n (xs ++ ys) ≡ take n xs ++ take (n - length xs) ys
 take-both zero xs ys = let none : 0 - length xs ≡ 0 = omega arith in sym (ap (λ k. take k ys) none)
@@ -10,13 +10,8 @@ take-both (suc n) (x ∷ xs) ys =
     ap (λ zs. x ∷ zs) (take-both n xs ys ∙ sym (ap (λ k. take n xs ++ take k ys) same))
 
 take-both-from : {X : Type 0} (n from : ℕ) (xs ys : List X) → from ≤ length xs → take n (drop from (xs ++ ys)) ≡ take n (drop from xs) ++ take (n - (length xs - from)) ys
-take-both-from n zero xs ys low =
-    let same : length xs - 0 ≡ length xs = omega arith in
-    take-both n xs ys ∙ sym (ap (λ k. take n xs ++ take (n - k) ys) same)
-take-both-from n (suc from) [] ys low = absurd (omega arith)
-take-both-from n (suc from) (x ∷ xs) ys low =
-    let same : length (x ∷ xs) - suc from ≡ length xs - from = omega arith in
-    take-both-from n from xs ys (omega arith) ∙ sym (ap (λ k. take n (drop from xs) ++ take (n - k) ys) same)
+take-both-from n from xs ys low =
+    ap (take n) (drop-append-le from xs ys low) ∙ take-both n (drop from xs) ys ∙ ap (λ k. take n (drop from xs) ++ take (n - k) ys) (length-drop from xs)
 
 -- up to `most` elements of a list, from one of `here` on: those of `here`, and then those of `rest` as far as there is room
 pub filled-more : {X : Type 0} (most from : ℕ) (done here rest all : List X) → length done ≤ most → from ≤ length here
