@@ -1,12 +1,12 @@
 -- Rows of a strip that suit as a start.
-use Rattle.std.proofs.Common.{◌≡◌, ℕ, ◌+◌, ◌-◌, ◌<◌, ◌≤◌, ◌⊎◌, inl, inr, Bool, true, false, cond, ltb, List, [], ◌∷◌, Option, None, Some, Result, Ok, Err, refl, sym, ap, subst, ◌∙◌, arith}
-use Rattle.std.proofs.lemmas.Bool.{and_right, le-leb, lt-leb}
+use Rattle.std.proofs.Common.{◌≡◌, ℕ, ◌+◌, ◌-◌, ◌<◌, ◌≤◌, ◌⊎◌, inl, inr, Bool, true, false, cond, List, [], ◌∷◌, Option, None, Some, Result, Ok, Err, refl, sym, ap, subst, ◌∙◌, arith}
+use Rattle.std.proofs.lemmas.Bool.{le-leb, lt-leb}
 use Rattle.std.proofs.lemmas.Bool.Decides.{nat_tests}
 use Rattle.std.specs.List.{find}
 use Rattle.rd_matrix.specs.Sources.{SourceValues}
 use Rattle.rd_matrix.specs.declared.block.Block.{Block}
 use Rattle.rd_start.specs.Chosen.{anchor_row, places_of, row_of}
-use Rattle.rd_start.specs.Starts.{above_at, around, both_at, is_inside, margin_of, suits, wanted_above, wanted_below}
+use Rattle.rd_start.specs.Starts.{above_at, around, both_at, margin_of, suits}
 use Rattle.rd_start.specs.Strips.{IsFor, IsStrip, BeginsAbove, EndsAt, Reaches, StandsBeyond, count_in, first_row, hides_edge, home_row, point_row, row_at, rows_in, wanted_at}
 use Rattle.rd_start.specs.declared.strip.Edge.{Edge}
 use Rattle.rd_start.specs.declared.strip.Edge.TheVariants.{Bottom, Top}
@@ -54,22 +54,10 @@ wanted-some Bottom m s w start b h reached next =
     let more = more-below m s b h next in
     elim reached [ inl far ↦ grind (arith, nat_tests) | inr all ↦ grind (arith, nat_tests) ]
 
-not-above : (height above below start row : ℕ) → row < start → is_inside height above below start row ≡ false
-not-above height above below start row low = grind (arith, nat_tests)
-
-not-below : (height above below start row : ℕ) → start + height ≤ row → is_inside height above below start row ≡ false
-not-below height above below start row high = grind (arith, nat_tests)
-
 unseen : (w : Wanted) (m : SourceValues) (sweep : Sweep) (j : ℕ) → sweep.point ≡ w.point → (point_row m sweep < j) ⊎ (j + w.height ≤ point_row m sweep) → suits w (places_of m sweep.shape w) j ≡ false
 unseen w m sweep j same away =
-    let at = places_of m sweep.shape w in
     let point = point-is m w sweep same in
-    let out : is_inside w.height (wanted_above w j) (wanted_below w at.count j) j at.point ≡ false =
-    elim away [
-      | inl above ↦ not-above w.height (wanted_above w j) (wanted_below w at.count j) j at.point (omega arith)
-      | inr below ↦ not-below w.height (wanted_above w j) (wanted_below w at.count j) j at.point (omega arith)
-    ] in
-    and_right (ltb j at.count) (is_inside w.height (wanted_above w j) (wanted_below w at.count j) j at.point) out
+    elim away [ inl above ↦ grind (arith, nat_tests) | inr below ↦ grind (arith, nat_tests) ]
 
 -- where the strip has not point's row, no row suits from which it reaches the end of the view
 pub lost-suits : (m : SourceValues) (s : Strip) (w : Wanted) (start : ℕ) → IsStrip m s → IsFor w s.sweep → find_point s.strip_rows.items ≡ None → Reaches m s (start + w.height)
