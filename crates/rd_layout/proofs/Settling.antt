@@ -1,7 +1,6 @@
 -- A redisplay leaves a valid state valid: the starts and the points that it chooses are accessible.
 use Rattle.std.proofs.Common.{◌≡◌, ℕ, ◌+◌, ◌-◌, ◌≤◌, Bool, true, false, if◌then◌else◌, Option, None, Some, List, map, sym, ap, refl, subst, ◌∙◌, arith}
 use Rattle.std.proofs.lemmas.Option.{slice_get-map}
-use Rattle.rd_base.proofs.Lists.{element-at}
 use Rattle.std.specs.Prelude.{IsSome, slice_get, option_map}
 use Rattle.rd_base.proofs.Choices.{map-some, is_some-map}
 use Rattle.rd_blocks.proofs.Listed.{within-accessible}
@@ -24,7 +23,7 @@ use Rattle.rd_layout.specs.Laws.{ViewLaws}
 use Rattle.rd_layout.specs.Screens.{settled_at, settled_by, settled_state}
 use Rattle.rd_layout.specs.Windows.{place_of, view_in, wanted_of, window_shape, window_source}
 use Rattle.rd_state.proofs.ByNumber.{NumberedWindow, apart-became, under-became}
-use Rattle.rd_state.proofs.Showing.{placed-keeps}
+use Rattle.rd_state.proofs.Showing.{placed-keeps, shown-has}
 use Rattle.rd_state.proofs.WithParts.{with_parts}
 use Rattle.rd_layout.proofs.Chosen.{chosen-anchor, chosen-point}
 
@@ -53,15 +52,11 @@ module _ (laws : ViewLaws) (s : StateValue) (valid : IsValid s) where
 
 -- what a window shows is right
 pub shown-right : (s : StateValue) (w : WindowState) → IsValid s → IsWindow s.buffers w → IsContent s.objects (shown_content s w)
-shown-right s w valid window =
-    let b = element-at s.buffers w.buffer window.made in
-    subst (IsContent s.objects) (sym (ap content_in b.1)) (valid.buffers.contents w.buffer b.0 b.1)
+shown-right s w valid window = shown-has (IsContent s.objects) s w window (valid.buffers.contents w.buffer)
 
 module _ (laws : ViewLaws) (files : Data) (s : StateValue) (valid : IsValid s) where
   pub point-within : (w : WindowState) → IsWindow s.buffers w → IsWithin w.point (window_source files s w).blocks
-  point-within w window =
-      let b = element-at s.buffers w.buffer window.made in
-      laws.within (seen (shown_content s w)) s.objects files w.point (subst (λ (c : ContentValue). IsAccessible c.text w.point) (sym (ap content_in b.1)) (window.point b.0 b.1))
+  point-within w window = laws.within (seen (shown_content s w)) s.objects files w.point (shown-has (λ c. IsAccessible c.text w.point) s w window window.point)
 
   -- the start and the point are accessible in the buffer that is shown
   pub chosen-accessible : (number : ℕ) (w : WindowState) (place : Placed) → place_of number s ≡ Some place → IsWindow s.buffers w

@@ -7,7 +7,7 @@ use Rattle.std.proofs.lemmas.Int.{ints}
 use Rattle.std.proofs.lemmas.Option.{none-some, slice_get_within}
 use Rattle.std.specs.Option.{option_or}
 use Rattle.std.specs.Prelude.{slice_get, option_map, IsSome, IfOk, IfSome}
-use Rattle.rd_base.proofs.Lists.{get-end}
+use Rattle.rd_base.proofs.Lists.{element-at, get-end}
 use Rattle.rd_base.specs.declared.settings.Anchor.{Anchor}
 use Rattle.rd_base.specs.declared.limits.TheConstants.{PENDING_ROWS}
 use Rattle.rd_text.specs.Texts.{IsAccessible}
@@ -21,8 +21,8 @@ use Rattle.rd_tree.specs.Windows.{Windows, Window, holds, is_single, split_at, r
 use Rattle.rd_tree.specs.declared.fault.TreeFault.{TreeFault}
 use Rattle.rd_tree.specs.declared.side.Side.{Side}
 use Rattle.rd_state.specs.declared.window.WindowState.{WindowState}
-use Rattle.rd_state.specs.States.{BufferValue, StateValue, number_of}
-use Rattle.rd_state.specs.Windows.{AreApart, window_of, with_entry, without_entry, leaf_at, leaf_of}
+use Rattle.rd_state.specs.States.{BufferValue, ContentValue, StateValue, number_of}
+use Rattle.rd_state.specs.Windows.{AreApart, content_in, shown_content, window_of, with_entry, without_entry, leaf_at, leaf_of}
 use Rattle.rd_state.specs.Valid.{IsWindow, AreWindows, IsGoodFormat, IsValid}
 use Rattle.rd_state.specs.Steps.{in_window, changing, on_tree, splitting, removing, showing, placing, held, format_fault, mode_lining, margining}
 use Rattle.rd_state.proofs.Below.{TreeLaws}
@@ -63,6 +63,11 @@ set-valid s number f v same keep =
     with_windows s s.tree (with_entry number f s.windows) s.selected v (windows-set s.buffers s.tree s.windows s.selected number f same keep v.windows) refl refl
 
 -- ---- points and views
+
+-- what holds of what its buffer holds, holds of what a window shows
+pub shown-has : (P : ContentValue → Type 0) (s : StateValue) (w : WindowState) → IsWindow s.buffers w
+    → ((b : BufferValue) → slice_get s.buffers w.buffer ≡ Some b → P b.content) → P (shown_content s w)
+shown-has P s w window own = let b = element-at s.buffers w.buffer window.made in subst P (sym (ap content_in b.1)) (own b.0 b.1)
 
 pub placing-valid : (s : StateValue) (number place : ℕ) (f : WindowState → WindowState) → IsValid s → ((w : WindowState) → leaf_of (f w) ≡ leaf_of w)
     → ((w : WindowState) → IsWindow s.buffers w → ((b : BufferValue) → slice_get s.buffers w.buffer ≡ Some b → IsAccessible b.content.text place) → IsWindow s.buffers (f w))

@@ -1,7 +1,6 @@
 -- What the layout of a window asks of its source and its last layout, and what it answers.
 use Rattle.std.proofs.Common.{◌≡◌, ℕ, ◌+◌, ◌≤◌, not, is_some, Option, Some, Result, Ok, Err, sym, ap, subst, subst₂, ◌∙◌}
-use Rattle.rd_base.proofs.Lists.{element-at}
-use Rattle.std.specs.Prelude.{IfOk, IfSome, slice_get}
+use Rattle.std.specs.Prelude.{IfOk, IfSome}
 use Rattle.rd_base.specs.declared.memory.Memory.{Memory}
 use Rattle.rd_blocks.specs.Sources.{source_of, text_source}
 use Rattle.rd_matrix.specs.Blocks.{IsWithin}
@@ -14,9 +13,10 @@ use Rattle.rd_reuse.specs.Keeping.{AreRight}
 use Rattle.rd_rows.specs.Shapes.{ShapeValues}
 use Rattle.rd_start.specs.Chosen.{chosen_of}
 use Rattle.rd_start.specs.declared.wanted.Wanted.{Wanted}
-use Rattle.rd_state.specs.States.{BufferValue, ContentValue, StateValue, seen}
+use Rattle.rd_state.proofs.Showing.{shown-has}
+use Rattle.rd_state.specs.States.{StateValue, seen}
 use Rattle.rd_state.specs.Valid.{IsValid, IsWindow}
-use Rattle.rd_state.specs.Windows.{content_in, shown_content, window_of}
+use Rattle.rd_state.specs.Windows.{shown_content, window_of}
 use Rattle.rd_state.specs.declared.window.WindowState.{WindowState}
 use Rattle.rd_text.specs.Texts.{IsAccessible, IsText}
 use Rattle.rd_tree.specs.declared.placed.Placed.{Placed}
@@ -51,18 +51,14 @@ module _ (laws : LookLaws) (v : SessionValue) (session : IsSession v) (n : ℕ) 
   window : IsWindow v.state.buffers w
   window = laws.found v.state n w session.state lives
 
-  -- what holds of the buffer holds of what the window shows
-  shown : (P : ContentValue → Type 0) → ((b : BufferValue) → slice_get v.state.buffers w.buffer ≡ Some b → P b.content) → P (shown_content v.state w)
-  shown P own = let b = element-at v.state.buffers w.buffer window.made in subst P (sym (ap content_in b.1)) (own b.0 b.1)
-
   text : IsText (shown_content v.state w).text
-  text = shown (λ c. IsText c.text) (λ b at. (session.state.buffers.contents w.buffer b at).text)
+  text = shown-has (λ c. IsText c.text) v.state w window (λ b at. (session.state.buffers.contents w.buffer b at).text)
 
   point : IsAccessible (shown_content v.state w).text w.point
-  point = shown (λ c. IsAccessible c.text w.point) window.point
+  point = shown-has (λ c. IsAccessible c.text w.point) v.state w window window.point
 
   anchor : IsAccessible (shown_content v.state w).text w.anchor.pos
-  anchor = shown (λ c. IsAccessible c.text w.anchor.pos) window.anchor
+  anchor = shown-has (λ c. IsAccessible c.text w.anchor.pos) v.state w window window.anchor
 
   pub is-source : IsSource m
   is-source = subst IsSource (sym source) (laws.source (seen (shown_content v.state w)) v.state.objects v.files text)
