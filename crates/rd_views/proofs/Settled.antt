@@ -1,6 +1,6 @@
 -- Settling each window as it was laid out leaves the state that a redisplay leaves.
-use Rattle.std.proofs.Common.{◌≡◌, ◌≢◌, inl, inr, ℕ, suc, ◌+◌, ◌<◌, ◌==◌, Bool, true, false, if◌then◌else◌, drop, get_or, length, Option, None, Some, List, [], ◌∷◌, map, sym, ap, refl, subst, subst₂, ◌∙◌}
-use Rattle.std.proofs.lemmas.Bool.{cases_eq, cond-false, cond-true, eq-eqb, ne_eqb}
+use Rattle.std.proofs.Common.{◌≡◌, inl, inr, ℕ, suc, ◌+◌, ◌<◌, ◌==◌, Bool, true, false, if◌then◌else◌, drop, get_or, length, Option, None, Some, List, [], ◌∷◌, map, sym, ap, refl, subst, subst₂, ◌∙◌}
+use Rattle.std.proofs.lemmas.Bool.{cases_eq}
 use Rattle.std.proofs.lemmas.List.{drop_more}
 use Rattle.std.proofs.lemmas.Option.{none-some, same_Some}
 use Rattle.std.proofs.lemmas.Iterator.Adapters.{option_map_id}
@@ -12,7 +12,7 @@ use Rattle.rd_state.specs.Shown.{IsShownAt}
 use Rattle.rd_state.specs.States.{ContentValue, StateValue}
 use Rattle.rd_state.specs.Steps.{settled}
 use Rattle.rd_state.specs.Valid.{IsValid}
-use Rattle.rd_state.specs.Windows.{AreApart, content_in, shown_content, window_of, with_entry}
+use Rattle.rd_state.specs.Windows.{AreApart, content_in, shown_content, under, window_of, with_entry}
 use Rattle.rd_state.specs.declared.window.WindowState.{WindowState}
 use Rattle.rd_text.specs.Texts.{IsAccessible}
 use Rattle.rd_tree.proofs.Listing.{placed-here, placed-there}
@@ -92,30 +92,24 @@ map-numbers f (w ∷ ws) = ap (λ (ns : List ℕ). w.0 ∷ ns) (map-numbers f ws
 
 -- ---- what is found behind
 
--- what was chosen for the window with a number
-abbrev pub chosen_for : ℕ → List LaidWindow → List Last → Option Chosen
-chosen_for n (x ∷ xs) (e ∷ es) = if e.0 == n then Some x.chosen else chosen_for n xs es
-chosen_for n _ _ = None
+-- what was chosen, under the numbers of the windows
+abbrev pub choices : List LaidWindow → List Last → List (ℕ × Chosen)
+choices (x ∷ xs) (e ∷ es) = (e.0, x.chosen) ∷ choices xs es
+choices _ _ = []
 
 abbrev pub settle_found : Option Chosen → Option WindowState → Option WindowState
 settle_found None o = o
 settle_found (Some c) o = option_map (settle_to c) o
 
-chosen-here : (n : ℕ) (x : LaidWindow) (xs : List LaidWindow) (e : Last) (es : List Last) → e.0 ≡ n → chosen_for n (x ∷ xs) (e ∷ es) ≡ Some x.chosen
-chosen-here n x xs e es h = cond-true (e.0 == n) (Some x.chosen) (chosen_for n xs es) (eq-eqb e.0 n h)
-
-chosen-there : (n : ℕ) (x : LaidWindow) (xs : List LaidWindow) (e : Last) (es : List Last) → e.0 ≢ n → chosen_for n (x ∷ xs) (e ∷ es) ≡ chosen_for n xs es
-chosen-there n x xs e es h = cond-false (e.0 == n) (Some x.chosen) (chosen_for n xs es) (ne_eqb e.0 n h)
-
-chosen-none : (n : ℕ) (xs : List LaidWindow) (es : List Last) → layout_of n es ≡ None → chosen_for n xs es ≡ None
+chosen-none : (n : ℕ) (xs : List LaidWindow) (es : List Last) → layout_of n es ≡ None → under n (choices xs es) ≡ None
 chosen-none n [] es none = refl
 chosen-none n (x ∷ xs) [] none = refl
 chosen-none n (x ∷ xs) (e ∷ es) none = elim (cases_eq e.0 n) [
   | inl p ↦ absurd (none-some e.1 (sym none ∙ under-here n e es p))
-  | inr q ↦ chosen-there n x xs e es q ∙ chosen-none n xs es (sym (under-there n e es q) ∙ none)
+  | inr q ↦ under-there n (e.0, x.chosen) (choices xs es) q ∙ chosen-none n xs es (sym (under-there n e es q) ∙ none)
 ]
 
-found-settled : (n : ℕ) (xs : List LaidWindow) (es : List Last) (ws : List NumberedWindow) → AreOnce es → window_of n (windows_settled xs es ws) ≡ settle_found (chosen_for n xs es) (window_of n ws)
+found-settled : (n : ℕ) (xs : List LaidWindow) (es : List Last) (ws : List NumberedWindow) → AreOnce es → window_of n (windows_settled xs es ws) ≡ settle_found (under n (choices xs es)) (window_of n ws)
 found-settled n [] es ws once = refl
 found-settled n (x ∷ xs) [] ws once = refl
 found-settled n (x ∷ xs) (e ∷ es) ws once =
@@ -124,10 +118,10 @@ found-settled n (x ∷ xs) (e ∷ es) ws once =
       | inl p ↦
           ap (λ (c : Option Chosen). settle_found c (window_of n (with_entry e.0 f ws))) (chosen-none n xs es (ap (λ (k : ℕ). layout_of k es) (sym p) ∙ once.0))
           ∙ (ap (λ (k : ℕ). window_of n (with_entry k f ws)) p
-          ∙ (window-same n f ws ∙ ap (λ (c : Option Chosen). settle_found c (window_of n ws)) (sym (chosen-here n x xs e es p))))
+          ∙ (window-same n f ws ∙ ap (λ (c : Option Chosen). settle_found c (window_of n ws)) (sym (under-here n (e.0, x.chosen) (choices xs es) p))))
       | inr q ↦
-          ap (settle_found (chosen_for n xs es)) (entry-other e.0 n f ws (λ r. q (sym r)))
-          ∙ ap (λ (c : Option Chosen). settle_found c (window_of n ws)) (sym (chosen-there n x xs e es q))
+          ap (settle_found (under n (choices xs es))) (entry-other e.0 n f ws (λ r. q (sym r)))
+          ∙ ap (λ (c : Option Chosen). settle_found c (window_of n ws)) (sym (under-there n (e.0, x.chosen) (choices xs es) q))
     ]
 
 -- ---- what was chosen
@@ -148,12 +142,12 @@ module _ (v : SessionValue) where
   right-by p None x e is h = absurd h
   right-by p (Some w) x e is h = (h.number, record { window = w; lives = is; is = ap (λ (c : Chosen). Some c) h.chosen })
 
-  right-chosen : (n : ℕ) (ps : List Placed) (xs : List LaidWindow) (es : List Last) → AreDesired v ps xs es → AreRight (of_number n ps) (chosen_for n xs es)
-  right-chosen n = each-desired v (λ ps xs es. AreRight (of_number n ps) (chosen_for n xs es)) refl (λ p x e ps xs es own rest more.
+  right-chosen : (n : ℕ) (ps : List Placed) (xs : List LaidWindow) (es : List Last) → AreDesired v ps xs es → AreRight (of_number n ps) (under n (choices xs es))
+  right-chosen n = each-desired v (λ ps xs es. AreRight (of_number n ps) (under n (choices xs es))) refl (λ p x e ps xs es own rest more.
       let one = right-by p (window_of p.number v.state.windows) x e refl own in
       elim (cases_eq p.number n) [
-        | inl q ↦ subst₂ AreRight (sym (placed-here n p ps q)) (sym (chosen-here n x xs e es (one.0 ∙ q))) one.1
-        | inr q ↦ subst₂ AreRight (sym (placed-there n p ps q)) (sym (chosen-there n x xs e es (λ r. q (sym one.0 ∙ r)))) more
+        | inl q ↦ subst₂ AreRight (sym (placed-here n p ps q)) (sym (under-here n (e.0, x.chosen) (choices xs es) (one.0 ∙ q))) one.1
+        | inr q ↦ subst₂ AreRight (sym (placed-there n p ps q)) (sym (under-there n (e.0, x.chosen) (choices xs es) (λ r. q (sym one.0 ∙ r)))) more
       ])
 
   both-settle : (n : ℕ) (o : Option Placed) (c : Option Chosen) → place_of n v.state ≡ o → AreRight o c
@@ -173,7 +167,7 @@ module _ (v : SessionValue) where
       (map-numbers f v.state.windows ∙ sym (settled-numbers xs es v.state.windows))
       (apart-became f v.state.windows apart)
       (λ n. under-became f n v.state.windows
-      ∙ (sym (both-settle n (place_of n v.state) (chosen_for n xs es) refl (right-chosen n (places v.state) xs es h)) ∙ sym (found-settled n xs es v.state.windows once))))
+      ∙ (sym (both-settle n (place_of n v.state) (under n (choices xs es)) refl (right-chosen n (places v.state) xs es h)) ∙ sym (found-settled n xs es v.state.windows once))))
 
   -- the state is the one that a redisplay leaves
   pub state-settled : (xs : List LaidWindow) (es : List Last) → AreApart v.state.windows → AreOnce es → AreDesired v (places v.state) xs es
