@@ -1,8 +1,9 @@
 -- Pieces of bytes, as the code finds them.
-use Rattle.std.proofs.Common.{◌≡◌, ◌≢◌, ◌==◌, ℕ, zero, suc, ◌+◌, ◌<◌, ◌≤◌, Bool, true, false, if◌then◌else◌, Option, None, Some, option_map, List, [], ◌∷◌, ◌++◌, length, get_or, take, drop, refl, sym, ap, ◌∙◌, subst, arith, Bor}
-use Rattle.std.specs.Prelude.{MatchOption}
+use Rattle.std.proofs.Common.{◌≡◌, ◌≢◌, ℕ, zero, suc, ◌+◌, ◌<◌, ◌≤◌, if◌then◌else◌, None, Some, List, [], ◌∷◌, ◌++◌, length, get_or, take, drop, refl, sym, ap, ◌∙◌, subst, arith}
+use Rattle.std.proofs.Math.Seq.{take-append_seam, drop-append_seam}
 use Rattle.std.proofs.lemmas.Bool.{ne_eqb}
 use Rattle.std.proofs.lemmas.Bool.Decides.{Decides-eqb}
+use Rattle.std.proofs.lemmas.Slice.Eq.{bytes_eq-Decides}
 use Rattle.rd_io.specs.Lines.{lines_of}
 use Rattle.rd_io.proofs.Cuts.{lines-whole, lines-rest, last-some}
 use Rattle.rd_base.proofs.Cutting.{IsCut, cut-is}
@@ -12,26 +13,7 @@ use Rattle.rd_audit.specs.Cuts.{stripped, cut_last_or, cut_last}
 -- ---- a front
 
 pub stripped-behind : (f s rest : List ℕ) → s ≡ f ++ rest → Some rest ≡ stripped f s
-stripped-behind [] s rest e = ap Some (sym e)
-stripped-behind (x ∷ f) s rest e =
-    stripped-behind f (f ++ rest) rest refl
-    ∙ sym (ap (λ t. if t then stripped f (f ++ rest) else None) ((Decides-eqb x x).1 refl))
-    ∙ sym (ap (stripped (x ∷ f)) e)
-
-stripped-none_at : (x b : ℕ) (f s : List ℕ) (t : Bool) → (b == x) ≡ t → ((rest : List ℕ) → b ∷ s ≢ x ∷ (f ++ rest))
-    → (((rest : List ℕ) → s ≢ f ++ rest) → None ≡ stripped f s) → None ≡ (if t then stripped f s else None)
-stripped-none_at x b f s true test none so = so (λ rest e. none rest (ap (λ c. c ∷ s) ((Decides-eqb b x).0 test) ∙ ap (λ l. x ∷ l) e))
-stripped-none_at x b f s false test none so = refl
-
-pub stripped-none : (f s : List ℕ) → ((rest : List ℕ) → s ≢ f ++ rest) → None ≡ stripped f s
-stripped-none [] s none = absurd (none s refl)
-stripped-none (x ∷ f) [] none = refl
-stripped-none (x ∷ f) (b ∷ s) none = stripped-none_at x b f s (b == x) refl none (stripped-none f s)
-
-pub stripped-is : (f s : List ℕ) (r : Option (Bor (List ℕ))) → MatchOption r ((rest : List ℕ) → s ≢ f ++ rest) (λ x. s ≡ f ++ x.now)
-    → option_map (λ x. x.now) r ≡ stripped f s
-stripped-is f s None m = stripped-none f s m
-stripped-is f s (Some x) m = stripped-behind f s x.now m
+stripped-behind f s rest e = rw (e, take-append_seam f rest, (bytes_eq-Decides f f).1 refl, drop-append_seam f rest) refl
 
 -- ---- the last of a byte
 

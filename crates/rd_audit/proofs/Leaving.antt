@@ -12,7 +12,6 @@ use Rattle.rd_run.specs.Reports.{no_memory_line}
 use Rattle.rd_run.specs.Runs.{Effect, Input, Standing, World, effect, is_sent, run, run_line}
 use Rattle.rd_run.specs.declared.status.ScriptFault.{ScriptFault}
 use Rattle.rd_audit.proofs.Lacking.{lacks, lacks-append, lacks-decimal, lines-seam}
-use Rattle.rd_audit.specs.Cuts.{stripped}
 use Rattle.rd_audit.specs.Printed.{HasNoCursor}
 use Rattle.rd_audit.specs.Recorded.{LeaveScreen, since, since_frame}
 use Rattle.rd_audit.specs.Rows.{is_cursor}
@@ -33,9 +32,7 @@ passed-line line rest unbroken other h =
 -- a number begins with no letter
 other-letter : (digits rest : List ℕ) → lacks 99 digits ≡ true → is_cursor (digits ++ 58 ∷ rest) ≡ false
 other-letter [] rest h = refl
-other-letter (b ∷ bs) rest h =
-    let apart = not-true (b == 99) (and_parts _ (lacks 99 bs) h).0 in
-    ap (λ t. is_some (if t then stripped (codes "ursor ") (bs ++ 58 ∷ rest) else None)) apart
+other-letter (b ∷ bs) rest h = rw (not-true (b == 99) (and_parts _ (lacks 99 bs) h).0) refl
 
 passed-no_memory : (number : ℕ) → IsPassed (no_memory_line number)
 passed-no_memory number rest h =

@@ -1,12 +1,11 @@
 -- Pieces of bytes.
-use Rattle.std.specs.Prelude.{ℕ, ◌==◌, Bool, if◌then◌else◌, List, [], ◌∷◌, Option, None, Some, is_some}
+use Rattle.std.specs.Prelude.{ℕ, ◌==◌, Bool, if◌then◌else◌, List, [], ◌∷◌, length, take, drop, Option, None, Some, is_some}
 use Rattle.std.specs.List.{slice_split}
+use Rattle.std.specs.Str.{bytes_eq}
 
 -- what stands behind these bytes, where the others begin with them
 abbrev pub stripped : List ℕ → List ℕ → Option (List ℕ)
-stripped [] bytes = Some bytes
-stripped (f ∷ fs) [] = None
-stripped (f ∷ fs) (b ∷ bs) = if b == f then stripped fs bs else None
+stripped front bytes = if bytes_eq (take (length front) bytes) front then Some (drop (length front) bytes) else None
 
 abbrev pub begins_with : List ℕ → List ℕ → Bool
 begins_with front bytes = is_some (stripped front bytes)
