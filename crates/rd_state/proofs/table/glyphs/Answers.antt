@@ -1,11 +1,10 @@
-use Rattle.std.proofs.Common.{◌≡◌, ℕ, true, Result, Ok, Err, List, length, map, nat_le, subst, sym, rules}
+use Rattle.std.proofs.Common.{◌≡◌, true, List, length, nat_le, subst, sym, rules}
 use Rattle.std.proofs.lemmas.Bool.{and_parts}
 use Rattle.std.proofs.lemmas.List.Sums.{AllPass-from_list_all}
+use Rattle.std.proofs.lemmas.Result.{IfOk-weaker}
 use Rattle.std.specs.List.{list_all}
-use Rattle.std.specs.Prelude.{IfOk}
 use Rattle.rd_base.proofs.Lists.{all-at}
 use Rattle.rd_base.specs.declared.cell.Glyph.{Glyph}
-use Rattle.rd_base.specs.declared.memory.Memory.{Memory}
 use Rattle.rd_objects.specs.Tables as tables
 use Rattle.rd_script.specs.Forms.{is_glyph, is_glyph_text}
 use Rattle.rd_state.specs.Making.{glyph_of}
@@ -20,9 +19,6 @@ mapped-requires c = λ i x at _ _ _ _ _.
 pub returns-clause-value : goal.returns-clause-value
 returns-clause-value c = c.mapped.ensures glyph_of (λ x y told. search rules)
 
-right : (r : Result (List Glyph) Memory) (text : List ℕ) → is_glyph_text text ≡ true → IfOk r (λ list. list ≡ map glyph_of text) → IfOk r (λ list. tables.is_glyph_text list ≡ true)
-right (Ok list) text form is = subst (λ (glyphs : List Glyph). tables.is_glyph_text glyphs ≡ true) (sym is) (text-right text form)
-right (Err none) text form is = tt
-
 pub returns-clause-right : goal.returns-clause-right
-returns-clause-right c = right c.mapped.result c.args.text.now c.requires (returns-clause-value c)
+returns-clause-right c =
+    IfOk-weaker c.mapped.result _ _ (λ list is. subst (λ (glyphs : List Glyph). tables.is_glyph_text glyphs ≡ true) (sym is) (text-right c.args.text.now c.requires)) (returns-clause-value c)
