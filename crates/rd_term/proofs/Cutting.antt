@@ -1,6 +1,7 @@
 -- Cells in place of others: the columns of characters that are cut, and rows that are filled part by part.
 use Rattle.std.proofs.Common.{◌≡◌, if◌then◌else◌, ℕ, zero, suc, ◌+◌, ◌-◌, ◌<◌, ◌≤◌, Bool, List, [], ◌∷◌, ◌++◌, length, get_or, set, take, drop, map, replicate, Option, None, Some, refl, sym, ap, ◌∙◌, arith, append_assoc, drop_of_length-le}
-use Rattle.std.proofs.lemmas.List.{take_at, drop_at, set_at, drop_more, drop-drop, take-append-drop, length-append, length-take-le, length-replicate, length-drop, length-map}
+use Rattle.std.proofs.lemmas.List.{take_at, drop_at, set_at, drop_more, length-append, length-take-le, length-replicate, length-drop, length-map}
+use Rattle.std.proofs.lemmas.List.Folds.{drop_split}
 use Rattle.rd_base.proofs.Rows.{glyph_length}
 use Rattle.rd_base.specs.Faces.{Attributes}
 use Rattle.rd_base.specs.Glyphs.{glyph_cells}
@@ -35,12 +36,6 @@ filled-seam a m c from to v p q =
     let n : length (a ++ m) ≡ to = omega (arith, length-append a m) in
     let below = ap (drop to) (sym (append_assoc a m c)) ∙ drop_at (a ++ m) c to n in
     rw (above, below) refl
-
-pub two-parts : {X : Type 0} (a m : ℕ) (xs : List X) → a ≤ m → take (m - a) (drop a xs) ++ drop m xs ≡ drop a xs
-two-parts a m xs le =
-    let sum : a + (m - a) ≡ m = omega arith in
-    ap (λ ys. take (m - a) (drop a xs) ++ ys) (sym (ap (λ j. drop j xs) sum) ∙ sym (drop-drop (m - a) a xs))
-    ∙ take-append-drop (m - a) (drop a xs)
 
 -- the part before a column, where what is left of a character that is cut there is unknown
 abbrev pub front : Row → ℕ → Row
@@ -77,7 +72,7 @@ cut-made row r1 r2 from to begin end lt order le b e within p q =
     let made : r1 ≡ (F ++ M) ++ (L ++ D) =
     p ∙ ap (λ k. take k row ++ (replicate (from - k) None ++ drop from row)) b
     ∙ sym (append_assoc (take (first_column row from) row) (replicate (from - first_column row from) None) (drop from row))
-    ∙ ap (λ xs. F ++ xs) (sym (two-parts from to row (omega arith)) ∙ ap (λ xs. M ++ xs) (sym (two-parts to end row (omega arith))))
+    ∙ ap (λ xs. F ++ xs) (drop_split row from to (omega arith) ∙ ap (λ xs. M ++ xs) (drop_split row to end (omega arith)))
     ∙ sym (append_assoc F M (L ++ D)) in
     q ∙ ap (λ r. take to r ++ (replicate (end - to) None ++ drop end r)) made
     ∙ filled-seam (F ++ M) L D to end None n (omega arith)

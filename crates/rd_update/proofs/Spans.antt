@@ -3,13 +3,13 @@ use Rattle.std.proofs.Common.{◌≡◌, if◌then◌else◌, ◌⊎◌, inl, in
 use Rattle.std.proofs.lemmas.Bool.{or_parts}
 use Rattle.std.proofs.lemmas.Bool.Decides.{nat_tests}
 use Rattle.std.proofs.lemmas.List.{take-append-drop, drop-drop, drop-replicate, length-replicate, get_or-map, get_or_past}
+use Rattle.std.proofs.lemmas.List.Folds.{drop_split}
 use Rattle.rd_base.specs.declared.cell.Cell.{Cell}
 use Rattle.rd_base.specs.declared.cell.Cell.TheVariants.{Blank, First, Rest}
 use Rattle.rd_term.specs.Pictures.{blank, blank_row}
 use Rattle.rd_term.specs.Overwriting.{is_later, later_columns, first_column}
 use Rattle.rd_base.specs.Equals.{same_cell}
 use Rattle.rd_base.proofs.Equals.{cell-told}
-use Rattle.rd_term.proofs.Cutting.{two-parts}
 use Rattle.rd_term.proofs.Walks.{back-le, on-stops}
 use Rattle.rd_update.specs.Updates.{first_difference, end_before, end_unlike, end_of_differences, used, differs, is_rest, goes_on, begin_before, end_of}
 
@@ -106,7 +106,7 @@ blank-from row k le =
 
 -- a list in three parts
 pub three-parts : {A : Type 0} (a m : ℕ) (xs : List A) → a ≤ m → take a xs ++ (take (m - a) (drop a xs) ++ drop m xs) ≡ xs
-three-parts a m xs le = ap (λ ys. take a xs ++ ys) (two-parts a m xs le) ∙ take-append-drop a xs
+three-parts a m xs le = ap (λ ys. take a xs ++ ys) (sym (drop_split xs a m le)) ∙ take-append-drop a xs
 
 -- ---- where a character goes on
 
