@@ -78,5 +78,5 @@ pub sound : ((current : Option Picture) (target : Picture) (limit : Option ℕ) 
     → (current : Option Picture) (target : Picture) (bands : List Band) (limit : Option ℕ) → HaveOneSize current target → IfSome current (λ screen. IsScreen screen × IsSound screen)
     → AreWithin (length target.rows) bands → IsSound target → IsSound (shifted_update current target bands limit).screen
 sound law current target bands limit h p within t =
-    by-updates (λ c t l. IfSome c (λ screen. IsSound screen) → IsSound t → IsSound (update c t l).screen) law current target bands limit h (only-screens current p) within
+    by-updates _ law current target bands limit h (only-screens current p) within
     (after-sound current target (choice current target bands) h p (taken-fits (length target.rows) current target bands within)) t

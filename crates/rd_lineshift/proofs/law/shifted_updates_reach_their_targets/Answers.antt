@@ -1,5 +1,3 @@
-use Rattle.std.proofs.Common.{◌≡◌, true}
-use Rattle.rd_update.specs.Updates.{update}
 use Rattle.rd_lineshift.specs.Choices.{choice}
 use Rattle.rd_lineshift.specs.Plans.{after_shift}
 use Rattle.rd_lineshift.proofs.Keeping.{by-updates}
@@ -8,7 +6,4 @@ use Rattle.rd_lineshift.proofs.law.shifted_updates_reach_their_targets.Goals as 
 pub returns : goal.returns
 returns c =
     let law = c.updates_reach_their_targets.ensures in
-    record {
-      reached = by-updates (λ c t l. (update c t l).done ≡ true → (update c t l).screen ≡ t) law.reached;
-      done = λ current target bands. law.done (after_shift (choice current target bands) current) target;
-    }
+    record { reached = by-updates _ law.reached; done = λ current target bands. law.done (after_shift (choice current target bands) current) target }
