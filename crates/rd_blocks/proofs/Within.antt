@@ -1,27 +1,18 @@
 -- The items of a block end within what is read of it.
-use Rattle.std.proofs.Common.{ℕ, suc, ◌+◌, ◌≤◌, Bool, true, false, List, [], ◌∷◌, length, All, arith}
+use Rattle.std.proofs.Common.{ℕ, suc, ◌+◌, ◌≤◌, List, length, All, arith}
 use Rattle.std.specs.Prelude.{if◌then◌else◌}
 use Rattle.std.proofs.lemmas.Bool.{cond_both}
 use Rattle.std.proofs.lemmas.List.Elements.{All-from_recursion}
+use Rattle.std.proofs.lemmas.List.Sums.{prefix_len-le-length}
 use Rattle.rd_base.proofs.Choices.{if-value}
-use Rattle.rd_base.specs.declared.settings.Invisible.{Invisible}
 use Rattle.rd_props.specs.Seen.{Seen}
 use Rattle.rd_items.specs.Readings.{showing_of}
-use Rattle.rd_items.specs.Pieces.{Scene, goes_on, run_length, run_in}
+use Rattle.rd_items.specs.Pieces.{Scene, goes_on, run_in}
 use Rattle.rd_items.specs.Items.{items_of}
 use Rattle.rd_items.specs.declared.item.Item.{Item}
 use Rattle.rd_items.specs.declared.item.ItemKind.{ItemKind}
 use Rattle.rd_items.specs.declared.piece.Piece.{Piece}
-use Rattle.rd_items.specs.declared.showing.Showing.{Showing}
 use Rattle.rd_items.proofs.EachItem.{GivesOnly, items-from}
-
-short-by : (b : Bool) (m size : ℕ) → m ≤ size → (if b then suc m else 0) ≤ suc size
-short-by true m size h = omega (arith, h)
-short-by false m size h = omega arith
-
-short-run : (setting : Invisible) (first : Showing) (es : List Seen) → run_length setting first es ≤ length es
-short-run setting first [] = omega arith
-short-run setting first (e ∷ es) = short-by (goes_on first (showing_of setting e)) (run_length setting first es) (length es) (short-run setting first es)
 
 module _ (n : ℕ) where
   abbrev IsIn : Piece → Type 0
@@ -45,7 +36,7 @@ module _ (n : ℕ) where
       All-from_recursion (λ (x : Item). x.to ≤ n) (items_of s es)
       (items-from s IsIn (λ (x : Item). x.to ≤ n) (λ k es. k + length es ≤ n) (λ k e es few. omega (arith, few))
       (λ k e es few.
-      let run = short-run s.parts.settings.invisible (showing_of s.parts.settings.invisible e) es in
+      let run = prefix_len-le-length (λ x. goes_on (showing_of s.parts.settings.invisible e) (showing_of s.parts.settings.invisible x)) es in
       gives s k (suc k + run_in s e es) e (omega (arith, few)) (omega (arith, few, run)))
       (λ held next glyph these those e. (these.0, those.1))
       (λ since x ends. if-value (λ (k : ItemKind). (if x.covers then x.to else x.at) ≤ n) x.kind (λ k e. cond_both x.covers x.to x.at (λ to. to ≤ n) (λ _. ends.1) (λ _. ends.0)))

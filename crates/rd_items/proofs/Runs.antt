@@ -66,7 +66,7 @@ run-more s o p showing before more =
     let closed = false_from_ne_true (is_open (showing_at s o p)) (λ e. both_ways (goes_on showing (showing_at s o p)) (open-stops showing (showing_at s o p) e) more) in
     let ender = false_from_ne_true (ends_block s p) (λ e. both_ways (is_open (showing_at s o p)) closed (ender-open s o p e)) in
     let rest = cond-false (ends_block s p) [] (reading s o (suc p)) ender in
-    ap (run_length s.settings.invisible showing) (reading-step s o p before) ∙ rw (more, rest)
+    ap (run_length s.settings.invisible showing) (reading-step s o p before) ∙ rw (more, rest) (omega arith)
 
 -- a run behind its first position
 pub run-begins : (s : BufferValue) (o : ObjectLists) (p : ℕ) (showing : Showing) → p ≤ s.text.end → showing ≡ showing_at s o p → is_open showing ≡ false → (p < s.text.end) × (p + 1 + run_length s.settings.invisible showing (reading s o (p + 1)) ≡ 1 + p + run_length s.settings.invisible showing (behind (reading s o p)))

@@ -25,7 +25,7 @@ abbrev left : BufferValue → ObjectLists → Data → ℕ → ℕ → List Piec
 left s o d k p = pieces_from (scene s o d) 0 k (reading s o p)
 
 length-more : (setting : Invisible) (first : Showing) (e : Seen) (rest : List Seen) → goes_on first (showing_of setting e) ≡ true → run_length setting first (e ∷ rest) ≡ suc (run_length setting first rest)
-length-more setting first e rest more = rw more
+length-more setting first e rest more = rw more (omega arith)
 
 length-none : (setting : Invisible) (first : Showing) (e : Seen) (rest : List Seen) → goes_on first (showing_of setting e) ≡ false → run_length setting first (e ∷ rest) ≡ 0
 length-none setting first e rest none = rw none

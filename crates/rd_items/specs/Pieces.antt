@@ -1,7 +1,7 @@
 -- The pieces of a block: what its positions give, before marks join and ranges are handed on. Places are offsets in what is read.
 use Rattle.std.specs.Prelude.{ℕ, zero, suc, ◌+◌, ◌==◌, Bool, true, false, not, ◌||◌, ◌&&◌, if◌then◌else◌, List, [], ◌∷◌, ◌++◌, slice_get, map, Option, None, Some}
 use Rattle.std.specs.Option.{unwrap_or, option_and_then}
-use Rattle.std.specs.List.{list_any}
+use Rattle.std.specs.List.{list_any, prefix_len}
 use Rattle.rd_base.specs.declared.class.Class.{Class}
 use Rattle.rd_base.specs.declared.class.Class.TheVariants.{B, S, ON}
 use Rattle.rd_base.specs.Faces.{Attributes}
@@ -152,8 +152,7 @@ goes_on first next = same_spec first.display next.display || (is_hidden first.hi
 
 -- how many of the positions behind one belong to its run
 abbrev pub run_length : Invisible → Showing → List Seen → ℕ
-run_length setting first [] = 0
-run_length setting first (e ∷ es) = if goes_on first (showing_of setting e) then suc (run_length setting first es) else 0
+run_length setting first es = prefix_len (λ e. goes_on first (showing_of setting e)) es
 
 -- the same by the setting of a scene
 abbrev pub run_in : Scene → Seen → List Seen → ℕ

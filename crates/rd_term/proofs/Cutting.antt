@@ -2,6 +2,7 @@
 use Rattle.std.proofs.Common.{◌≡◌, if◌then◌else◌, ℕ, zero, suc, ◌+◌, ◌-◌, ◌<◌, ◌≤◌, Bool, List, [], ◌∷◌, ◌++◌, length, get_or, set, take, drop, map, replicate, Option, None, Some, refl, sym, ap, ◌∙◌, arith, append_assoc, drop_of_length-le}
 use Rattle.std.proofs.lemmas.List.{take_at, drop_at, set_at, drop_more, length-append, length-take-le, length-replicate, length-drop, length-map}
 use Rattle.std.proofs.lemmas.List.Folds.{drop_split}
+use Rattle.std.proofs.lemmas.List.Sums.{prefix_len-le-length}
 use Rattle.rd_base.proofs.Rows.{glyph_length}
 use Rattle.rd_base.specs.Faces.{Attributes}
 use Rattle.rd_base.specs.Glyphs.{glyph_cells}
@@ -9,7 +10,7 @@ use Rattle.rd_base.specs.declared.cell.Glyph.{Glyph}
 use Rattle.rd_base.specs.declared.cell.Cell.{Cell}
 use Rattle.rd_term.specs.Overwriting.{is_later, first_column, later_columns, overwritten}
 use Rattle.rd_term.specs.Walks.{passing}
-use Rattle.rd_term.proofs.Walks.{back-le, later-chosen}
+use Rattle.rd_term.proofs.Walks.{back-le}
 
 abbrev pub Row : Type 0
 Row = List (Option Cell)
@@ -24,7 +25,7 @@ pub later-passing : (row : Row) (column more : ℕ) → column + more ≡ length
 later-passing row column zero e = sym (ap later_columns (drop_of_length-le row (omega arith)))
 later-passing row column (suc more) e =
     let next : column + 1 ≡ suc column = omega arith in
-    ap (λ n. if later_at row column then suc n else 0) (later-passing row (suc column) more (omega arith) ∙ ap (λ k. later_columns (drop k row)) (sym next))
+    ap (λ n. if later_at row column then 1 + n else 0) (later-passing row (suc column) more (omega arith) ∙ ap (λ k. later_columns (drop k row)) (sym next))
     ∙ sym (ap later_columns (drop_more row column None (omega arith)))
 
 -- ---- parts of a row
@@ -122,10 +123,6 @@ length-overwritten row cells column to e le =
     ∙ length-append (front row column) (cells ++ behind row to)
     ∙ omega (arith, length-append cells (behind row to), length-append (replicate left None) (drop (to + left) row), length-replicate {A = Option Cell} left None, length-drop (to + later_columns (drop to row)) row)
 
-pub later-within : (row : Row) → later_columns row ≤ length row
-later-within [] = omega arith
-later-within (cell ∷ row) = later-chosen (is_later cell) (later_columns row) (length row) (later-within row)
-
 -- a glyph's cells keep a row's length
 pub length-glyph : (n : ℕ) (g : Glyph) (face : Attributes) → 1 ≤ n → length (map Some (glyph_cells n g face)) ≡ n
 length-glyph n g face some = length-map (glyph_cells n g face) Some ∙ glyph_length n g face some
@@ -133,4 +130,4 @@ length-glyph n g face some = length-map (glyph_cells n g face) Some ∙ glyph_le
 pub length-put : (row : Row) (column n : ℕ) (g : Glyph) (face : Attributes) → 1 ≤ n → column + n ≤ length row → length (overwritten column (map Some (glyph_cells n g face)) row) ≡ length row
 length-put row column n g face some room =
     let e : column + length (map Some (glyph_cells n g face)) ≡ column + n = ap (λ k. column + k) (length-glyph n g face some) in
-    length-overwritten row (map Some (glyph_cells n g face)) column (column + n) e (omega (arith, later-within (drop (column + n) row), length-drop (column + n) row))
+    length-overwritten row (map Some (glyph_cells n g face)) column (column + n) e (omega (arith, prefix_len-le-length is_later (drop (column + n) row), length-drop (column + n) row))

@@ -21,7 +21,7 @@ pub back-fails : (test : ℕ → Bool) (place : ℕ) → test place ≡ false �
 back-fails test zero e = refl
 back-fails test (suc place) e = rw e refl
 
-pub on-passes : (test : ℕ → Bool) (place more : ℕ) → 0 < more → test place ≡ true → passing test place more ≡ suc (passing test (place + 1) (more - 1))
+pub on-passes : (test : ℕ → Bool) (place more : ℕ) → 0 < more → test place ≡ true → passing test place more ≡ 1 + passing test (place + 1) (more - 1)
 on-passes test place zero some e = absurd (omega arith)
 on-passes test place (suc more) some e =
     let next : place + 1 ≡ suc place = omega arith in
@@ -39,17 +39,13 @@ back-none test (suc place) e = absurd (omega arith)
 pub on-none : (test : ℕ → Bool) (place more : ℕ) → more ≡ 0 → passing test place more ≡ 0
 on-none test place more e = rw e refl
 
-pub later-chosen : (later : Bool) (n m : ℕ) → n ≤ m → (if later then suc n else 0) ≤ suc m
-later-chosen true n m le = omega arith
-later-chosen false n m le = omega arith
-
 pub on-le : (test : ℕ → Bool) (place more : ℕ) → passing test place more ≤ more
 on-le test place zero = omega arith
-on-le test place (suc more) = later-chosen (test place) (passing test (suc place) more) more (on-le test (suc place) more)
+on-le test place (suc more) = grind (arith, on-le test (suc place) more)
 
-on-stops-chosen : (test : ℕ → Bool) (place n : ℕ) (b : Bool) → test place ≡ b → test (suc place + n) ≡ false → test (place + (if b then suc n else 0)) ≡ false
+on-stops-chosen : (test : ℕ → Bool) (place n : ℕ) (b : Bool) → test place ≡ b → test (suc place + n) ≡ false → test (place + (if b then 1 + n else 0)) ≡ false
 on-stops-chosen test place n true e h =
-    let next : place + suc n ≡ suc place + n = omega arith in
+    let next : place + (1 + n) ≡ suc place + n = omega arith in
     ap test next ∙ h
 on-stops-chosen test place n false e h =
     let here : place + 0 ≡ place = omega arith in
@@ -69,5 +65,5 @@ on-least test place (suc more) k e le = elim (cases_eq k place) [
   | inl same ↦ omega (arith, le, on-fails test place (suc more) (ap test (sym same) ∙ e))
   | inr other ↦
       let rest = on-least test (suc place) more k e (omega (arith, le, other)) in
-      omega (arith, later-chosen (test place) (passing test (suc place) more) (k - suc place) (omega (arith, rest)), other, le)
+      grind (arith, rest, other, le)
 ]

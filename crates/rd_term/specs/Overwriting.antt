@@ -1,5 +1,6 @@
 -- Cells that are put into a row in place of others.
-use Rattle.std.specs.Prelude.{ℕ, suc, ◌+◌, ◌-◌, Bool, true, false, if◌then◌else◌, List, [], ◌∷◌, ◌++◌, length, take, drop, replicate, Option, None, Some, slice_index_or}
+use Rattle.std.specs.Prelude.{ℕ, ◌+◌, ◌-◌, Bool, true, false, List, ◌++◌, length, take, drop, replicate, Option, None, Some, slice_index_or}
+use Rattle.std.specs.List.{prefix_len}
 use Rattle.rd_base.specs.declared.cell.Cell.{Cell}
 use Rattle.rd_base.specs.declared.cell.Cell.TheVariants.{Rest}
 use Rattle.rd_term.specs.Walks.{back_while}
@@ -15,8 +16,7 @@ first_column row column = back_while (λ column. is_later (slice_index_or row co
 
 -- how many later columns of a character cells begin with
 abbrev pub later_columns : List (Option Cell) → ℕ
-later_columns [] = 0
-later_columns (cell ∷ cells) = if is_later cell then suc (later_columns cells) else 0
+later_columns cells = prefix_len is_later cells
 
 -- a row with these cells from a column on; what they leave of characters that they cut becomes unknown
 abbrev pub overwritten : ℕ → List (Option Cell) → List (Option Cell) → List (Option Cell)

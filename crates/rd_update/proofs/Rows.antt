@@ -47,7 +47,7 @@ stands-along region rows rows2 t u r e h = record {
 -- a row that goes on with no later column owes none
 none-due : (due : ℕ) (cells : List Cell) → IsRowAfter due cells → later_columns (map Some cells) ≡ 0 → due ≡ 0
 none-due = by-cells (λ due cells. later_columns (map Some cells) ≡ 0 → due ≡ 0) (λ e. refl) (λ f cells so e. refl) (λ g f cells good row so e. refl)
-    (λ due cells so e. absurd cc)
+    (λ due cells so e. absurd (omega arith))
 
 -- both parts of a row that is cut where no character goes on hold whole characters
 whole-cut : (n due : ℕ) (cells : List Cell) → IsRowAfter due cells → later_columns (map Some (drop n cells)) ≡ 0 → n ≤ length cells

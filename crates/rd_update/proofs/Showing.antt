@@ -6,6 +6,8 @@ use Rattle.std.proofs.Math.Bool.{and-false}
 use Rattle.std.proofs.lemmas.Bool.{and_parts, cond-true}
 use Rattle.std.proofs.lemmas.Bool.Decides.{nat_tests}
 use Rattle.std.proofs.lemmas.List.{get_or_at, set_at, take_at, drop_at, drop-drop, drop-append-le, length-append, length-replicate, length-take-le, length-drop, take_more, drop_more, take-append-drop}
+use Rattle.std.proofs.lemmas.List.Folds.{prefix_len-append}
+use Rattle.std.proofs.lemmas.List.Sums.{prefix_len-le-length}
 use Rattle.rd_base.proofs.Rows.{spare-marks}
 use Rattle.rd_base.specs.Cells.{single}
 use Rattle.rd_base.proofs.Equals.{glyphs-same}
@@ -15,9 +17,9 @@ use Rattle.rd_base.specs.Glyphs.{is_space, blanks, glyph_bytes, glyph_cells, IsM
 use Rattle.rd_base.specs.declared.cell.Glyph.{Glyph}
 use Rattle.rd_base.specs.declared.cell.Cell.{Cell}
 use Rattle.rd_base.specs.declared.cell.Cell.TheVariants.{Blank, First, Rest}
-use Rattle.rd_term.specs.Overwriting.{first_column, later_columns, overwritten}
+use Rattle.rd_term.specs.Overwriting.{first_column, is_later, later_columns, overwritten}
 use Rattle.rd_term.specs.Terminals.{Tty, feed_bytes, show, put, join_mark, join_mark_into, marked, feed_byte}
-use Rattle.rd_term.proofs.Cutting.{Row, front as front_of, behind, overwritten-is, later-within, length-glyph, map-replicate}
+use Rattle.rd_term.proofs.Cutting.{Row, front as front_of, behind, overwritten-is, length-glyph, map-replicate}
 use Rattle.rd_term.proofs.Encoded.{Rows, standing}
 use Rattle.std.proofs.lemmas.List.Sums.{fold-append}
 use Rattle.rd_term.proofs.Measured.{shown_fed, base-columns, mark-columns, space-narrow, space-columns}
@@ -31,14 +33,10 @@ loose row = replicate (later_columns row) None ++ drop (later_columns row) row
 pub length-loose : (row : Row) → length (loose row) ≡ length row
 length-loose row =
     length-append (replicate (later_columns row) None) (drop (later_columns row) row)
-    ∙ omega (arith, length-replicate {A = Option Cell} (later_columns row) None, length-drop (later_columns row) row, later-within row)
+    ∙ omega (arith, length-replicate {A = Option Cell} (later_columns row) None, length-drop (later_columns row) row, prefix_len-le-length is_later row)
 
 later-append : (row back : Row) → later_columns back ≡ 0 → later_columns (row ++ back) ≡ later_columns row
-later-append [] back e = e
-later-append (None ∷ row) back e = refl
-later-append (Some (Blank f) ∷ row) back e = refl
-later-append (Some (First g f) ∷ row) back e = refl
-later-append (Some Rest ∷ row) back e = ap suc (later-append row back e)
+later-append row back e = prefix_len-append is_later row back ∙ grind (arith, nat_tests, e)
 
 loose-chosen : (n : ℕ) (row back : Row) → later_columns row ≡ n → later_columns back ≡ 0 → later_columns ((replicate n None ++ drop n row) ++ back) ≡ 0
 loose-chosen zero row back e h = later-append row back h ∙ e
@@ -62,7 +60,7 @@ behind-seam front o1 o2 back to e h =
     let n : later_columns (drop to row) ≡ later_columns o2 = ap later_columns rest ∙ later-append o2 back h in
     ap (λ k. replicate k None ++ drop (to + k) row) n
     ∙ ap (λ xs. replicate (later_columns o2) None ++ xs) (
-    sym (drop-drop (later_columns o2) to row) ∙ ap (drop (later_columns o2)) rest ∙ drop-append-le (later_columns o2) o2 back (later-within o2))
+    sym (drop-drop (later_columns o2) to row) ∙ ap (drop (later_columns o2)) rest ∙ drop-append-le (later_columns o2) o2 back (prefix_len-le-length is_later o2))
     ∙ sym (append_assoc (replicate (later_columns o2) None) (drop (later_columns o2) o2) back)
 
 pub over-seam : (front o1 o2 back cells : Row) → first_column (front ++ (o1 ++ (o2 ++ back))) (length front) ≡ length front → length cells ≡ length o1 → later_columns back ≡ 0

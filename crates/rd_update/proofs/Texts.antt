@@ -28,7 +28,7 @@ not-later [] h = refl
 not-later (None ∷ rest) h = refl
 not-later (Some (Blank f) ∷ rest) h = refl
 not-later (Some (First g f) ∷ rest) h = refl
-not-later (Some Rest ∷ rest) h = absurd (cc)
+not-later (Some Rest ∷ rest) h = absurd (omega arith)
 
 pub first-whole : (front rest : Row) → later_columns rest ≡ 0 → first_column (front ++ rest) (length front) ≡ length front
 first-whole [] rest h = refl
