@@ -29,7 +29,7 @@ use Rattle.rd_rows.specs.Shapes.{ShapeValues, room, is_word}
 use Rattle.rd_rows.proofs.Ends.{any-more, line_ends, on-parts, on-append, on-line_ends, ends-append, standing-ends, ends_once-parts}
 use Rattle.rd_rows.proofs.Few.{IsFew, few-none, few-more, few-wait}
 use Rattle.rd_rows.proofs.Fill.{standing-length, reached-column, reached-used, line-behind, once-behind, once-some, room-on, room-ended, room-full, unfit-ends, cells-room}
-use Rattle.rd_rows.proofs.Splits.{IsFront, break-front, break-some, none-left, rows-same}
+use Rattle.rd_rows.proofs.Splits.{IsFront, break-front, break-some, lead_behind, none-left, rows-same}
 
 -- where the next row begins behind its prefix
 abbrev pub start_of : MakerValues → Spot
@@ -184,23 +184,17 @@ ended-cells m n k es fs gs f g e shape here w more same too placed =
 
 -- the row that was made is the next of the line
 
-lead-same : (c : Cutting) (b : Bool) → (if not b then c.wrap else c.first) ≡ (if b then c.first else c.wrap)
-lead-same c true = refl
-lead-same c false = refl
-
 abbrev pub line_row : Cutting → List Placed → Spot → RowCut → LaidRow
 line_row c lead start cut = laid c (reached c.shape start cut.elements).used cut.marked (standing c.shape lead start cut.elements)
-
-abbrev pub next_lead : Cutting → Bool → List Placed
-next_lead c b = if b then c.first else c.wrap
 
 abbrev pub next_spot : Bool → Spot → Spot
 next_spot b spot = if b then next_line spot else spot
 
 same-rows : (fin : Bool) (n : ℕ) (c : Cutting) (b : Bool) (spot : Spot) (rest : List Element) → (fin ≡ true → rest ≡ []) → length rest ≤ n
-    → rows_within n c (next_lead c b) spot rest ≡ (if fin then [] else rows_within (length rest) c (if not b then c.wrap else c.first) spot rest)
-same-rows true n c b spot rest over few = rw (over refl) (none-left n c (next_lead c b) spot)
-same-rows false n c b spot rest over few = rw (lead-same c b) (rows-same n (length rest) c (next_lead c b) spot rest few (omega arith))
+    → rows_within n c (lead_behind c b) spot rest ≡ (if fin then [] else rows_within (length rest) c (if not b then c.wrap else c.first) spot rest)
+same-rows true n c b spot rest over few = rw (over refl) (none-left n c (lead_behind c b) spot)
+same-rows false n c true spot rest over few = rows-same n (length rest) c c.first spot rest few (omega arith)
+same-rows false n c false spot rest over few = rows-same n (length rest) c c.wrap spot rest few (omega arith)
 
 row-parts : (r : LaidRow) (row : RowValues) (weight : ℕ) (rs qs : List LaidRow) → r.row ≡ row.shown → r.weight ≡ weight → rs ≡ qs → r ∷ rs ≡ record { row = row.shown; weight = weight } ∷ qs
 row-parts r row weight rs qs h k i =
@@ -218,7 +212,7 @@ low-column true s = omega arith
 low-column false s = omega arith
 
 first-cut : (n : ℕ) (c : Cutting) (lead : List Placed) (spot : Spot) (cut : RowCut) (all : List Element) → 0 < length all → cut_row c.shape (next_row (columns_of lead) spot) all ≡ cut
-    → (let start = next_row (columns_of lead) spot in rows_within (suc n) c lead spot all ≡ line_row c lead start cut ∷ rows_within n c (next_lead c cut.ended) (next_spot cut.ended (reached c.shape start cut.elements)) (drop (length cut.elements) all))
+    → (let start = next_row (columns_of lead) spot in rows_within (suc n) c lead spot all ≡ line_row c lead start cut ∷ rows_within n c (lead_behind c cut.ended) (next_spot cut.ended (reached c.shape start cut.elements)) (drop (length cut.elements) all))
 first-cut n c lead spot cut [] some is = absurd (omega arith)
 first-cut n c lead spot cut (x ∷ xs) some is = rw (sym is) refl
 
@@ -240,10 +234,10 @@ cuts-by m p es gs row weight kept b marked fin on line leads cut parts some next
     let size = ap length parts ∙ length-append kept rest in
     let n : ℕ = length all - 1 in
     let long : length all ≡ suc n = omega (arith, size, some) in
-    let left : rows_behind m es ≡ line_row c lead start made ∷ rows_within n c (next_lead c b) spot rest
+    let left : rows_behind m es ≡ line_row c lead start made ∷ rows_within n c (lead_behind c b) spot rest
     = rw (on, sym behind) (ap (λ (k : ℕ). rows_within k c lead m.spot all) long ∙ first-cut n c lead m.spot made all (omega (arith, long)) cut) in
     let over : fin ≡ true → rest ≡ [] = λ h. once-over kept rest (ends ∙ h) (subst (λ ys. IsTrue (ends_once ys)) parts line.end) in
-    let later : rows_within n c (next_lead c b) spot rest ≡ rows_behind p gs
+    let later : rows_within n c (lead_behind c b) spot rest ≡ rows_behind p gs
     = same-rows fin n c b spot rest over (omega (arith, size, some, long)) ∙ ap (λ (y : MakerValues). rows_behind y gs) (sym next) in
     let fin_is : p.finished ≡ fin = ap (λ (y : MakerValues). y.finished) next in
     let last : fin ≡ has_line_end (standing c.shape lead start kept) = sym (standing-ends c.shape lead start kept (lead-is m leads).on ∙ ends) in
