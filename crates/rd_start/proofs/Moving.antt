@@ -1,5 +1,5 @@
 -- What is asked of the rows near a window, and what is chosen from them.
-use Rattle.std.proofs.Common.{◌≡◌, ℕ, ◌+◌, ◌-◌, ◌*◌, ◌/◌, ◌<◌, ◌≤◌, inl, inr, Bool, true, false, min, max, List, length, take, drop, Option, None, Some, Result, Ok, Err, refl, sym, ap, subst, ◌∙◌, arith}
+use Rattle.std.proofs.Common.{◌≡◌, ℕ, ◌+◌, ◌-◌, ◌*◌, ◌/◌, ◌<◌, ◌≤◌, inl, inr, Bool, true, false, min, max, List, length, take, drop, Option, None, Some, Result, Ok, Err, refl, sym, ap, subst, subst₂, ◌∙◌, arith}
 use Rattle.std.specs.List.{find}
 use Rattle.std.specs.Option.{option_map, unwrap_or}
 use Rattle.std.specs.Prelude.{IfOk, MatchResult, is_some}
@@ -205,6 +205,10 @@ pays kind base m sweep s steps e paid =
 abbrev pub NearPaid : SourceValues → Window → Strip → ℕ → ℕ → Type 0
 NearPaid m win s base steps = IsPaid (near_of m win.strip.sweep win.wanted) base m s steps
 
+pub spent-near : (m : SourceValues) (win : Window) (s : Strip) (base steps : ℕ) → s.sweep ≡ win.strip.sweep → NearPaid m win s base steps
+    → steps ≤ base + 2 * near_costs m win.strip.sweep.shape win.wanted
+spent-near m win s base steps same paid = let bound = pays (near_of m win.strip.sweep win.wanted) base m win.strip.sweep s steps same paid in omega (arith, bound)
+
 -- a window whose strip grew
 pub laid-on : (m : SourceValues) (win : Window) (forced : Bool) (new : Strip) → IsLaidOut m win forced → IsStrip m new → new.sweep ≡ win.strip.sweep
     → IsLaidOut m (record { wanted = win.wanted; strip = new }) forced
@@ -236,11 +240,15 @@ pub view-below : (m : SourceValues) (win : Window) (home : ℕ) → IsLaidOut m 
 view-below m win home laid is =
     subst (λ n. AsksAt Bottom (near_of m win.strip.sweep win.wanted) m win.strip (n + win.wanted.height)) (sym is) (asks-view m win.strip win.wanted laid.strip laid.of laid.kind)
 
--- the steps that are left to a window
-pub affords-same : (times : ℕ) (m : SourceValues) (sweep : Sweep) (w : Wanted) (s : Strip) (n steps base : ℕ) → s.sweep ≡ sweep → Affords times m s.sweep.shape w s n steps
-    → IsPaid (near_of m sweep w) base m s n → steps ≤ base + times * near_costs m sweep.shape w
-affords-same times m sweep w s n steps base e afforded paid =
-    subst (λ (x : ShapeValues). Affords times m x w s n steps) (ap (λ (x : Sweep). x.shape) e) afforded base paid
+-- by a later source and a strip that grew, a window has as many steps left, and the same is chosen, as by the first
+pub affords-same : (times : ℕ) (m other : SourceValues) (sweep : Sweep) (w : Wanted) (s : Strip) (n steps base : ℕ) → other ≡ m → s.sweep ≡ sweep
+    → Affords times other s.sweep.shape w s n steps → IsPaid (near_of m sweep w) base m s n → steps ≤ base + times * near_costs m sweep.shape w
+affords-same times m other sweep w s n steps base stays same afforded =
+    subst₂ (λ (y : SourceValues) (z : Sweep). Affords times y z.shape w s n steps) stays same afforded base
+
+pub chosen-same : (m other : SourceValues) (sweep : Sweep) (s : Strip) (w : Wanted) (r : Result Chosen Memory) → other ≡ m → s.sweep ≡ sweep
+    → IfOk r (λ chosen. chosen ≡ chosen_of other s.sweep.shape w) → IfOk r (λ chosen. chosen ≡ chosen_of m sweep.shape w)
+chosen-same m other sweep s w r = subst₂ (λ (y : SourceValues) (z : Sweep). IfOk r (λ (chosen : Chosen). chosen ≡ chosen_of y z.shape w))
 
 pub first-same : (m : SourceValues) (s new : Strip) → new.sweep ≡ s.sweep → new.home ≡ s.home → first_row m new ≡ first_row m s
 first-same m s new e f = ap (λ (x : Sweep). home_row m x - new.home) e ∙ ap (λ n. home_row m s.sweep - n) f

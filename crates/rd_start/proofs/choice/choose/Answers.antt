@@ -1,16 +1,12 @@
-use Rattle.std.proofs.Common.{◌≡◌, ℕ, ◌+◌, ◌*◌, ◌≤◌, inl, Bool, true, false, Result, refl, sym, subst, arith}
-use Rattle.std.specs.Prelude.{IfOk}
-use Rattle.rd_base.specs.declared.memory.Memory.{Memory}
+use Rattle.std.proofs.Common.{◌≡◌, ℕ, ◌+◌, ◌*◌, ◌≤◌, inl, Bool, true, false, refl, sym, subst, arith}
 use Rattle.rd_matrix.specs.Sources.{SourceValues}
-use Rattle.rd_start.specs.Chosen.{chosen_of}
 use Rattle.rd_start.specs.Near.{near_costs}
 use Rattle.rd_start.specs.Strips.{Affords, IsFor, IsLaidOut, IsPaid}
 use Rattle.rd_start.specs.declared.strip.Sweep.{Sweep}
-use Rattle.rd_start.specs.declared.wanted.Chosen.{Chosen}
 use Rattle.rd_start.specs.declared.wanted.Wanted.{Wanted}
 use Rattle.rd_start.specs.declared.window.Window.{Window}
 use Rattle.rd_rows.specs.Shapes.{ShapeValues}
-use Rattle.rd_start.proofs.Moving.{affords-same, asks-home, near_of}
+use Rattle.rd_start.proofs.Moving.{affords-same, asks-home, chosen-same, near_of}
 use Rattle.rd_start.proofs.Reaching.{at-source}
 use Rattle.rd_start.proofs.choice.choose.Given as given
 use Rattle.rd_start.proofs.choice.choose.Goals as goal
@@ -57,17 +53,7 @@ had g c =
     let sweep = sweep_of w c.args.shape in
     c.in_ok-strip.ensures.paid (near_of m sweep w) (inl (asks-home m sweep w (is-for w c.args.shape) c.requires.height))
 
--- a choice that goes on with the strip chooses by the source as it was, and costs what is left of the whole
-chosen-as-it-was : (g : given.Over) (c : goal.In_ok-strip g) (result : Result Chosen Memory)
-    → IfOk result (λ (chosen : Chosen). chosen ≡ chosen_of (g.B.BlockSource.meaning c.around.new.source) c.in_ok-strip.strip.sweep.shape c.args.wanted)
-    → IfOk result (λ (chosen : Chosen). chosen ≡ chosen_of (g.B.BlockSource.meaning c.args.source.now) c.args.shape c.args.wanted)
-chosen-as-it-was g c result told =
-    let m = g.B.BlockSource.meaning c.args.source.now in
-    let w = c.args.wanted in
-    let s = c.in_ok-strip.strip in
-    subst (λ (x : Sweep). IfOk result (λ (chosen : Chosen). chosen ≡ chosen_of m x.shape w)) c.in_ok-strip.ensures.strip.1
-    (at-source (λ (x : SourceValues). IfOk result (λ (chosen : Chosen). chosen ≡ chosen_of x s.sweep.shape w)) m (g.B.BlockSource.meaning c.around.new.source) c.around.ensures.stays told)
-
+-- a choice that goes on with the strip costs what is left of the whole
 afforded : (g : given.Over) (c : goal.In_ok-strip g) (times steps : ℕ)
     → Affords times (g.B.BlockSource.meaning c.around.new.source) c.in_ok-strip.strip.sweep.shape c.args.wanted c.in_ok-strip.strip c.around.new.steps steps
     → steps ≤ c.args.steps.now + times * near_costs (g.B.BlockSource.meaning c.args.source.now) c.args.shape c.args.wanted
@@ -75,11 +61,13 @@ afforded g c times steps told =
     let m = g.B.BlockSource.meaning c.args.source.now in
     let w = c.args.wanted in
     let s = c.in_ok-strip.strip in
-    affords-same times m (sweep_of w c.args.shape) w s c.around.new.steps steps c.args.steps.now c.in_ok-strip.ensures.strip.1
-    (at-source (λ (x : SourceValues). Affords times x s.sweep.shape w s c.around.new.steps steps) m (g.B.BlockSource.meaning c.around.new.source) c.around.ensures.stays told) (had g c)
+    affords-same times m _ (sweep_of w c.args.shape) w s c.around.new.steps steps c.args.steps.now c.around.ensures.stays c.in_ok-strip.ensures.strip.1 told (had g c)
 
 pub returns-then-wanted-clause-value : goal.returns-then-wanted-clause-value
-returns-then-wanted-clause-value g c = chosen-as-it-was g (goal.at.returns-then-wanted-clause-value g c).In_ok-strip c.forced.result c.forced.ensures.value
+returns-then-wanted-clause-value g c =
+    let m = g.B.BlockSource.meaning c.args.source.now in
+    let w = c.args.wanted in
+    chosen-same m _ (sweep_of w c.args.shape) c.in_ok-strip.strip w c.forced.result c.around.ensures.stays c.in_ok-strip.ensures.strip.1 c.forced.ensures.value
 
 pub returns-then-wanted-clause-steps : goal.returns-then-wanted-clause-steps
 returns-then-wanted-clause-steps g c =
@@ -87,7 +75,10 @@ returns-then-wanted-clause-steps g c =
     omega (arith, bound)
 
 pub returns-clause-value : goal.returns-clause-value
-returns-clause-value g c = chosen-as-it-was g (goal.at.returns-clause-value g c).In_ok-strip c.following.result c.following.ensures.value
+returns-clause-value g c =
+    let m = g.B.BlockSource.meaning c.args.source.now in
+    let w = c.args.wanted in
+    chosen-same m _ (sweep_of w c.args.shape) c.in_ok-strip.strip w c.following.result c.around.ensures.stays c.in_ok-strip.ensures.strip.1 c.following.ensures.value
 
 pub returns-clause-steps : goal.returns-clause-steps
 returns-clause-steps g c = afforded g (goal.at.returns-clause-steps g c).In_ok-strip 2 c.following.new.steps c.following.ensures.steps

@@ -1,16 +1,13 @@
-use Rattle.std.proofs.Common.{◌≡◌, ℕ, ◌+◌, ◌*◌, ◌≤◌, true, false, sym, ap, subst, ◌∙◌, arith}
-use Rattle.std.specs.Prelude.{IfOk}
+use Rattle.std.proofs.Common.{◌≡◌, ℕ, ◌+◌, true, false, sym, ap, subst, ◌∙◌, arith}
 use Rattle.rd_matrix.specs.Entries.{all_rows}
 use Rattle.rd_matrix.specs.Sources.{SourceValues}
-use Rattle.rd_start.specs.Chosen.{anchor_at, chosen_of, places_of}
-use Rattle.rd_start.specs.Near.{near_costs}
+use Rattle.rd_start.specs.Chosen.{anchor_at, places_of}
 use Rattle.rd_start.specs.Starts.{suits}
-use Rattle.rd_start.specs.Strips.{Affords, IsLaidOut, IsUnsuited, first_row, rows_in}
+use Rattle.rd_start.specs.Strips.{IsLaidOut, IsUnsuited, first_row, rows_in}
 use Rattle.rd_start.specs.declared.strip.Sweep.{Sweep}
-use Rattle.rd_start.specs.declared.wanted.Chosen.{Chosen}
 use Rattle.rd_start.specs.declared.window.Window.{Window}
 use Rattle.rd_start.proofs.Reaching.{at-source}
-use Rattle.rd_start.proofs.Moving.{NearPaid, affords-same, follows-home, laid-on, near_of, pays, value-free, view-below}
+use Rattle.rd_start.proofs.Moving.{NearPaid, affords-same, chosen-same, follows-home, laid-on, near_of, spent-near, value-free, view-below}
 use Rattle.rd_start.proofs.choice.following.Given as given
 use Rattle.rd_start.proofs.choice.following.Goals as goal
 use Rattle.rd_start.proofs.choice.following.Goals.{In_ok-home_suits, In_ok-reach}
@@ -30,19 +27,15 @@ viewed g c base paid =
     let win = c.args.window in
     c.in_ok-reach.ensures.paid (near_of m win.strip.sweep win.wanted) base paid (view-below m win c.home.result c.requires c.home.ensures)
 
-spent : (g : given.Over) (c : goal.In_ok-reach g) (base : ℕ) → NearPaid (g.B.BlockSource.meaning c.args.source.now) c.args.window c.args.window.strip base c.args.steps.now
-    → c.reach.new.steps ≤ base + 2 * near_costs (g.B.BlockSource.meaning c.args.source.now) c.args.window.strip.sweep.shape c.args.window.wanted
-spent g c base paid =
-    let m = g.B.BlockSource.meaning c.args.source.now in
-    let win = c.args.window in
-    let bound = pays (near_of m win.strip.sweep win.wanted) base m win.strip.sweep c.reach.new.self c.reach.new.steps c.in_ok-reach.ensures.sweep (viewed g c base paid) in
-    omega (arith, bound)
-
 pub returns-in_err-home_suits-clause-steps : goal.returns-in_err-home_suits-clause-steps
-returns-in_err-home_suits-clause-steps g c = spent g (goal.at.returns-in_err-home_suits-clause-steps g c).In_ok-reach
+returns-in_err-home_suits-clause-steps g c = λ base paid.
+    spent-near (g.B.BlockSource.meaning c.args.source.now) c.args.window c.reach.new.self base c.reach.new.steps c.in_ok-reach.ensures.sweep
+    (viewed g (goal.at.returns-in_err-home_suits-clause-steps g c).In_ok-reach base paid)
 
 pub returns-then-branch-clause-steps : goal.returns-then-branch-clause-steps
-returns-then-branch-clause-steps g c = spent g (goal.at.returns-then-branch-clause-steps g c).In_ok-reach
+returns-then-branch-clause-steps g c = λ base paid.
+    spent-near (g.B.BlockSource.meaning c.args.source.now) c.args.window c.reach.new.self base c.reach.new.steps c.in_ok-reach.ensures.sweep
+    (viewed g (goal.at.returns-then-branch-clause-steps g c).In_ok-reach base paid)
 
 -- whether the old start suits
 suited : (g : given.Over) (c : goal.In_ok-home_suits g) → c.in_ok-home_suits.field-0
@@ -88,18 +81,13 @@ moving-requires g c =
 pub returns-clause-value : goal.returns-clause-value
 returns-clause-value g c =
     let m = g.B.BlockSource.meaning c.args.source.now in
-    let w = c.args.window.wanted in
-    let new = c.reach.new.self in
-    let stays = c.home_suits.ensures.stays ∙ c.reach.ensures.stays in
-    let told = at-source (λ (x : SourceValues). IfOk c.moving.result (λ chosen. chosen ≡ chosen_of x new.sweep.shape w)) m (g.B.BlockSource.meaning c.home_suits.new.source) stays c.moving.ensures.value in
-    subst (λ (x : Sweep). IfOk c.moving.result (λ (chosen : Chosen). chosen ≡ chosen_of m x.shape w)) c.in_ok-reach.ensures.sweep told
+    let win = c.args.window in
+    chosen-same m _ win.strip.sweep c.reach.new.self win.wanted c.moving.result (c.home_suits.ensures.stays ∙ c.reach.ensures.stays) c.in_ok-reach.ensures.sweep c.moving.ensures.value
 
 pub returns-clause-steps : goal.returns-clause-steps
 returns-clause-steps g c = λ base paid.
     let m = g.B.BlockSource.meaning c.args.source.now in
     let win = c.args.window in
-    let new = c.reach.new.self in
     let had = viewed g (goal.at.returns-clause-steps g c).In_ok-reach base paid in
-    let stays = c.home_suits.ensures.stays ∙ c.reach.ensures.stays in
-    let paying = at-source (λ (x : SourceValues). Affords 2 x new.sweep.shape win.wanted new c.reach.new.steps c.moving.new.steps) m (g.B.BlockSource.meaning c.home_suits.new.source) stays c.moving.ensures.steps in
-    affords-same 2 m win.strip.sweep win.wanted new c.reach.new.steps c.moving.new.steps base c.in_ok-reach.ensures.sweep paying had
+    affords-same 2 m _ win.strip.sweep win.wanted c.reach.new.self c.reach.new.steps c.moving.new.steps base (c.home_suits.ensures.stays ∙ c.reach.ensures.stays)
+    c.in_ok-reach.ensures.sweep c.moving.ensures.steps had

@@ -1,10 +1,9 @@
-use Rattle.std.proofs.Common.{◌≡◌, ℕ, ◌+◌, ◌*◌, ◌≤◌, sym, ap, subst, ◌∙◌, arith}
+use Rattle.std.proofs.Common.{◌≡◌, ℕ, ◌+◌, sym, ap, subst, ◌∙◌, arith}
 use Rattle.std.specs.Prelude.{IfOk}
 use Rattle.std.specs.List.{find}
 use Rattle.std.specs.Option.{option_map}
 use Rattle.rd_matrix.specs.Sources.{SourceValues}
 use Rattle.rd_start.specs.Chosen.{places_of}
-use Rattle.rd_start.specs.Near.{near_costs}
 use Rattle.rd_start.specs.Starts.{around, suits}
 use Rattle.rd_start.specs.Strips.{IsStrip, IsUnsuited, all_costs, centred_chosen, first_row}
 use Rattle.rd_start.specs.declared.strip.Edge.TheVariants.{Bottom}
@@ -12,7 +11,7 @@ use Rattle.rd_start.specs.declared.strip.Sweep.{Sweep}
 use Rattle.rd_start.specs.declared.wanted.Chosen.{Chosen}
 use Rattle.rd_start.specs.declared.window.Window.{Window}
 use Rattle.rd_start.proofs.Reaching.{EdgeFails, EdgePays, at-source}
-use Rattle.rd_start.proofs.Moving.{CentredPays, NearPaid, asks-far, asks-point, far-above, far-below, follows-centre, follows-near, near_of, pays, result-centred, unsuited-on, value-free}
+use Rattle.rd_start.proofs.Moving.{CentredPays, NearPaid, asks-far, asks-point, far-above, far-below, follows-centre, follows-near, near_of, result-centred, spent-near, unsuited-on, value-free}
 use Rattle.rd_start.proofs.choice.moving.Given as given
 use Rattle.rd_start.proofs.choice.moving.Goals as goal
 use Rattle.rd_start.proofs.choice.moving.Goals.{In_ok-reach-2, In_ok-start}
@@ -50,15 +49,6 @@ laid g c base paid =
     paying (near_of m win.strip.sweep win.wanted) base (far-above m win up c.args.steps.now c.reach.new.steps base c.requires c.in_ok-reach.ensures.paid paid)
     (far-below m win up c.home.result c.requires c.in_ok-reach.ensures.strip c.in_ok-reach.ensures.sweep c.home.ensures)
 
-spent : (g : given.Over) (c : goal.In_ok-reach-2 g) (base : ℕ) → NearPaid (g.B.BlockSource.meaning c.args.source.now) c.args.window c.args.window.strip base c.args.steps.now
-    → c.reach-2.new.steps ≤ base + 2 * near_costs (g.B.BlockSource.meaning c.args.source.now) c.args.window.strip.sweep.shape c.args.window.wanted
-spent g c base paid =
-    let m = g.B.BlockSource.meaning c.args.source.now in
-    let win = c.args.window in
-    let both = c.in_ok-reach-2.ensures.sweep ∙ c.in_ok-reach.ensures.sweep in
-    let bound = pays (near_of m win.strip.sweep win.wanted) base m win.strip.sweep c.reach-2.new.self c.reach-2.new.steps both (laid g c base paid) in
-    omega (arith, bound)
-
 strip : (g : given.Over) (c : goal.In_ok-reach-2 g) → IsStrip (g.B.BlockSource.meaning c.args.source.now) c.reach-2.new.self
 strip g c = at-source (λ (x : SourceValues). IsStrip x c.reach-2.new.self) (g.B.BlockSource.meaning c.args.source.now) (g.B.BlockSource.meaning c.reach.new.source) c.reach.ensures.stays c.in_ok-reach-2.ensures.strip
 
@@ -73,7 +63,9 @@ nearest-requires-clause-moves g c =
     (unsuited-on m c.args.window c.reach-2.new.self c.requires (strip g (goal.at.nearest-requires-clause-moves g c).In_ok-reach-2) (c.in_ok-reach-2.ensures.sweep ∙ c.in_ok-reach.ensures.sweep))
 
 pub returns-in_err-start-clause-steps : goal.returns-in_err-start-clause-steps
-returns-in_err-start-clause-steps g c = spent g (goal.at.returns-in_err-start-clause-steps g c).In_ok-reach-2
+returns-in_err-start-clause-steps g c = λ base paid.
+    let at = (goal.at.returns-in_err-start-clause-steps g c).In_ok-reach-2 in
+    spent-near (g.B.BlockSource.meaning c.args.source.now) c.args.window c.reach-2.new.self base c.reach-2.new.steps (same g at) (laid g at base paid)
 
 -- the nearest row that suits
 found : (g : given.Over) (c : goal.In_ok-start g) → option_map (λ n. first_row (g.B.BlockSource.meaning c.args.source.now) c.reach-2.new.self + n) c.in_ok-start.field-0
@@ -98,7 +90,9 @@ returns-in-Some-clause-value g c =
     value-free m win.strip.sweep down win.wanted c.in-Some.start c.starting_at.result (same g at.In_ok-reach-2) c.requires.laid.kind follows (c.starting_at.ensures m (strip g at.In_ok-reach-2))
 
 pub returns-in-Some-clause-steps : goal.returns-in-Some-clause-steps
-returns-in-Some-clause-steps g c = spent g (goal.at.returns-in-Some-clause-steps g c).In_ok-reach-2
+returns-in-Some-clause-steps g c = λ base paid.
+    let at = (goal.at.returns-in-Some-clause-steps g c).In_ok-reach-2 in
+    spent-near (g.B.BlockSource.meaning c.args.source.now) c.args.window c.reach-2.new.self base c.reach-2.new.steps (same g at) (laid g at base paid)
 
 pub returns-in-None-clause-value : goal.returns-in-None-clause-value
 returns-in-None-clause-value g c =
