@@ -17,7 +17,7 @@ use Rattle.rd_base.specs.declared.element.Origin.{Origin}
 use Rattle.rd_ucd.specs.Lookup.{class_of}
 use Rattle.rd_objects.specs.Tables.{TableValue}
 use Rattle.rd_objects.specs.Texts.{TextValue}
-use Rattle.rd_objects.specs.declared.run.Spec.TheVariants.{Text, Width, Align}
+use Rattle.rd_objects.specs.declared.run.Spec.TheVariants.{Text}
 use Rattle.rd_text.specs.Texts.{is_newline}
 use Rattle.rd_glyphs.specs.Characters.{PartValues, glyph_elements, entry_of, elements_by, elements_of, shown_as}
 use Rattle.rd_glyphs.specs.MarkRoles.{is_empty_entry, base_of, mark_role_by}
@@ -204,16 +204,6 @@ ellipsis-some (Some table) face origin h = glyphs-some table.ellipsis face origi
 abbrev pub ItemsGive : Type 0
 ItemsGive = (s : Scene) (base : ℕ) (k : ItemKind) (odd : Bool) (face : Attributes) (origin : Origin) → kind_gives s k ≡ true → 1 ≤ length (put_kind kind_elements s base k false odd face origin)
 
-pub item-some : CharactersGive → ItemsGive
-item-some law s base (item.Char c) odd face origin h = law s.parts c odd face origin (not-true (is_empty_entry (entry_of s.parts.table c)) h)
-item-some law s base (item.Marked g) odd face origin h = omega arith
-item-some law s base (item.Text n) odd face origin h = string-some law s base origin face (slice_get s.objects.strings n) h
-item-some law s base (item.Space (Text n)) odd face origin h = absurd (let q : false ≡ true = h in cc)
-item-some law s base (item.Space (Width n)) odd face origin h = omega arith
-item-some law s base (item.Space (Align n)) odd face origin h = omega arith
-item-some law s base item.Ellipsis odd face origin h = ellipsis-some s.parts.table face origin h
-item-some law s base item.Ender odd face origin h = omega arith
-
 -- what gives no element has none
 
 empty-entry : (entry : Option (List Glyph)) → not (is_empty_entry entry) ≡ false → entry ≡ Some []
@@ -281,12 +271,13 @@ ellipsis-none : (table : Option TableValue) (face : Attributes) (origin : Origin
 ellipsis-none None face origin h = absurd (let q : true ≡ false = h in cc)
 ellipsis-none (Some table) face origin h = ap (λ text. glyph_elements face origin (unwrap_or text (ellipsis_glyphs None))) (empty-entry table.ellipsis h)
 
-pub item-none : (s : Scene) (base : ℕ) (k : ItemKind) (odd : Bool) (face : Attributes) (origin : Origin) → kind_gives s k ≡ false → put_kind kind_elements s base k false odd face origin ≡ []
-item-none s base (item.Char c) odd face origin h = character-none s.parts c odd face origin h
-item-none s base (item.Marked g) odd face origin h = absurd (let q : true ≡ false = h in cc)
-item-none s base (item.Text n) odd face origin h = string-none s base origin face (slice_get s.objects.strings n) h
-item-none s base (item.Space (Text n)) odd face origin h = refl
-item-none s base (item.Space (Width n)) odd face origin h = absurd (let q : true ≡ false = h in cc)
-item-none s base (item.Space (Align n)) odd face origin h = absurd (let q : true ≡ false = h in cc)
-item-none s base item.Ellipsis odd face origin h = ellipsis-none s.parts.table face origin h
-item-none s base item.Ender odd face origin h = absurd (let q : true ≡ false = h in cc)
+-- an item has an element where it is said to give one, and else none
+pub item-gives : CharactersGive → (s : Scene) (base : ℕ) (k : ItemKind) (odd : Bool) (face : Attributes) (origin : Origin)
+    → let shown = put_kind kind_elements s base k false odd face origin in (kind_gives s k ≡ true → 1 ≤ length shown) × (kind_gives s k ≡ false → shown ≡ [])
+item-gives law s base (item.Char c) odd face origin =
+    (λ h. law s.parts c odd face origin (not-true (is_empty_entry (entry_of s.parts.table c)) h), character-none s.parts c odd face origin)
+item-gives law s base (item.Text n) odd face origin =
+    let text = slice_get s.objects.strings n in (string-some law s base origin face text, string-none s base origin face text)
+item-gives law s base (item.Space (Text n)) odd face origin = (λ h. absurd (let q : false ≡ true = h in cc), λ h. refl)
+item-gives law s base item.Ellipsis odd face origin = (ellipsis-some s.parts.table face origin, ellipsis-none s.parts.table face origin)
+item-gives law s base k odd face origin = (λ h. omega arith, λ h. absurd (let q : true ≡ false = h in cc))
