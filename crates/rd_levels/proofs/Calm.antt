@@ -182,22 +182,13 @@ n0_bracket_types-calm entries sos cs codes ts ps =
     (n0_with_pairs-calm sos 0 (closings (bd16_pairs_of (roles entries ts codes)) (length ts)) ts ps)
 
 -- every neutral stands between L and L
-n1_following-left : (cs : List Class) → Each IsCalm cs → n1_following L cs ≡ L
-n1_following-left [] ps = refl
-n1_following-left (L ∷ cs) ps = refl
-n1_following-left (B ∷ cs) ps = n1_following-left cs ps.1
-n1_following-left (S ∷ cs) ps = n1_following-left cs ps.1
-n1_following-left (WS ∷ cs) ps = n1_following-left cs ps.1
-n1_following-left (ON ∷ cs) ps = n1_following-left cs ps.1
-n1_following-left (c ∷ cs) ps = absurd (let p = ps.0 in cc)
-
-n1-left : (cs : List Class) → Each IsCalm cs → n1 L L cs ≡ replicate (length cs) L
-n1-left [] ps = refl
-n1-left (L ∷ cs) ps = ap (λ l. L ∷ l) (n1-left cs ps.1)
-n1-left (B ∷ cs) ps = ap₂ (λ d l. n1_surrounding_direction L d B ∷ l) (n1_following-left cs ps.1) (n1-left cs ps.1)
-n1-left (S ∷ cs) ps = ap₂ (λ d l. n1_surrounding_direction L d S ∷ l) (n1_following-left cs ps.1) (n1-left cs ps.1)
-n1-left (WS ∷ cs) ps = ap₂ (λ d l. n1_surrounding_direction L d WS ∷ l) (n1_following-left cs ps.1) (n1-left cs ps.1)
-n1-left (ON ∷ cs) ps = ap₂ (λ d l. n1_surrounding_direction L d ON ∷ l) (n1_following-left cs ps.1) (n1-left cs ps.1)
+n1-left : (cs : List Class) → Each IsCalm cs → (n1_following L cs ≡ L) × (n1 L L cs ≡ replicate (length cs) L)
+n1-left [] ps = (refl, refl)
+n1-left (L ∷ cs) ps = (refl, ap (λ l. L ∷ l) (n1-left cs ps.1).1)
+n1-left (B ∷ cs) ps = let both = n1-left cs ps.1 in (both.0, ap₂ (λ d l. n1_surrounding_direction L d B ∷ l) both.0 both.1)
+n1-left (S ∷ cs) ps = let both = n1-left cs ps.1 in (both.0, ap₂ (λ d l. n1_surrounding_direction L d S ∷ l) both.0 both.1)
+n1-left (WS ∷ cs) ps = let both = n1-left cs ps.1 in (both.0, ap₂ (λ d l. n1_surrounding_direction L d WS ∷ l) both.0 both.1)
+n1-left (ON ∷ cs) ps = let both = n1-left cs ps.1 in (both.0, ap₂ (λ d l. n1_surrounding_direction L d ON ∷ l) both.0 both.1)
 n1-left (c ∷ cs) ps = absurd (let p = ps.0 in cc)
 
 n2-left : (n : ℕ) (ls : List ℕ) → n2 (replicate n L) ls ≡ replicate n L
@@ -207,7 +198,7 @@ n2-left (suc n) (l ∷ ls) = ap (λ t. L ∷ t) (n2-left n ls)
 
 -- the types after the neutral rules
 pub neutral-left : (cs : List Class) (ls : List ℕ) → Each IsCalm cs → neutral_types L L cs ls ≡ replicate (length cs) L
-neutral-left cs ls ps = ap (λ l. n2 l ls) (n1-left cs ps) ∙ n2-left (length cs) ls
+neutral-left cs ls ps = ap (λ l. n2 l ls) (n1-left cs ps).1 ∙ n2-left (length cs) ls
 
 -- all these rules keep the number of types
 w1-length : (before : Class) (cs : List Class) → length (w1 before cs) ≡ length cs
