@@ -1,7 +1,7 @@
 -- What holds of each element of a list, and what a list is from one of its places.
 use Rattle.std.proofs.Common.{◌≡◌, ◌≢◌, ◌⊎◌, ℕ, zero, suc, ◌+◌, ◌-◌, ◌<◌, ◌≤◌, nat_le, nat_lt, ◌==◌, Bool, true, false, not, ◌&&◌, ◌||◌, List, [], ◌∷◌, ◌++◌, length, length-append, length-drop, take, drop, get_or, None, Some, is_some, inl, inr, All, refl, sym, subst, ap, ap₂, cond, ◌∙◌, arith, map, min, set}
 use Rattle.std.specs.Prelude.{IfSome, slice_get, slice_range}
-use Rattle.std.specs.List.{AllByRecursion, count_by, find, list_any, position_or_len, range_with_len}
+use Rattle.std.specs.List.{AllByRecursion, count_by, find, last_or, list_any, position_or_len, range_with_len}
 use Rattle.std.proofs.lemmas.Bool.{cases_lt, ne_eqb}
 use Rattle.std.proofs.lemmas.Bool.Decides.{nat_tests}
 use Rattle.std.proofs.lemmas.List.{length-take, get_or_append_left, get_or_past, drop_more, drop_all, drop-set-lt, drop-drop, drop-take, take_more}
@@ -33,6 +33,14 @@ ended xs i none = elim (slice_get_cases xs i).1 [
 
 pub none-left : {X : Type 0} (xs : List X) (i : ℕ) → slice_get xs i ≡ None → drop i xs ≡ []
 none-left xs i none = drop_all i xs (ended xs i none)
+
+-- the last element is the one at the last place
+pub last-read : {X : Type 0} (xs : List X) → slice_get xs (length xs - 1) ≡ last_or None xs
+last-read [] = refl
+last-read (x ∷ []) = refl
+last-read (x ∷ y ∷ ys) =
+    let e : length (x ∷ y ∷ ys) - 1 ≡ suc (length (y ∷ ys) - 1) = omega arith in
+    ap (slice_get (x ∷ y ∷ ys)) e ∙ last-read (y ∷ ys)
 
 -- what stands at a place of two lists that are joined
 pub get-first : {X : Type 0} (xs ys : List X) (i : ℕ) → i < length xs → slice_get (xs ++ ys) i ≡ slice_get xs i

@@ -5,7 +5,7 @@ use Rattle.std.proofs.lemmas.Bool.Decides.{nat_tests}
 use Rattle.std.proofs.lemmas.Bool.{eqb-true, eq-eqb, lt-ltb, le-ltb, cases_lt}
 use Rattle.std.proofs.lemmas.List.{replicate-append-replicate, replicate_more, length-replicate, take_all, length-reverse, reverse-append, get_or_append_left, get_or-append_right, get_or-replicate, get_or_past, get_or-reverse, take-append-le, reverse-reverse, length_push}
 use Rattle.std.proofs.lemmas.List.Elements.{All-replicate}
-use Rattle.rd_base.proofs.Lists.{all-read}
+use Rattle.rd_base.proofs.Lists.{all-read, last-read}
 use Rattle.std.proofs.lemmas.List.Sums.{fold_push}
 use Rattle.rd_spans.specs.declared.run.ValueRun.{ValueRun}
 use Rattle.rd_spans.specs.Values.{value_at, IsTrimmed}
@@ -60,14 +60,6 @@ size-values rs h = omega (arith, length-values 0 rs h)
 pub few-runs : (k : ℕ) (rs : List ValueRun) → Rises k rs → length rs + k ≤ reach k rs
 few-runs k [] h = omega arith
 few-runs k (r ∷ rs) h = omega (arith, few-runs r.end rs h.1, h.0)
-
--- the last run is the one at the last place
-pub last-top : (rs : List ValueRun) → slice_get rs (length rs - 1) ≡ top rs
-last-top [] = refl
-last-top (r ∷ []) = refl
-last-top (r ∷ (q ∷ rs)) =
-    let e : length (r ∷ (q ∷ rs)) - 1 ≡ suc (length (q ∷ rs) - 1) = omega arith in
-    ap (λ (i : ℕ). slice_get (r ∷ (q ∷ rs)) i) e ∙ last-top (q ∷ rs)
 
 pub size-top : (rs : List ValueRun) (r : ValueRun) → top rs ≡ Some r → (k : ℕ) → reach k rs ≡ r.end
 size-top [] r e k = absurd (cc)
@@ -175,7 +167,7 @@ found-within es i p below within =
     ]
 
 pub size-last : (rs : List ValueRun) (r : ValueRun) → Some r ≡ slice_get rs (length rs - 1) → r.end ≡ size_of rs
-size-last rs r e = sym (size-top rs r (sym (last-top rs) ∙ sym e) 0)
+size-last rs r e = sym (size-top rs r (sym (last-read rs) ∙ sym e) 0)
 
 -- what is left where the last run is taken
 pub popped-rises : (old rs : List ValueRun) (r : ValueRun) → old ≡ rs ++ r ∷ [] → Rises 0 old → Rises 0 rs × ((size_of rs < r.end) × (size_of old ≡ r.end))

@@ -1,6 +1,7 @@
 -- How the values are kept: runs on both sides of a gap. Each run reaches from the end of the one before it to its own. The runs behind the
 -- gap count from the last position with a value backwards.
 use Rattle.std.specs.Prelude.{◌≡◌, ℕ, ◌+◌, ◌-◌, ◌<◌, ◌≤◌, nat_lt, nat_eq, Bool, true, false, if◌then◌else◌, List, [], ◌∷◌, ◌++◌, length, min, replicate, reverse, take, fold, Option, None, Some}
+use Rattle.std.specs.List.{last_or}
 use Rattle.rd_spans.specs.declared.run.ValueRun.{ValueRun}
 use Rattle.rd_spans.specs.Values.{IsTrimmed}
 
@@ -31,9 +32,7 @@ value_in (r ∷ rs) p = if nat_lt p r.end then r.value else value_in rs p
 
 -- the last run
 abbrev pub top : List ValueRun → Option ValueRun
-top [] = None
-top (r ∷ []) = Some r
-top (r ∷ (q ∷ rs)) = top (q ∷ rs)
+top rs = last_or None rs
 
 abbrev pub same_value : Option ℕ → Option ℕ → Bool
 same_value None None = true
