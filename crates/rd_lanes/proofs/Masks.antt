@@ -1,25 +1,13 @@
 -- From the mask of a group to the numbers in it.
-use Rattle.std.proofs.Common.{◌≡◌, ℕ, ◌+◌, ◌-◌, ◌/◌, ◌%◌, ◌^◌, ◌<◌, ◌≤◌, eqb, leb, Bool, true, false, not, cond, List, map, length, get_or, take, replicate, refl, sym, ap, ◌∙◌, arith, w32, w64}
+use Rattle.std.proofs.Common.{◌≡◌, ℕ, ◌+◌, ◌-◌, ◌%◌, ◌^◌, ◌<◌, ◌≤◌, eqb, leb, Bool, true, false, not, cond, List, map, length, get_or, take, replicate, refl, sym, ap, ◌∙◌, arith, w32, w64}
 use Rattle.std.proofs.Math.Seq.{take-add}
 use Rattle.std.proofs.lemmas.Bool.{eqb-true, not-false}
-use Rattle.std.proofs.lemmas.List.{length-map}
+use Rattle.std.proofs.lemmas.List.{length-map, map-id, take_all}
 use Rattle.std.proofs.lemmas.List.Sums.{sum_by-append, count_by-le-length}
-use Rattle.std.proofs.lemmas.Simd.{tops_compared, zip2_splat_left, mask_l-mod, length-chunk, get_or-chunk, get_or-zip2, length-zip2, bit_mask_l, none_from_empty_mask, ones-mask_l}
+use Rattle.std.proofs.lemmas.Simd.{tops_compared, zip2_splat_left, mask_l-mod, length-chunk, get_or-chunk, get_or-zip2, length-zip2, none_from_empty_mask, ones-mask_l}
 use Rattle.std.specs.Int.RustNames.{count_ones}
 use Rattle.std.specs.List.{count_by}
 use Rattle.std.specs.Simd.Lanes.{chunk, zip2, mask_l, top}
-
--- no lane is set in an empty mask
-unset : (b : Bool) → ◌≡◌ {A = ℕ} (cond b 1 0) 0 → b ≡ false
-unset true h = absurd (omega (arith, h))
-unset false h = refl
-
-no_bit : (ms : List Bool) (i : ℕ) → mask_l ms ≡ 0 → get_or ms i false ≡ false
-no_bit ms i e =
-    let bit : mask_l ms / 2 ^ i % 2 ≡ cond (get_or ms i false) 1 0 = bit_mask_l ms i in
-    let none : 0 / 2 ^ i % 2 ≡ 0 = grind arith in
-    let both : ◌≡◌ {A = ℕ} (cond (get_or ms i false) 1 0) 0 = sym bit ∙ ap (λ n. n / 2 ^ i % 2) e ∙ none in
-    unset (get_or ms i false) both
 
 pub same_groups : (a b : List ℕ) (at k : ℕ) → at + 8 ≤ length a → at + 8 ≤ length b
     → mask_l (map (top 63) (zip2 (λ x y. cond (not (eqb x y)) 18446744073709551615 0) (chunk at 8 a) (chunk at 8 b))) % 2 ^ 64 ≡ 0
@@ -30,10 +18,14 @@ same_groups a b at k ra rb e from to =
     let v = chunk at 8 b in
     let lu : length u ≡ 8 = length-chunk at 8 a ra in
     let lv : length v ≡ 8 = length-chunk at 8 b rb in
-    let lz : length (zip2 t u v) ≡ length u = length-zip2 t u v (omega arith) in
-    let empty : mask_l (zip2 t u v) ≡ 0 = sym (ap (λ l. mask_l l % 2 ^ 64) (tops_compared w64 t u v) ∙ mask_l-mod (zip2 t u v) 64 (omega arith)) ∙ e in
+    let z = zip2 t u v in
+    let lz : length z ≡ length u = length-zip2 t u v (omega arith) in
+    let empty : mask_l z ≡ 0 = sym (ap (λ l. mask_l l % 2 ^ 64) (tops_compared w64 t u v) ∙ mask_l-mod z 64 (omega arith)) ∙ e in
     let i : ℕ = k - at in
-    let lane : t (get_or u i 0) (get_or v i 0) ≡ false = sym (get_or-zip2 t u v i 0 0 false (omega arith) (omega arith)) ∙ no_bit (zip2 t u v) i empty in
+    let lanes : map (λ b. b) (chunk 0 8 z) ≡ z = map-id (chunk 0 8 z) ∙ take_all 8 z (omega arith) in
+    let lane : t (get_or u i 0) (get_or v i 0) ≡ false =
+    sym (get_or-zip2 t u v i 0 0 false (omega arith) (omega arith))
+    ∙ none_from_empty_mask (λ b. b) z 0 8 false (omega arith) (ap mask_l lanes ∙ empty) i (omega arith) (omega arith) in
     let back : at + i ≡ k = omega arith in
     let xa : get_or u i 0 ≡ get_or a k 0 = get_or-chunk at 8 a i 0 (omega arith) ∙ ap (λ j. get_or a j 0) back in
     let xb : get_or v i 0 ≡ get_or b k 0 = get_or-chunk at 8 b i 0 (omega arith) ∙ ap (λ j. get_or b j 0) back in
