@@ -1,16 +1,26 @@
 -- Two lists in one order, with the same elements, are equal.
-use Rattle.std.proofs.Common.{◌≡◌, ℕ, suc, ◌+◌, Bool, true, false, not, ◌&&◌, if◌then◌else◌, List, [], ◌∷◌, length, slice_index_or, drop, refl, sym, ap, ◌∙◌, arith, true≢false, subst}
+use Rattle.std.proofs.Common.{◌≡◌, suc, Bool, true, false, not, ◌&&◌, if◌then◌else◌, List, [], ◌∷◌, length, slice_index_or, drop, refl, sym, ap, ◌∙◌, arith, true≢false}
 use Rattle.std.specs.Prelude.{⊤}
-use Rattle.std.specs.List.{AllByRecursion, filter}
+use Rattle.std.specs.List.{AllByRecursion, AllPairs, filter}
 use Rattle.std.specs.List.Sorted.{ties, IsSortedBy}
 use Rattle.std.specs.Cmp.{IsStrictWeakOrder}
 use Rattle.std.proofs.lemmas.Bool.{and_from, not_from_false}
+use Rattle.std.proofs.lemmas.List.Elements.{recursion_from_All}
+use Rattle.std.proofs.lemmas.List.Sorted.{sorted_far}
 use Rattle.rd_base.proofs.Lists.{each-weaker}
 
 -- each element stands so to all behind it
 abbrev Pairwise : {X : Type 0} → (X → X → Type 0) → List X → Type 0
 Pairwise R [] = ⊤
 Pairwise R (x ∷ xs) = AllByRecursion (R x) xs × Pairwise R xs
+
+-- what stands so at each two places
+pairwise-from : {X : Type 0} (R : X → X → Type 0) (xs : List X) → AllPairs R xs → Pairwise R xs
+pairwise-from R [] all = tt
+pairwise-from R (x ∷ xs) all = (
+  recursion_from_All (R x) xs (λ k d inside. all 0 (suc k) d (omega arith) (omega arith)),
+  pairwise-from R xs (λ i j d less inside. all (suc i) (suc j) d (omega arith) (omega arith)),
+)
 
 module _ {X : Type 0} (lt : X → X → Bool) (o : IsStrictWeakOrder lt) where
   -- x comes before each element
@@ -34,25 +44,8 @@ module _ {X : Type 0} (lt : X → X → Bool) (o : IsStrictWeakOrder lt) where
   rises-never_falls [] r = tt
   rises-never_falls (x ∷ xs) r = (before-all x xs r.0, rises-never_falls xs r.1)
 
-  on-before : (x y : X) (zs : List X) → lt y x ≡ false → NoneBefore y zs → NoneBefore x zs
-  on-before x y zs p n = each-weaker (λ z. lt z y ≡ false) (λ z. lt z x ≡ false) (λ z q. o.chain z y x q p) zs n
-
-  none-before : (x : X) (xs : List X) → IsSortedBy lt (x ∷ xs) → NeverFalls xs → NoneBefore x xs
-  none-before x [] s f = tt
-  none-before x (y ∷ ys) s f =
-      let first : lt y x ≡ false = s 0 x (omega arith) (omega arith) in
-      (first, on-before x y ys first f.0)
-
-  tail-sorted : (x : X) (xs : List X) → IsSortedBy lt (x ∷ xs) → IsSortedBy lt xs
-  tail-sorted x xs s k d low high =
-      let e : suc k + 1 ≡ suc (k + 1) = omega arith in
-      subst (λ (n : ℕ). lt (slice_index_or (x ∷ xs) n d) (slice_index_or xs k d) ≡ false) e (s (suc k) d (omega arith) (omega arith))
-
   pub sorted-never_falls : (xs : List X) → IsSortedBy lt xs → NeverFalls xs
-  sorted-never_falls [] s = tt
-  sorted-never_falls (x ∷ xs) s =
-      let rest = sorted-never_falls xs (tail-sorted x xs s) in
-      (none-before x xs s rest, rest)
+  sorted-never_falls xs s = pairwise-from _ xs (λ i j d less inside. sorted_far lt o xs s i j d (omega arith) inside)
 
   ties-cases : (a b : Bool) → a ≡ false → b ≡ false → (not a && not b) ≡ true
   ties-cases a b p q = and_from (not a) (not b) (not_from_false a p) (not_from_false b q)
