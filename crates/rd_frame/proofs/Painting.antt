@@ -1,7 +1,9 @@
 -- Rectangles that are painted one after the other.
-use Rattle.std.proofs.Common.{◌≡◌, ℕ, zero, suc, ◌+◌, ◌≤◌, List, [], ◌∷◌, ◌++◌, length, take, drop, refl, sym, ◌∙◌, ap, arith, append_assoc, length-append}
+use Rattle.std.proofs.Common.{◌≡◌, ℕ, zero, suc, ◌+◌, ◌≤◌, List, [], ◌∷◌, ◌++◌, length, take, drop, refl, sym, ◌∙◌, ap, arith, length-append}
+use Rattle.std.proofs.Math.Seq.{paste}
 use Rattle.std.specs.List.{AllByRecursion}
-use Rattle.std.proofs.lemmas.List.{append-nil, length-take-le, length-drop, take_at, drop_at, drop-drop, drop_all}
+use Rattle.std.proofs.lemmas.List.{append-nil, length-drop, drop_all}
+use Rattle.std.proofs.lemmas.List.Edits.{paste_all, paste-paste}
 use Rattle.std.proofs.lemmas.List.Elements.{recursion_from_All}
 use Rattle.std.proofs.lemmas.List.Sums.{fold-append}
 use Rattle.rd_base.proofs.Lists.{each-weaker, length-replaced}
@@ -20,25 +22,19 @@ use Rattle.rd_frame.specs.Paints.{laid_over, painted, with_echo}
 
 -- ---- a row
 
+-- it is what the library's copy of a list into a list leaves
+pasted : {C : Type 0} (column : ℕ) (cells row : List C) → written_over column cells row ≡ paste row column cells (length cells)
+pasted column cells row = sym (paste_all row column cells (length cells) refl)
+
 -- cells behind cells that were written
 pub written-behind : {C : Type 0} (column at : ℕ) (first second row : List C) → column ≤ length row → at ≡ column + length first → written_over at second (written_over column first row) ≡ written_over column (first ++ second) row
-written-behind {C = C} column at first second row inside e =
-    let front = take column row in
-    let rest = drop (column + length first) row in
-    let n : length front ≡ column = length-take-le column row inside in
-    let m : length (front ++ first) ≡ at = length-append front first ∙ omega arith in
-    let written : front ++ (first ++ rest) ≡ (front ++ first) ++ rest = sym (append_assoc front first rest) in
-    let before : take at (written_over column first row) ≡ front ++ first = ap (take at) written ∙ take_at (front ++ first) rest at m in
-    let skip : drop (at + length second) (written_over column first row) ≡ drop (column + length (first ++ second)) row
-    = ap (drop (at + length second)) written
-    ∙ (sym (drop-drop (length second) at ((front ++ first) ++ rest))
-    ∙ (ap (drop (length second)) (drop_at (front ++ first) rest at m)
-    ∙ (drop-drop (length second) (column + length first) row
-    ∙ (let k : column + length first + length second ≡ column + length (first ++ second) = omega (arith, length-append first second) in ap (λ (j : ℕ). drop j row) k)))) in
-    let behind = drop (column + length (first ++ second)) row in
-    ap (λ (xs : List C). xs ++ (second ++ drop (at + length second) (written_over column first row))) before
-    ∙ (ap (λ (xs : List C). (front ++ first) ++ (second ++ xs)) skip
-    ∙ (append_assoc front first (second ++ behind) ∙ ap (λ (xs : List C). front ++ xs) (sym (append_assoc first second behind))))
+written-behind column at first second row inside e =
+    ap (λ k. written_over k second (written_over column first row)) e
+    ∙ ap (written_over (column + length first) second) (pasted column first row)
+    ∙ pasted (column + length first) second (paste row column first (length first))
+    ∙ paste-paste row column first second (length first) (length second) refl refl inside
+    ∙ ap (paste row column (first ++ second)) (sym (length-append first second))
+    ∙ sym (pasted column (first ++ second) row)
 
 -- the columns of a row that is written over, where the cells have room
 pub written-length : {C : Type 0} (column : ℕ) (cells row : List C) → column + length cells ≤ length row → length (written_over column cells row) ≡ length row
