@@ -1,10 +1,10 @@
 -- The text of a mode line has characters alone.
-use Rattle.std.proofs.Common.{rules, tests, arith, ◌≡◌, ℕ, ◌+◌, ◌*◌, ◌-◌, ◌/◌, ◌%◌, ◌<◌, ◌≤◌, ◌^◌, min, Bool, true, false, IsTrue, List, [], ◌∷◌, ◌++◌, Option, Some, None, IfSome, Result, Ok, Err, IfOk, All, replicate, codes, decimal, refl, subst}
+use Rattle.std.proofs.Common.{rules, tests, arith, ◌≡◌, ℕ, ◌+◌, ◌*◌, ◌-◌, ◌/◌, ◌<◌, ◌≤◌, ◌^◌, min, Bool, true, false, IsTrue, List, [], ◌∷◌, ◌++◌, Option, Some, None, IfSome, Result, Ok, Err, IfOk, All, replicate, codes, decimal, get_or, refl, subst}
 use Rattle.std.specs.Prelude.{◌==◌, ◌&&◌, nat_lt, if◌then◌else◌}
 use Rattle.std.specs.List.{AllByRecursion}
 use Rattle.std.proofs.lemmas.Bool.Decides.{nat_tests}
-use Rattle.std.proofs.lemmas.Fmt.{decimal_by_steps}
-use Rattle.std.proofs.lemmas.List.Elements.{All-append, All-nil, All-cons, All-replicate, All-from_recursion, recursion_from_All}
+use Rattle.std.proofs.lemmas.Fmt.{IsAscii-decimal}
+use Rattle.std.proofs.lemmas.List.Elements.{All-append, All-nil, All-cons, All-from_get_or, All-replicate, All-from_recursion, recursion_from_All}
 use Rattle.std.specs.Char.{is_ascii_digit}
 use Rattle.rd_base.proofs.Choices.{either}
 use Rattle.rd_base.specs.Chars.{is_code}
@@ -32,10 +32,7 @@ ascii c low =
 
 numbers : (n : ℕ) → n < 2 ^ 64 → All IsCharacter (decimal n)
 numbers n fits =
-    decimal_by_steps (λ (n : ℕ) (ds : List ℕ). All IsCharacter ds)
-    (λ n low. All-cons IsCharacter (48 + n) [] (ascii (48 + n) (omega arith)) (All-nil IsCharacter))
-    (λ n ds high front. All-append IsCharacter ds ((48 + n % 10) ∷ []) front (All-cons IsCharacter (48 + n % 10) [] (ascii (48 + n % 10) (omega arith)) (All-nil IsCharacter)))
-    n fits
+    All-from_get_or IsCharacter (decimal n) 0 (λ i within. ascii (get_or (decimal n) i 0) (IsAscii-decimal n fits i))
 
 share-small : (above total : ℕ) → share above total ≤ 99
 share-small above total = by-total (total == 0) where
