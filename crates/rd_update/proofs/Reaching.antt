@@ -94,7 +94,7 @@ updated width height current target limit t h =
     let done = is_done limit (differing old.rows target.rows) in
     let last = if done then move target.row target.column else [] in
     let n : length after ≡ height = length-after limit old.rows target.rows same ∙ size.rows in
-    let each = All-from_recursion (λ row. length row ≡ width) after (after-all (λ row. length row ≡ width) limit old.rows target.rows old_wide new_wide) in
+    let each = All-from_recursion (λ row. length row ≡ width) after (after-all (λ row. length row ≡ width) limit old.rows target.rows same old_wide new_wide) in
     let row : target.row < length after = omega (arith, h.size.row) in
     let column : target.column < length (get_or after target.row []) = omega (arith, h.size.column, each target.row [] row) in
     let wide : IsOfSize width height (update current target limit).screen = record { rows = n; each = each; row = either (λ k. k < height) done target.row old.row h.size.row size.row; column = either (λ k. k < width) done target.column old.column h.size.column size.column } in

@@ -1,5 +1,5 @@
 -- The new current screen of an update keeps what its screens have.
-use Rattle.std.proofs.Common.{◌≡◌, ℕ, suc, ◌<◌, Bool, not, if◌then◌else◌, List, [], ◌∷◌, length, get_or, Option, None, Some, refl, ap, ◌∙◌, arith}
+use Rattle.std.proofs.Common.{◌≡◌, ℕ, suc, ◌<◌, not, List, [], ◌∷◌, length, get_or, Option, None, Some, refl, ap, ◌∙◌, arith}
 use Rattle.std.specs.List.{AllByRecursion}
 use Rattle.std.specs.Prelude.{All, IfSome}
 use Rattle.std.proofs.lemmas.List.{length-replicate}
@@ -17,40 +17,34 @@ use Rattle.rd_update.specs.Plans.{HaveOneSize}
 use Rattle.rd_update.specs.Updates.{update, start, blank_like, rows_after, allows, less_one, differs, differing, is_done}
 use Rattle.rd_update.proofs.Parts.{start-length}
 
--- ---- what holds of each row of both screens holds of each row of the new one
+-- ---- what holds of both screens holds of the new one
 
-chosen : (P : List (List Cell) → Type 0) (differ may : Bool) (a b c : List (List Cell)) → P a → P b → P c → P (if not differ then a else if may then b else c)
-chosen P differ may a b c x y z = either P (not differ) a (if may then b else c) x (either P may b c y z)
+-- what holds of no rows, of rows that are left as they were, and of a new row before rows of which it holds
+after-by : (P : (olds news after : List (List Cell)) → Type 0) → P [] [] []
+    → ((o n : List Cell) (os ns : List (List Cell)) → P (o ∷ os) (n ∷ ns) (o ∷ os))
+    → ((o n : List Cell) (os ns after : List (List Cell)) → P os ns after → P (o ∷ os) (n ∷ ns) (n ∷ after))
+    → (limit : Option ℕ) (olds news : List (List Cell)) → length olds ≡ length news → P olds news (rows_after limit olds news)
+after-by P none stays comes limit [] [] same = none
+after-by P none stays comes limit [] (n ∷ ns) same = absurd (cc)
+after-by P none stays comes limit (o ∷ os) [] same = absurd (cc)
+after-by P none stays comes limit (o ∷ os) (n ∷ ns) same =
+    let next = λ (l : Option ℕ). comes o n os ns (rows_after l os ns) (after-by P none stays comes l os ns (omega arith)) in
+    either (P (o ∷ os) (n ∷ ns)) (not (differs o n)) _ _ (next limit)
+    (either (P (o ∷ os) (n ∷ ns)) (allows limit) _ _ (next (less_one limit)) (stays o n os ns))
 
-pub after-all : (P : List Cell → Type 0) (limit : Option ℕ) (olds news : List (List Cell)) → AllByRecursion P olds → AllByRecursion P news → AllByRecursion P (rows_after limit olds news)
-after-all P limit [] [] p q = tt
-after-all P limit [] (n ∷ ns) p q = tt
-after-all P limit (o ∷ os) [] p q = p
-after-all P limit (o ∷ os) (n ∷ ns) p q =
-    chosen (AllByRecursion P) (differs o n) (allows limit) (n ∷ rows_after limit os ns) (n ∷ rows_after (less_one limit) os ns) (o ∷ os)
-    (q.0, after-all P limit os ns p.1 q.1) (q.0, after-all P (less_one limit) os ns p.1 q.1) p
-
-each-after : (P : List Cell → Type 0) (limit : Option ℕ) (olds news : List (List Cell)) → All P olds → All P news → All P (rows_after limit olds news)
-each-after P limit olds news p q =
-    All-from_recursion P (rows_after limit olds news) (after-all P limit olds news (recursion_from_All P olds p) (recursion_from_All P news q))
+pub after-all : (P : List Cell → Type 0) (limit : Option ℕ) (olds news : List (List Cell)) → length olds ≡ length news
+    → AllByRecursion P olds → AllByRecursion P news → AllByRecursion P (rows_after limit olds news)
+after-all P = after-by (λ olds news after. AllByRecursion P olds → AllByRecursion P news → AllByRecursion P after)
+    (λ p q. tt) (λ o n os ns p q. p) (λ o n os ns after h p q. (q.0, h p.1 q.1))
 
 -- ---- sizes
 
 pub length-after : (limit : Option ℕ) (olds news : List (List Cell)) → length olds ≡ length news → length (rows_after limit olds news) ≡ length olds
-length-after limit [] [] n = refl
-length-after limit [] (x ∷ xs) n = absurd (cc)
-length-after limit (x ∷ xs) [] n = absurd (cc)
-length-after limit (x ∷ xs) (y ∷ ys) n =
-    let less : length xs ≡ length ys = omega arith in
-    chosen (λ rows. length rows ≡ suc (length xs)) (differs x y) (allows limit) (y ∷ rows_after limit xs ys) (y ∷ rows_after (less_one limit) xs ys) (x ∷ xs)
-    (ap suc (length-after limit xs ys less)) (ap suc (length-after (less_one limit) xs ys less)) refl
+length-after = after-by (λ olds news after. length after ≡ length olds) refl (λ o n os ns. refl) (λ o n os ns after h. ap suc h)
 
 width-after : (limit : Option ℕ) (olds news : List (List Cell)) → length olds ≡ length news → width_of olds ≡ width_of news → width_of (rows_after limit olds news) ≡ width_of news
-width-after limit [] [] n e = refl
-width-after limit [] (x ∷ xs) n e = absurd (cc)
-width-after limit (x ∷ xs) [] n e = absurd (cc)
-width-after limit (x ∷ xs) (y ∷ ys) n e =
-    chosen (λ rows. width_of rows ≡ length y) (differs x y) (allows limit) (y ∷ rows_after limit xs ys) (y ∷ rows_after (less_one limit) xs ys) (x ∷ xs) refl refl e
+width-after = after-by (λ olds news after. width_of olds ≡ width_of news → width_of after ≡ width_of news)
+    (λ e. refl) (λ o n os ns e. e) (λ o n os ns after h e. refl)
 
 blank-width : (rows : List (List Cell)) → width_of (blank_like rows) ≡ width_of rows
 blank-width [] = refl
@@ -91,14 +85,16 @@ sound-kept current target limit h p t =
     let size = size-kept current target limit h in
     let n = start-length current target h in
     let w = start-width current target h in
+    let each : (P : List Cell → Type 0) → All P old.rows → All P target.rows → All P (rows_after limit old.rows target.rows) = λ P p q.
+    All-from_recursion P _ (after-all P limit old.rows target.rows n (recursion_from_All P old.rows p) (recursion_from_All P target.rows q)) in
     let done = is_done limit (differing old.rows target.rows) in
     let row : (start current target).row < length target.rows = omega (arith, n, s.whole.row) in
     let column : (start current target).column < width_of target.rows = omega (arith, w, s.whole.column) in
     record {
       whole = record {
-        glyphs = each-after (λ row. IsRowAfter 0 row) limit old.rows target.rows s.whole.glyphs t.whole.glyphs;
+        glyphs = each (λ row. IsRowAfter 0 row) s.whole.glyphs t.whole.glyphs;
         row = rw size.0 (either (λ n. n < length target.rows) done target.row old.row t.whole.row row);
         column = rw size.1 (either (λ n. n < width_of target.rows) done target.column old.column t.whole.column column);
       };
-      colours = each-after (λ row. All IsColoured row) limit old.rows target.rows s.colours t.colours;
+      colours = each (λ row. All IsColoured row) s.colours t.colours;
     }
