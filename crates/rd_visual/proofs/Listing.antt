@@ -1,10 +1,10 @@
 -- Lists that are given element by element.
-use Rattle.std.proofs.Common.{◌≡◌, ℕ, zero, suc, ◌+◌, ◌-◌, ◌<◌, ◌≤◌, Bool, true, false, List, [], ◌∷◌, ◌++◌, length, All, drop, Option, None, Some, refl, sym, ap, subst, ◌∙◌, append_assoc, arith, inl, inr}
-use Rattle.std.specs.Prelude.{slice_get, if◌then◌else◌}
+use Rattle.std.proofs.Common.{◌≡◌, ℕ, ◌+◌, ◌-◌, ◌<◌, ◌≤◌, Bool, true, false, List, [], ◌∷◌, ◌++◌, length, All, drop, Option, None, Some, refl, sym, ap, subst, ◌∙◌, append_assoc, arith, inl, inr}
+use Rattle.std.specs.Prelude.{slice_get, option_map, if◌then◌else◌}
 use Rattle.std.proofs.lemmas.List.{length-drop}
 use Rattle.std.proofs.lemmas.List.Elements.{All-cons, All-nil}
 use Rattle.std.proofs.lemmas.Option.{same_Some}
-use Rattle.rd_base.proofs.Lists.{drop-at, element-at, follow-once}
+use Rattle.rd_base.proofs.Lists.{drop-at, element-at, follow-once, last-read}
 use Rattle.rd_props.specs.Seen.{Seen}
 use Rattle.rd_items.specs.Covers.{Tile}
 use Rattle.rd_items.specs.Items.{items_of}
@@ -119,8 +119,6 @@ beside-past way pos place rs found past all =
     sym (short-beside way pos (drop (place - 1) rs) (omega (arith, size, past))) ∙ all
 
 pub last-at : (rs : List Range) (r : Range) (place : ℕ) → place + 1 ≡ length rs → slice_get rs place ≡ Some r → Some r.from ≡ last rs
-last-at [] r place size there = absurd cc
-last-at (x ∷ []) r zero size there = let same : x ≡ r = cc in ap (λ (y : Range). Some y.from) (sym same)
-last-at (x ∷ []) r (suc place) size there = absurd (omega (arith, size))
-last-at (x ∷ y ∷ rs) r zero size there = absurd (omega (arith, size))
-last-at (x ∷ y ∷ rs) r (suc place) size there = last-at (y ∷ rs) r place (omega (arith, size)) there
+last-at rs r place size there =
+    let e : place ≡ length rs - 1 = omega (arith, size) in
+    ap (option_map (λ (x : Range). x.from)) (sym there ∙ ap (slice_get rs) e ∙ last-read rs)

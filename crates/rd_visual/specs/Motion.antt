@@ -1,6 +1,6 @@
 -- Motion in visual order: the item behind or before the one that covers a position.
-use Rattle.std.specs.Prelude.{ℕ, ◌+◌, nat_lt, nat_le, Bool, ◌==◌, ◌&&◌, if◌then◌else◌, List, [], ◌∷◌, slice_get, Option, None, Some}
-use Rattle.std.specs.List.{flat_map}
+use Rattle.std.specs.Prelude.{ℕ, ◌+◌, nat_lt, nat_le, Bool, ◌==◌, ◌&&◌, if◌then◌else◌, List, [], ◌∷◌, slice_get, Option, None, Some, option_map}
+use Rattle.std.specs.List.{flat_map, last_or}
 use Rattle.rd_ucd.specs.Data.{Data}
 use Rattle.rd_objects.specs.Things.{ObjectLists}
 use Rattle.rd_props.specs.Buffers.{BufferValue, meaning}
@@ -61,9 +61,7 @@ first [] = None
 first (r ∷ rs) = Some r.from
 
 abbrev pub last : List Range → Option ℕ
-last [] = None
-last (r ∷ []) = Some r.from
-last (r ∷ next ∷ rs) = last (next ∷ rs)
+last rs = option_map (λ (r : Range). r.from) (last_or None rs)
 
 abbrev pub forward : BufferValue → ObjectLists → Data → ℕ → Option ℕ
 forward s objects files pos = behind pos (all_ranges s objects files)
