@@ -155,6 +155,15 @@ impl<T: Copy> ListOf<T> {
         self.items[from..from + items.len()].copy_from_slice(items);
     }
 
+    /// Puts the same value at each place of a part.
+    pub fn fill(&mut self, from: usize, to: usize, value: T)
+        requires order { from ≤ to }
+        requires end { to ≤ length self.old }
+        ensures { self.new ≡ take from self.old ++ (replicate (to - from) value ++ drop to self.old) }
+    {
+        self.items[from..to].fill_with(|| value);
+    }
+
     /// Adds these elements at the end.
     pub fn extend_from_slice(&mut self, more: &[T]) -> Result<(), Memory>
         ensures ok { OnOk result (self.new ≡ self.old ++ more.now) }

@@ -1,22 +1,12 @@
--- What is erased, step by step, and that it keeps its size.
-use Rattle.std.proofs.Common.{◌≡◌, ℕ, ◌+◌, ◌-◌, ◌<◌, ◌≤◌, List, [], ◌∷◌, ◌++◌, length, set, take, drop, replicate, Option, Some, ap, ◌∙◌, arith, append_assoc, drop_of_length-le, le_refl, append-nil}
-use Rattle.std.proofs.lemmas.List.{take_more_set, replicate_more, length-replicate}
+-- What is erased keeps its size, and a row that was filled whole is cleared.
+use Rattle.std.proofs.Common.{◌≡◌, ℕ, ◌+◌, ◌-◌, ◌≤◌, List, [], ◌++◌, length, take, drop, replicate, Option, Some, ap, arith, drop_of_length-le, le_refl, append-nil}
+use Rattle.std.proofs.lemmas.List.{length-replicate}
 use Rattle.rd_base.specs.declared.cell.Cell.{Cell}
 use Rattle.rd_term.specs.Pictures.{blank}
 use Rattle.rd_term.specs.Overwriting.{later_columns}
 use Rattle.rd_term.specs.Shifts.{cleared}
 use Rattle.rd_term.specs.Terminals.{erased_from}
 use Rattle.rd_term.proofs.Cutting.{length-overwritten}
-
-pub erased_more : {X : Type 0} (row whole : List X) (column i : ℕ) (y : X) → i < length row → column ≤ i
-    → take i row ≡ take column whole ++ replicate (i - column) y
-    → take (i + 1) (set row i y) ≡ take column whole ++ replicate (i + 1 - column) y
-erased_more row whole column i y lt le e =
-    let n : i - column + 1 ≡ i + 1 - column = omega arith in
-    take_more_set row i y lt
-    ∙ ap (λ xs. xs ++ y ∷ []) e
-    ∙ append_assoc (take column whole) (replicate (i - column) y) (y ∷ [])
-    ∙ ap (λ xs. take column whole ++ xs) (replicate_more (i - column) y ∙ ap (λ k. replicate k y) n)
 
 pub length-erased : (column : ℕ) (row : List (Option Cell)) → column ≤ length row → length (erased_from column row) ≡ length row
 length-erased column row le =

@@ -4,7 +4,6 @@ ghost use Rattle.rd_base.specs.Glyphs.{glyph_cells};
 ghost use Rattle.rd_term.specs.Overwriting.{is_later, overwritten};
 ghost use Rattle.rd_term.specs.Terminals.{erased_from};
 
-use crate::rows::fill;
 use crate::walk::{back_while, on_while};
 use rd_base::limits::FRAME_COLUMNS;
 use rd_base::{Cell, Face, Glyph, ListOf};
@@ -27,8 +26,8 @@ fn cut(row: &mut ListOf<Option<Cell>>, from: usize, to: usize)
     let goes_on = |column: usize| is_later(row, column);
     let begin = back_while(from, goes_on);
     let end = on_while(to, row.len(), goes_on);
-    fill(row, begin, from, None);
-    fill(row, to, end, None);
+    row.fill(begin, from, None);
+    row.fill(to, end, None);
 }
 
 /// Puts a character into a row, from a column on.
@@ -46,10 +45,10 @@ pub(crate) fn put_character(
     let end = column + glyph.width as usize;
     cut(row, column, end);
     if glyph.is_space() {
-        fill(row, column, end, Some(Cell::Blank(face)));
+        row.fill(column, end, Some(Cell::Blank(face)));
     } else {
         row.set(column, Some(Cell::First(*glyph, face)));
-        fill(row, column + 1, end, Some(Cell::Rest));
+        row.fill(column + 1, end, Some(Cell::Rest));
     }
 }
 
@@ -60,5 +59,5 @@ pub(crate) fn erase_from(row: &mut ListOf<Option<Cell>>, column: usize)
 {
     let end = row.len();
     cut(row, column, end);
-    fill(row, column, end, Some(Cell::Blank(Face::PLAIN)));
+    row.fill(column, end, Some(Cell::Blank(Face::PLAIN)));
 }

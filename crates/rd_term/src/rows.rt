@@ -1,5 +1,5 @@
 //! Rows of equal width.
-ghost use Rattle.std.specs.Prelude.{◌≡◌, ◌-◌, ◌≤◌, ◌++◌, IfOk, length, take, drop, replicate};
+ghost use Rattle.std.specs.Prelude.{◌≡◌, IfOk, replicate};
 
 use rd_base::{ListOf, Memory};
 use std::alloc::Global;
@@ -18,15 +18,4 @@ pub(crate) fn filled<T: Copy + Drop>(
         rows.push(ListOf::filled(alloc, width as usize, value)?)?;
     }
     Ok(rows)
-}
-
-/// Puts the same value in each column of a row from one to before another.
-pub(crate) fn fill<T: Copy + Drop>(row: &mut ListOf<T>, from: usize, to: usize, value: T)
-    requires order { from ≤ to }
-    requires end { to ≤ length row.old }
-    ensures { row.new ≡ take from row.old ++ (replicate (to - from) value ++ drop to row.old) }
-{
-    for i in from..to {
-        row.set(i, value);
-    }
 }

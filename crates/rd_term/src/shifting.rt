@@ -2,7 +2,6 @@
 ghost use Rattle.std.specs.Prelude.{◌≡◌, ◌≤◌, length, map};
 ghost use Rattle.rd_term.specs.Shifts.{cleared, moved, moved_down, moved_up, changed_between};
 
-use crate::rows::fill;
 use rd_base::{Cell, Face, ListOf};
 
 /// The way that rows are moved.
@@ -19,7 +18,7 @@ fn clear_rows(rows: &mut [ListOf<Option<Cell>>])
     for i in 0..rows.len() {
         let row = &mut rows[i];
         let end = row.len();
-        fill(row, 0, end, Some(Cell::Blank(Face::PLAIN)));
+        row.fill(0, end, Some(Cell::Blank(Face::PLAIN)));
     }
 }
 
