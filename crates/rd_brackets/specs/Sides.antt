@@ -24,7 +24,7 @@ abbrev pub opposite : Class → Class
 opposite L = R
 opposite side = L
 
--- the direction of the last strong type, where it was known before these types
+-- the direction of the last strong type, and the one before these types where none of them is strong
 abbrev pub last_side : Class → List Class → Class
 last_side before ts = fold (λ side t. if counts_as L t then L else (if counts_as R t then R else side)) before ts
 

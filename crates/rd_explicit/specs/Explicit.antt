@@ -17,7 +17,7 @@ top (e ∷ es) = e
 abbrev pub x1_start : ℕ → State
 x1_start base = record { stack = record { level = base; direction = None; isolate = false } ∷ []; overflow_isolates = 0; overflow_embeddings = 0; valid_isolates = 0 }
 
--- the least level above another that is odd, for 1, or even, for 0
+-- the least level of a parity, 1 for odd and 0 for even, above another
 abbrev pub level_above : ℕ → ℕ → ℕ
 level_above parity level = if level % 2 == parity then level + 2 else level + 1
 

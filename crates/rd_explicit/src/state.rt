@@ -177,7 +177,7 @@ impl State {
     }
 }
 
-/// The least level above another that is odd, for 1, or even, for 0 (X2 to X5b).
+/// The least level of a parity, 1 for odd and 0 for even, above another (X2 to X5c).
 fn level_above(parity: u8, level: u8) -> u8
     requires { level ≤ 125 }
     ensures value { result ≡ level_above parity level }

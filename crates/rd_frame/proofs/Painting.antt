@@ -22,7 +22,7 @@ use Rattle.rd_frame.specs.Paints.{laid_over, painted, with_echo}
 
 -- ---- a row
 
--- it is what the library's copy of a list into a list leaves
+-- cells written over a row are what the library's `paste` leaves
 pasted : {C : Type 0} (column : ℕ) (cells row : List C) → written_over column cells row ≡ paste row column cells (length cells)
 pasted column cells row = sym (paste_all row column cells (length cells) refl)
 

@@ -37,7 +37,7 @@ look-whole : (face : Attributes) (l : Look) → IsMeasuredLook l → IsRowAfter 
 look-whole face (look.Glyph g) measured = glyph-whole g.width g face measured refl
 look-whole face other measured = blanks-whole (look_columns other) face
 
--- what holds of blanks, and of a look's cells before what it holds of, holds of looks in so many columns
+-- what holds of blanks, and still holds with a look's cells put in front, holds of looks fitted into so many columns
 fitted-has : (P : ℕ → List Cell → Type 0) (Q : Look → Type 0) (face : Attributes)
     → ((room : ℕ) (l : Look) (cells : List Cell) → Q l → look_columns l ≤ room → P (room - look_columns l) cells → P room (cells_of face l ++ cells))
     → ((room : ℕ) → P room (blanks room face)) → (room : ℕ) (ls : List Look) → AllByRecursion Q ls → P room (fitted face room ls)

@@ -1,5 +1,5 @@
 //! How far nothing changes.
-ghost use Rattle.std.specs.Prelude.{◌≡◌, ◌<◌, ◌≤◌, []};
+ghost use Rattle.std.specs.Prelude.{◌<◌, ◌≤◌, []};
 ghost use Rattle.rd_props.specs.Buffers.{meaning, values_of};
 ghost use Rattle.rd_props.specs.Stops.{IsNextStop, IsLastStop, IsFirstChange, IsLastChange};
 

@@ -18,7 +18,7 @@ abbrev pub Rises : ℕ → List ValueRun → Type 0
 Rises k [] = Unit {0}
 Rises k (r ∷ rs) = (k < r.end) × Rises r.end rs
 
--- where the last run ends
+-- where the last run ends, and this place where there is none
 abbrev pub reach : ℕ → List ValueRun → ℕ
 reach k rs = fold (λ _ (r : ValueRun). r.end) k rs
 

@@ -84,11 +84,11 @@ leaf-other n k other (Split side size first second) ne none =
     (λ h. ap (λ (o : Option Leaf). option_or o (leaf_at k second)) (leaf-other n k other first ne none))
     (λ h. ap (option_or (leaf_at k first)) (leaf-other n k other second ne none))
 
--- a window that can only stand where another does, which is not among them
+-- a number that at most this window has, where this window is not among them: no window has it
 gone : (n k : ℕ) (ws : Windows) → (k ≢ n → leaf_at k ws ≡ None) → holds n ws ≡ false → leaf_at k ws ≡ None
 gone n k ws none h = elim (cases_eq k n) [ inl p ↦ rw p (leaf-none n ws h) | inr ne ↦ none ne ]
 
--- what is put in place of a window has this one, and nothing else has it
+-- where a window gives way to windows that have a number, which no other window had, the number then has what these give it
 pub leaf-replaced : (n k : ℕ) (other : Bool → ℕ → Windows) (g : Leaf → Leaf) (ws : Windows)
     → ((mode : Bool) (margins : ℕ) → leaf_at k (other mode margins) ≡ Some (g (mode, margins))) → (k ≢ n → leaf_at k ws ≡ None)
     → leaf_at k (replaced n other ws) ≡ option_map g (leaf_at n ws)

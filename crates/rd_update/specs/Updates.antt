@@ -19,16 +19,18 @@ abbrev pub first_difference : List Cell → List Cell → ℕ
 first_difference (x ∷ xs) (y ∷ ys) = if same_cell x y then suc (first_difference xs ys) else 0
 first_difference _ _ = 0
 
--- the place after the last one at which two lists differ, and 0 where they do not
+-- where two lists stop to differ, by whether their first elements are the same and where the rests stop
 abbrev pub end_before : Bool → ℕ → ℕ
 end_before same (suc end) = suc (suc end)
 end_before true zero = 0
 end_before false zero = 1
 
+-- the place after the last one at which two lists differ by a test, and 0 where they do not
 abbrev pub end_unlike : {X : Type 0} → (X → X → Bool) → List X → List X → ℕ
 end_unlike same (x ∷ xs) (y ∷ ys) = end_before (same x y) (end_unlike same xs ys)
 end_unlike same _ _ = 0
 
+-- the column after the last one at which two rows differ, and 0 where they do not
 abbrev pub end_of_differences : List Cell → List Cell → ℕ
 end_of_differences old new = end_unlike same_cell old new
 
@@ -47,8 +49,8 @@ goes_on old new column = is_rest (slice_index_or old column blank) || is_rest (s
 abbrev pub begin_before : List Cell → List Cell → ℕ → ℕ
 begin_before old new column = back_while (goes_on old new) column
 
--- the least interval that holds all columns at which two rows differ, and cuts no character of either: its end stands behind
--- those columns that follow the last difference at which one goes on
+-- for two rows of one width, the least interval that holds all columns at which they differ, and cuts no character of either: it
+-- ends at the first column behind the last difference at which no character goes on, or at the rows' end
 abbrev pub begin_of : List Cell → List Cell → ℕ
 begin_of old new = begin_before old new (first_difference old new)
 
