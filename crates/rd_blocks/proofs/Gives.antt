@@ -273,7 +273,8 @@ ellipsis-none (Some table) face origin h = ap (λ text. glyph_elements face orig
 
 -- an item has an element where it is said to give one, and else none
 pub item-gives : CharactersGive → (s : Scene) (base : ℕ) (k : ItemKind) (odd : Bool) (face : Attributes) (origin : Origin)
-    → let shown = put_kind kind_elements s base k false odd face origin in (kind_gives s k ≡ true → 1 ≤ length shown) × (kind_gives s k ≡ false → shown ≡ [])
+    → let shown = put_kind kind_elements s base k false odd face origin in
+    (kind_gives s k ≡ true → 1 ≤ length shown) × (kind_gives s k ≡ false → shown ≡ [])
 item-gives law s base (item.Char c) odd face origin =
     (λ h. law s.parts c odd face origin (not-true (is_empty_entry (entry_of s.parts.table c)) h), character-none s.parts c odd face origin)
 item-gives law s base (item.Text n) odd face origin =
