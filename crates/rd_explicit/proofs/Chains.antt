@@ -10,7 +10,7 @@ use Rattle.rd_base.specs.declared.line.Seq.{Seq}
 use Rattle.rd_explicit.specs.declared.links.Link.{Link}
 use Rattle.rd_explicit.specs.declared.links.First.{First}
 use Rattle.rd_explicit.specs.Follow.{bd13_follower, x10_level_behind}
-use Rattle.rd_explicit.specs.Isolates.{bd9_matching_pdi, content}
+use Rattle.rd_explicit.specs.Isolates.{content}
 use Rattle.rd_explicit.specs.Links.{link_at, chain, chain_end, chained, gathered, sequences_from, first_of, beginning, without_beginning}
 use Rattle.rd_explicit.specs.Sequences.{Item, item_at, first_level, partner_of, x9_items, bd7_level_runs, begins, continued, others, bd13_joined_runs, x10_eos, sequence}
 use Rattle.rd_explicit.proofs.Groups.{bd13_joined_runs-step}

@@ -1,5 +1,5 @@
 -- From the mask of a group to the numbers in it.
-use Rattle.std.proofs.Common.{◌≡◌, ℕ, ◌+◌, ◌-◌, ◌%◌, ◌^◌, ◌<◌, ◌≤◌, eqb, leb, Bool, true, false, not, cond, List, map, length, get_or, take, replicate, refl, sym, ap, ◌∙◌, arith, w32, w64}
+use Rattle.std.proofs.Common.{◌≡◌, ℕ, ◌+◌, ◌-◌, ◌%◌, ◌^◌, ◌<◌, ◌≤◌, eqb, leb, Bool, false, not, cond, List, map, length, get_or, take, replicate, sym, ap, ◌∙◌, arith, w32, w64}
 use Rattle.std.proofs.Math.Seq.{take-add}
 use Rattle.std.proofs.lemmas.Bool.{eqb-true, not-false}
 use Rattle.std.proofs.lemmas.List.{length-map, map-id, take_all}

@@ -1,5 +1,5 @@
 -- Pieces of bytes, as the code finds them.
-use Rattle.std.proofs.Common.{◌≡◌, ◌≢◌, ◌==◌, ℕ, ◌+◌, Bool, false, List, [], ◌∷◌, length, drop, None, Some, refl, sym, ap, ◌∙◌, subst, arith}
+use Rattle.std.proofs.Common.{◌≡◌, ◌≢◌, ◌==◌, ℕ, ◌+◌, false, List, [], ◌∷◌, length, drop, None, Some, refl, sym, ap, ◌∙◌, subst, arith}
 use Rattle.std.proofs.lemmas.Bool.{eq-eqb, ne_eqb}
 use Rattle.std.specs.List.{All, AllByRecursion, slice_split}
 use Rattle.std.proofs.lemmas.List.{drop-drop, length-drop}
