@@ -1,16 +1,15 @@
 -- The text of a row, read back.
-use Rattle.std.proofs.Common.{◌≡◌, ◌==◌, ℕ, zero, suc, ◌+◌, ◌-◌, ◌<◌, ◌≤◌, nat_lt, true, false, if◌then◌else◌, Option, None, Some, option_and_then, option_map, List, [], ◌∷◌, ◌++◌, length, map, take, drop, get_or, replicate, refl, sym, ap, ap₂, ◌∙◌, arith, append_assoc, append-nil, length-append, length-take}
+use Rattle.std.proofs.Common.{◌≡◌, ◌==◌, ℕ, zero, suc, ◌+◌, ◌-◌, ◌<◌, ◌≤◌, nat_lt, true, false, if◌then◌else◌, Option, None, Some, option_and_then, option_map, List, [], ◌∷◌, ◌++◌, length, map, take, drop, get_or, replicate, refl, sym, ap, ap₂, ◌∙◌, arith, append_assoc, append-nil, length-take}
 use Rattle.std.specs.Char.{encode_utf8}
 use Rattle.std.specs.List.{AllByRecursion, flat_map}
 use Rattle.std.specs.Str.{all_scalars, encode_utf8_all, chars}
 use Rattle.std.proofs.lemmas.Bool.{cond-true}
 use Rattle.std.proofs.lemmas.Bool.Decides.{nat_tests}
 use Rattle.std.proofs.lemmas.Str.{chars-encodes, is_utf8-from_IsUtf8}
-use Rattle.std.proofs.Math.Seq.{set-append_seam}
-use Rattle.std.proofs.lemmas.List.{replicate-append-replicate, take-append-drop, length-replicate}
+use Rattle.std.proofs.lemmas.List.{drop_more}
 use Rattle.unicode_width.specs.Width.{char_width}
 use Rattle.rd_base.proofs.Lists.{each-append}
-use Rattle.rd_base.proofs.Rows.{by-cells, spare-marks}
+use Rattle.rd_base.proofs.Rows.{all-marks, by-cells, more-marks, upto}
 use Rattle.rd_base.specs.Cells.{single, with_mark}
 use Rattle.rd_base.specs.Chars.{is_scalar, encoded, columns_of}
 use Rattle.rd_base.specs.Faces.{plain}
@@ -120,9 +119,6 @@ text-lacks cells h = ap (lacks 10) (text-is 0 cells h) ∙ encodes-lack (codes_o
 
 -- ---- marks that are joined again
 
-abbrev glyph_with : ℕ → ℕ → List ℕ → ℕ → Glyph
-glyph_with base width marks count = record { base = base; marks = marks; count = count; width = width }
-
 abbrev with_marks : Glyph → List ℕ → Glyph
 with_marks g [] = g
 with_marks g (mark ∷ marks) = with_marks (with_mark g mark) marks
@@ -136,37 +132,17 @@ marks-read front codes (mark ∷ marks) g h few =
     ∙ ap (λ t. option_and_then (λ (next : List Cell × Glyph). cells_from next.0 (Some next.1) (marks ++ codes)) (option_map (λ x. (front, x)) (if t then Some (with_mark g mark) else None))) room
     ∙ marks-read front codes marks (with_mark g mark) h.1 (omega (arith, few))
 
-filled : (base width : ℕ) (done marks places rest : List ℕ) → length places ≡ length marks
-    → with_marks (glyph_with base width (done ++ (places ++ rest)) (length done)) marks ≡ glyph_with base width (done ++ (marks ++ rest)) (length done + length marks)
-filled base width done [] [] rest e = let n : length done ≡ length done + 0 = omega arith in ap (glyph_with base width (done ++ rest)) n
-filled base width done [] (p ∷ ps) rest e = absurd (omega (arith, e))
-filled base width done (m ∷ ms) [] rest e = absurd (omega (arith, e))
-filled base width done (m ∷ ms) (p ∷ ps) rest e =
-    let next = done ++ m ∷ [] in
-    let size : length done + 1 ≡ length next = omega (arith, length-append done (m ∷ [])) in
-    let total : length next + length ms ≡ length done + length (m ∷ ms) = omega (arith, length-append done (m ∷ [])) in
-    ap (λ l. with_marks (glyph_with base width l (length done + 1)) ms)
-    (set-append_seam done p (ps ++ rest) m ∙ sym (append_assoc done (m ∷ []) (ps ++ rest)))
-    ∙ ap (λ n. with_marks (glyph_with base width (next ++ (ps ++ rest)) n) ms) size
-    ∙ filled base width next ms ps rest (omega (arith, e))
-    ∙ ap (λ l. glyph_with base width l (length next + length ms)) (append_assoc done (m ∷ []) (ms ++ rest))
-    ∙ ap (glyph_with base width (done ++ (m ∷ (ms ++ rest)))) total
-
--- the places of a glyph's marks: those that count are to be filled
-places-of : (g : Glyph) → IsMeasured g → replicate 6 0 ≡ replicate g.count 0 ++ drop g.count g.marks
-places-of g h =
-    let sum : g.count + (6 - g.count) ≡ 6 = omega (arith, h.count) in
-    sym (ap (λ n. replicate n 0) sum) ∙ sym (replicate-append-replicate g.count (6 - g.count) 0) ∙ ap (λ l. replicate g.count 0 ++ l) (sym (spare-marks g h))
+joined-from : (g : Glyph) (n k all : ℕ) → length g.marks ≡ 6 → k + n ≡ all → all ≤ 6 → with_marks (upto g k) (take n (drop k g.marks)) ≡ upto g all
+joined-from g zero k all six sum few = let same : k ≡ all = omega arith in ap (upto g) same
+joined-from g (suc n) k all six sum few =
+    let one : k + 1 ≡ suc k = omega arith in
+    let marks = more-marks g.marks k (get_or g.marks k 0) six (omega arith) refl in
+    ap (λ l. with_marks (upto g k) (take (suc n) l)) (drop_more g.marks k 0 (omega (arith, six)))
+    ∙ (λ i. with_marks (record { base = g.base; marks = marks i; count = one i; width = g.width }) (take n (drop (one i) g.marks)))
+    ∙ joined-from g n (suc k) all six (omega arith) few
 
 pub marks-joined_glyph : (g : Glyph) → IsMeasured g → with_marks (single g.base g.width) (marks_of g) ≡ g
-marks-joined_glyph g h =
-    let few : length (marks_of g) ≡ g.count = omega (arith, length-take g.count g.marks, h.count, h.places) in
-    let many : length (replicate {A = ℕ} g.count 0) ≡ length (marks_of g) = length-replicate g.count 0 ∙ sym few in
-    let sum : 0 + length (marks_of g) ≡ g.count = omega (arith, few) in
-    ap (λ l. with_marks (glyph_with g.base g.width l 0) (marks_of g)) (places-of g h)
-    ∙ filled g.base g.width [] (marks_of g) (replicate g.count 0) (drop g.count g.marks) many
-    ∙ ap (λ l. glyph_with g.base g.width l (0 + length (marks_of g))) (take-append-drop g.count g.marks)
-    ∙ ap (glyph_with g.base g.width g.marks) sum
+marks-joined_glyph g h = joined-from g g.count 0 g.count h.places (omega arith) h.count ∙ all-marks g h
 
 -- ---- a row that is read again
 

@@ -87,10 +87,11 @@ pub if-ok : {A E : Type 0} (t : Bool) (r : Result A E) (e : E) (x : A) → (if t
 if-ok true r e x h = (refl, h)
 if-ok false r e x h = absurd (cc)
 
--- a test that refuses what passes, before something is made
-pub if-not : {A E : Type 0} (t : Bool) (made : A) (e : E) (x : A) → (if t then Err e else Ok made) ≡ Ok x → (t ≡ false) × (made ≡ x)
-if-not true made e x h = absurd (cc)
-if-not false made e x h = (refl, cc)
+-- a test, and one that refuses what passes, before something is made
+pub ok-unless : {A E : Type 0} (t u : Bool) (made : A) (e f : E) (x : A) → (if t then (if u then Err e else Ok made) else Err f) ≡ Ok x → (t ≡ true) × (u ≡ false) × (made ≡ x)
+ok-unless true false made e f x h = (refl, refl, cc)
+ok-unless true true made e f x h = absurd (cc)
+ok-unless false u made e f x h = absurd (cc)
 
 -- tests before something is made
 pub made-ok : {A E : Type 0} (t : Bool) (made : A) (e : E) (x : A) → (if t then Ok made else Err e) ≡ Ok x → (t ≡ true) × (made ≡ x)

@@ -1,10 +1,10 @@
 -- What holds of each element of a list, and what a list is from one of its places.
-use Rattle.std.proofs.Common.{◌≡◌, ◌≢◌, ◌⊎◌, ℕ, zero, suc, ◌+◌, ◌-◌, ◌<◌, ◌≤◌, nat_le, nat_lt, ◌==◌, Bool, true, false, not, ◌&&◌, ◌||◌, List, [], ◌∷◌, ◌++◌, length, length-append, length-drop, take, drop, get_or, None, Some, is_some, inl, inr, All, refl, sym, subst, ap, ap₂, cond, ◌∙◌, arith, map, min, set}
+use Rattle.std.proofs.Common.{◌≡◌, ◌≢◌, ◌⊎◌, ℕ, zero, suc, ◌+◌, ◌-◌, ◌<◌, ◌≤◌, nat_le, nat_lt, ◌==◌, Bool, true, false, not, ◌&&◌, ◌||◌, List, [], ◌∷◌, ◌++◌, length, append_assoc, length-append, length-drop, take, drop, get_or, None, Some, is_some, inl, inr, All, refl, sym, subst, ap, ap₂, cond, ◌∙◌, arith, map, min, set}
 use Rattle.std.specs.Prelude.{IfSome, slice_get, slice_range}
 use Rattle.std.specs.List.{AllByRecursion, count_by, find, last_or, list_any, position_or_len, range_with_len}
 use Rattle.std.proofs.lemmas.Bool.{cases_lt, ne_eqb}
 use Rattle.std.proofs.lemmas.Bool.Decides.{nat_tests}
-use Rattle.std.proofs.lemmas.List.{length-take, get_or_append_left, get_or_past, drop_more, drop_all, drop-set-lt, drop-drop, drop-take, take_more}
+use Rattle.std.proofs.lemmas.List.{length-take, map_push, get_or_append_left, get_or_past, drop_more, drop_all, drop-set-lt, drop-drop, drop-take, take_more}
 use Rattle.std.proofs.lemmas.List.Folds.{find_at}
 use Rattle.std.proofs.lemmas.List.Sums.{passes_at_first, sum_by-append, sum_by-cons}
 use Rattle.std.proofs.Math.Seq.{drop-append_seam}
@@ -23,6 +23,13 @@ drop-at xs i x found = drop-read xs i x (slice_get_within xs i x found) (sym (ge
 -- up to behind it stands one element more
 pub take-at : {X : Type 0} (xs : List X) (i : ℕ) (x : X) → slice_get xs i ≡ Some x → take (i + 1) xs ≡ take i xs ++ x ∷ []
 take-at xs i x found = take_more xs i x (slice_get_within xs i x found) ∙ ap (λ y. take i xs ++ y ∷ []) (get_or_from_slice_get xs i x x found)
+
+-- one element more of a mapped list
+pub mapped-more : {X Y : Type 0} (f : X → Y) (xs : List X) (k : ℕ) (x : X) (old now new : List Y) (y : Y) → slice_get xs k ≡ Some x → y ≡ f x
+    → now ≡ old ++ map f (take k xs) → new ≡ now ++ y ∷ [] → new ≡ old ++ map f (take (k + 1) xs)
+mapped-more f xs k x old now new y at is before pushed =
+    pushed ∙ (λ i. before i ++ is i ∷ []) ∙ append_assoc old (map f (take k xs)) (f x ∷ [])
+    ∙ ap (λ ys. old ++ ys) (sym (ap (map f) (take-at xs k x at) ∙ map_push f (take k xs) x))
 
 -- where a list has no element it has ended
 pub ended : {X : Type 0} (xs : List X) (i : ℕ) → slice_get xs i ≡ None → length xs ≤ i
@@ -164,6 +171,11 @@ count-append p xs ys = sum_by-append (λ x. cond (p x) 1 0) xs ys
 pub total-append : {X : Type 0} (f : X → ℕ) (xs ys : List X) → total f (xs ++ ys) ≡ total f xs + total f ys
 total-append f [] ys = omega arith
 total-append f (x ∷ xs) ys = omega (arith, total-append f xs ys)
+
+-- one for each element
+pub total-ones : {X : Type 0} (xs : List X) → total (λ _. 1) xs ≡ length xs
+total-ones [] = refl
+total-ones (x ∷ xs) = omega (arith, total-ones xs)
 
 -- whether a place is in the stretch from one up to another, that one not included
 abbrev pub lies : ℕ → ℕ → ℕ → Bool

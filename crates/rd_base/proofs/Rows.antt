@@ -1,7 +1,7 @@
 -- Cells in which each glyph stands whole, one behind the other, glyphs that have their columns, and the columns of elements.
-use Rattle.std.proofs.Common.{rules, tests, ◌≡◌, ℕ, zero, suc, ◌+◌, ◌-◌, ◌<◌, ◌≤◌, Bool, true, false, IsTrue, List, [], ◌∷◌, ◌++◌, replicate, Some, refl, arith, length, drop, get_or, ap₂, ◌∙◌}
+use Rattle.std.proofs.Common.{rules, tests, ◌≡◌, ℕ, zero, suc, ◌+◌, ◌-◌, ◌<◌, ◌≤◌, Bool, true, false, IsTrue, List, [], ◌∷◌, ◌++◌, replicate, Some, refl, sym, ap, arith, append_assoc, length, take, drop, set, get_or, ap₂, ◌∙◌}
 use Rattle.std.proofs.lemmas.Bool.Decides.{nat_tests}
-use Rattle.std.proofs.lemmas.List.{get_or-drop, get_or-replicate, length-drop, length-replicate}
+use Rattle.std.proofs.lemmas.List.{get_or-drop, get_or-replicate, length-drop, length-replicate, length-take-le, set_at, take-append-drop, take_more}
 use Rattle.unicode_width.specs.Width.{char_width}
 use Rattle.rd_base.proofs.Lists.{total-append}
 use Rattle.rd_base.specs.Cells.{single}
@@ -100,6 +100,28 @@ pub spare-marks : (g : Glyph) → IsMeasured g → drop g.count g.marks ≡ repl
 spare-marks g h =
     let size : length (drop g.count g.marks) ≡ 6 - g.count = omega (arith, length-drop g.count g.marks, h.places) in
     zeros (6 - g.count) (drop g.count g.marks) size (λ k lt. get_or-drop g.count g.marks k 0 ∙ h.rest (g.count + k) (omega arith) (omega (arith, lt, h.count)))
+
+-- a glyph with the first of its marks
+abbrev pub upto : Glyph → ℕ → Glyph
+upto g k = record { base = g.base; marks = take k g.marks ++ replicate (6 - k) 0; count = k; width = g.width }
+
+-- one mark more
+pub more-marks : (marks : List ℕ) (k code : ℕ) → length marks ≡ 6 → k < 6 → get_or marks k 0 ≡ code
+    → set (take k marks ++ replicate (6 - k) 0) k code ≡ take (suc k) marks ++ replicate (6 - suc k) 0
+more-marks marks k code six lt e =
+    let one : 6 - k ≡ suc (6 - suc k) = omega arith in
+    let n : length (take k marks) ≡ k = length-take-le k marks (omega (arith, six)) in
+    let next : k + 1 ≡ suc k = omega arith in
+    ap (λ j. set (take k marks ++ replicate j 0) k code) one
+    ∙ set_at (take k marks) 0 (replicate (6 - suc k) 0) code k n
+    ∙ sym (append_assoc (take k marks) (code ∷ []) (replicate (6 - suc k) 0))
+    ∙ ap (λ xs. xs ++ replicate (6 - suc k) 0) (ap (λ c. take k marks ++ c ∷ []) (sym e) ∙ sym (take_more marks k 0 (omega (arith, six))) ∙ ap (λ j. take j marks) next)
+
+-- a glyph with all its marks
+pub all-marks : (g : Glyph) → IsMeasured g → upto g g.count ≡ g
+all-marks g h =
+    let marks : take g.count g.marks ++ replicate (6 - g.count) 0 ≡ g.marks = ap (λ xs. take g.count g.marks ++ xs) (sym (spare-marks g h)) ∙ take-append-drop g.count g.marks in
+    ap (λ xs. let x : Glyph = record { base = g.base; marks = xs; count = g.count; width = g.width } in x) marks
 
 -- ---- elements
 

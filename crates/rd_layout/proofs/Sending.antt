@@ -1,5 +1,5 @@
 -- A redisplay that is sent leads from a session to a session.
-use Rattle.std.proofs.Common.{◌≡◌, inl, inr, ℕ, suc, ◌<◌, ◌≤◌, Bool, false, Option, None, Some, List, [], ◌∷◌, length, map, replicate, take, drop, sym, ap, refl, subst, subst₂, ◌∙◌}
+use Rattle.std.proofs.Common.{◌≡◌, inl, inr, ℕ, suc, ◌<◌, ◌≤◌, Bool, Option, None, Some, List, [], ◌∷◌, length, map, replicate, take, drop, sym, ap, refl, subst, subst₂, ◌∙◌}
 use Rattle.std.proofs.lemmas.Bool.{cases_eq}
 use Rattle.std.proofs.lemmas.List.{length-map, length-replicate}
 use Rattle.std.proofs.lemmas.List.Elements.{All-replicate}
@@ -32,13 +32,12 @@ use Rattle.rd_state.specs.States.{ContentValue, StateValue, seen}
 use Rattle.rd_state.specs.Valid.{IsValid, IsWindow}
 use Rattle.rd_state.specs.Windows.{content_in, shown_content, window_of}
 use Rattle.rd_state.specs.declared.window.WindowState.{WindowState}
-use Rattle.rd_term.specs.Pictures.{IsGrid, IsOfSize, IsScreen, Picture}
+use Rattle.rd_term.specs.Pictures.{IsOfSize, IsScreen, Picture}
 use Rattle.rd_term.specs.Terminals.{Tty, feed_bytes, known, unknown}
-use Rattle.rd_term.specs.declared.reading.Reading.TheVariants.{Between}
 use Rattle.rd_term.proofs.Shapes.{grid-known}
 use Rattle.rd_tree.specs.declared.placed.Placed.{Placed}
 use Rattle.rd_ucd.specs.Data.{Data}
-use Rattle.rd_update.specs.Laws.{IsCurrent, IsReady, IsSound, IsUpdated}
+use Rattle.rd_update.specs.Laws.{AtFrame, IsReady, IsSound, IsUpdated}
 use Rattle.rd_update.proofs.Sizes.{is-screen, one-size}
 use Rattle.rd_update.specs.Plans.{HaveOneSize}
 use Rattle.rd_window.specs.Layouts.{IsLaidOut, Stands}
@@ -76,14 +75,6 @@ abbrev pub shows : ℕ → ℕ → Option Picture → Tty
 shows width height None = unknown width height
 shows width height (Some screen) = record (unknown width height) { rows = known screen.rows; pen = Some plain }
 
--- how a terminal stands where a frame has this size, and where this is known of its screen
-pub record AtFrame (width height : ℕ) (current : Option Picture) (t : Tty) : Type 0 where
-  pub sure : t.confused ≡ false
-  pub between : t.reading ≡ Between
-  pub rows : length t.rows ≡ height
-  pub each : IsGrid width t.rows
-  pub now : IsCurrent width height current t
-
 -- a new terminal
 pub unknown-at : (width height : ℕ) → AtFrame width height None (unknown width height)
 unknown-at width height =
@@ -96,30 +87,15 @@ unknown-at width height =
       now = tt;
     }
 
--- a terminal that stands so is ready to be brought to a sound target
-pub is-ready : (width height : ℕ) (current : Option Picture) (target : Picture) (t : Tty) → AtFrame width height current t → width ≤ 400 → height ≤ 200 → IsOfSize width height target
-    → IsSound target → IsReady width height current target t
-is-ready width height current target t at wide tall size sound = record {
-  sure = at.sure;
-  between = at.between;
-  rows = at.rows;
-  each = at.each;
-  wide = wide;
-  tall = tall;
-  size = size;
-  whole = sound.whole;
-  colours = sound.colours;
-  now = at.now;
-}
-
 module _ (laws : SendLaws) (s : StateValue) (target : Picture) (bands : List Band) (limit : Option ℕ) (wide : s.width ≤ 400) (tall : s.height ≤ 200)
     (size : IsOfSize s.width s.height target) (sound : IsSound target) (within : AreWithin s.height bands) where
   ready : (current : Option Picture) → FitsFrame current s → IsReady s.width s.height current target (shows s.width s.height current)
-  ready None fits = is-ready s.width s.height None target (unknown s.width s.height) (unknown-at s.width s.height) wide tall size sound
+  ready None fits = record { there = unknown-at s.width s.height; wide = wide; tall = tall; size = size; sound = sound }
   ready (Some screen) fits =
       let rows : length (known screen.rows) ≡ s.height = length-map screen.rows (map Some) ∙ fits.0.rows in
-      is-ready s.width s.height (Some screen) target (shows s.width s.height (Some screen))
-      (record { sure = refl; between = refl; rows = rows; each = grid-known s.width screen.rows fits.0.each; now = (fits.0, refl, refl) }) wide tall size sound
+      let there : AtFrame s.width s.height (Some screen) (shows s.width s.height (Some screen)) =
+      record { sure = refl; between = refl; rows = rows; each = grid-known s.width screen.rows fits.0.each; now = (fits.0, refl, refl) } in
+      record { there = there; wide = wide; tall = tall; size = size; sound = sound }
 
   sized : (current : Option Picture) → FitsFrame current s → HaveOneSize current target × IfSome current (λ screen. IsScreen screen × IsSound screen)
   sized None fits = (tt, tt)

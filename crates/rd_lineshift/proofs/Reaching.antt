@@ -189,13 +189,13 @@ shifted-size w h s screen size fits =
 pub ready-shifted : Reads → Cuts → (w h : ℕ) (screen target : Picture) (t : Tty) (s : Shift) → IsReady w h (Some screen) target t → IsShift h s
     → IsReady w h (Some (shifted s screen)) target (feed_bytes t (shift_bytes h s))
 ready-shifted reads cuts w h screen target t s r fits =
-    let size = r.now.0 in
+    let size = r.there.now.0 in
     let v = width_of screen.rows in
     let e : width_of screen.rows ≡ w = grid-width w screen.rows (omega (arith, size.rows, size.row)) size.each in
     let grid : IsGrid (width_of screen.rows) screen.rows = subst (λ k. IsGrid k screen.rows) (sym e) size.each in
     let fits_rows : IsShift (length screen.rows) s = rw size.rows fits in
     let after = shifted-size w h s screen size fits in
-    let before = tty-same t.rows t.region t.cursor t.wait t.pen t.latest t.reading t.confused (known screen.rows) (Some plain) r.now.1 r.now.2 r.between r.sure in
+    let before = tty-same t.rows t.region t.cursor t.wait t.pen t.latest t.reading t.confused (known screen.rows) (Some plain) r.there.now.1 r.there.now.2 r.there.between r.there.sure in
     let n : length (known screen.rows) ≡ h = length-map screen.rows (map Some) ∙ size.rows in
     let top : s.top < length (known screen.rows) = omega (arith, n, fits.within, fits.left) in
     let some : 0 < length (get_or (known screen.rows) s.top []) = omega (arith, grid-known w screen.rows size.each s.top [] top, size.column) in
@@ -203,17 +203,14 @@ ready-shifted reads cuts w h screen target t s r fits =
     ap (λ x. feed_bytes x (shift_bytes h s)) before
     ∙ shift-fed reads cuts t.region (known screen.rows) t.cursor t.wait t.latest h s n r.tall fits some
     ∙ ap (λ rows. standing (Some (0, h - 1)) rows None false (Some plain) None) (shifted-known v s screen.rows grid fits_rows) in
+    let rows = length-map (shifted s screen).rows (map Some) ∙ after.rows in
+    let each = grid-known w (shifted s screen).rows after.each in
     rw is (record {
-      sure = refl;
-      between = refl;
-      rows = length-map (shifted s screen).rows (map Some) ∙ after.rows;
-      each = grid-known w (shifted s screen).rows after.each;
+      there = record { sure = refl; between = refl; rows = rows; each = each; now = (after, refl, refl) };
       wide = r.wide;
       tall = r.tall;
       size = r.size;
-      whole = r.whole;
-      colours = r.colours;
-      now = (after, refl, refl);
+      sound = r.sound;
     })
 
 -- ---- the law

@@ -9,7 +9,7 @@ use Rattle.rd_base.proofs.Lists.{lies, lies-apart, lies-empty, total-append}
 use Rattle.rd_base.specs.Lists.{total}
 use Rattle.rd_order.specs.Order.{l2_reversed, l2_reversed_down, highest, l2_visual_order}
 
-total-l2_reversed : (f : ℕ → ℕ) (levels : List ℕ) (k : ℕ) (run is : List ℕ) → total f (l2_reversed levels k run is) ≡ total f run + total f is
+pub total-l2_reversed : (f : ℕ → ℕ) (levels : List ℕ) (k : ℕ) (run is : List ℕ) → total f (l2_reversed levels k run is) ≡ total f run + total f is
 total-l2_reversed f levels k run [] = omega arith
 total-l2_reversed f levels k run (i ∷ is) =
     let more = total-l2_reversed f levels k (i ∷ run) is in

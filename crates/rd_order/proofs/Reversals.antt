@@ -1,25 +1,20 @@
 -- What one reversal does to a list, and all of them one after the other (L2).
-use Rattle.std.proofs.Common.{◌≡◌, ℕ, zero, suc, ◌+◌, ◌-◌, ◌<◌, ◌≤◌, inl, inr, Bool, true, false, if◌then◌else◌, List, [], ◌∷◌, ◌++◌, length, get_or, refl, sym, ap, subst, ◌∙◌, arith, length-append, append_assoc}
+use Rattle.std.proofs.Common.{◌≡◌, ℕ, zero, suc, ◌+◌, ◌-◌, ◌<◌, ◌≤◌, inl, inr, Bool, if◌then◌else◌, List, [], ◌∷◌, ◌++◌, length, get_or, refl, sym, ap, subst, ◌∙◌, arith, length-append, append_assoc}
 use Rattle.std.proofs.lemmas.Bool.{cases_lt, cases_eq, le-leb, lt-leb}
 use lib.Dec.{leb}
 use Rattle.std.proofs.lemmas.List.{get_or_append_left, get_or-append-add, get_or-reverse, length-reverse, reverse-append}
 use Rattle.std.proofs.lemmas.List.FromFn.{length-range_with_len, get_or-range_with_len}
 use Rattle.std.specs.List.{range_with_len}
 use mathlib.Core.List.{reverse}
+use Rattle.rd_base.proofs.Lists.{total-ones}
 use Rattle.rd_order.specs.Order.{l2_reversed, l2_reversed_down, highest, l2_visual_order}
+use Rattle.rd_order.proofs.Once.{total-l2_reversed, total-order}
 use Rattle.rd_order.specs.Places.{AreHigh, BeginsLow, IsRun, Moves, Comes}
 use Rattle.rd_order.proofs.Places.{Agree, Comes-agree, Comes-within, moves_of, same_run}
 
 -- the level of what stands at a place of a list of indexes
 abbrev pub level_in : List ℕ → List ℕ → ℕ → ℕ
 level_in levels xs p = get_or levels (get_or xs p 0) 0
-
-pub l2_reversed-length : (levels : List ℕ) (k : ℕ) (run xs : List ℕ) → length (l2_reversed levels k run xs) ≡ length run + length xs
-l2_reversed-length levels k run [] = omega arith
-l2_reversed-length levels k run (x ∷ xs) = elim (leb k (get_or levels x 0)) as (λ v. length (if v then l2_reversed levels k (x ∷ run) xs else run ++ (x ∷ l2_reversed levels k [] xs)) ≡ length run + length (x ∷ xs)) [
-  | true ↦ l2_reversed-length levels k (x ∷ run) xs ∙ omega arith
-  | false ↦ length-append run (x ∷ l2_reversed levels k [] xs) ∙ (let e = l2_reversed-length levels k [] xs in omega arith)
-]
 
 -- an element behind the one at a seam
 behind : (front : List ℕ) (x : ℕ) (back : List ℕ) (i p : ℕ) → i ≡ length front + suc p → get_or (front ++ (x ∷ back)) i 0 ≡ get_or back p 0
@@ -148,20 +143,17 @@ l2_reversed_down-comes levels base zero xs p q within c = ap (λ (j : ℕ). get_
 l2_reversed_down-comes levels base (suc n) xs p q within (r, c, moves) =
     let k = base + suc n in
     let ys = l2_reversed levels k [] xs in
-    let size : length xs ≡ length ys = let e = l2_reversed-length levels k [] xs in omega arith in
+    let size : length xs ≡ length ys = omega (arith, total-l2_reversed (λ _. 1) levels k [] xs, total-ones xs, total-ones ys) in
     let on_ys : Comes (level_in levels ys) (length xs) base n p r = Comes-agree (level_in levels xs) (level_in levels ys) (length xs) k base n p r (l2_reversed-agree levels k xs) (omega arith) within c in
     let C : ℕ → Type 0 = λ len. Comes (level_in levels ys) len base n p r in
     let low = l2_reversed_down-comes levels base n ys p r (omega arith) (subst C size on_ys) in
     let r_within = (Comes-within (level_in levels xs) (length xs) base n p r c).0 within in
     low ∙ l2_reversed-moves levels k [] xs xs refl (λ i from to. absurd (omega arith)) r q r_within moves
 
-pub l2_reversed_down-length : (levels : List ℕ) (base n : ℕ) (xs : List ℕ) → length (l2_reversed_down levels base n xs) ≡ length xs
-l2_reversed_down-length levels base zero xs = refl
-l2_reversed_down-length levels base (suc n) xs =
-    l2_reversed_down-length levels base n (l2_reversed levels (base + suc n) [] xs) ∙ l2_reversed-length levels (base + suc n) [] xs ∙ omega arith
-
 pub l2_visual_order-length : (base : ℕ) (levels : List ℕ) → length (l2_visual_order base levels) ≡ length levels
-l2_visual_order-length base levels = l2_reversed_down-length levels base (highest levels - base) (range_with_len 0 (length levels)) ∙ length-range_with_len 0 (length levels)
+l2_visual_order-length base levels =
+    sym (total-ones (l2_visual_order base levels)) ∙ total-order (λ _. 1) base levels
+    ∙ total-ones (range_with_len 0 (length levels)) ∙ length-range_with_len 0 (length levels)
 
 -- the whole order at a place
 pub l2_visual_order-comes : (base : ℕ) (levels : List ℕ) (p q : ℕ) → p < length levels

@@ -1,4 +1,3 @@
-mod Beside
 mod Cursor
 mod Leaves
 mod Panes

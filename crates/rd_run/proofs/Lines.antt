@@ -13,7 +13,7 @@ use Rattle.rd_term.specs.Pictures.{Picture, IsGrid, IsOfSize, IsScreen}
 use Rattle.rd_term.specs.Terminals.{Tty, unknown, feed_bytes, Shows, known}
 use Rattle.rd_ucd.specs.Data.{Data}
 use Rattle.rd_term.proofs.Shapes.{grid-known}
-use Rattle.rd_update.specs.Laws.{IsReady, IsUpdated, IsSound}
+use Rattle.rd_update.specs.Laws.{AtFrame, IsReady, IsUpdated, IsSound}
 use Rattle.rd_update.specs.Plans.{HaveOneSize}
 use Rattle.rd_update.specs.Updates.{Update}
 use Rattle.rd_layout.specs.Copies.{redisplayed as redisplayed_session}
@@ -22,7 +22,7 @@ use Rattle.rd_layout.specs.Screens.{laid_out}
 use Rattle.rd_layout.specs.Sessions.{IsStep, SessionValue, behind, is_frame, opened as opened_session, session_step}
 use Rattle.rd_layout.specs.Since.{FitsFrame, IsSession}
 use Rattle.rd_layout.specs.declared.outcome.Outcome.{Outcome}
-use Rattle.rd_layout.proofs.Sending.{AtFrame, is-ready, unknown-at}
+use Rattle.rd_layout.proofs.Sending.{unknown-at}
 use Rattle.rd_run.specs.Runs.{AreOfOneSize, Effect, Input, IsOn, LeadsOn, Mode, Standing, World, after, effect, is_sent, is_shown, opened, outcome_at, quiet, redisplayed, refused, run, run_line, stepped, terminal_after, unshown}
 use Rattle.rd_run.specs.declared.status.ScriptFault.TheVariants as faults
 use Rattle.rd_run.proofs.Effects.{effect-is, shown-done}
@@ -79,7 +79,7 @@ ready : (laws : RunLaws) (v : SessionValue) (t : Tty) → IsAt v t → IsReady v
 ready laws v t h =
     let target = laws.targets v.files v.state h.session.state in
     let frame = h.session.state.frame in
-    is-ready v.state.width v.state.height v.current (laid_out v.files v.state).picture t h.there frame.narrow frame.low target.0 target.1
+    record { there = h.there; wide = frame.narrow; tall = frame.low; size = target.0; sound = target.1 }
 
 -- behind the bytes of an update
 updated-at : (v next : SessionValue) (u : Update) (target : Picture) (t : Tty) → IsSession next → AreOfOneSize v.state next.state → next.current ≡ Some u.screen

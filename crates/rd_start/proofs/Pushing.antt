@@ -1,9 +1,9 @@
 -- The rows of a block, added to a strip one by one.
 use Rattle.std.proofs.Common.{◌≡◌, ℕ, ◌+◌, ◌<◌, ◌≤◌, List, [], ◌∷◌, ◌++◌, length, map, take, drop, get_or, Some, refl, sym, ap, ◌∙◌, arith}
-use Rattle.std.proofs.lemmas.List.{append_assoc, drop_all, length-map, map-append, take_all}
+use Rattle.std.proofs.lemmas.List.{drop_all, length-map, take_all}
 use Rattle.std.proofs.lemmas.Option.{slice_get-map, slice_get_read}
 use Rattle.std.specs.Option.{option_map}
-use Rattle.rd_base.proofs.Lists.{drop-at, take-at}
+use Rattle.rd_base.proofs.Lists.{drop-at, mapped-more}
 use Rattle.rd_rows.specs.Copies.{RowValues, shown_rows}
 use Rattle.std.specs.List.{slice_get}
 use Rattle.rd_matrix.proofs.Counting.{length-numbered}
@@ -23,11 +23,7 @@ pub strip_rows-below : (point start k : ℕ) (rows : List RowMeaning) (r : RowMe
     → strip_row ≡ strip_row_of point (record { start = start; number = k; row = r }) → strip_rows ≡ old ++ map (strip_row_of point) (take k (numbered start 0 rows)) → new ≡ strip_rows ++ strip_row ∷ []
     → new ≡ old ++ map (strip_row_of point) (take (k + 1) (numbered start 0 rows))
 strip_rows-below point start k rows r old strip_rows new strip_row at is before now =
-    let f = strip_row_of point in
-    let es = numbered start 0 rows in
-    now ∙ (ap (λ x. strip_rows ++ x ∷ []) is ∙ (ap (λ ys. ys ++ f (entry start k r) ∷ []) before
-    ∙ (append_assoc old (map f (take k es)) (f (entry start k r) ∷ [])
-    ∙ ap (λ ys. old ++ ys) (sym (map-append f (take k es) (entry start k r ∷ [])) ∙ ap (map f) (sym (take-at es k (entry start k r) (entry-at start k rows r at)))))))
+    mapped-more (strip_row_of point) (numbered start 0 rows) k (entry start k r) old strip_rows new strip_row (entry-at start k rows r at) is before now
 
 pub strip_rows-above : (point start k : ℕ) (rows : List RowMeaning) (r : RowMeaning) (old strip_rows new : List StripRow) (strip_row : StripRow) → slice_get rows k ≡ Some r
     → strip_row ≡ strip_row_of point (record { start = start; number = k; row = r }) → strip_rows ≡ map (strip_row_of point) (drop (k + 1) (numbered start 0 rows)) ++ old → new ≡ strip_row ∷ strip_rows

@@ -7,7 +7,7 @@ use Rattle.std.specs.Prelude.{All, IfOk, slice_get, slice_set}
 use Rattle.rd_base.specs.Chars.{is_code, is_scalar}
 use Rattle.rd_text.specs.Texts.{TextValue, IsAccessible, most_characters}
 use Rattle.rd_text.specs.Answers.{IsAccessibleRange, IsRangeOfAll}
-use Rattle.rd_base.proofs.Choices.{some-of, both-ok, if-ok, if-not, made-ok}
+use Rattle.rd_base.proofs.Choices.{some-of, both-ok, made-ok, ok-unless}
 use Rattle.rd_overlays.specs.declared.overlay.Overlay.{Overlay}
 use Rattle.rd_overlays.specs.declared.overlay.Kind.{Kind}
 use Rattle.rd_overlays.proofs.Bounding.{deletion-within}
@@ -164,10 +164,7 @@ pub making-means : (from to : ℕ) (priority : ℤ) (front rear : Bool) (c d : C
     → (is_range_of_all c.text from to ≡ true) × (nat_le most_overlays (length c.overlays) ≡ false) × (with_overlays c (c.overlays ++ Some (new_overlay from to priority front rear) ∷ []) ≡ d)
 making-means from to priority front rear c d h =
     let new = with_overlays c (c.overlays ++ Some (new_overlay from to priority front rear) ∷ []) in
-    let all = nat_le most_overlays (length c.overlays) in
-    let outer = if-ok (is_range_of_all c.text from to) (if all then Err TooManyOverlays else Ok new) OutOfRange d h in
-    let inner = if-not all new TooManyOverlays d outer.1 in
-    (outer.0, inner.0, inner.1)
+    ok-unless (is_range_of_all c.text from to) (nat_le most_overlays (length c.overlays)) new TooManyOverlays OutOfRange d h
 
 pub making-keeps : (made : MadeLaws) (o : ObjectLists) (from to : ℕ) (priority : ℤ) (front rear : Bool) → Keeps o (λ p. p) (overlay_making from to priority front rear)
 making-keeps made o from to priority front rear c d v h =

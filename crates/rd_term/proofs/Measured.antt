@@ -1,11 +1,11 @@
 -- The columns of measured glyphs, and their bytes.
-use Rattle.std.proofs.Common.{◌≡◌, ℕ, ◌<◌, ◌==◌, Bool, true, false, Option, None, Some, inl, inr, sym, refl, ap, ◌∙◌, arith}
+use Rattle.std.proofs.Common.{◌≡◌, ℕ, ◌<◌, ◌==◌, Bool, true, false, [], Option, None, Some, inl, inr, sym, refl, ap, ◌∙◌, arith}
 use Rattle.std.specs.Prelude.{slice_index}
 use Rattle.std.specs.Char.{encode_utf8}
-use Rattle.std.proofs.lemmas.Bool.{cases_eq}
+use Rattle.std.proofs.lemmas.Bool.{cases_eq, cond-true}
 use Rattle.std.proofs.lemmas.Bool.Decides.{nat_tests}
 use Rattle.unicode_width.specs.Width.{char_width}
-use Rattle.rd_base.specs.Chars.{is_scalar, columns_of}
+use Rattle.rd_base.specs.Chars.{is_scalar, encoded, columns_of}
 use Rattle.rd_base.specs.Faces.{Attributes}
 use Rattle.rd_base.specs.Glyphs.{IsMeasured}
 use Rattle.rd_base.specs.declared.cell.Glyph.{Glyph}
@@ -42,7 +42,8 @@ space-narrow g h e = let c : Some g.width ≡ Some 1 = sym (base-columns g h) �
 -- a character is shown by its columns
 pub shown_fed : (region : Option (ℕ × ℕ)) (rows : Rows) (cursor : Option (ℕ × ℕ)) (wait : Bool) (pen : Option Attributes) (latest : Option (ℕ × ℕ)) (code w : ℕ)
     → is_scalar code ≡ true → columns_of code ≡ Some w
-    → feed_bytes (standing region rows cursor wait pen latest) (encode_utf8 code) ≡ show code (Some w) (standing region rows cursor wait pen latest)
+    → feed_bytes (standing region rows cursor wait pen latest) (encoded code) ≡ show code (Some w) (standing region rows cursor wait pen latest)
 shown_fed region rows cursor wait pen latest code w s e =
-    encoded_fed region rows cursor wait pen latest code s (no-control code w 27 escape-columns e)
+    ap (feed_bytes (standing region rows cursor wait pen latest)) (cond-true (is_scalar code) (encode_utf8 code) [] s)
+    ∙ encoded_fed region rows cursor wait pen latest code s (no-control code w 27 escape-columns e)
     ∙ ap (λ c. show code c (standing region rows cursor wait pen latest)) e

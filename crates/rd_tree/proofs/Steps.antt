@@ -1,7 +1,7 @@
 -- What the calls mean where none refuses, and that what each leaves is valid.
 use Rattle.std.proofs.Common.{◌≡◌, ℕ, suc, ◌≤◌, Bool, true, false, ◌&&◌, nat_le, if◌then◌else◌, Ok, Err, subst, arith}
 use Rattle.std.proofs.lemmas.Bool.Decides.{nat_tests}
-use Rattle.rd_base.proofs.Choices.{if-ok, if-not, made-ok, both-ok}
+use Rattle.rd_base.proofs.Choices.{if-ok, made-ok, both-ok, ok-unless}
 use Rattle.rd_tree.specs.declared.side.Side.{Side}
 use Rattle.rd_tree.specs.declared.fault.TreeFault.TheVariants.{NoWindow, TooSmall, TooMany, LastWindow}
 use Rattle.rd_tree.specs.Windows.{Windows, columns_needed, rows_needed, NeedsMet, fits, holds, is_single, split_at, removed, resized, with_mode, with_margins}
@@ -33,18 +33,13 @@ split-means c d n side size h =
     let ws = split_at n side size c.made c.windows in
     let new : Configuration = record c { windows = ws; made = suc c.made } in
     let outer = if-ok (holds n c.windows) (split_to c ws) NoWindow d h in
-    let inner = if-ok (fits ws (frame_of c)) (if is_full c then Err TooMany else Ok new) TooSmall d outer.1 in
-    let last = if-not (is_full c) new TooMany d inner.1 in
-    (outer.0, inner.0, last.0, last.1)
+    let inner = ok-unless (fits ws (frame_of c)) (is_full c) new TooMany TooSmall d outer.1 in
+    (outer.0, inner.0, inner.1, inner.2)
 
 pub remove-means : (c d : Configuration) (n : ℕ) → remove_tree c n ≡ Ok d
     → (holds n c.windows ≡ true) × (is_single c.windows ≡ false) × (record c { windows = removed n c.windows (frame_of c) } ≡ d)
 unfolding remove_tree
-remove-means c d n h =
-    let new : Configuration = record c { windows = removed n c.windows (frame_of c) } in
-    let outer = if-ok (holds n c.windows) (if is_single c.windows then Err LastWindow else Ok new) NoWindow d h in
-    let inner = if-not (is_single c.windows) new LastWindow d outer.1 in
-    (outer.0, inner.0, inner.1)
+remove-means c d n h = ok-unless (holds n c.windows) (is_single c.windows) (record c { windows = removed n c.windows (frame_of c) }) LastWindow NoWindow d h
 
 pub resize-means : (c d : Configuration) (width height : ℕ) → resize_tree c width height ≡ Ok d
     → ((nat_le (columns_needed c.windows) width && nat_le (rows_needed c.windows) height) ≡ true)

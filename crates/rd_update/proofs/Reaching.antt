@@ -37,8 +37,8 @@ cleared-like w rows like n h k =
 -- what stands before the first row's bytes: the current screen, by a plain pen
 opened : (width height : ℕ) (current : Option Picture) (target : Picture) (t : Tty) → IsReady width height current target t → Stands t.region (known (start current target).rows) (feed_bytes t (opening current))
 opened width height None target t h =
-    let is = tty-same t.rows t.region t.cursor t.wait t.pen t.latest t.reading t.confused t.rows t.pen refl refl h.between h.sure in
-    let blanks = cleared-like width t.rows target.rows (h.rows ∙ sym h.size.rows) (recursion_from_All (λ row. length row ≡ width) t.rows h.each) (recursion_from_All (λ row. length row ≡ width) target.rows h.size.each) in
+    let is = tty-same t.rows t.region t.cursor t.wait t.pen t.latest t.reading t.confused t.rows t.pen refl refl h.there.between h.there.sure in
+    let blanks = cleared-like width t.rows target.rows (h.there.rows ∙ sym h.size.rows) (recursion_from_All (λ row. length row ≡ width) t.rows h.there.each) (recursion_from_All (λ row. length row ≡ width) target.rows h.size.each) in
     record {
       cursor = t.cursor;
       wait = t.wait;
@@ -49,7 +49,7 @@ opened width height (Some screen) target t h = record {
   cursor = t.cursor;
   wait = t.wait;
   latest = t.latest;
-  is = tty-same t.rows t.region t.cursor t.wait t.pen t.latest t.reading t.confused (known screen.rows) (Some plain) h.now.1 h.now.2 h.between h.sure;
+  is = tty-same t.rows t.region t.cursor t.wait t.pen t.latest t.reading t.confused (known screen.rows) (Some plain) h.there.now.1 h.there.now.2 h.there.between h.there.sure;
 }
 
 start-size : (width height : ℕ) (current : Option Picture) (target : Picture) (t : Tty) → IsReady width height current target t → IsOfSize width height (start current target)
@@ -61,7 +61,7 @@ start-size width height None target t h =
       row = omega (arith, h.size.row);
       column = omega (arith, h.size.column);
     }
-start-size width height (Some screen) target t h = h.now.0
+start-size width height (Some screen) target t h = h.there.now.0
 
 -- ---- the end
 
@@ -85,8 +85,8 @@ updated width height current target limit t h =
     let begun = opened width height current target t h in
     let old_wide = recursion_from_All (λ row. length row ≡ width) old.rows size.each in
     let new_wide = recursion_from_All (λ row. length row ≡ width) target.rows h.size.each in
-    let wholes = recursion_from_All (λ row. IsRowAfter 0 row) target.rows h.whole.glyphs in
-    let colours = each-weaker (All IsColoured) (AllByRecursion IsColoured) (recursion_from_All IsColoured) target.rows (recursion_from_All (λ row. All IsColoured row) target.rows h.colours) in
+    let wholes = recursion_from_All (λ row. IsRowAfter 0 row) target.rows h.sound.whole.glyphs in
+    let colours = each-weaker (All IsColoured) (AllByRecursion IsColoured) (recursion_from_All IsColoured) target.rows (recursion_from_All (λ row. All IsColoured row) target.rows h.sound.colours) in
     let same : length old.rows ≡ length target.rows = size.rows ∙ sym h.size.rows in
     let few : length {A = List (Option Cell)} [] + length old.rows ≤ 200 = omega (arith, h.tall, size.rows) in
     let sent = rows_fed t.region [] limit old.rows target.rows width begun.cursor begun.wait begun.latest few h.wide same old_wide new_wide wholes colours in

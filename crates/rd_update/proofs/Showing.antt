@@ -1,17 +1,16 @@
 -- What the bytes of a character do to a row: its cells stand in place of others, and what they cut is unknown.
-use Rattle.std.proofs.Common.{◌≡◌, if◌then◌else◌, ℕ, zero, suc, ◌+◌, ◌-◌, ◌<◌, ◌≤◌, ◌==◌, ◌&&◌, Bool, true, false, nat_lt, nat_le, min, List, [], ◌∷◌, ◌++◌, length, get_or, set, take, drop, map, replicate, Option, None, Some, refl, sym, ap, ◌∙◌, arith, append_assoc, append-nil}
-use Rattle.std.specs.Char.{encode_utf8}
+use Rattle.std.proofs.Common.{◌≡◌, if◌then◌else◌, ℕ, zero, suc, ◌+◌, ◌-◌, ◌<◌, ◌≤◌, ◌==◌, ◌&&◌, Bool, true, false, nat_lt, nat_le, min, [], ◌∷◌, ◌++◌, length, get_or, set, take, drop, map, replicate, Option, None, Some, refl, sym, ap, ◌∙◌, arith, append_assoc, append-nil}
 use Rattle.std.specs.List.{flat_map}
 use Rattle.std.proofs.Math.Bool.{and-false}
-use Rattle.std.proofs.lemmas.Bool.{and_parts, cond-true}
+use Rattle.std.proofs.lemmas.Bool.{and_parts}
 use Rattle.std.proofs.lemmas.Bool.Decides.{nat_tests}
-use Rattle.std.proofs.lemmas.List.{get_or_at, set_at, take_at, drop_at, drop-drop, drop-append-le, length-append, length-replicate, length-take-le, length-drop, take_more, drop_more, take-append-drop}
+use Rattle.std.proofs.lemmas.List.{get_or_at, set_at, take_at, drop_at, drop-drop, drop-append-le, length-append, length-replicate, length-drop, drop_more}
 use Rattle.std.proofs.lemmas.List.Folds.{prefix_len-append}
 use Rattle.std.proofs.lemmas.List.Sums.{prefix_len-le-length}
-use Rattle.rd_base.proofs.Rows.{spare-marks}
+use Rattle.rd_base.proofs.Rows.{all-marks, more-marks, upto}
 use Rattle.rd_base.specs.Cells.{single}
 use Rattle.rd_base.proofs.Equals.{glyphs-same}
-use Rattle.rd_base.specs.Chars.{is_scalar, encoded, columns_of}
+use Rattle.rd_base.specs.Chars.{encoded}
 use Rattle.rd_base.specs.Faces.{Attributes}
 use Rattle.rd_base.specs.Glyphs.{is_space, blanks, glyph_bytes, glyph_cells, IsMeasured, IsGood}
 use Rattle.rd_base.specs.declared.cell.Glyph.{Glyph}
@@ -95,23 +94,9 @@ put_seam region above below front o1 o2 back base w f latest first same some h =
 
 -- ---- marks that join it
 
--- a glyph with the first of its marks
-abbrev pub upto : Glyph → ℕ → Glyph
-upto g k = record { base = g.base; marks = take k g.marks ++ replicate (6 - k) 0; count = k; width = g.width }
-
+-- the cell of a glyph with the first of its marks
 abbrev pub grown : Glyph → ℕ → Attributes → Cell
 grown g k f = if is_space (upto g k) then Blank f else First (upto g k) f
-
-more-marks : (marks : List ℕ) (k code : ℕ) → length marks ≡ 6 → k < 6 → get_or marks k 0 ≡ code
-    → set (take k marks ++ replicate (6 - k) 0) k code ≡ take (suc k) marks ++ replicate (6 - suc k) 0
-more-marks marks k code six lt e =
-    let one : 6 - k ≡ suc (6 - suc k) = omega arith in
-    let n : length (take k marks) ≡ k = length-take-le k marks (omega (arith, six)) in
-    let next : k + 1 ≡ suc k = omega arith in
-    ap (λ j. set (take k marks ++ replicate j 0) k code) one
-    ∙ set_at (take k marks) 0 (replicate (6 - suc k) 0) code k n
-    ∙ sym (append_assoc (take k marks) (code ∷ []) (replicate (6 - suc k) 0))
-    ∙ ap (λ xs. xs ++ replicate (6 - suc k) 0) (ap (λ c. take k marks ++ c ∷ []) (sym e) ∙ sym (take_more marks k 0 (omega (arith, six))) ∙ ap (λ j. take j marks) next)
 
 -- a mark joins the glyph as far as it has grown
 grow-chosen : (g : Glyph) (k code : ℕ) (f : Attributes) (b : Bool) → is_space (upto g k) ≡ b → length g.marks ≡ 6 → k < 6 → get_or g.marks k 0 ≡ code
@@ -137,13 +122,6 @@ grow g k code f six lt at narrow =
     let seen : is_space (upto g (suc k)) ≡ false = ap (λ b. g.base == 32 && b) some ∙ and-false (g.base == 32) in
     grow-chosen g k code f (is_space (upto g k)) refl six lt at narrow
     ∙ ap (λ (b : Bool). Some (if b then Blank f else First (upto g (suc k)) f)) (sym seen)
-
--- a character is shown by its columns
-pub code_fed : (region : Option (ℕ × ℕ)) → (rows : Rows) (cursor : Option (ℕ × ℕ)) (wait : Bool) (pen : Option Attributes) (latest : Option (ℕ × ℕ)) (code w : ℕ)
-    → is_scalar code ≡ true → columns_of code ≡ Some w
-    → feed_bytes (standing region rows cursor wait pen latest) (encoded code) ≡ show code (Some w) (standing region rows cursor wait pen latest)
-code_fed region rows cursor wait pen latest code w s e =
-    ap (feed_bytes (standing region rows cursor wait pen latest)) (cond-true (is_scalar code) (encode_utf8 code) [] s) ∙ shown_fed region rows cursor wait pen latest code w s e
 
 -- a row with a glyph as far as it has grown
 abbrev pub with_glyph : Rows → Rows → Row → Row → Cell → Rows
@@ -189,17 +167,11 @@ marks_join region above below front tail g f cursor wait (suc n) k h le =
     ap (feed_bytes (State k)) bytes
     ∙ fold-append feed_byte (State k) (encoded code) (flat_map encoded (take n (drop (k + 1) g.marks)))
     ∙ ap (λ t. feed_bytes t (flat_map encoded (take n (drop (k + 1) g.marks)))) (
-    code_fed region (with_glyph above below front tail (grown g k f)) cursor wait (Some f) (Some (length above, length front)) code 0 mark.0 (mark-columns g k h lt)
+    shown_fed region (with_glyph above below front tail (grown g k f)) cursor wait (Some f) (Some (length above, length front)) code 0 mark.0 (mark-columns g k h lt)
     ∙ mark_joins region above below front tail g f cursor wait k code h.places within refl (space-narrow g h))
     ∙ ap (λ j. feed_bytes (State (suc k)) (flat_map encoded (take n (drop j g.marks)))) next
     ∙ marks_join region above below front tail g f cursor wait n (suc k) h (omega (arith, le))
     ∙ ap State after
-
--- a glyph with all its marks
-all-marks : (g : Glyph) → IsMeasured g → upto g g.count ≡ g
-all-marks g h =
-    let marks : take g.count g.marks ++ replicate (6 - g.count) 0 ≡ g.marks = ap (λ xs. take g.count g.marks ++ xs) (sym (spare-marks g h)) ∙ take-append-drop g.count g.marks in
-    ap (λ xs. let x : Glyph = record { base = g.base; marks = xs; count = g.count; width = g.width } in x) marks
 
 whole-glyph : (g : Glyph) (f : Attributes) → IsGood g → grown g g.count f ≡ First g f
 whole-glyph g f h =
@@ -240,7 +212,7 @@ glyph_fed region above below front o1 o2 back g f latest first same h good =
     let tail : Row = replicate (g.width - 1) (Some Rest) ++ (loose o2 ++ back) in
     let State = λ (cell : Cell). standing region (with_glyph above below front tail cell) cursor wait (Some f) (Some (length above, length front)) in
     let marks = flat_map encoded (take g.count g.marks) in
-    let begun = code_fed region (above ++ row ∷ below) (Some (length above, length front)) false (Some f) latest g.base g.width m.scalar (base-columns g m)
+    let begun = shown_fed region (above ++ row ∷ below) (Some (length above, length front)) false (Some f) latest g.base g.width m.scalar (base-columns g m)
     ∙ shown-put g.base g.width before m.some
     ∙ put_seam region above below front o1 o2 back g.base g.width f latest first same m.some h
     ∙ ap (λ (cells : Row). standing region (above ++ (front ++ (cells ++ (loose o2 ++ back))) ∷ below) cursor wait (Some f) (Some (length above, length front))) (bare g f m) in

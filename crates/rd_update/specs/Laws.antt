@@ -20,19 +20,21 @@ abbrev pub IsCurrent : ℕ → ℕ → Option Picture → Tty → Type 0
 IsCurrent width height None t = Unit {0}
 IsCurrent width height (Some screen) t = IsOfSize width height screen × (t.rows ≡ known screen.rows) × (t.pen ≡ Some plain)
 
--- a terminal that is not confused and stands between two sequences, and a well-formed target of its size, whose colours are in
--- their range; a wait may stand
-pub record IsReady (width height : ℕ) (current : Option Picture) (target : Picture) (t : Tty) : Type 0 where
+-- a terminal of this size, of whose screen this is known, that is not confused and stands between two sequences; a wait may stand
+pub record AtFrame (width height : ℕ) (current : Option Picture) (t : Tty) : Type 0 where
   pub sure : t.confused ≡ false
   pub between : t.reading ≡ Between
   pub rows : length t.rows ≡ height
   pub each : IsGrid width t.rows
+  pub now : IsCurrent width height current t
+
+-- such a terminal, within the bounds of a frame, and a sound target of its size
+pub record IsReady (width height : ℕ) (current : Option Picture) (target : Picture) (t : Tty) : Type 0 where
+  pub there : AtFrame width height current t
   pub wide : width ≤ FRAME_COLUMNS
   pub tall : height ≤ FRAME_ROWS
   pub size : IsOfSize width height target
-  pub whole : IsWellFormed target
-  pub colours : AreColoured target.rows
-  pub now : IsCurrent width height current t
+  pub sound : IsSound target
 
 -- the terminal's cells are then those of the new current screen, its pen is plain, and where the update is done its cursor is
 -- the target's
