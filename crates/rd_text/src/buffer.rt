@@ -190,6 +190,7 @@ impl Buffer {
         requires { IsAccessible self.now pos }
         ensures { IsParagraphStart self.now pos result }
     {
+        self.buffers_are_valid();
         let from = self.begin as usize - 1;
         let to = pos as usize - 1;
         let at = self.chars.opening(from, to);

@@ -1,23 +1,11 @@
-use Rattle.std.proofs.Common.{◌≡◌, ◌≤◌, ◌+◌, ◌-◌, ℕ, length, not, ap, sym, subst, ◌∙◌, arith}
+use Rattle.std.proofs.Common.{◌≡◌, ◌≤◌, ◌+◌, ◌-◌, ℕ, not, ap, sym, subst, ◌∙◌, arith}
 use Rattle.std.specs.Prelude.{slice_range}
 use Rattle.std.specs.List.{position_or_len, suffix_len}
-use Rattle.rd_text.specs.Gaps.{text_of, IsGapText}
+use Rattle.rd_text.specs.Gaps.{text_of}
 use Rattle.rd_text.specs.Texts.{TextValue, IsText, is_newline, is_ink, IsParagraphStart}
-use Rattle.rd_text.specs.declared.gap.GapText.{GapText}
 use Rattle.rd_text.proofs.Paragraphs.{start_no_newline, start_ink, start_behind}
-use Rattle.rd_text.proofs.Ranges.{length-gap}
 use Rattle.rd_text.proofs.buffer.Buffer.paragraph_start.Goals as goal
 use Rattle.rd_text.proofs.buffer.Buffer.paragraph_start.Goals.{After-before_newline, After-after_last}
-
-is_text : (chars : GapText) (begin end : ℕ) → (1 ≤ begin) × (begin ≤ end) × (end ≤ length (text_of chars) + 1) × IsGapText chars
-    → IsText (record { text = text_of chars; begin = begin; end = end })
-is_text chars begin end i =
-    let g = i.3 in
-    let size = length-gap chars.codes.items chars.front chars.back g.order g.within in
-    let order = g.order in
-    let within = g.within in
-    let short = g.short in
-    record { first = i.0; ordered = i.1; last = i.2; short = omega arith }
 
 abbrev text : goal.After-before_newline → TextValue
 text c = let s = c.self.inside in record { text = text_of s.chars; begin = s.begin; end = s.end }
@@ -25,12 +13,11 @@ text c = let s = c.self.inside in record { text = text_of s.chars; begin = s.beg
 -- the position is accessible in it
 known : (c : goal.After-before_newline) → IsText (text c) × ((text c).begin ≤ c.args.pos) × (c.args.pos ≤ (text c).end)
 known c =
-    let s = c.self.inside in
     let begin = ap (λ (x : TextValue). x.begin) c.self.view_is in
     let end = ap (λ (x : TextValue). x.end) c.self.view_is in
     let low = c.requires.0 in
     let high = c.requires.1 in
-    (is_text s.chars s.begin s.end c.self.invariant, omega arith, omega arith)
+    (subst IsText (sym c.self.view_is) c.buffers_are_valid.ensures.text, omega arith, omega arith)
 
 -- how many of the first line's characters, from its end, have no ink
 blanks : (c : goal.After-after_last) → let first : ℕ = c.opening-at.result in let line = text_of c.self.inside.chars in
