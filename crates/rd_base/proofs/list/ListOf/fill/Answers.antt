@@ -13,4 +13,5 @@ all-given R v p each (y ∷ ys) q ran =
 
 pub returns : goal.returns
 returns g c =
-    rw (all-given _ c.args.value _ (λ y q h. search rules) c.fill_with.new.self _ c.fill_with.ensures.ran.1) (grind (arith, common_steps, c.fill_with.ensures.len))
+    rw (all-given _ c.args.value _ (λ y q h. search rules) c.fill_with.new.self _ c.fill_with.ensures.ran.1)
+    (grind (arith, common_steps, c.fill_with.ensures.len))
