@@ -1,5 +1,5 @@
 -- Blocks of a text, in order.
-use Rattle.std.specs.Prelude.{◌≡◌, ℕ, zero, suc, ◌<◌, ◌≤◌, List, [], ◌∷◌, length, All, slice_get, Option, None, Some}
+use Rattle.std.specs.Prelude.{◌≡◌, ℕ, zero, suc, ◌<◌, ◌≤◌, List, [], ◌∷◌, length, All, fold, slice_get, Option, None, Some}
 use Rattle.rd_matrix.specs.declared.block.Block.{Block}
 
 -- a block of the list
@@ -23,8 +23,7 @@ first_start (b ∷ bs) = b.start
 
 -- where the last of these blocks ends, and a position where there is none
 abbrev pub end_from : ℕ → List Block → ℕ
-end_from from [] = from
-end_from from (b ∷ bs) = end_from b.end bs
+end_from from bs = fold (λ _ (b : Block). b.end) from bs
 
 -- at least one block, and each but the first starts at the end of the one before
 pub record AreBlocks (bs : List Block) : Type 0 where

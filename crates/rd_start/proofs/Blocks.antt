@@ -26,10 +26,6 @@ pub fit-back : (rows : Block → List RowMeaning) (from : ℕ) (xs ys : List Blo
 fit-back rows from [] ys h = h
 fit-back rows from (x ∷ xs) ys h = fit-back rows x.end xs ys h.3
 
-pub end-append : (from : ℕ) (xs ys : List Block) → end_from from (xs ++ ys) ≡ end_from (end_from from xs) ys
-end-append from [] ys = refl
-end-append from (x ∷ xs) ys = end-append x.end xs ys
-
 some-of-two : (a b : Bool) (m n : ℕ) → (m == 0) ≡ not a → b ≡ not (n == 0) → (a || b) ≡ not (m + n == 0)
 some-of-two a b m n h k = grind (arith, nat_tests)
 

@@ -2,6 +2,7 @@
 use Rattle.std.proofs.Common.{◌≡◌, ℕ, ◌+◌, ◌<◌, ◌≤◌, ◌⊎◌, inl, inr, true, false, leb, ltb, List, [], ◌∷◌, ◌++◌, length, map, Option, None, Some, refl, ap, subst, ◌∙◌, arith}
 use Rattle.std.proofs.lemmas.Bool.{cases_Bool, leb-false, leb-true, ltb-false, ltb-true}
 use Rattle.std.proofs.lemmas.List.{length-append, length-map}
+use Rattle.std.proofs.lemmas.List.Sums.{fold-append}
 use Rattle.std.proofs.lemmas.Option.{slice_get_within}
 use Rattle.std.specs.List.{list_any, position, position_or_len, slice_get}
 use Rattle.rd_base.proofs.Lists.{get-first, get-second}
@@ -19,7 +20,7 @@ use Rattle.rd_start.specs.Strips.{IsStrip, IsStripOf, count_in, first_row, home_
 use Rattle.rd_start.specs.declared.strip.StripRow.{StripRow}
 use Rattle.rd_start.specs.declared.strip.Strip.{Strip}
 use Rattle.rd_start.specs.declared.strip.Sweep.{Sweep}
-use Rattle.rd_start.proofs.Blocks.{any-fit, end-append, fit-back, fit-front}
+use Rattle.rd_start.proofs.Blocks.{any-fit, fit-back, fit-front}
 use Rattle.rd_start.proofs.Tests.{above-range, below-range, in-range}
 use Rattle.rd_start.proofs.Lists.{first-among, first-behind, position-mapped, position-none, position-some}
 
@@ -133,7 +134,7 @@ bounds m sweep bs ls at h =
     let rest = fit-back rows start h.before (bs ++ h.after) whole in
     let first = end_from start h.before in
     let last = end_from first bs in
-    let last_end = ap (end_from start) h.pieces ∙ (end-append start h.before (bs ++ h.after) ∙ end-append first bs h.after) in
+    let last_end = ap (end_from start) h.pieces ∙ (fold-append _ start h.before (bs ++ h.after) ∙ fold-append _ first bs h.after) in
     let any_end = end-any 0 start m.blocks h.source.blocks.some in
     record {
       start = start;
