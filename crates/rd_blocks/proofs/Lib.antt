@@ -1,5 +1,5 @@
 mod Gives
-mod Within
+pub mod Within
 mod Ranges
 mod Bases
 mod Quiet

@@ -20,12 +20,12 @@ use Rattle.rd_matrix.specs.Blocks.{IsAmong}
 use Rattle.rd_matrix.specs.declared.block.Block.{Block}
 use Rattle.rd_stack.specs.Lines.{item_turns}
 use Rattle.rd_blocks.proofs.Listed.{among-block}
+use Rattle.rd_blocks.proofs.Within.{items-within}
 use Rattle.rd_blocks.specs.Bases.{block_in, blocks_in}
 use Rattle.rd_visual.specs.Motion.{all_ranges, block_ranges, holds, range_by, ranges_in_turn}
 use Rattle.rd_visual.specs.Order.{StandBetween, block_items, ordered_ranges}
 use Rattle.rd_visual.specs.Tiles.{AreTiled, IsTiled}
 use Rattle.rd_visual.specs.declared.range.Range.{Range}
-use Rattle.rd_visual.proofs.Listing.{tile-fits}
 use Rattle.rd_visual.proofs.Neighbours.{AreSome}
 use Rattle.rd_visual.proofs.Reordered.{order-stands, range-has, turns-permute}
 
@@ -134,9 +134,11 @@ module _ (s : BufferValue) (objects : ObjectLists) (files : Data) (are : AreTile
   pub items-fit : IsText s.text → (b : Block) → IsAmong (blocks_in files.classes s) b → All (λ (x : Item). x.from < x.to → b.start + x.to < 2 ^ 32) (block_items s objects files b)
   items-fit text b among =
       let is = among-block files.classes s are.listed b among in
-      let tiles = are.tiled objects files b is in
-      let size = tiles.size in
+      let es = reading s objects b.start in
+      let size = (are.tiled objects files b is).size in
       let last = is.last in
       let more = text.last in
       let short = text.short in
-      tile-fits b.start (2 ^ 32) 0 (length (reading s objects b.start)) (block_items s objects files b) tiles.tile (omega (arith, size, last, more, short))
+      λ k x at some.
+      let within = items-within (length es) (scene_in s.settings objects files) es (omega arith) k x at in
+      omega (arith, within, size, last, more, short)

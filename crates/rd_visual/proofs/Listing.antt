@@ -1,12 +1,10 @@
 -- Lists that are given element by element.
-use Rattle.std.proofs.Common.{◌≡◌, ℕ, ◌+◌, ◌-◌, ◌<◌, ◌≤◌, Bool, true, false, List, [], ◌∷◌, ◌++◌, length, All, drop, Option, None, Some, refl, sym, ap, subst, ◌∙◌, append_assoc, arith, inl, inr}
+use Rattle.std.proofs.Common.{◌≡◌, ℕ, ◌+◌, ◌-◌, ◌<◌, ◌≤◌, Bool, true, false, List, [], ◌∷◌, ◌++◌, length, drop, Option, None, Some, refl, sym, ap, subst, ◌∙◌, append_assoc, arith}
 use Rattle.std.specs.Prelude.{slice_get, option_map, if◌then◌else◌}
 use Rattle.std.proofs.lemmas.List.{length-drop}
-use Rattle.std.proofs.lemmas.List.Elements.{All-cons, All-nil}
 use Rattle.std.proofs.lemmas.Option.{same_Some}
-use Rattle.rd_base.proofs.Lists.{drop-at, element-at, follow-once, last-read}
+use Rattle.rd_base.proofs.Lists.{drop-at, element-at, last-read}
 use Rattle.rd_props.specs.Seen.{Seen}
-use Rattle.rd_items.specs.Covers.{Tile}
 use Rattle.rd_items.specs.Items.{items_of}
 use Rattle.rd_items.specs.Pieces.{Scene}
 use Rattle.rd_items.specs.declared.item.Item.{Item}
@@ -31,17 +29,6 @@ pub ranges-same : (scene : Scene) (start base : ℕ) (es : List Seen) (items : L
     → ranges_in_turn start items ts ≡ ranges_of scene start base es
 ranges-same scene start base es items ts e d =
     ap (ranges_in_turn start items) d ∙ ap (λ xs. ranges_in_turn start xs (item_turns scene base xs)) e
-
--- items of a block end within it, where they cover a position
-
-pub tile-fits : (start limit since to : ℕ) (items : List Item) → Tile since to items → start + to < limit → All (λ (x : Item). x.from < x.to → start + x.to < limit) items
-tile-fits start limit since to [] tile low = All-nil (λ (x : Item). x.from < x.to → start + x.to < limit)
-tile-fits start limit since to (x ∷ xs) (inl empty) low =
-    let same = empty.0 in
-    All-cons (λ (y : Item). y.from < y.to → start + y.to < limit) x xs (λ some. absurd (omega (arith, same, some))) (tile-fits start limit since to xs empty.1 low)
-tile-fits start limit since to (x ∷ xs) (inr next) low =
-    let rest = (follow-once (λ (y : Item). y.from) (λ (y : Item). y.to) 0 x.to to xs next.2).0 in
-    All-cons (λ (y : Item). y.from < y.to → start + y.to < limit) x xs (λ some. omega (arith, rest, low)) (tile-fits start limit x.to to xs next.2 low)
 
 -- the range beside one, found by its place
 
