@@ -1,5 +1,6 @@
 -- Isolating run sequences (UAX 9, BD7, BD13, X9, X10).
-use Rattle.std.specs.Prelude.{ℕ, ◌+◌, ◌==◌, max, Bool, false, ◌&&◌, if◌then◌else◌, List, [], ◌∷◌, ◌++◌, map, Option, None, Some, is_none}
+use Rattle.std.specs.Prelude.{ℕ, ◌+◌, ◌==◌, max, Bool, false, ◌&&◌, if◌then◌else◌, List, [], ◌∷◌, ◌++◌, map, Option, None, Some, is_none, option_and_then, option_map, unwrap_or}
+use Rattle.std.specs.List.{last_or}
 use Rattle.rd_base.specs.Classes.{is_removed, is_initiator, direction_of}
 use Rattle.rd_base.specs.declared.class.Class.{Class}
 use Rattle.rd_base.specs.declared.class.Class.TheVariants.{L}
@@ -60,9 +61,7 @@ bd7_level_runs (x ∷ xs) = with_item x (bd7_level_runs xs)
 
 -- where the PDI is that matches the last item of a run
 abbrev pub last_partner : List Item → Option ℕ
-last_partner [] = None
-last_partner (x ∷ []) = x.partner
-last_partner (x ∷ y ∷ ys) = last_partner (y ∷ ys)
+last_partner xs = option_and_then (λ (x : Item). x.partner) (last_or None xs)
 
 -- whether a run or a sequence begins with the item at an index
 abbrev pub begins : Option ℕ → List Item → Bool
@@ -88,9 +87,7 @@ bd13_joined_runs (run ∷ runs) = (run ++ continued (last_partner run) (bd13_joi
 
 -- X10: eos, the type at the end of a sequence: the direction of the higher of its last item's level and the level after it
 abbrev pub x10_eos : List Item → Class
-x10_eos [] = L
-x10_eos (x ∷ []) = direction_of (max x.level x.after)
-x10_eos (x ∷ y ∷ ys) = x10_eos (y ∷ ys)
+x10_eos xs = unwrap_or (option_map (λ (x : Item). direction_of (max x.level x.after)) (last_or None xs)) L
 
 -- X10: sos, the type at its start: the direction of the higher of its first item's level and the level before it
 abbrev pub x10_sos : List Item → Class
