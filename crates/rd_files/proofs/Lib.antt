@@ -1,2 +1,2 @@
 pub mod Numbers
-mod Orders
+pub mod Orders

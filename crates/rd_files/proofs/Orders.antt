@@ -1,8 +1,9 @@
 -- The answers of one file, and of the three one after the other.
-use Rattle.std.proofs.Common.{◌≡◌, ◌<◌, ◌≤◌, ℕ, zero, suc, List, [], ◌∷◌, length, Option, None, Some, Result, Ok, Err, arith, refl, ap, subst, inl, inr}
+use Rattle.std.proofs.Common.{◌≡◌, ◌<◌, ◌≤◌, ℕ, zero, suc, List, [], ◌∷◌, length, Option, None, Some, Result, Ok, Err, arith, refl, sym, ap, subst, inl, inr}
 use Rattle.std.specs.Prelude.{IfSome}
 use Rattle.std.proofs.lemmas.Bool.{lt-ltb}
 use Rattle.rd_io.proofs.Bytes.{rose-after}
+use Rattle.rd_ucd.specs.Data.{Data}
 use Rattle.rd_ucd.specs.declared.fault.UcdFault.{UcdFault}
 use Rattle.rd_ucd.specs.declared.spans.Span.{Span}
 use Rattle.rd_ucd.specs.declared.spans.Pair.{Pair}
@@ -10,7 +11,7 @@ use Rattle.rd_files.specs.declared.fault.BadFile.{BadFile}
 use Rattle.rd_files.specs.declared.fault.DataFile.{DataFile}
 use Rattle.rd_files.specs.declared.fault.DataFault.{DataFault}
 use Rattle.rd_files.specs.declared.fault.DataFault.TheVariants.{Bad, Read, Memory}
-use Rattle.rd_files.specs.DataFiles.{AreBytes, FailedAt, FailedAtSome, Gives, GivesData, Named, ReadsBytes, ReadsData, ReadsFile, brackets_in, classes_in, judged, mirrors_in, told_or_empty, too_large}
+use Rattle.rd_files.specs.DataFiles.{AreBytes, FailedAt, FailedAtSome, Gives, GivesData, Named, ReadsBytes, ReadsData, ReadsFile, brackets_in, classes_in, data_of, judged, mirrors_in, told_or_empty, too_large}
 
 -- ---- one file
 
@@ -58,6 +59,15 @@ module _ (told : List ℕ → Option (List ℕ)) (names : Named) where
       → Gives mirrors_in (told names.mirror_file) (Ok mirrors) → Gives brackets_in (told_or_empty told names.bracket_file) (Err fault)
       → GivesData told names (Err fault)
   bad_brackets classes mirrors fault c m b = (c.0, m.0, b.0, c.1, m.1, b.1, rw (c.2, m.2, b.2) refl)
+
+  -- where the bytes of all three are known, the answer is what they stand for
+  pub whole-data : (classes mirrors brackets : List ℕ) (answer : Result Data BadFile) → told names.class_file ≡ Some classes → told names.mirror_file ≡ Some mirrors
+      → told_or_empty told names.bracket_file ≡ Some brackets → GivesData told names answer → answer ≡ data_of classes mirrors brackets
+  whole-data classes mirrors brackets answer ec em eb h =
+      let c : h.0 ≡ classes = rw ec at h.3 in
+      let m : h.1 ≡ mirrors = rw em at h.4 in
+      let b : h.2 ≡ brackets = rw eb at h.5 in
+      rw (c, m, b) at (sym h.6)
 
 same_brackets : (told now : List ℕ → Option (List ℕ)) (name : Option (List ℕ)) → ((file : List ℕ) → now file ≡ told file)
     → told_or_empty now name ≡ told_or_empty told name

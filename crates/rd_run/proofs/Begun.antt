@@ -1,9 +1,11 @@
 -- How runs begin: the words, and the files that they name, where their bytes are known, determine it.
 use Rattle.std.proofs.Common.{◌≡◌, ℕ, ◌⊎◌, inl, inr, Bool, true, false, List, [], Option, None, Some, is_some, IfSome, IsSome, Result, Ok, Err, is_ok, refl, sym, ap, ◌∙◌, subst}
-use Rattle.rd_files.specs.DataFiles.{AreBytes, FailedAt, FailedAtSome, GivesData, Named, StopsAtFailed, data_of, told_or_empty}
+use Rattle.rd_base.proofs.Choices.{some-of}
+use Rattle.rd_files.specs.DataFiles.{FailedAt, FailedAtSome, GivesData, Named, StopsAtFailed, told_or_empty}
 use Rattle.rd_files.specs.declared.fault.BadFile.{BadFile}
 use Rattle.rd_files.specs.declared.fault.DataFile.{DataFile}
 use Rattle.rd_files.specs.declared.fault.DataKind.{DataKind}
+use Rattle.rd_files.proofs.Orders.{whole-data}
 use Rattle.rd_ucd.specs.Data.{Data}
 use Rattle.rd_words.specs.Words.{WordValues}
 use Rattle.rd_run.specs.Alike.{AreGivenAlike, AreToldAlike}
@@ -21,16 +23,6 @@ flipped a b h = (sym h.0, λ w e. let told = h.1 w (h.0 ∙ e) in (sym told.0, s
 
 -- ---- the files
 
--- bytes that are known are the same
-bytes-same : (one other : Option (List ℕ)) (x y : List ℕ) → one ≡ other → is_some one ≡ true → AreBytes x one → AreBytes y other → x ≡ y
-bytes-same None other x y e told p q = absurd (let k : false ≡ true = told in cc)
-bytes-same (Some f) None x y e told p q = absurd (let k : Some f ≡ None = e in cc)
-bytes-same (Some f) (Some g) x y e told p q =
-    let same : f ≡ g = (let k : Some f ≡ Some g = e in cc) in
-    let first : x ≡ f = p in
-    let second : y ≡ g = q in
-    first ∙ same ∙ sym second
-
 bracket-told : (a : List ℕ → Option (List ℕ)) (o : Option (List ℕ)) → IfSome o (λ name. IsSome (a name)) → is_some (told_or_empty a o) ≡ true
 bracket-told a None h = refl
 bracket-told a (Some name) h = h
@@ -38,12 +30,10 @@ bracket-told a (Some name) h = h
 data-same : (a b : List ℕ → Option (List ℕ)) (names : Named) (x y : Result Data BadFile) → AreToldAlike a b names → is_some (a names.class_file) ≡ true → is_some (a names.mirror_file) ≡ true
     → IfSome names.bracket_file (λ name. IsSome (a name)) → GivesData a names x → GivesData b names y → x ≡ y
 data-same a b names x y h one two three p q =
-    let classes : p.0 ≡ q.0 = bytes-same (a names.class_file) (b names.class_file) p.0 q.0 h.0 one p.3 q.3 in
-    let mirrors : p.1 ≡ q.1 = bytes-same (a names.mirror_file) (b names.mirror_file) p.1 q.1 h.1 two p.4 q.4 in
-    let brackets : p.2 ≡ q.2 = bytes-same (told_or_empty a names.bracket_file) (told_or_empty b names.bracket_file) p.2 q.2 h.2
-    (bracket-told a names.bracket_file three) p.5 q.5 in
-    let same : data_of p.0 p.1 p.2 ≡ data_of q.0 q.1 q.2 = ap (λ c. data_of c p.1 p.2) classes ∙ ap (λ m. data_of q.0 m p.2) mirrors ∙ ap (λ r. data_of q.0 q.1 r) brackets in
-    sym p.6 ∙ same ∙ q.6
+    let c = some-of (a names.class_file) one in
+    let m = some-of (a names.mirror_file) two in
+    let r = some-of (told_or_empty a names.bracket_file) (bracket-told a names.bracket_file three) in
+    whole-data a names c.0 m.0 r.0 x c.1 m.1 r.1 p ∙ sym (whole-data b names c.0 m.0 r.0 y (sym h.0 ∙ c.1) (sym h.1 ∙ m.1) (sym h.2 ∙ r.1) q)
 
 words-same : (a b : Given) (w v : WordValues) → a.words ≡ b.words → a.words ≡ Some w → b.words ≡ Some v → w ≡ v
 words-same a b w v e p q = let k : Some w ≡ Some v = sym p ∙ e ∙ q in cc
