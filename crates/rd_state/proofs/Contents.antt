@@ -15,13 +15,13 @@ use Rattle.rd_overlays.specs.Overlays.{new_overlay, place_of, moved, dropped, gi
 use Rattle.rd_objects.specs.Sound.{AreCodes}
 use Rattle.rd_objects.specs.Things.{ObjectLists}
 use Rattle.rd_props.specs.Buffers as props
-use Rattle.rd_props.specs.Edits.{put_on, IsInsertion, IsDeletion, IsPut, HasOverlays}
+use Rattle.rd_props.specs.Edits.{put_on, HasParts, IsInsertion, IsDeletion, IsPut, HasOverlays}
 use Rattle.rd_props.specs.Made.{IsMade, SettingsMade, AreMade}
 use Rattle.rd_props.specs.Values.{value_of}
 use Rattle.rd_script.specs.Forms.{is_text_kind}
 use Rattle.rd_state.specs.States.{ContentValue, seen, values_on, value_in}
 use Rattle.rd_state.specs.Valid.{IsWithin, IsContent}
-use Rattle.rd_state.specs.Edits.{is_range_of_all, is_made, is_value_made, marked_modified, grown, shrunk, seen_grown, seen_shrunk}
+use Rattle.rd_state.specs.Edits.{is_range_of_all, is_made, is_value_made, marked_modified, grown, shrunk, seen_grown, seen_shrunk, with_seen}
 use Rattle.rd_state.proofs.Below.{TextLaws, MadeLaws}
 use Rattle.rd_state.proofs.Tables.{AreAlike, value-in-table}
 use Rattle.rd_state.proofs.Within.{grown-within, shrunk-within, same-within, made-within, put-within, moved-within, given-within}
@@ -39,17 +39,17 @@ listed_values b = record b { properties = value_in (values_on b.text b.propertie
 listed-within : (b : props.BufferValue) → IsWithin b → IsWithin (listed_values b)
 listed-within b within = same-within b (listed_values b) within refl (listed-alike b within) refl
 
+-- what a buffer holds where this is seen of it has its parts, whatever the settings
+seen-parts : (c : ContentValue) (b : props.BufferValue) (s : SettingValues) → IsWithin b → HasParts (seen (with_seen c b)) (record b { settings = s })
+seen-parts c b s within = record { text = refl; properties = listed-alike b within; overlays = refl }
+
 -- ---- insertion
 
 opened-within : (c : ContentValue) (pos : ℕ) (new : List ℕ) → IsText c.text → IsWithin (seen c) → IsAccessible c.text pos → IsWithin (seen_grown c pos new)
 opened-within c pos new text within at = grown-within (seen c) (seen_grown c pos new) pos new text within at refl (λ kind p. refl) refl
 
 pub grown-is : (c : ContentValue) (pos : ℕ) (new : List ℕ) → IsText c.text → IsWithin (seen c) → IsAccessible c.text pos → IsInsertion (seen c) (seen (grown c pos new)) pos new
-grown-is c pos new text within at = record {
-  text = refl;
-  properties = listed-alike (seen_grown c pos new) (opened-within c pos new text within at);
-  overlays = refl;
-}
+grown-is c pos new text within at = seen-parts c (seen_grown c pos new) c.settings (opened-within c pos new text within at)
 
 settings-kept : (o : ObjectLists) (s t : SettingValues) → t.table ≡ s.table → t.line_prefix ≡ s.line_prefix → t.wrap_prefix ≡ s.wrap_prefix → SettingsMade o s → SettingsMade o t
 settings-kept o s t a b d h = record {
@@ -88,11 +88,7 @@ closed-within : (c : ContentValue) (from to : ℕ) → IsText c.text → IsWithi
 closed-within c from to text within at = shrunk-within (seen c) (seen_shrunk c from to) from to text within at refl (λ kind p. refl) refl
 
 pub shrunk-is : (c : ContentValue) (from to : ℕ) → IsText c.text → IsWithin (seen c) → IsAccessibleRange c.text from to → IsDeletion (seen c) (seen (shrunk c from to)) from to
-shrunk-is c from to text within at = record {
-  text = refl;
-  properties = listed-alike (seen_shrunk c from to) (closed-within c from to text within at);
-  overlays = refl;
-}
+shrunk-is c from to text within at = seen-parts c (seen_shrunk c from to) c.settings (closed-within c from to text within at)
 
 pub shrunk-valid : (texts : TextLaws) (made : MadeLaws) (o : ObjectLists) (c : ContentValue) (from to : ℕ) → IsContent o c → IsAccessibleRange c.text from to → IsContent o (shrunk c from to)
 shrunk-valid texts made o c from to v at =
@@ -166,11 +162,7 @@ with_property c from to kind value = record c { properties = values_on c.text (p
 
 pub put-is : (c : ContentValue) (from to : ℕ) (kind : Kind) (value : Option ℕ) → IsText c.text → IsWithin (seen c) → is_text_kind kind ≡ true → IsAccessibleRange c.text from to
     → IsPut (seen c) (seen (with_property c from to kind value)) kind from to value
-put-is c from to kind value text within is at = record {
-  text = refl;
-  properties = listed-alike (put_values c from to kind value) (put_on-within (seen c) from to kind value text within is at);
-  overlays = refl;
-}
+put-is c from to kind value text within is at = seen-parts c (put_values c from to kind value) c.settings (put_on-within (seen c) from to kind value text within is at)
 
 made-number : (count : ℕ) (value : Option ℕ) (v : ℕ) → is_made count value ≡ true → value ≡ Some v → v < count
 made-number count None v h e = absurd (cc)
