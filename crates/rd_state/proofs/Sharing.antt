@@ -23,9 +23,9 @@ use Rattle.rd_state.specs.declared.window.WindowState.{WindowState}
 use Rattle.rd_state.specs.Answers.{Applies}
 use Rattle.rd_state.specs.Shown.{ChecksFormat}
 use Rattle.rd_state.specs.States.{StateValue}
-use Rattle.rd_state.specs.Steps.{changing, format_fault, in_window, mode_lining, on_tree, refused_tree, removing, splitting, step, unless_bad}
+use Rattle.rd_state.specs.Steps.{changing, format_fault, in_window, mode_lining, on_tree, refused_tree, removing, splitting, step, unless_bad, without_window}
 use Rattle.rd_state.specs.Valid.{IsValid}
-use Rattle.rd_state.specs.Windows.{place_in, without_entry}
+use Rattle.rd_state.specs.Windows.{place_in}
 use Rattle.rd_state.proofs.ByNumber.{NumberedWindow, IsFound}
 use Rattle.rd_state.proofs.Finding.{at-window, found-in}
 use Rattle.rd_state.proofs.Leaves.{facts, is_some-leaf, leaf-placed}
@@ -64,13 +64,8 @@ pub removes-window : (s t : StateValue) (n i : ℕ) (e : NumberedWindow) (d : Co
     → ws ≡ remove t.windows i → heir ≡ (if t.selected == n then first_leaf (sibling n t.tree.windows) else t.selected)
     → removing s n ≡ Ok (record t { tree = d; windows = ws; selected = heir })
 removes-window s t n i e d ws heir same there said is chosen_is =
-    let left : (x : StateValue) (c : Configuration) → StateValue = λ x c. record x {
-      tree = c;
-      windows = without_entry n x.windows;
-      selected = if x.selected == n then first_leaf (sibling n x.tree.windows) else x.selected;
-    } in
-    at-window s t n i e (λ x w. on_tree (remove_tree x.tree n) (left x)) same there
-    ∙ (ap (λ r. on_tree r (left t)) said
+    at-window s t n i e (λ x w. on_tree (remove_tree x.tree n) (without_window n x)) same there
+    ∙ (ap (λ r. on_tree r (without_window n t)) said
     ∙ (ap (λ xs. Ok (record t { tree = d; windows = xs; selected = if t.selected == n then first_leaf (sibling n t.tree.windows) else t.selected })) (sym there.removed ∙ sym is)
     ∙ ap (λ k. Ok (record t { tree = d; windows = ws; selected = k })) (sym chosen_is)))
 

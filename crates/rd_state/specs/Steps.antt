@@ -116,14 +116,17 @@ splitting s window side size = in_window s window (λ w.
     on_tree (split_tree s.tree window side size)
     (λ tree. record s { tree = tree; windows = s.windows ++ (s.tree.made, record w { forced = false; pending = pos 0 }) ∷ [] }))
 
--- a window taken away; where it was the selected one, the first window of its sibling is selected
+-- a state without a window, and with another tree; where the window was the selected one, the first window of its sibling is selected
+abbrev pub without_window : ℕ → StateValue → Configuration → StateValue
+without_window window s tree = record s {
+  tree = tree;
+  windows = without_entry window s.windows;
+  selected = if s.selected == window then first_leaf (sibling window s.tree.windows) else s.selected;
+}
+
+-- a window taken away
 abbrev pub removing : StateValue → ℕ → Result StateValue Refused
-removing s window = in_window s window (λ w.
-    on_tree (remove_tree s.tree window) (λ tree. record s {
-      tree = tree;
-      windows = without_entry window s.windows;
-      selected = if s.selected == window then first_leaf (sibling window s.tree.windows) else s.selected;
-    }))
+removing s window = in_window s window (λ w. on_tree (remove_tree s.tree window) (without_window window s))
 
 -- a buffer shown from its accessible beginning
 abbrev pub showing : StateValue → ℕ → List ℕ → Result StateValue Refused

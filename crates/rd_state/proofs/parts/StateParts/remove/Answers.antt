@@ -1,13 +1,9 @@
-use Rattle.std.proofs.Common.{◌==◌, if◌then◌else◌, refl, ap, ◌∙◌}
+use Rattle.std.proofs.Common.{refl, ap, ◌∙◌}
 use Rattle.rd_script.specs.declared.op.Op.TheVariants.{Remove}
-use Rattle.rd_tree.specs.Calls.{Configuration, remove_tree}
-use Rattle.rd_tree.specs.Windows.{first_leaf, sibling}
-use Rattle.rd_state.specs.Windows.{without_entry}
+use Rattle.rd_tree.specs.Calls.{remove_tree}
 use Rattle.rd_state.specs.contracts.parts.StateParts.{the_view}
-use Rattle.rd_state.specs.declared.window.WindowState.{WindowState}
-use Rattle.rd_state.specs.States.{StateValue}
 use Rattle.rd_state.specs.Effects.{effect_of}
-use Rattle.rd_state.specs.Steps.{refused_tree, step}
+use Rattle.rd_state.specs.Steps.{refused_tree, step, without_window}
 use Rattle.rd_state.proofs.Finding.{found-in}
 use Rattle.rd_state.proofs.Sharing.{refuses, tree-refuses, asked, removes-window, heir-selected}
 use Rattle.rd_tree.proofs.Free.{remove-free}
@@ -20,14 +16,9 @@ returns-in_err-heir-clause-applies c =
     let t = the_view c.self.inside in
     let there = found-in t c.as_slice.result.now c.args.window c.in_ok-i.i c.index.result.now c.as_slice.ensures.value c.in_ok-i.ensures.0 c.in_ok-i.ensures.1 c.index.ensures in
     let n = c.args.window in
-    let after : StateValue → WindowState → Configuration → StateValue = λ x w d. record x {
-      tree = d;
-      windows = without_entry n x.windows;
-      selected = if x.selected == n then first_leaf (sibling n x.tree.windows) else x.selected;
-    } in
     refuses c.from_residual-in_err-heir.result (Remove n) c.args.self.now (record t { tree = c.remove.new.self }) (refused_tree c.in_err-heir.field-0.0)
     c.from_residual-in_err-heir.ensures.0 c.from_residual-in_err-heir.ensures.1 (ap (λ d. record t { tree = d }) c.in_err-heir.ensures.0 ∙ c.self.view_is)
-    (tree-refuses c.args.self.now t n c.in_ok-i.i c.index.result.now (λ x. remove_tree x.tree n) after c.in_err-heir.field-0.0 c.self.view_is there
+    (tree-refuses c.args.self.now t n c.in_ok-i.i c.index.result.now (λ x. remove_tree x.tree n) (λ x w. without_window n x) c.in_err-heir.field-0.0 c.self.view_is there
     (asked (λ k. remove_tree t.tree k) n c.in_ok-i.i t.windows c.index.result.now _ there c.in_err-heir.ensures.1))
 
 pub returns-clause-applies : goal.returns-clause-applies
