@@ -1,8 +1,5 @@
 -- A redisplay leaves a valid state valid: the starts and the points that it chooses are accessible.
-use Rattle.std.proofs.Common.{◌≡◌, ℕ, ◌+◌, ◌-◌, ◌≤◌, Bool, true, false, if◌then◌else◌, Option, None, Some, List, map, sym, ap, refl, subst, ◌∙◌, arith}
-use Rattle.std.proofs.lemmas.Option.{slice_get-map}
-use Rattle.std.specs.Prelude.{IsSome, slice_get, option_map}
-use Rattle.rd_base.proofs.Choices.{map-some, is_some-map}
+use Rattle.std.proofs.Common.{◌≡◌, ℕ, ◌+◌, ◌-◌, ◌≤◌, Bool, true, false, if◌then◌else◌, Option, None, Some, map, ap, refl, subst, arith}
 use Rattle.rd_blocks.proofs.Listed.{within-accessible}
 use Rattle.rd_blocks.specs.Bases.{blocks_in}
 use Rattle.rd_frame.specs.Panes.{has_border}
@@ -11,7 +8,7 @@ use Rattle.rd_props.specs.Buffers as props
 use Rattle.rd_rows.specs.Shapes.{IsShape}
 use Rattle.rd_state.specs.States.{ContentValue, StateValue, seen}
 use Rattle.rd_state.specs.Valid.{AreWindows, IsContent, IsValid, IsWindow}
-use Rattle.rd_state.specs.Windows.{content_in, leaf_of, shown_content, window_of}
+use Rattle.rd_state.specs.Windows.{content_in, leaf_of, shown_content}
 use Rattle.rd_state.specs.declared.window.WindowState.{WindowState}
 use Rattle.rd_text.specs.Texts.{IsAccessible, IsText}
 use Rattle.rd_tree.specs.Calls.{frame_of}
@@ -22,7 +19,7 @@ use Rattle.rd_ucd.specs.declared.spans.Span.{Span}
 use Rattle.rd_layout.specs.Laws.{ViewLaws}
 use Rattle.rd_layout.specs.Screens.{settled_at, settled_by, settled_state}
 use Rattle.rd_layout.specs.Windows.{place_of, view_in, wanted_of, window_shape, window_source}
-use Rattle.rd_state.proofs.ByNumber.{NumberedWindow, apart-became, under-became}
+use Rattle.rd_state.proofs.Keeping.{windows-became}
 use Rattle.rd_state.proofs.Showing.{placed-keeps, shown-has}
 use Rattle.rd_state.proofs.WithParts.{with_parts}
 use Rattle.rd_layout.proofs.Chosen.{chosen-anchor, chosen-point}
@@ -90,20 +87,9 @@ module _ (laws : ViewLaws) (files : Data) (s : StateValue) (valid : IsValid s) w
   same-leaf w None = refl
   same-leaf w (Some place) = refl
 
-  same-leaves : (number : ℕ) (o : Option WindowState) → option_map leaf_of (option_map (settled number) o) ≡ option_map leaf_of o
-  same-leaves number None = refl
-  same-leaves number (Some w) = ap (λ leaf. Some leaf) (same-leaf w (place_of number s))
-
   windows-stay : AreWindows s.buffers s.tree (map (settled_at files s) s.windows) s.selected
-  windows-stay = record {
-    tree = valid.windows.tree;
-    leaves = λ n. valid.windows.leaves n ∙ sym (ap (option_map leaf_of) (under-became settled n s.windows) ∙ same-leaves n (window_of n s.windows));
-    apart = apart-became settled s.windows valid.windows.apart;
-    each = λ k e at.
-        let d = map-some (settled_at files s) (slice_get s.windows k) e (sym (slice_get-map (settled_at files s) s.windows k) ∙ at) in
-        subst (λ (x : NumberedWindow). IsWindow s.buffers x.1) d.2 (settled-window d.0.0 d.0.1 (place_of d.0.0 s) refl (valid.windows.each k d.0 d.1));
-    selected = subst IsSome (sym (under-became settled s.selected s.windows)) (is_some-map (settled s.selected) (window_of s.selected s.windows) valid.windows.selected);
-  }
+  windows-stay =
+      windows-became s.buffers s.buffers s.tree settled s.windows s.selected (λ n w. same-leaf w (place_of n s)) (λ n w old. settled-window n w (place_of n s) refl old) valid.windows
 
   pub state-stays : IsValid (settled_state files s)
   state-stays =

@@ -212,9 +212,6 @@ each_by f e = (e.0, f e.1)
 pub window-each : (n : ℕ) (f : WindowState → WindowState) (ws : List NumberedWindow) → window_of n (map (each_by f) ws) ≡ option_map f (window_of n ws)
 window-each n f ws = under-became (λ k. f) n ws
 
-pub apart-each : (f : WindowState → WindowState) (ws : List NumberedWindow) → AreApart ws → AreApart (map (each_by f) ws)
-apart-each f = apart-became (λ k. f)
-
 -- ---- windows that correspond
 
 -- what holds of each window that lives before and after

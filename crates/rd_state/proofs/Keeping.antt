@@ -5,7 +5,7 @@ use Rattle.std.proofs.lemmas.List.{length-set}
 use Rattle.std.proofs.lemmas.List.Sums.{fails_before_first}
 use Rattle.std.proofs.lemmas.Option.{slice_get_within, get_or_from_slice_get}
 use Rattle.std.proofs.lemmas.Slice.Eq.{bytes_eq-Decides}
-use Rattle.rd_base.proofs.Lists.{get-set, get-end}
+use Rattle.rd_base.proofs.Lists.{get-set, get-end, get-map}
 use Rattle.rd_base.proofs.Choices.{either, is_some-map}
 use Rattle.std.specs.Prelude.{slice_get, slice_set, option_map, IsTrue, IsSome}
 use Rattle.std.specs.Str.{bytes_eq}
@@ -20,7 +20,7 @@ use Rattle.rd_state.specs.States.{BufferValue, ContentValue, new_buffer, new_con
 use Rattle.rd_state.specs.Windows.{window_of, with_entry, leaf_at, leaf_of}
 use Rattle.rd_state.specs.Valid.{most_buffers, AreBuffers, IsContent, IsWindow, AreWindows}
 use Rattle.rd_state.specs.Moves.{place_after, moved, moved_by, moved_in}
-use Rattle.rd_state.proofs.ByNumber.{NumberedWindow, Hands, each-entry, each-moved, each-with, window-each, apart-each, window-same, entry-other, some-with, none-past, apart-becoming}
+use Rattle.rd_state.proofs.ByNumber.{NumberedWindow, Hands, became, each-entry, each-with, under-became, apart-became, window-same, entry-other, some-with, none-past, apart-becoming}
 use Rattle.rd_state.proofs.Options.{map-map}
 
 -- ---- buffers
@@ -118,6 +118,19 @@ windows-appended bs name c ws n v =
     window-over bs (bs ++ new_buffer name ∷ []) w (omega (arith, length-append bs (new_buffer name ∷ [])))
     (λ x h. elim (get-end bs (new_buffer name) w.buffer x h) [ inl p ↦ (x, p, λ p a. a) | inr p ↦ absurd (omega (arith, p.0)) ]) o) v
 
+-- windows that become others under their numbers, with the leaves that they had
+pub windows-became : (bs cs : List BufferValue) (c : tree.Configuration) (f : ℕ → WindowState → WindowState) (ws : List NumberedWindow) (n : ℕ) → ((k : ℕ) (w : WindowState) → leaf_of (f k w) ≡ leaf_of w)
+    → ((k : ℕ) (w : WindowState) → IsWindow bs w → IsWindow cs (f k w)) → AreWindows bs c ws n → AreWindows cs c (map (became f) ws) n
+windows-became bs cs c f ws n same keep v = record {
+  tree = v.tree;
+  leaves = λ k. v.leaves k ∙ sym (ap (option_map leaf_of) (under-became f k ws) ∙ map-map (f k) leaf_of leaf_of (window_of k ws) (same k));
+  apart = apart-became f ws v.apart;
+  each = λ k e at.
+      let d = get-map (became f) ws k e at in
+      subst (λ (x : NumberedWindow). IsWindow cs x.1) d.2 (keep d.0.0 d.0.1 (v.each k d.0 d.1));
+  selected = subst IsSome (sym (under-became f n ws)) (is_some-map (f n) (window_of n ws) v.selected);
+}
+
 -- where a position of one buffer and each position of the others go
 pub windows-replaced : (bs : List BufferValue) (i : ℕ) (b : BufferValue) (d : ContentValue) (c : tree.Configuration) (ws : List NumberedWindow) (n : ℕ) → slice_get bs i ≡ Some b
     → ((p : ℕ) → IsAccessible b.content.text p → IsAccessible d.text p) → AreWindows bs c ws n → AreWindows (slice_set bs i (holding b d)) c ws n
@@ -154,17 +167,7 @@ pub windows-moved : (bs : List BufferValue) (i : ℕ) (b : BufferValue) (d : Con
     → ((p : ℕ) → IsAccessible b.content.text p → IsAccessible d.text (place_after how p)) → AreWindows bs c ws n
     → AreWindows (slice_set bs i (holding b d)) c (map (moved_in i how) ws) n
 windows-moved bs i b d how c ws n at keep v =
-    let f = moved_by i how in
-    let was : WindowState → Type 0 = IsWindow bs in
-    let is : WindowState → Type 0 = IsWindow (slice_set bs i (holding b d)) in
-    record {
-      tree = v.tree;
-      leaves = λ k. v.leaves k ∙ sym (ap (option_map leaf_of) (window-each k f ws) ∙ map-map f leaf_of leaf_of (window_of k ws) (leaf-moved i how));
-      apart = apart-each f ws v.apart;
-      each = each-entry was is ws (map (moved_in i how) ws) (apart-each f ws v.apart) (λ k none. window-each k f ws ∙ ap (option_map f) none)
-          (each-moved (Hands was is ws) f ws (λ k w lives old. moved-window bs i b d how w (w.buffer == i) refl at keep old)) v.each;
-      selected = subst IsSome (sym (window-each n f ws)) (is_some-map f (window_of n ws) v.selected);
-    }
+    windows-became bs (slice_set bs i (holding b d)) c (λ k. moved_by i how) ws n (λ k. leaf-moved i how) (λ k w old. moved-window bs i b d how w (w.buffer == i) refl at keep old) v
 
 -- ---- one window
 

@@ -7,7 +7,7 @@ mod Edited
 mod Faults
 mod Finding
 pub mod Free
-mod Keeping
+pub mod Keeping
 pub mod Leaves
 mod Leaving
 mod Naming
