@@ -42,21 +42,17 @@ pub if-refused : {A : Type 0} (r : Result A Refused) (e : Refused) (P : Refused 
 if-refused (Ok x) e P and h = absurd and
 if-refused (Err x) e P and h = subst P (sym and) h
 
--- what a window's tree refuses
-pub tree-refuses : (s t : StateValue) (n i : ℕ) (e : NumberedWindow) (q : StateValue → Result Configuration TreeFault) (h : StateValue → WindowState → Configuration → StateValue) (fault : TreeFault)
-    → t ≡ s → IsFound n i t.windows e → q t ≡ Err fault → in_window s n (λ w. on_tree (q s) (h s w)) ≡ Err (refused_tree fault)
-tree-refuses s t n i e q h fault same there said =
-    at-window s t n i e (λ x w. on_tree (q x) (h x w)) same there ∙ ap (λ r. on_tree r (h t e.1)) said
-
--- the same where a window would change with it
-pub tree-refuses-change : (s t : StateValue) (n i : ℕ) (e : NumberedWindow) (f : WindowState → WindowState) (q : StateValue → Result Configuration TreeFault) (h : StateValue → Configuration → StateValue)
-    (fault : TreeFault) → t ≡ s → IsFound n i t.windows e → q t ≡ Err fault → in_window s n (λ w. changing n f (on_tree (q s) (h s))) ≡ Err (refused_tree fault)
-tree-refuses-change s t n i e f q h fault same there said =
-    at-window s t n i e (λ x w. changing n f (on_tree (q x) (h x))) same there ∙ ap (λ r. changing n f (on_tree r (h t))) said
-
 -- the tree is asked by the number that stands beside the window
 pub asked : {X : Type 0} (q : ℕ → X) (n i : ℕ) (ws : List NumberedWindow) (e : NumberedWindow) (x : X) → IsFound n i ws e → q e.0 ≡ x → q n ≡ x
 asked q n i ws e x there said = ap q (sym there.number) ∙ said
+
+-- what a window's tree refuses
+pub tree-refuses : (r : Result Effect Refused) (op : Op) (s t : StateValue) (n i : ℕ) (e : NumberedWindow) (d : Configuration) (q : Configuration → ℕ → Result Configuration TreeFault)
+    (g : StateValue → WindowState → Result Configuration TreeFault → Result StateValue Refused) (fault : TreeFault) → IsErr r → IsErrAnd r (λ x. x ≡ refused_tree fault) → t ≡ s → IsFound n i t.windows e
+    → (d ≡ t.tree) × (q t.tree e.0 ≡ Err fault) → g t e.1 (Err fault) ≡ Err (refused_tree fault) → step s op ≡ in_window s n (λ w. g s w (q s.tree n)) → Applies r op s (record t { tree = d })
+tree-refuses r op s t n i e d q g fault is and same there said gives asks =
+    refuses r op s (record t { tree = d }) (refused_tree fault) is and (ap (λ c. record t { tree = c }) said.0 ∙ same)
+    (asks ∙ (at-window s t n i e (λ x w. g x w (q x.tree n)) same there ∙ (ap (g t e.1) (asked (q t.tree) n i t.windows e (Err fault) there said.1) ∙ gives)))
 
 -- ---- a window taken away
 
@@ -168,10 +164,9 @@ split-said : (x : Refused) (fault : TreeFault) (said : Result Configuration Tree
     → Applies (Err x) (SplitWindow n side size) s u
 unfolding step
 split-said x fault said s t u n i e side size d and same there asks splits leaves =
-    let after : (y : StateValue) → WindowState → Configuration → StateValue = λ y v c. record y { tree = c; windows = y.windows ++ (y.tree.made, record v { forced = false; pending = pos 0 }) ∷ [] } in (
-      leaves ∙ (ap (λ c. record t { tree = c }) splits.0 ∙ same),
-      λ _. tree-refuses s t n i e (λ y. split_tree y.tree n side size) after fault same there (asks ∙ splits.1) ∙ ap (λ y. Err y) (sym and),
-    )
+    let after : StateValue → WindowState → Configuration → StateValue = λ y v c. record y { tree = c; windows = y.windows ++ (y.tree.made, record v { forced = false; pending = pos 0 }) ∷ [] } in
+    subst (Applies (Err x) (SplitWindow n side size) s) (sym leaves)
+    (tree-refuses (Err x) (SplitWindow n side size) s t n i e d (λ c k. split_tree c n side size) (λ y v r. on_tree r (after y v)) fault refl and same there (splits.0, asks ∙ splits.1) refl refl)
 
 -- a split that the tree refuses, or that finds no memory
 pub split-refused : (r : Result Effect Refused) (fault : TreeFault) (said : Result Configuration TreeFault) (s t u : StateValue) (n i : ℕ) (e : NumberedWindow) (side : Side) (size : ℕ) (d : Configuration)

@@ -4,9 +4,9 @@ use Rattle.rd_tree.specs.Calls.{mode_tree}
 use Rattle.rd_state.specs.contracts.parts.StateParts.{the_view}
 use Rattle.rd_state.specs.declared.window.WindowState.{WindowState}
 use Rattle.rd_state.specs.Effects.{effect_of}
-use Rattle.rd_state.specs.Steps.{refused_tree, step}
+use Rattle.rd_state.specs.Steps.{changing, on_tree, step}
 use Rattle.rd_state.proofs.Finding.{found-in, some-found}
-use Rattle.rd_state.proofs.Sharing.{refuses, tree-refuses-change, asked, changes-with-tree, good-format, format-refuses}
+use Rattle.rd_state.proofs.Sharing.{refuses, tree-refuses, asked, changes-with-tree, good-format, format-refuses}
 use Rattle.rd_tree.proofs.Free.{mode-free}
 use Rattle.rd_state.proofs.Free.{tree-free}
 use Rattle.rd_state.proofs.parts.StateParts.mode_line.Goals as goal
@@ -28,11 +28,11 @@ returns-in_err-mode-clause-applies c =
     let n = c.args.window in
     let there = found-in t c.as_slice.result.now n c.in_ok-i.i c.index.result.now c.as_slice.ensures.value c.in_ok-i.ensures.0 c.in_ok-i.ensures.1 c.index.ensures in
     let f : WindowState → WindowState = λ old. record old { format = c.args.format } in
-    refuses c.from_residual-in_err-mode.result (ModeLine n c.args.format) c.args.self.now (record t { tree = c.mode.new.self }) (refused_tree c.in_err-mode.field-0.0)
-    c.from_residual-in_err-mode.ensures.0 c.from_residual-in_err-mode.ensures.1 (ap (λ d. record t { tree = d }) c.in_err-mode.ensures.0 ∙ c.self.view_is)
-    (good-format c.args.self.now n c.args.format c.in_ok-check_format.ensures
-    ∙ tree-refuses-change c.args.self.now t n c.in_ok-i.i c.index.result.now f (λ x. mode_tree x.tree n (is_some c.args.format)) (λ x d. record x { tree = d }) c.in_err-mode.field-0.0 c.self.view_is there
-    (asked (λ k. mode_tree t.tree k (is_some c.args.format)) n c.in_ok-i.i t.windows c.index.result.now _ there (ap (λ b. mode_tree t.tree c.index.result.now.0 b) (sym c.is_some.ensures) ∙ c.in_err-mode.ensures.1)))
+    tree-refuses c.from_residual-in_err-mode.result (ModeLine n c.args.format) c.args.self.now t n c.in_ok-i.i c.index.result.now c.mode.new.self
+    (λ d k. mode_tree d k (is_some c.args.format)) (λ x w r. changing n f (on_tree r (λ d. record x { tree = d }))) c.in_err-mode.field-0.0
+    c.from_residual-in_err-mode.ensures.0 c.from_residual-in_err-mode.ensures.1 c.self.view_is there
+    (c.in_err-mode.ensures.0, ap (λ b. mode_tree t.tree c.index.result.now.0 b) (sym c.is_some.ensures) ∙ c.in_err-mode.ensures.1) refl
+    (good-format c.args.self.now n c.args.format c.in_ok-check_format.ensures)
 
 pub returns-clause-applies : goal.returns-clause-applies
 unfolding step effect_of

@@ -1,11 +1,11 @@
-use Rattle.std.proofs.Common.{refl, ap, ◌∙◌}
+use Rattle.std.proofs.Common.{refl}
 use Rattle.rd_script.specs.declared.op.Op.TheVariants.{Remove}
 use Rattle.rd_tree.specs.Calls.{remove_tree}
 use Rattle.rd_state.specs.contracts.parts.StateParts.{the_view}
 use Rattle.rd_state.specs.Effects.{effect_of}
-use Rattle.rd_state.specs.Steps.{refused_tree, step, without_window}
+use Rattle.rd_state.specs.Steps.{on_tree, step, without_window}
 use Rattle.rd_state.proofs.Finding.{found-in}
-use Rattle.rd_state.proofs.Sharing.{refuses, tree-refuses, asked, removes-window, heir-selected}
+use Rattle.rd_state.proofs.Sharing.{tree-refuses, asked, removes-window, heir-selected}
 use Rattle.rd_tree.proofs.Free.{remove-free}
 use Rattle.rd_state.proofs.Free.{tree-free}
 use Rattle.rd_state.proofs.parts.StateParts.remove.Goals as goal
@@ -16,10 +16,8 @@ returns-in_err-heir-clause-applies c =
     let t = the_view c.self.inside in
     let there = found-in t c.as_slice.result.now c.args.window c.in_ok-i.i c.index.result.now c.as_slice.ensures.value c.in_ok-i.ensures.0 c.in_ok-i.ensures.1 c.index.ensures in
     let n = c.args.window in
-    refuses c.from_residual-in_err-heir.result (Remove n) c.args.self.now (record t { tree = c.remove.new.self }) (refused_tree c.in_err-heir.field-0.0)
-    c.from_residual-in_err-heir.ensures.0 c.from_residual-in_err-heir.ensures.1 (ap (λ d. record t { tree = d }) c.in_err-heir.ensures.0 ∙ c.self.view_is)
-    (tree-refuses c.args.self.now t n c.in_ok-i.i c.index.result.now (λ x. remove_tree x.tree n) (λ x w. without_window n x) c.in_err-heir.field-0.0 c.self.view_is there
-    (asked (λ k. remove_tree t.tree k) n c.in_ok-i.i t.windows c.index.result.now _ there c.in_err-heir.ensures.1))
+    tree-refuses c.from_residual-in_err-heir.result (Remove n) c.args.self.now t n c.in_ok-i.i c.index.result.now c.remove.new.self (λ d k. remove_tree d k) (λ x w r. on_tree r (without_window n x))
+    c.in_err-heir.field-0.0 c.from_residual-in_err-heir.ensures.0 c.from_residual-in_err-heir.ensures.1 c.self.view_is there c.in_err-heir.ensures refl refl
 
 pub returns-clause-applies : goal.returns-clause-applies
 unfolding step effect_of

@@ -1,12 +1,12 @@
-use Rattle.std.proofs.Common.{◌+◌, refl, ap, ◌∙◌}
+use Rattle.std.proofs.Common.{◌+◌, refl}
 use Rattle.rd_script.specs.declared.op.Op.TheVariants.{Margin}
 use Rattle.rd_tree.specs.Calls.{margins_tree}
 use Rattle.rd_state.specs.contracts.parts.StateParts.{the_view}
 use Rattle.rd_state.specs.declared.window.WindowState.{WindowState}
 use Rattle.rd_state.specs.Effects.{effect_of}
-use Rattle.rd_state.specs.Steps.{refused_tree, step}
+use Rattle.rd_state.specs.Steps.{changing, on_tree, step}
 use Rattle.rd_state.proofs.Finding.{found-in}
-use Rattle.rd_state.proofs.Sharing.{refuses, tree-refuses-change, asked, changes-with-tree}
+use Rattle.rd_state.proofs.Sharing.{tree-refuses, asked, changes-with-tree}
 use Rattle.rd_tree.proofs.Free.{margins-free}
 use Rattle.rd_state.proofs.Free.{tree-free}
 use Rattle.rd_state.proofs.parts.StateParts.set_margins.Goals as goal
@@ -18,10 +18,9 @@ returns-in_err-margins-clause-applies c =
     let there = found-in t c.as_slice.result.now c.args.window c.in_ok-i.i c.index.result.now c.as_slice.ensures.value c.in_ok-i.ensures.0 c.in_ok-i.ensures.1 c.index.ensures in
     let n = c.args.window in
     let f : WindowState → WindowState = λ old. record old { numbers = c.args.numbers; strings = c.args.strings } in
-    refuses c.from_residual-in_err-margins.result (Margin n c.args.numbers c.args.strings) c.args.self.now (record t { tree = c.margins.new.self }) (refused_tree c.in_err-margins.field-0.0)
-    c.from_residual-in_err-margins.ensures.0 c.from_residual-in_err-margins.ensures.1 (ap (λ d. record t { tree = d }) c.in_err-margins.ensures.0 ∙ c.self.view_is)
-    (tree-refuses-change c.args.self.now t n c.in_ok-i.i c.index.result.now f (λ x. margins_tree x.tree n (c.args.numbers + c.args.strings)) (λ x d. record x { tree = d }) c.in_err-margins.field-0.0 c.self.view_is there
-    (asked (λ k. margins_tree t.tree k (c.args.numbers + c.args.strings)) n c.in_ok-i.i t.windows c.index.result.now _ there c.in_err-margins.ensures.1))
+    tree-refuses c.from_residual-in_err-margins.result (Margin n c.args.numbers c.args.strings) c.args.self.now t n c.in_ok-i.i c.index.result.now c.margins.new.self
+    (λ d k. margins_tree d k (c.args.numbers + c.args.strings)) (λ x w r. changing n f (on_tree r (λ d. record x { tree = d }))) c.in_err-margins.field-0.0
+    c.from_residual-in_err-margins.ensures.0 c.from_residual-in_err-margins.ensures.1 c.self.view_is there c.in_err-margins.ensures refl refl
 
 pub returns-clause-applies : goal.returns-clause-applies
 unfolding step effect_of
