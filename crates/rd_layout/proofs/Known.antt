@@ -17,7 +17,7 @@ use Rattle.rd_window.specs.Layouts.{Stands, StandsUnchanged}
 use Rattle.rd_reuse.specs.Changes.{all, is_none, join, none}
 use Rattle.rd_reuse.specs.declared.change.Change.{Change}
 use Rattle.rd_matrix.specs.Entries.{shown_entries}
-use Rattle.rd_script.specs.Forms.{IsInForm, IsWhole}
+use Rattle.rd_script.specs.Forms.{IsInForm}
 use Rattle.rd_script.specs.declared.op.Op.{Op}
 use Rattle.rd_script.specs.declared.op.Op.TheVariants as ops
 use Rattle.rd_state.specs.Changes.{Leaves}
@@ -42,7 +42,7 @@ use Rattle.rd_window.specs.declared.layout.Layout.{Layout}
 use Rattle.rd_layout.specs.Changes.{change_by, change_in, layouts_after}
 use Rattle.rd_layout.specs.Laws.{ViewLaws}
 use Rattle.rd_layout.specs.Pointing.{hitting_by, is_shown, pointed, stepped_to}
-use Rattle.rd_layout.specs.Sessions.{IsStep, SessionValue, behind, is_frame, layout_of, opened, session_step}
+use Rattle.rd_layout.specs.Sessions.{SessionValue, behind, is_frame, layout_of, opened, session_step}
 use Rattle.rd_layout.specs.Since.{FitsFrame, IsKnown, IsSession}
 use Rattle.rd_layout.proofs.Calm.{Quiet}
 use Rattle.rd_layout.proofs.Leading.{effect-leads}
@@ -195,13 +195,13 @@ stays-session laws v op t session form is = record {
 pub opened-session : (files : Data) → IsValid opening → IsSession (opened files)
 opened-session files valid = record { state = valid; screen = tt; made = λ number l h. absurd (cc); layouts = λ number w l hw hl. absurd (cc) }
 
-pub found-window : (s t : StateValue) (window : ℕ) (f : WindowState → Result StateValue Refused) → in_window s window f ≡ Ok t → (w : WindowState) × (f w ≡ Ok t)
+found-window : (s t : StateValue) (window : ℕ) (f : WindowState → Result StateValue Refused) → in_window s window f ≡ Ok t → (w : WindowState) × (f w ≡ Ok t)
 found-window s t window f h =
     let Found : StateValue → Type 0 = λ u. (w : WindowState) × (f w ≡ Ok u) in
     IfOk-at_ok Found h (found Found _ (window_of window s.windows) f (λ w lives. each-if Found (f w) (λ u is. (w, is))))
 
 -- a hit moves point by an op where it is not refused
-pub hit-moves : (s t : StateValue) (window : ℕ) (w : WindowState) (last : Option Layout) (place : Option Placed) (row column : ℕ) → hitting_by s window w last place row column ≡ Ok t
+hit-moves : (s t : StateValue) (window : ℕ) (w : WindowState) (last : Option Layout) (place : Option Placed) (row column : ℕ) → hitting_by s window w last place row column ≡ Ok t
     → (to : ℕ) × (step s (ops.Point window to) ≡ Ok t)
 hit-moves s t window w None place row column h = absurd (cc)
 hit-moves s t window w (Some l) None row column h = absurd (cc)
@@ -210,19 +210,21 @@ hit-moves s t window w (Some l) (Some place) row column h = by (is_shown l (wind
   by true h = (unwrap_or (hit_in (shown_entries l.matrix) row column) w.point, h)
   by false h = absurd (cc)
 
-pointed-session : StepLaws → (v : SessionValue) (window place : ℕ) (t : StateValue) → IsSession v → IsWhole window → step v.state (ops.Point window place) ≡ Ok t
-    → IsSession (behind v (ops.Point window place) t)
-pointed-session laws v window place t session form is =
-    stays-session laws v (ops.Point window place) t session (form, point-whole v.state t session.state window place is) is
-
-pub step-session : StepLaws → (v : SessionValue) (op : Op) (t : StateValue) → IsSession v → IsInForm op → IsStep op → session_step v op ≡ Ok t → IsSession (behind v op t)
+-- an accepted op is one of the state: `go` and `hit` move point
+pub as-step : (v : SessionValue) (op : Op) (t : StateValue) → session_step v op ≡ Ok t
+    → (o : Op) × (step v.state o ≡ Ok t) × (is_frame op ≡ is_frame o) × (behind v op t ≡ behind v o t) × (IsValid v.state → IsInForm op → IsInForm o)
 unfolding effect_of
-step-session laws v (ops.Redisplay stop) t session form step is = absurd step
-step-session laws v (ops.Go window right) t session form step is =
+as-step v (ops.Go window right) t is =
     let w = found-window v.state t window _ is in
-    pointed-session laws v window (stepped_to v.files v.state w.0 right) t session form w.1
-step-session laws v (ops.Hit window row column) t session form step is =
+    let to = stepped_to v.files v.state w.0 right in
+    (ops.Point window to, w.1, refl, refl, λ valid form. (form, point-whole v.state t valid window to w.1))
+as-step v (ops.Hit window row column) t is =
     let w = found-window v.state t window _ is in
     let to = hit-moves v.state t window w.0 (layout_of window v.layouts) (place_of window v.state) row column w.1 in
-    pointed-session laws v window to.0 t session form.0 to.1
-step-session laws v op t session form step is = stays-session laws v op t session form is
+    (ops.Point window to.0, to.1, refl, refl, λ valid form. (form.0, point-whole v.state t valid window to.0 to.1))
+as-step v op t is = (op, is, refl, refl, λ valid form. form)
+
+pub step-session : StepLaws → (v : SessionValue) (op : Op) (t : StateValue) → IsSession v → IsInForm op → session_step v op ≡ Ok t → IsSession (behind v op t)
+step-session laws v op t session form is =
+    let o = as-step v op t is in
+    subst IsSession (sym o.3) (stays-session laws v o.0 t session (o.4 session.state form) o.1)

@@ -26,7 +26,7 @@ returns-clause-step c =
       over = over;
       views = c.view_laws.ensures;
     } in
-    λ v op state session form step is. step-session laws v op state session form step is
+    λ v op state session form step is. step-session laws v op state session form is
 
 pub returns-clause-kept : goal.returns-clause-kept
 returns-clause-kept c =
