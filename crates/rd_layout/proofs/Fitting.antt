@@ -9,6 +9,7 @@ use Rattle.std.proofs.lemmas.Option.{option_and_then_some, slice_get_within}
 use Rattle.std.specs.Prelude.{IfSome, IsTrue, option_map, slice_get, slice_index_or}
 use Rattle.rd_base.proofs.Choices.{if-value, some-of}
 use Rattle.rd_base.specs.Chars.{is_code}
+use Rattle.rd_base.specs.declared.cell.Cell.{Cell}
 use Rattle.rd_base.specs.declared.element.Element.{Element}
 use Rattle.rd_base.proofs.Lists.{all-at, found-each}
 use Rattle.rd_blocks.specs.Rows.{block_cutting}
@@ -29,6 +30,7 @@ use Rattle.rd_matrix.specs.Sources.{rows_at}
 use Rattle.rd_matrix.proofs.Covering.{cursor-row}
 use Rattle.rd_matrix.proofs.EachRow.{rows-each}
 use Rattle.rd_modeline.specs.Formats.{fault_in, pieces_of}
+use Rattle.rd_modeline.specs.Lines.{line_cells}
 use Rattle.rd_modeline.specs.Values.{FactValues}
 use Rattle.rd_modeline.specs.declared.piece.Piece.{Piece}
 use Rattle.rd_objects.specs.Sound.{AreCodes, IsString}
@@ -100,12 +102,14 @@ codes-of : (o : Option TextValue) → ((t : TextValue) → o ≡ Some t → AreC
 codes-of None h = All-from_recursion (λ c. IsTrue (is_code c)) [] tt
 codes-of (Some t) h = h t refl
 
-mode-fits : (laws : FitLaws) (files : Data) (facts : FactValues) (width : ℕ) (format : Option (List ℕ)) → is_some format ≡ true → IfSome format IsGoodFormat → length (mode_line files facts width format) ≡ width
-mode-fits laws files facts width None some good = absurd (cc)
-mode-fits laws files facts width (Some format) some good = by (pieces_of format) good.good where
-  by : (r : Result (List Piece) ℕ) → fault_in r ≡ None → length (cells_of_pieces files facts width r) ≡ width
-  by (Ok ps) h = laws.mode_width files.classes facts width ps
-  by (Err place) h = absurd (cc)
+-- what holds of the cells of pieces holds of the mode line of a good format
+pub mode-has : (P : List Cell → Type 0) (files : Data) (facts : FactValues) (width : ℕ) (format : Option (List ℕ)) → IfSome format IsGoodFormat → (format ≡ None → P [])
+    → ((text : List ℕ) (ps : List Piece) → IsGoodFormat text → pieces_of text ≡ Ok ps → P (line_cells files.classes facts width ps)) → P (mode_line files facts width format)
+mode-has P files facts width None good none each = none refl
+mode-has P files facts width (Some text) good none each = by (pieces_of text) refl good.good where
+  by : (r : Result (List Piece) ℕ) → pieces_of text ≡ r → fault_in r ≡ None → P (cells_of_pieces files facts width r)
+  by (Ok ps) is h = each text ps good is
+  by (Err place) is h = absurd (cc)
 
 -- ---- one window
 
@@ -159,7 +163,11 @@ module _ (laws : FitLaws) (files : Data) (s : StateValue) (valid : IsValid s) wh
         let whole = view-whole w p at window in
         All-map (FitsRow s.width p) (glyph_row (margin_of files s.objects (shown_content s w) (widths_of w))) (view_in files s w p).rows
         (λ k d less. record { margin = (margin-right w p (slice_index_or (view_in files s w p).rows k d) window leaf).count; text = (whole k d less).wide });
-    mode_line = λ shown. mode-fits laws files (line_facts (shown_buffer s w) (view_in files s w p)) p.rect.width w.format (ap (λ (x : Bool × ℕ). x.0) leaf ∙ shown) window.format;
+    mode_line = λ shown.
+        let facts = line_facts (shown_buffer s w) (view_in files s w p) in
+        mode-has (λ (cells : List Cell). length cells ≡ p.rect.width) files facts p.rect.width w.format window.format
+        (λ none. absurd (let some : false ≡ true = sym (ap is_some none) ∙ (ap (λ (x : Bool × ℕ). x.0) leaf ∙ shown) in cc))
+        (λ text ps good is. laws.mode_width files.classes facts p.rect.width ps);
   }
 
   pane-fits : (p : Placed) → place_of p.number s ≡ Some p → FitsWindow s.width (pane_at files s p) p

@@ -1,12 +1,12 @@
 -- Each part of a target screen is whole and coloured.
-use Rattle.std.proofs.Common.{◌≡◌, ℕ, ◌+◌, ◌==◌, ◌&&◌, Bool, true, Option, None, Some, Result, Ok, Err, List, [], ◌∷◌, sym, ap, refl, subst, subst₂, arith, unwrap_or}
+use Rattle.std.proofs.Common.{◌≡◌, ℕ, ◌+◌, ◌==◌, ◌&&◌, Bool, true, Option, None, Some, Ok, List, [], ◌∷◌, sym, ap, refl, subst, subst₂, arith, unwrap_or}
 use Rattle.std.proofs.lemmas.Bool.{and_parts, eqb-true, or_left}
 use Rattle.std.proofs.lemmas.List.Elements.{All-map, All-nil, All-weaker, recursion_from_All}
 use Rattle.std.proofs.lemmas.List.Sums.{AllPass-from_list_all}
 use Rattle.std.proofs.lemmas.Option.{option_and_then_some}
 use Rattle.rd_base.proofs.Lists.{all-at, element-at}
 use Rattle.std.specs.List.{All, list_all}
-use Rattle.std.specs.Prelude.{IfSome, IsTrue, slice_get, slice_index_or}
+use Rattle.std.specs.Prelude.{IsTrue, slice_get, slice_index_or}
 use Rattle.std.specs.Str.{chars}
 use Rattle.rd_base.specs.Cells.{AreColoured, HasColours, IsColoured}
 use Rattle.rd_base.specs.Chars.{is_code, is_scalar}
@@ -38,7 +38,7 @@ use Rattle.rd_rows.specs.Shapes.{ShapeValues}
 use Rattle.rd_rows.specs.Whole.{IsMark}
 use Rattle.rd_script.specs.Forms.{is_buffer_name, is_name_character, is_plain_text}
 use Rattle.rd_state.specs.States.{BufferValue, ContentValue, StateValue, new_buffer, seen}
-use Rattle.rd_state.specs.Valid.{IsGoodFormat, IsValid, IsWindow}
+use Rattle.rd_state.specs.Valid.{IsValid, IsWindow}
 use Rattle.rd_state.specs.Windows.{leaf_of, shown_content}
 use Rattle.rd_state.specs.declared.window.WindowState.{WindowState}
 use Rattle.rd_term.specs.Pictures.{IsOfSize, IsWellFormed}
@@ -49,10 +49,10 @@ use Rattle.rd_update.specs.Laws.{IsSound}
 use Rattle.rd_window.specs.Views.{WindowView}
 use Rattle.rd_state.proofs.Tests.{text-codes}
 use Rattle.rd_layout.specs.Laws.{FitLaws}
-use Rattle.rd_layout.specs.Panes.{border_in, border_slot, cells_of_pieces, line_facts, margin_of, mode_line, pane_of, widths_of}
+use Rattle.rd_layout.specs.Panes.{border_in, border_slot, line_facts, margin_of, mode_line, pane_of, widths_of}
 use Rattle.rd_layout.specs.Screens.{frame_in, laid_out, pane_at, pane_by}
 use Rattle.rd_layout.specs.Windows.{place_of, shown_buffer, view_in, window_shape}
-use Rattle.rd_layout.proofs.Fitting.{fits, in-view, line-small, margin-right, place-window, view-whole}
+use Rattle.rd_layout.proofs.Fitting.{fits, in-view, line-small, margin-right, mode-has, place-window, view-whole}
 use Rattle.rd_layout.proofs.Placed.{all-places}
 
 -- what the layers below say
@@ -114,19 +114,17 @@ module _ (laws : SoundLaws) (files : Data) (s : StateValue) (valid : IsValid s) 
       subst (λ (x : BufferValue). AreFacts (line_facts x v)) is
       (record { name = name-codes b.0.name (valid.buffers.names w.buffer b.0 b.1); line = line-small b.0.content.text v.point (valid.buffers.contents w.buffer b.0 b.1).text })
 
-  mode-whole : (facts : FactValues) (width : ℕ) (format : Option (List ℕ)) → AreFacts facts → IfSome format IsGoodFormat → IsRowAfter 0 (mode_line files facts width format)
-  mode-whole facts width None are good = tt
-  mode-whole facts width (Some format) are good = by (pieces_of format) refl where
-    by : (r : Result (List Piece) ℕ) → pieces_of format ≡ r → IsRowAfter 0 (cells_of_pieces files facts width r)
-    by (Ok ps) is = laws.mode_whole files.classes facts width format ps are (plain-codes format good.plain) is
-    by (Err place) is = tt
+  mode-whole : (w : WindowState) (v : WindowView) (width : ℕ) → IsWindow s.buffers w → IsRowAfter 0 (mode_line files (line_facts (shown_buffer s w) v) width w.format)
+  mode-whole w v width window =
+      let facts = line_facts (shown_buffer s w) v in
+      mode-has (IsRowAfter 0) files facts width w.format window.format (λ none. tt)
+      (λ text ps good is. laws.mode_whole files.classes facts width text ps (facts-right w v window) (plain-codes text good.plain) is)
 
-  mode-coloured : (facts : FactValues) (width : ℕ) (format : Option (List ℕ)) → All IsColoured (mode_line files facts width format)
-  mode-coloured facts width None = All-nil IsColoured
-  mode-coloured facts width (Some format) = by (pieces_of format) where
-    by : (r : Result (List Piece) ℕ) → All IsColoured (cells_of_pieces files facts width r)
-    by (Ok ps) = laws.mode_coloured files.classes facts width ps
-    by (Err place) = All-nil IsColoured
+  mode-coloured : (w : WindowState) (v : WindowView) (width : ℕ) → IsWindow s.buffers w → All IsColoured (mode_line files (line_facts (shown_buffer s w) v) width w.format)
+  mode-coloured w v width window =
+      let facts = line_facts (shown_buffer s w) v in
+      mode-has (All IsColoured) files facts width w.format window.format (λ none. All-nil IsColoured)
+      (λ text ps good is. laws.mode_coloured files.classes facts width ps)
 
   -- ---- windows
 
@@ -138,7 +136,7 @@ module _ (laws : SoundLaws) (files : Data) (s : StateValue) (valid : IsValid s) 
         margins = All-map (λ (r : GlyphRow). IsRowAfter 0 r.margin) row (view_in files s w p).rows (λ k d less. (margin-right laws.fit files s valid w p (slice_index_or (view_in files s w p).rows k d) window leaf).whole);
         texts = All-map (λ (r : GlyphRow). IsRowAfter 0 r.text) row (view_in files s w p).rows (λ k d less. (whole k d less).whole);
         border = border-whole laws (border_slot s.objects (shown_content s w)) (slot-right (shown_content s w));
-        mode_line = λ shown. mode-whole (line_facts (shown_buffer s w) (view_in files s w p)) p.rect.width w.format (facts-right w (view_in files s w p) window) window.format;
+        mode_line = λ shown. mode-whole w (view_in files s w p) p.rect.width window;
       }
 
   coloured-part : (w : WindowState) (p : Placed) → place_of p.number s ≡ Some p → IsWindow s.buffers w → leaf_of w ≡ (p.mode, p.margins) → EachPart (All IsColoured) (pane_of files s w p (view_in files s w p)) p
@@ -149,7 +147,7 @@ module _ (laws : SoundLaws) (files : Data) (s : StateValue) (valid : IsValid s) 
         margins = All-map (λ (r : GlyphRow). All IsColoured r.margin) row (view_in files s w p).rows (λ k d less. (margin-right laws.fit files s valid w p (slice_index_or (view_in files s w p).rows k d) window leaf).coloured);
         texts = All-map (λ (r : GlyphRow). All IsColoured r.text) row (view_in files s w p).rows coloured;
         border = laws.border_coloured (border_slot s.objects (shown_content s w));
-        mode_line = λ shown. mode-coloured (line_facts (shown_buffer s w) (view_in files s w p)) p.rect.width w.format;
+        mode_line = λ shown. mode-coloured w (view_in files s w p) p.rect.width window;
       }
 
   part-by : (P : List Cell → Type 0) (p : Placed) → place_of p.number s ≡ Some p
