@@ -4,16 +4,16 @@ use Rattle.std.specs.Io.KnownBytes.{Appends, Consumes}
 use Rattle.std.proofs.KnownBytes.{Appends-nil, Appends-trans, Consumes-nil}
 use Rattle.rd_io.specs.Devices.{Rose}
 use Rattle.rd_run.specs.Alike.{End, IsFaultless}
-use Rattle.rd_run.specs.Ends.{Broke, Comes, Drawn, Ended, IsBroken, IsWhole, LastBroke, ReportBroke, ScreenBroke, Sunk, Took, last_in, sent_in, sunk, told_in}
+use Rattle.rd_run.specs.Ends.{Broke, Comes, Drawn, Ended, IsBroken, IsWhole, LastBroke, ReportBroke, ScreenBroke, ShowsIn, Sunk, Took, last_in, sent_in, sunk, told_in}
 use Rattle.rd_run.specs.Given.{Given, HasFailed, IsMode}
 use Rattle.rd_run.specs.Reports.{last_line}
-use Rattle.rd_run.specs.Runs.{Input, KnowsEach, Mode, ShowsEach, opened, run}
+use Rattle.rd_run.specs.Runs.{Input, Mode, ShowsEach, opened, run}
 use Rattle.rd_run.specs.Statuses.{TellsNoMemory}
 use Rattle.rd_run.specs.Validity.{EndsWell, IsValidScript}
 use Rattle.rd_run.specs.declared.status.Status.{Status}
 use Rattle.rd_run.specs.declared.status.Status.TheVariants.{Done, ReadFault, WriteFault}
 use Rattle.rd_player.specs.Acts.{ComesTo, Finishes, SpentBy, Tells, summary_of}
-use Rattle.rd_player.specs.Played.{Completes, HasReadFault, Played, Spent}
+use Rattle.rd_player.specs.Played.{Completes, HasReadFault, KnowsIn, Played, Spent}
 use Rattle.rd_player.specs.declared.halt.Ending.{Ending}
 use Rattle.rd_player.specs.declared.halt.Ending.TheVariants as endings
 use Rattle.rd_player.proofs.Running.{broke-after}
@@ -102,9 +102,6 @@ spent endings.ReportBroke given mode inputs bytes left result report c0 c1 h f =
 
 -- ---- the whole
 
-abbrev pub KnowsAlways : Type 0
-KnowsAlways = (mode : Mode) (inputs : List Input) → KnowsEach (opened mode) inputs
-
 -- a run over a valid script ends well
 abbrev pub EndWell : Type 0
 EndWell = (script : List ℕ) (mode : Mode) (e : End) → IsMode e.given mode → IsValidScript mode e.inputs script → IsFaultless script e → EndsWell e.status
@@ -124,51 +121,39 @@ completes law given begun result inputs bytes l0 source screen report taken ends
     } in
     law script mode e good valid whole
 
--- a run that has begun
-pub played : (ending : Ending) (given : Given) (mode : Mode) (l0 : Option (List ℕ)) (source : Drawn) (screen : Sunk) (result : Status) (p0 p1 p2 : Option (List ℕ)) (n0 n1 n2 c0 c1 : ℕ)
-    → ShowsAlways → KnowsAlways → EndWell → n0 ≤ n1 → n1 ≤ n2
-    → (inputs : List Input) × (bytes : List ℕ) × Consumes l0 source.left bytes × ComesTo ending given (Some mode) inputs bytes source screen (sunk p0 p1 n0 n1)
-    × SpentBy ending given (Some mode) inputs bytes source.left c0 c1
-    → Finishes ending result (sunk p1 p2 n1 n2) → Played given result l0 source screen (sunk p0 p2 n0 n2) c0 c1
-played ending given mode l0 source screen result p0 p1 p2 n0 n1 n2 c0 c1 shows knows well m n h f =
+-- a run, whether or not a line of it could begin
+pub played : (ending : Ending) (given : Given) (mode : Option Mode) (l0 : Option (List ℕ)) (source : Drawn) (screen : Sunk) (result : Status) (p0 p1 p2 : Option (List ℕ)) (n0 n1 n2 c0 c1 : ℕ)
+    → ShowsAlways → EndWell → n0 ≤ n1 → n1 ≤ n2
+    → (h : (inputs : List Input) × (bytes : List ℕ) × Consumes l0 source.left bytes × ComesTo ending given mode inputs bytes source screen (sunk p0 p1 n0 n1)
+    × SpentBy ending given mode inputs bytes source.left c0 c1)
+    → ShowsIn mode h.0 → KnowsIn mode h.0 → Finishes ending result (sunk p1 p2 n1 n2) → Played given result l0 source screen (sunk p0 p2 n0 n2) c0 c1
+played ending given mode l0 source screen result p0 p1 p2 n0 n1 n2 c0 c1 law well m n h shows knows f =
     let report = sunk p0 p2 n0 n2 in
-    let ends : Ended given (Some mode) result h.0 h.1 source screen report = ended ending given (Some mode) h.0 h.1 source screen result p0 p1 p2 n0 n1 n2 shows h.3 m n f in (
-      Some mode,
+    let ends : Ended given mode result h.0 h.1 source screen report = ended ending given mode h.0 h.1 source screen result p0 p1 p2 n0 n1 n2 law h.3 m n f in (
+      mode,
       h.0,
       h.1,
       h.2,
       ends,
-      shows mode h.0,
-      knows mode h.0,
-      spent ending given (Some mode) h.0 h.1 source.left result (sunk p1 p2 n1 n2) c0 c1 h.4 f,
-      completes well given (Some mode) result h.0 h.1 l0 source screen report h.2 ends,
+      shows,
+      knows,
+      spent ending given mode h.0 h.1 source.left result (sunk p1 p2 n1 n2) c0 c1 h.4 f,
+      completes well given mode result h.0 h.1 l0 source screen report h.2 ends,
     )
 
 last-none : (status : Status) → last_in None status [] ≡ last_line status 0
 last-none status = refl
 
--- one that has not
+-- one of which no line could begin
 pub unplayed : (status : Status) (given : Given) (l : Option (List ℕ)) (q : ℕ) (s : Option (List ℕ)) (m : ℕ) (result : Status) (p0 p1 : Option (List ℕ)) (n0 n1 c : ℕ) → ShowsAlways → EndWell → n0 ≤ n1
     → ((source : Drawn) → Comes given None status [] [] source) → Finishes (endings.Ends status 0) result (sunk p0 p1 n0 n1)
     → Played given result l (record { left = l; faults_before = q; faults_after = q }) (sunk s s m m) (sunk p0 p1 n0 n1) c c
-unplayed status given l q s m result p0 p1 n0 n1 c shows well n comes f =
+unplayed status given l q s m result p0 p1 n0 n1 c law well n comes f =
     let source : Drawn = record { left = l; faults_before = q; faults_after = q } in
-    let screen = sunk s s m m in
-    let report = sunk p0 p1 n0 n1 in
     let none : n0 ≤ n0 = omega arith in
     let same : c ≤ c + 0 = omega arith in
-    let ends : Ended given None result [] [] source screen report =
-    ended (endings.Ends status 0) given None [] [] source screen result p0 p0 p1 n0 n0 n1 shows (comes source, last-none status, Appends-nil s, Appends-nil p0) none n f in (
-      None,
-      [],
-      [],
-      Consumes-nil l,
-      ends,
-      tt,
-      tt,
-      inl same,
-      completes well given None result [] [] l source screen report (Consumes-nil l) ends,
-    )
+    played (endings.Ends status 0) given None l source (sunk s s m m) result p0 p0 p1 n0 n0 n1 c c law well none n
+    ([], [], Consumes-nil l, (comes source, last-none status, Appends-nil s, Appends-nil p0), same) tt tt f
 
 -- ---- want of memory
 
