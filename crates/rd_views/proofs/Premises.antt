@@ -1,6 +1,6 @@
 -- What the layout of a window asks of its source and its last layout, and what it answers.
 use Rattle.std.proofs.Common.{◌≡◌, ℕ, ◌+◌, ◌≤◌, not, is_some, Option, Some, Result, Ok, Err, sym, ap, subst, subst₂, ◌∙◌}
-use Rattle.std.specs.Prelude.{IfOk, IfSome}
+use Rattle.std.specs.Prelude.{IfOk, IfSome, slice_get}
 use Rattle.rd_base.specs.declared.memory.Memory.{Memory}
 use Rattle.rd_blocks.specs.Sources.{source_of, text_source}
 use Rattle.rd_matrix.specs.Blocks.{IsWithin}
@@ -14,7 +14,7 @@ use Rattle.rd_rows.specs.Shapes.{ShapeValues}
 use Rattle.rd_start.specs.Chosen.{chosen_of}
 use Rattle.rd_start.specs.declared.wanted.Wanted.{Wanted}
 use Rattle.rd_state.proofs.Showing.{shown-has}
-use Rattle.rd_state.specs.States.{StateValue, seen}
+use Rattle.rd_state.specs.States.{BufferValue, StateValue, seen}
 use Rattle.rd_state.specs.Valid.{IsValid, IsWindow}
 use Rattle.rd_state.specs.Windows.{shown_content, window_of}
 use Rattle.rd_state.specs.declared.window.WindowState.{WindowState}
@@ -54,27 +54,21 @@ module _ (laws : LookLaws) (v : SessionValue) (session : IsSession v) (n : ℕ) 
   text : IsText (shown_content v.state w).text
   text = shown-has (λ c. IsText c.text) v.state w window (λ b at. (session.state.buffers.contents w.buffer b at).text)
 
-  point : IsAccessible (shown_content v.state w).text w.point
-  point = shown-has (λ c. IsAccessible c.text w.point) v.state w window window.point
-
-  anchor : IsAccessible (shown_content v.state w).text w.anchor.pos
-  anchor = shown-has (λ c. IsAccessible c.text w.anchor.pos) v.state w window window.anchor
-
   pub is-source : IsSource m
   is-source = subst IsSource (sym source) (laws.source (seen (shown_content v.state w)) v.state.objects v.files text)
 
-  anchor-within : IsWithin w.anchor.pos m.blocks
-  anchor-within = subst (λ (k : SourceValues). IsWithin w.anchor.pos k.blocks) (sym source) (laws.within (seen (shown_content v.state w)) v.state.objects v.files w.anchor.pos anchor)
-
-  point-within : IsWithin w.point m.blocks
-  point-within = subst (λ (k : SourceValues). IsWithin w.point k.blocks) (sym source) (laws.within (seen (shown_content v.state w)) v.state.objects v.files w.point point)
+  -- a position that is accessible in the window's buffer lies in the source's blocks
+  lies-within : (p : ℕ) → ((b : BufferValue) → slice_get v.state.buffers w.buffer ≡ Some b → IsAccessible b.content.text p) → IsWithin p m.blocks
+  lies-within p own =
+      subst (λ (k : SourceValues). IsWithin p k.blocks) (sym source)
+      (laws.within (seen (shown_content v.state w)) v.state.objects v.files p (shown-has (λ c. IsAccessible c.text p) v.state w window own))
 
   -- what is wanted of the window's start is wanted at the window's start and point
   pub anchor-wanted : (s : StateValue) (place : Placed) (x : Wanted) → x ≡ wanted_of s w place → IsWithin x.anchor.pos m.blocks
-  anchor-wanted s place x is = subst (λ (y : Wanted). IsWithin y.anchor.pos m.blocks) (sym is) anchor-within
+  anchor-wanted s place x is = subst (λ (y : Wanted). IsWithin y.anchor.pos m.blocks) (sym is) (lies-within w.anchor.pos window.anchor)
 
   pub point-wanted : (s : StateValue) (place : Placed) (x : Wanted) → x ≡ wanted_of s w place → IsWithin x.point m.blocks
-  point-wanted s place x is = subst (λ (y : Wanted). IsWithin y.point m.blocks) (sym is) point-within
+  point-wanted s place x is = subst (λ (y : Wanted). IsWithin y.point m.blocks) (sym is) (lies-within w.point window.point)
 
   pub kept-right : (last : Option Layout) (shape : ShapeValues) → last ≡ layout_of n v.layouts → AreRight m (older_rows last shape) (change_since last) shape
   kept-right last shape is =
