@@ -1,6 +1,4 @@
-use Rattle.std.proofs.Common.{◌≡◌, ℕ, Bool, true, false, List, None, Ok, ap, subst, arith}
-use Rattle.std.specs.Io.KnownBytes.{Consumes}
-use Rattle.rd_io.specs.Lines.{Answers}
+use Rattle.std.proofs.Common.{◌≡◌, ℕ, None, ap, arith}
 use Rattle.rd_run.specs.Runs.{Standing}
 use Rattle.rd_player.specs.Devices.{sunk_by}
 use Rattle.rd_player.specs.Acts.{ended_by, halted_by, mode_of, standing}
@@ -30,11 +28,9 @@ returns-in-Ok-false-clause-comes g c given mode =
     let left = g.S.Source.left in
     let old = c.each_line.lines in
     let running = c.each_line.invariant.running in
-    let Read : Bool → Type 0 = λ b. (more : List ℕ) × Consumes (left c.each_line.script) (left c.next.new.source) more × Answers (Ok b) old c.next.new.self more (left c.next.new.source) in
     let clear : old.fault ≡ None = running.2.read.clear in
-    let read : Read false = subst Read c.in-Ok-false.field-0-test (c.in-Ok-false.ensures.answers clear) in
     ends-done given (mode_of c.args.run.now) _ _ _ (g.S.Source.faults c.args.script.now) (g.S.Source.faults c.next.new.source) old c.next.new.self (standing c.each_line.run) _ _ c.args.steps.now c.each_line.steps mode c.requires.read running
-    (λ over. ap left (c.next.ensures.over clear over).1) read
+    (λ over. ap left (c.next.ensures.over clear over).1) (rw c.in-Ok-false.field-0-test at (c.in-Ok-false.ensures.answers clear))
 
 pub returns-in-Err-clause-comes : goal.returns-in-Err-clause-comes
 returns-in-Err-clause-comes g c given mode =
@@ -50,14 +46,11 @@ returns-in-Err-clause-comes g c given mode =
 hand : (g : given.Over) (c : goal.In-Ok-true g) → Handed (mode_of c.args.run.now) (g.S.Source.left c.args.script.now) (g.S.Source.left c.next.new.source) c.next.new.self (standing c.each_line.run)
     (sunk_by g.K.Sink.written g.K.Sink.faults c.args.screen.now c.each_line.screen) (sunk_by g.R.Sink.written g.R.Sink.faults c.args.report.now c.each_line.report) c.args.steps.now c.each_line.steps
 hand g c =
-    let left = g.S.Source.left in
     let old = c.each_line.lines in
     let running = c.each_line.invariant.running in
-    let Read : Bool → Type 0 = λ b. (more : List ℕ) × Consumes (left c.each_line.script) (left c.next.new.source) more × Answers (Ok b) old c.next.new.self more (left c.next.new.source) in
     let clear : old.fault ≡ None = running.2.read.clear in
-    let read : Read true = subst Read c.in-Ok-true.field-0-test (c.in-Ok-true.ensures.answers clear) in
     let open_still = is-open old c.next.result (λ over. (c.next.ensures.over clear over).0) (not-true c.next.result c.in-Ok-true.field-0 c.in-Ok-true.is c.in-Ok-true.field-0-test) in
-    handed (mode_of c.args.run.now) _ _ _ old c.next.new.self (standing c.each_line.run) _ _ _ _ running open_still read
+    handed (mode_of c.args.run.now) _ _ _ old c.next.new.self (standing c.each_line.run) _ _ _ _ running open_still (rw c.in-Ok-true.field-0-test at (c.in-Ok-true.ensures.answers clear))
 
 pub each_line-preserved : goal.each_line-preserved
 each_line-preserved g c =
