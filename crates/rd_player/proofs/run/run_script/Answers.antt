@@ -1,4 +1,4 @@
-use Rattle.std.proofs.Common.{◌≡◌, ℕ, None, ap, arith}
+use Rattle.std.proofs.Common.{◌≡◌, None, ap, arith}
 use Rattle.rd_run.specs.Runs.{Standing}
 use Rattle.rd_player.specs.Devices.{sunk_by}
 use Rattle.rd_player.specs.Acts.{ended_by, halted_by, mode_of, standing}
