@@ -4,6 +4,7 @@ use Rattle.std.proofs.lemmas.Bool.{and_parts, eqb-true, or_left}
 use Rattle.std.proofs.lemmas.List.Elements.{All-map, All-nil, All-weaker, recursion_from_All}
 use Rattle.std.proofs.lemmas.List.Sums.{AllPass-from_list_all}
 use Rattle.std.proofs.lemmas.Option.{option_and_then_some}
+use Rattle.rd_base.proofs.Colours.{plain-coloured}
 use Rattle.rd_base.proofs.Lists.{all-at, element-at}
 use Rattle.std.specs.List.{All, list_all}
 use Rattle.std.specs.Prelude.{IsTrue, slice_get, slice_index_or}
@@ -17,13 +18,14 @@ use Rattle.rd_base.specs.declared.cell.Glyph.{Glyph}
 use Rattle.rd_base.specs.declared.element.Element.{Element}
 use Rattle.rd_base.specs.declared.element.Origin.{Origin}
 use Rattle.rd_blocks.specs.Sources.{text_source}
-use Rattle.rd_frame.specs.Fits.{EachPart, FitsFrame, IsColouredFrame, IsWholeFrame}
+use Rattle.rd_frame.specs.Fits.{EachPart, EachPartOf, FitsFrame, IsColouredFrame, IsWholeFrame}
 use Rattle.rd_frame.specs.Frames.{FrameValues, frame_picture, frame_rows}
 use Rattle.rd_frame.specs.Held.{glyph_row}
 use Rattle.rd_frame.specs.Panes.{GlyphRow, border_cell}
 use Rattle.rd_glyphs.specs.Characters.{glyph_elements}
 use Rattle.rd_glyphs.specs.Lines.{plain_cells}
 use Rattle.rd_items.specs.Pieces.{table_in}
+use Rattle.rd_margins.specs.Cells.{IsMargin}
 use Rattle.rd_matrix.specs.Entries.{EntryMeaning}
 use Rattle.rd_matrix.specs.Sources.{rows_at}
 use Rattle.rd_modeline.specs.Formats.{pieces_of}
@@ -128,47 +130,41 @@ module _ (laws : SoundLaws) (files : Data) (s : StateValue) (valid : IsValid s) 
 
   -- ---- windows
 
-  whole-part : (w : WindowState) (p : Placed) → place_of p.number s ≡ Some p → IsWindow s.buffers w → leaf_of w ≡ (p.mode, p.margins) → EachPart (IsRowAfter 0) (pane_of files s w p (view_in files s w p)) p
-  whole-part w p at window leaf =
-      let whole = view-whole laws.fit files s valid w p at window in
-      let row = glyph_row (margin_of files s.objects (shown_content s w) (widths_of w)) in
-      record {
-        margins = All-map (λ (r : GlyphRow). IsRowAfter 0 r.margin) row (view_in files s w p).rows (λ k d less. (margin-right laws.fit files s valid w p (slice_index_or (view_in files s w p).rows k d) window leaf).whole);
-        texts = All-map (λ (r : GlyphRow). IsRowAfter 0 r.text) row (view_in files s w p).rows (λ k d less. (whole k d less).whole);
-        border = border-whole laws (border_slot s.objects (shown_content s w)) (slot-right (shown_content s w));
-        mode_line = λ shown. mode-whole w (view_in files s w p) p.rect.width window;
-      }
-
-  coloured-part : (w : WindowState) (p : Placed) → place_of p.number s ≡ Some p → IsWindow s.buffers w → leaf_of w ≡ (p.mode, p.margins) → EachPart (All IsColoured) (pane_of files s w p (view_in files s w p)) p
-  coloured-part w p at window leaf =
-      let coloured = in-view laws.fit files s valid (λ (e : EntryMeaning). All IsColoured e.row.cells) w p (laws.coloured (seen (shown_content s w)) s.objects files (window_shape s w p) valid.objects) in
-      let row = glyph_row (margin_of files s.objects (shown_content s w) (widths_of w)) in
-      record {
-        margins = All-map (λ (r : GlyphRow). All IsColoured r.margin) row (view_in files s w p).rows (λ k d less. (margin-right laws.fit files s valid w p (slice_index_or (view_in files s w p).rows k d) window leaf).coloured);
-        texts = All-map (λ (r : GlyphRow). All IsColoured r.text) row (view_in files s w p).rows coloured;
-        border = laws.border_coloured (border_slot s.objects (shown_content s w));
-        mode_line = λ shown. mode-coloured w (view_in files s w p) p.rect.width window;
-      }
-
-  part-by : (P : List Cell → Type 0) (p : Placed) → place_of p.number s ≡ Some p
-      → ((w : WindowState) → IsWindow s.buffers w → leaf_of w ≡ (p.mode, p.margins) → EachPart P (pane_of files s w p (view_in files s w p)) p) → EachPart P (pane_at files s p) p
-  part-by P p at each =
-      let w = place-window laws.fit files s valid p at in
-      subst (λ (o : Option WindowState). EachPart P (pane_by files s p o) p) (sym w.1) (each w.0 (laws.fit.found s p.number w.0 valid w.1) w.2)
-
-  whole-frame : IsWholeFrame (frame_in files s)
-  whole-frame = record {
-    windows = all-places laws.fit.views.places s valid (λ (p : Placed). EachPart (IsRowAfter 0) (pane_at files s p) p) (λ p at. part-by (IsRowAfter 0) p at (λ w window leaf. whole-part w p at window leaf));
-    echo = laws.plain_whole files.classes plain s.width s.echo (plain-codes s.echo valid.echo);
+  -- what holds of the margins, the texts, the borders, the mode lines and the echo area holds of each part of the frame
+  parts-have : (P : List Cell → Type 0) → ((n : ℕ) (cells : List Cell) → IsMargin n cells → P cells)
+      → ((w : WindowState) (p : Placed) → place_of p.number s ≡ Some p → IsWindow s.buffers w → All (λ (e : EntryMeaning). P e.row.cells) (view_in files s w p).rows)
+      → ((c : ContentValue) → P (border_cell (border_slot s.objects c) ∷ []))
+      → ((w : WindowState) (v : WindowView) (width : ℕ) → IsWindow s.buffers w → P (mode_line files (line_facts (shown_buffer s w) v) width w.format))
+      → P (plain_cells files.classes plain s.width s.echo) → EachPartOf P (frame_in files s)
+  parts-have P margin text border line echo = record {
+    windows = all-places laws.fit.views.places s valid (λ (p : Placed). EachPart P (pane_at files s p) p) (λ p at.
+        let x = place-window laws.fit files s valid p at in
+        let w = x.0 in
+        let window = laws.fit.found s p.number w valid x.1 in
+        let v = view_in files s w p in
+        let row = glyph_row (margin_of files s.objects (shown_content s w) (widths_of w)) in
+        subst (λ (o : Option WindowState). EachPart P (pane_by files s p o) p) (sym x.1) (record {
+          margins = All-map (λ (r : GlyphRow). P r.margin) row v.rows
+              (λ k d less. margin p.margins _ (margin-right laws.fit files s valid w p (slice_index_or v.rows k d) window x.2));
+          texts = All-map (λ (r : GlyphRow). P r.text) row v.rows (text w p at window);
+          border = border (shown_content s w);
+          mode_line = λ shown. line w v p.rect.width window;
+        }));
+    echo = echo;
   }
 
+  whole-frame : IsWholeFrame (frame_in files s)
+  whole-frame = parts-have (IsRowAfter 0) (λ n cells m. m.whole)
+      (λ w p at window k d less. (view-whole laws.fit files s valid w p at window k d less).whole)
+      (λ c. border-whole laws (border_slot s.objects c) (slot-right c)) mode-whole
+      (laws.plain_whole files.classes plain s.width s.echo (plain-codes s.echo valid.echo))
+
   coloured-frame : IsColouredFrame (frame_in files s)
-  coloured-frame = record {
-    windows = all-places laws.fit.views.places s valid (λ (p : Placed). EachPart (All IsColoured) (pane_at files s p) p) (λ p at. part-by (All IsColoured) p at (λ w window leaf. coloured-part w p at window leaf));
-    echo = laws.plain_coloured files.classes plain s.width s.echo plain-colours;
-  } where
-    plain-colours : HasColours plain
-    plain-colours = record { fg = omega arith; bg = omega arith }
+  coloured-frame = parts-have (All IsColoured) (λ n cells m. m.coloured)
+      (λ w p at window. in-view laws.fit files s valid (λ (e : EntryMeaning). All IsColoured e.row.cells) w p
+      (laws.coloured (seen (shown_content s w)) s.objects files (window_shape s w p) valid.objects))
+      (λ c. laws.border_coloured (border_slot s.objects c)) mode-coloured
+      (laws.plain_coloured files.classes plain s.width s.echo plain-coloured)
 
   -- ---- the target
 
