@@ -1,5 +1,5 @@
 -- Each part of a target screen is whole and coloured.
-use Rattle.std.proofs.Common.{◌≡◌, ℕ, ◌+◌, ◌==◌, ◌&&◌, Bool, true, Option, None, Some, Ok, List, [], ◌∷◌, sym, ap, refl, subst, subst₂, arith, unwrap_or}
+use Rattle.std.proofs.Common.{◌≡◌, ℕ, ◌+◌, ◌==◌, ◌&&◌, Bool, true, Option, None, Some, Ok, List, [], ◌∷◌, sym, ap, refl, subst, subst₂, unwrap_or}
 use Rattle.std.proofs.lemmas.Bool.{and_parts, eqb-true, or_left}
 use Rattle.std.proofs.lemmas.List.Elements.{All-map, All-nil, All-weaker, recursion_from_All}
 use Rattle.std.proofs.lemmas.List.Sums.{AllPass-from_list_all}
@@ -41,7 +41,7 @@ use Rattle.rd_rows.specs.Whole.{IsMark}
 use Rattle.rd_script.specs.Forms.{is_buffer_name, is_name_character, is_plain_text}
 use Rattle.rd_state.specs.States.{BufferValue, ContentValue, StateValue, new_buffer, seen}
 use Rattle.rd_state.specs.Valid.{IsValid, IsWindow}
-use Rattle.rd_state.specs.Windows.{leaf_of, shown_content}
+use Rattle.rd_state.specs.Windows.{shown_content}
 use Rattle.rd_state.specs.declared.window.WindowState.{WindowState}
 use Rattle.rd_term.specs.Pictures.{IsOfSize, IsWellFormed}
 use Rattle.rd_tree.specs.declared.placed.Placed.{Placed}
@@ -51,7 +51,7 @@ use Rattle.rd_update.specs.Laws.{IsSound}
 use Rattle.rd_window.specs.Views.{WindowView}
 use Rattle.rd_state.proofs.Tests.{text-codes}
 use Rattle.rd_layout.specs.Laws.{FitLaws}
-use Rattle.rd_layout.specs.Panes.{border_in, border_slot, line_facts, margin_of, mode_line, pane_of, widths_of}
+use Rattle.rd_layout.specs.Panes.{border_in, border_slot, line_facts, margin_of, mode_line, widths_of}
 use Rattle.rd_layout.specs.Screens.{frame_in, laid_out, pane_at, pane_by}
 use Rattle.rd_layout.specs.Windows.{place_of, shown_buffer, view_in, window_shape}
 use Rattle.rd_layout.proofs.Fitting.{fits, in-view, line-small, margin-right, mode-has, place-window, view-whole}
@@ -116,13 +116,15 @@ module _ (laws : SoundLaws) (files : Data) (s : StateValue) (valid : IsValid s) 
       subst (λ (x : BufferValue). AreFacts (line_facts x v)) is
       (record { name = name-codes b.0.name (valid.buffers.names w.buffer b.0 b.1); line = line-small b.0.content.text v.point (valid.buffers.contents w.buffer b.0 b.1).text })
 
-  mode-whole : (w : WindowState) (v : WindowView) (width : ℕ) → IsWindow s.buffers w → IsRowAfter 0 (mode_line files (line_facts (shown_buffer s w) v) width w.format)
+  mode-whole : (w : WindowState) (v : WindowView) (width : ℕ) → IsWindow s.buffers w
+      → IsRowAfter 0 (mode_line files (line_facts (shown_buffer s w) v) width w.format)
   mode-whole w v width window =
       let facts = line_facts (shown_buffer s w) v in
       mode-has (IsRowAfter 0) files facts width w.format window.format (λ none. tt)
       (λ text ps good is. laws.mode_whole files.classes facts width text ps (facts-right w v window) (plain-codes text good.plain) is)
 
-  mode-coloured : (w : WindowState) (v : WindowView) (width : ℕ) → IsWindow s.buffers w → All IsColoured (mode_line files (line_facts (shown_buffer s w) v) width w.format)
+  mode-coloured : (w : WindowState) (v : WindowView) (width : ℕ) → IsWindow s.buffers w
+      → All IsColoured (mode_line files (line_facts (shown_buffer s w) v) width w.format)
   mode-coloured w v width window =
       let facts = line_facts (shown_buffer s w) v in
       mode-has (All IsColoured) files facts width w.format window.format (λ none. All-nil IsColoured)
@@ -132,9 +134,11 @@ module _ (laws : SoundLaws) (files : Data) (s : StateValue) (valid : IsValid s) 
 
   -- what holds of the margins, the texts, the borders, the mode lines and the echo area holds of each part of the frame
   parts-have : (P : List Cell → Type 0) → ((n : ℕ) (cells : List Cell) → IsMargin n cells → P cells)
-      → ((w : WindowState) (p : Placed) → place_of p.number s ≡ Some p → IsWindow s.buffers w → All (λ (e : EntryMeaning). P e.row.cells) (view_in files s w p).rows)
+      → ((w : WindowState) (p : Placed) → place_of p.number s ≡ Some p → IsWindow s.buffers w
+      → All (λ (e : EntryMeaning). P e.row.cells) (view_in files s w p).rows)
       → ((c : ContentValue) → P (border_cell (border_slot s.objects c) ∷ []))
-      → ((w : WindowState) (v : WindowView) (width : ℕ) → IsWindow s.buffers w → P (mode_line files (line_facts (shown_buffer s w) v) width w.format))
+      → ((w : WindowState) (v : WindowView) (width : ℕ) → IsWindow s.buffers w
+      → P (mode_line files (line_facts (shown_buffer s w) v) width w.format))
       → P (plain_cells files.classes plain s.width s.echo) → EachPartOf P (frame_in files s)
   parts-have P margin text border line echo = record {
     windows = all-places laws.fit.views.places s valid (λ (p : Placed). EachPart P (pane_at files s p) p) (λ p at.
