@@ -1,5 +1,5 @@
 -- A redisplay leaves a valid state valid: the starts and the points that it chooses are accessible.
-use Rattle.std.proofs.Common.{◌≡◌, ℕ, ◌+◌, ◌-◌, ◌≤◌, Bool, true, false, if◌then◌else◌, Option, None, Some, map, ap, refl, subst, arith}
+use Rattle.std.proofs.Common.{◌≡◌, ℕ, ◌+◌, ◌-◌, ◌≤◌, Bool, true, false, if◌then◌else◌, Option, None, Some, List, map, ap, refl, subst, arith}
 use Rattle.rd_blocks.proofs.Listed.{within-accessible}
 use Rattle.rd_blocks.specs.Bases.{blocks_in}
 use Rattle.rd_frame.specs.Panes.{has_border}
