@@ -1,6 +1,7 @@
 -- What holds of each element of a list, and what a list is from one of its places.
-use Rattle.std.proofs.Common.{◌≡◌, ◌≢◌, ◌⊎◌, ℕ, zero, suc, ◌+◌, ◌-◌, ◌<◌, ◌≤◌, nat_le, nat_lt, ◌==◌, Bool, true, false, not, ◌&&◌, ◌||◌, List, [], ◌∷◌, ◌++◌, length, append_assoc, length-append, length-drop, take, drop, get_or, None, Some, is_some, inl, inr, All, refl, sym, subst, ap, ap₂, cond, ◌∙◌, arith, map, min, set}
+use Rattle.std.proofs.Common.{◌≡◌, ◌≢◌, ◌⊎◌, ℕ, zero, suc, ◌+◌, ◌-◌, ◌<◌, ◌≤◌, nat_le, nat_lt, ◌==◌, Bool, true, false, not, ◌&&◌, ◌||◌, List, [], ◌∷◌, ◌++◌, length, append_assoc, length-append, length-drop, take, drop, get_or, Option, None, Some, is_some, inl, inr, All, refl, sym, subst, ap, ap₂, cond, ◌∙◌, arith, map, min, set}
 use Rattle.std.specs.Prelude.{IfSome, slice_get, slice_range}
+use Rattle.std.specs.Option.{unwrap_or}
 use Rattle.std.specs.List.{AllByRecursion, count_by, find, last_or, list_any, position_or_len, range_with_len}
 use Rattle.std.proofs.lemmas.Bool.{cases_lt, ne_eqb}
 use Rattle.std.proofs.lemmas.Bool.Decides.{nat_tests}
@@ -9,7 +10,7 @@ use Rattle.std.proofs.lemmas.List.Folds.{find_at}
 use Rattle.std.proofs.lemmas.List.Sums.{passes_at_first, sum_by-append, sum_by-cons}
 use Rattle.std.proofs.Math.Seq.{drop-append_seam}
 use Rattle.std.proofs.lemmas.List.Elements.{All-drop, All-cons, All-nil}
-use Rattle.std.proofs.lemmas.Option.{slice_get-map, slice_get_within, slice_get_cases, get_or_from_slice_get}
+use Rattle.std.proofs.lemmas.Option.{slice_get-map, slice_get_within, slice_get_cases, get_or_from_slice_get, unwrap_or-slice_get}
 use Rattle.rd_base.specs.Lists.{Follow, total}
 use Rattle.rd_base.proofs.Choices.{if-value, map-some}
 
@@ -131,13 +132,19 @@ get-end (x ∷ xs) y (suc k) b h = elim (get-end xs y k b h) [
   | inr p ↦ inr (omega (arith, p.0), p.1)
 ]
 
--- what holds of what is read at a place, and of what is written, holds after the write
-pub read-set : {X : Type 0} (P : X → Type 0) (xs : List X) (i k : ℕ) (x d : X) → P x → P (get_or xs k d) → P (get_or (set xs i x) k d)
-read-set P [] i k x d new old = old
-read-set P (y ∷ xs) zero zero x d new old = new
-read-set P (y ∷ xs) zero (suc k) x d new old = old
-read-set P (y ∷ xs) (suc i) zero x d new old = old
-read-set P (y ∷ xs) (suc i) (suc k) x d new old = read-set P xs i k x d new old
+-- what holds of what stands at a place, and of what is written where it is that place, holds of what stands there after the write
+pub read-set : {X : Type 0} (P : Option X → Type 0) (xs : List X) (i k : ℕ) (x : X) → (k ≡ i → P (Some x)) → P (slice_get xs k) → P (slice_get (set xs i x) k)
+read-set P [] i k x new old = old
+read-set P (y ∷ xs) zero zero x new old = new refl
+read-set P (y ∷ xs) zero (suc k) x new old = old
+read-set P (y ∷ xs) (suc i) zero x new old = old
+read-set P (y ∷ xs) (suc i) (suc k) x new old = read-set P xs i k x (λ e. new (ap suc e)) old
+
+-- the same where another element stands in for one that is not there
+pub read-or : {X : Type 0} (P : X → Type 0) (xs : List X) (i k : ℕ) (x d : X) → (k ≡ i → P x) → P (get_or xs k d) → P (get_or (set xs i x) k d)
+read-or P xs i k x d new old =
+    subst P (unwrap_or-slice_get (set xs i x) k d)
+    (read-set (λ s. P (unwrap_or s d)) xs i k x new (subst P (sym (unwrap_or-slice_get xs k d)) old))
 
 -- what is found passes, and is an element
 pub found-passes : {X : Type 0} (p : X → Bool) (xs : List X) (x : X) → find p xs ≡ Some x → (p x ≡ true) × (k : ℕ) × (slice_get xs k ≡ Some x)

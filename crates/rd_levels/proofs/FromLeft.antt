@@ -2,11 +2,11 @@
 use Rattle.std.proofs.Common.{◌≡◌, ℕ, zero, suc, ◌+◌, ◌<◌, ◌≤◌, ◌==◌, ◌⊎◌, inl, inr, Bool, true, false, ◌&&◌, List, [], ◌∷◌, length, get_or, drop, set, replicate, map, refl, sym, ap, ap₂, subst, ◌∙◌, append-nil, arith}
 use Rattle.std.specs.List.{AllByRecursion as Each}
 use Rattle.std.specs.Prelude.{if◌then◌else◌, max, is_none, slice_index}
-use Rattle.std.proofs.lemmas.Bool.{and_parts, cases_eq, cases_lt, cond_both}
-use Rattle.std.proofs.lemmas.List.{length-map, length-replicate, get_or-set_same, get_or-set_other, length-set, get_or_past}
+use Rattle.std.proofs.lemmas.Bool.{and_parts, cases_lt, cond_both}
+use Rattle.std.proofs.lemmas.List.{length-map, length-replicate, get_or-set_same, length-set, get_or_past}
 use Rattle.std.proofs.lemmas.Option.{get_or_from_slice_get}
 use Rattle.rd_base.proofs.Choices.{either}
-use Rattle.rd_base.proofs.Lists.{drop-cons, read-set}
+use Rattle.rd_base.proofs.Lists.{drop-cons, read-or}
 use Rattle.rd_base.specs.Classes.{is_removed, is_initiator, direction_of}
 use Rattle.rd_base.specs.declared.class.Class.{Class}
 use Rattle.rd_base.specs.declared.class.Class.TheVariants.{L, BN, LRE, LRO, RLE, RLO, PDF, LRI, RLI, FSI, PDI}
@@ -187,22 +187,16 @@ module _ (P : Class → Type 0) (default : P L) where
   put-covers [] vs ts few ps j (inl here) = here
   put-covers [] vs ts few ps j (inr none) = absurd none
   put-covers (i ∷ is) [] ts few ps j known = absurd (omega arith)
-  put-covers (i ∷ is) (v ∷ vs) ts few ps j (inl here) = put-covers is vs (set ts i v) (omega arith) ps.1 j (inl (read-set P ts i j v L ps.0 here))
+  put-covers (i ∷ is) (v ∷ vs) ts few ps j (inl here) = put-covers is vs (set ts i v) (omega arith) ps.1 j (inl (read-or P ts i j v L (λ _. ps.0) here))
   put-covers (i ∷ is) (v ∷ vs) ts few ps j (inr (inl same)) = put-covers is vs (set ts i v) (omega arith) ps.1 j (inl (set-gives ts i v j ps.0 same))
   put-covers (i ∷ is) (v ∷ vs) ts few ps j (inr (inr member)) = put-covers is vs (set ts i v) (omega arith) ps.1 j (inr member)
 
   -- the other places stay
-  set-stays : (js : List ℕ) (ts : List Class) (i : ℕ) (v : Class) (j : ℕ) → In i js → P (get_or ts j L) ⊎ In j js → P (get_or (set ts i v) j L) ⊎ In j js
-  set-stays js ts i v j member (inr other) = inr other
-  set-stays js ts i v j member (inl here) = elim (cases_eq j i) [
-    | inl same ↦ inr (subst (λ m. In m js) (sym same) member)
-    | inr other ↦ inl (subst P (sym (get_or-set_other ts i j v L other)) here)
-  ]
-
   put-stays : (js is : List ℕ) (vs ts : List Class) → Each (λ i. In i js) is → (j : ℕ) → P (get_or ts j L) ⊎ In j js → P (get_or (put_at is vs ts) j L) ⊎ In j js
   put-stays js [] vs ts members j known = known
   put-stays js (i ∷ is) [] ts members j known = known
-  put-stays js (i ∷ is) (v ∷ vs) ts members j known = put-stays js is vs (set ts i v) members.1 j (set-stays js ts i v j members.0 known)
+  put-stays js (i ∷ is) (v ∷ vs) ts members j known = put-stays js is vs (set ts i v) members.1 j
+      (read-or (λ c. P c ⊎ In j js) ts i j v L (λ same. inr (subst (λ m. In m js) (sym same) members.0)) known)
 
   types-each : (is : List ℕ) (ts : List Class) → ((j : ℕ) → In j is → P (get_or ts j L)) → Each P (types_at is ts)
   types-each [] ts known = tt

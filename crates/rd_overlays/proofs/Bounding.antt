@@ -12,7 +12,7 @@ use Rattle.std.proofs.lemmas.List.FromFn.{length-range_with_len, get_or-range_wi
 use Rattle.std.proofs.lemmas.List.Sorted.{All-permutation}
 use Rattle.std.proofs.lemmas.Option.{slice_get_within, slice_get-get_or, get_or_from_slice_get}
 use Rattle.std.proofs.Math.Nat.{le-min}
-use Rattle.rd_base.proofs.Lists.{get-first, get-map}
+use Rattle.rd_base.proofs.Lists.{get-first, get-map, read-set}
 use Rattle.rd_overlays.specs.declared.overlay.Overlay.{Overlay}
 use Rattle.rd_overlays.specs.declared.overlay.Meeting.{Meeting}
 use Rattle.rd_overlays.specs.declared.overlay.Meeting.TheVariants.{Covers, Starts, Ends}
@@ -21,7 +21,7 @@ use Rattle.rd_overlays.specs.Overlays.{live, overlay_at, meets, after_insertion,
 use Rattle.rd_overlays.specs.Moves.{slot_moved, bounds_moved, IsEdit, SlotFollows, AllFollow}
 use Rattle.rd_overlays.specs.declared.moves.Edit.{Edit}
 use Rattle.rd_overlays.specs.declared.moves.Edit.TheVariants.{Insertion, Deletion}
-use Rattle.rd_overlays.proofs.Slots.{overlay_at-map, set-holds}
+use Rattle.rd_overlays.proofs.Slots.{overlay_at-map}
 use Rattle.rd_overlays.specs.Bounds.{Holds, SlotHolds, IsBounded, IsBoundedTo, IsWidened, IsIndex, IsAway, passed, bounds_grown, bounds_shrunk}
 
 low-after : (pos n low v : ℕ) (m : Bool) → low ≤ v → (if nat_lt pos low then min (low + n) 4294967295 else low) ≤ after_insertion pos n m v
@@ -189,7 +189,7 @@ widened-bounded slots order old new number slot size kept holds h =
     record {
       room = omega (arith, size, room);
       holds = λ place k c there at.
-          set-holds (SlotHolds c) slots number slot k (λ e. holds place c (there ∙ ap Some e) at)
+          read-set (λ s. SlotHolds c (live s)) slots number k slot (λ e. holds place c (there ∙ ap Some e) at)
           (kept (place / 256) c (overlay_at slots k) (λ b at_old. h.holds place k b there at_old) at);
     }
 

@@ -1,6 +1,6 @@
 -- What stands at a number of slots where they are changed, where one is put and where there is one more.
 use Rattle.std.proofs.Common.{◌≡◌, ◌⊎◌, inl, inr, ℕ, zero, suc, List, [], ◌∷◌, ◌++◌, map, set, Option, None, Some, refl, sym, ap, subst, ◌∙◌}
-use Rattle.std.specs.Prelude.{slice_get, slice_set}
+use Rattle.std.specs.Prelude.{slice_get}
 use Rattle.std.proofs.lemmas.Option.{same_Some}
 use Rattle.rd_base.proofs.Lists.{get-end, get-set}
 use Rattle.rd_overlays.specs.declared.overlay.Overlay.{Overlay}
@@ -23,15 +23,6 @@ slot-each Q change (Some o) becomes p h = subst Q (same_Some (change o) p h) (be
 pub changed-each : (Q : Overlay → Type 0) (change : Overlay → Overlay) (slots : List (Option Overlay)) → ((n : ℕ) (o : Overlay) → overlay_at slots n ≡ Some o → Q (change o))
     → (n : ℕ) (p : Overlay) → overlay_at (map (slot_changed change) slots) n ≡ Some p → Q p
 changed-each Q change slots becomes n p h = slot-each Q change (overlay_at slots n) (becomes n) p (sym (overlay_at-map (slot_changed change) slots n refl) ∙ h)
-
--- what holds of a slot, and of what is put at a number where that is the slot's, holds of the slot afterwards
-pub set-holds : (P : Option Overlay → Type 0) (slots : List (Option Overlay)) (number : ℕ) (slot : Option Overlay) (k : ℕ) → (k ≡ number → P slot)
-    → P (overlay_at slots k) → P (overlay_at (slice_set slots number slot) k)
-set-holds P [] number slot k f h = h
-set-holds P (s ∷ slots) zero slot zero f h = f refl
-set-holds P (s ∷ slots) zero slot (suc k) f h = h
-set-holds P (s ∷ slots) (suc number) slot zero f h = h
-set-holds P (s ∷ slots) (suc number) slot (suc k) f h = set-holds P slots number slot k (λ e. f (ap suc e)) h
 
 -- what lives stands at its number
 living : (slot : Option (Option Overlay)) (p : Overlay) → live slot ≡ Some p → slot ≡ Some (Some p)

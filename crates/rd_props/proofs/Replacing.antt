@@ -4,14 +4,13 @@ use Rattle.std.specs.Prelude.{nat_lt, nat_le, ◌==◌, slice_get, ℤ, pos, ◌
 use Rattle.std.specs.Option.{unwrap_or}
 use Rattle.std.proofs.lemmas.Int.{ints}
 use Rattle.std.proofs.lemmas.Bool.Decides.{nat_tests}
-use Rattle.rd_base.proofs.Lists.{get-first}
+use Rattle.rd_base.proofs.Lists.{get-first, read-set}
 use Rattle.rd_base.specs.Faces.{Attributes, plain, over}
 use Rattle.rd_text.specs.Texts.{TextValue}
 use Rattle.rd_overlays.specs.declared.overlay.Overlay.{Overlay}
 use Rattle.rd_overlays.specs.declared.overlay.Kind.{Kind}
 use Rattle.rd_overlays.specs.declared.overlay.Kind.TheVariants.{Face}
-use Rattle.rd_overlays.proofs.Slots.{set-holds}
-use Rattle.rd_overlays.specs.Overlays.{overlay_at, place_of, covers, starts, ends, covering, slot_changed, moved, dropped, given}
+use Rattle.rd_overlays.specs.Overlays.{live, overlay_at, place_of, covers, starts, ends, covering, slot_changed, moved, dropped, given}
 use Rattle.rd_objects.specs.Things.{ObjectLists}
 use Rattle.rd_objects.specs.Sound.{Extends}
 use Rattle.rd_props.specs.Buffers.{BufferValue, property}
@@ -137,7 +136,7 @@ set-differs : (slots : List (Option Overlay)) (number low high : ℕ) (o : Overl
 set-differs slots number low high o slot is lies next = λ f none n.
     let old = unmet f (overlay_at slots number) (λ p h. none p (same-lies low high (overlay_at slots number) o p is lies h)) in
     let new = unmet f slot (λ p h. none p (next p h)) in
-    set-holds (λ s. picked f (overlay_at slots n) ≡ picked f s) slots number slot n (λ e. ap (λ k. picked f (overlay_at slots k)) e ∙ old ∙ sym new) refl
+    read-set (λ s. picked f (overlay_at slots n) ≡ picked f (live s)) slots number n slot (λ e. ap (λ k. picked f (overlay_at slots k)) e ∙ old ∙ sym new) refl
 
 end-differs : (slots : List (Option Overlay)) (low high : ℕ) (o : Overlay) → (low ≤ o.from) × (o.from ≤ o.to) × (o.to ≤ high) → DifferIn low high slots (slots ++ Some o ∷ [])
 end-differs slots low high o lies = λ f none n. found-end f slots n (Some o) (unmet f (Some o) (λ p h. none p (same-lies low high (Some o) o p refl lies h)))

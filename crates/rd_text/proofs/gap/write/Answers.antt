@@ -2,7 +2,7 @@ use Rattle.std.proofs.Common.{◌≡◌, ◌+◌, ℕ, get_or, sym, ap, subst, �
 use Rattle.std.specs.Prelude.{IsTrue, slice_set}
 use Rattle.std.proofs.lemmas.List.Edits.{paste_more}
 use Rattle.std.proofs.lemmas.List.{get_or_read}
-use Rattle.rd_base.proofs.Lists.{read-set}
+use Rattle.rd_base.proofs.Lists.{read-or}
 use Rattle.rd_base.specs.Chars.{is_code}
 use lib.Seq.{paste}
 use Rattle.rd_text.proofs.gap.write.Goals as goal
@@ -18,5 +18,5 @@ loop-i-preserved c =
     let read : c.code.result ≡ get_or c.args.text.now c.loop-i.i 0 = value ∙ get_or_read c.args.text.now c.loop-i.i c.index-text-i.result inside c.index-text-i.is 0 in (
       ap (λ xs. slice_set xs at c.code.result) c.loop-i.invariant.0 ∙ ap (slice_set (paste old c.args.at c.args.text.now c.loop-i.i) at) read
           ∙ paste_more old c.args.at c.args.text.now c.loop-i.i 0 (omega arith) inside,
-      λ k. read-set (λ x. IsTrue (is_code x)) c.loop-i.codes at k c.code.result 0 (subst (λ (x : ℕ). IsTrue (is_code x)) (sym value) c.code.ensures.right) (c.loop-i.invariant.1 k),
+      λ k. read-or (λ x. IsTrue (is_code x)) c.loop-i.codes at k c.code.result 0 (λ _. subst (λ (x : ℕ). IsTrue (is_code x)) (sym value) c.code.ensures.right) (c.loop-i.invariant.1 k),
     )
