@@ -1,5 +1,5 @@
 -- How far the reading of a block goes.
-use Rattle.std.proofs.Common.{◌≡◌, inl, inr, ℕ, ◌+◌, ◌-◌, ◌<◌, ◌≤◌, Bool, true, false, List, [], ◌∷◌, length, refl, sym, ap, ◌∙◌, arith}
+use Rattle.std.proofs.Common.{◌≡◌, inl, inr, ℕ, ◌+◌, ◌-◌, ◌≤◌, Bool, true, false, List, [], ◌∷◌, length, refl, sym, ap, ◌∙◌, arith}
 use Rattle.std.specs.Prelude.{zero, suc}
 use Rattle.std.proofs.lemmas.Bool.{cases_lt, cond-true, cond-false}
 use Rattle.rd_props.specs.Buffers.{BufferValue}
@@ -7,7 +7,7 @@ use Rattle.rd_base.specs.declared.settings.Invisible.{Invisible}
 use Rattle.rd_objects.specs.Things.{ObjectLists}
 use Rattle.rd_props.specs.Seen.{Seen, seen_at}
 use Rattle.rd_items.specs.Readings.{is_ender, ends_block, reading_from, reading, IsReading}
-use Rattle.rd_items.specs.Blocks.{is_shown_newline, EndsBlock, IsBlock}
+use Rattle.rd_items.specs.Blocks.{IsBlock, IsFirstEnd}
 use Rattle.rd_items.proofs.Readings.{end-ends, newline-ends, block-ends}
 
 read-one : (s : BufferValue) (o : ObjectLists) (n p : ℕ) → ends_block s p ≡ true → length (reading_from s o (suc n) p) ≡ 1
@@ -16,24 +16,18 @@ read-one s o n p ender = ap (λ (es : List Seen). suc (length es)) (cond-true (e
 read-more : (s : BufferValue) (o : ObjectLists) (n p : ℕ) → ends_block s p ≡ false → length (reading_from s o (suc n) p) ≡ suc (length (reading_from s o n (suc p)))
 read-more s o n p ender = ap (λ (es : List Seen). suc (length es)) (cond-false (ends_block s p) [] (reading_from s o n (suc p)) ender)
 
--- what a block is from one of its positions on
-record IsRest (s : BufferValue) (p to : ℕ) : Type 0 where
-  some : p < to
-  last : to ≤ s.text.end + 1
-  inside : (q : ℕ) → p ≤ q → suc q < to → is_shown_newline s q ≡ false
-  ends : EndsBlock s to
-
-reach : (s : BufferValue) (o : ObjectLists) (n p to : ℕ) → p + n ≡ s.text.end → IsRest s p to → p + length (reading_from s o n p) ≡ to
-reach s o zero p to far rest = omega (arith, rest.some, rest.last)
+-- from a position of a block on as many are read as there are up to its end
+reach : (s : BufferValue) (o : ObjectLists) (n p to : ℕ) → p + n ≡ s.text.end → IsFirstEnd s p to → p + length (reading_from s o n p) ≡ to
+reach s o zero p to far rest = omega (arith, rest.first, rest.last)
 reach s o (suc n) p to far rest = elim (cases_lt (suc p) to) [
   | inl more ↦
       let goes : ends_block s p ≡ false = sym (newline-ends s p (omega arith)) ∙ rest.inside p (omega arith) more in
       let one = read-more s o n p goes in
-      let left : IsRest s (suc p) to = record { some = more; last = rest.last; inside = λ q a b. rest.inside q (omega arith) b; ends = rest.ends } in
+      let left : IsFirstEnd s (suc p) to = record { first = more; last = rest.last; inside = λ q a b. rest.inside q (omega arith) b; ends = rest.ends } in
       let all = reach s o n (suc p) to (omega arith) left in
       omega arith
   | inr least ↦
-      let some = rest.some in
+      let some = rest.first in
       let one = read-one s o n p (block-ends s o p to (omega arith) rest.ends) in
       omega arith
 ]
@@ -43,7 +37,7 @@ pub block-read : (s : BufferValue) (o : ObjectLists) (from to : ℕ) → IsBlock
 block-read s o from to block =
     let some = block.some in
     let last = block.last in
-    reach s o (s.text.end - from) from to (omega arith) (record { some = some; last = last; inside = block.inside; ends = block.ends })
+    reach s o (s.text.end - from) from to (omega arith) (record { first = some; last = last; inside = block.inside; ends = block.ends })
 
 -- what is read of a block ends with its ender, and has none before
 reading-cons : (setting : Invisible) (e : Seen) (es : List Seen) → is_ender setting e ≡ false → IsReading setting es → IsReading setting (e ∷ es)
