@@ -1,5 +1,5 @@
 -- How far a test of places passes, one place after another.
-use Rattle.std.proofs.Common.{◌≡◌, if◌then◌else◌, ℕ, zero, suc, ◌+◌, ◌-◌, ◌<◌, ◌≤◌, Bool, true, false, inl, inr, refl, sym, ap, ◌∙◌, arith}
+use Rattle.std.proofs.Common.{◌≡◌, if◌then◌else◌, ◌⊎◌, ℕ, zero, suc, ◌+◌, ◌-◌, ◌<◌, ◌≤◌, Bool, true, false, inl, inr, refl, sym, ap, ◌∙◌, arith}
 use Rattle.std.proofs.lemmas.Bool.{cases_eq}
 use Rattle.rd_term.specs.Walks.{back_while, passing}
 
@@ -42,6 +42,26 @@ on-none test place more e = rw e refl
 pub on-le : (test : ℕ → Bool) (place more : ℕ) → passing test place more ≤ more
 on-le test place zero = omega arith
 on-le test place (suc more) = grind (arith, on-le test (suc place) more)
+
+back-stops-chosen : (test : ℕ → Bool) (place stop : ℕ) (b : Bool) → test (suc place) ≡ b → (stop ≡ 0) ⊎ (test stop ≡ false)
+    → ((if b then stop else suc place) ≡ 0) ⊎ (test (if b then stop else suc place) ≡ false)
+back-stops-chosen test place stop true e h = h
+back-stops-chosen test place stop false e h = inr e
+
+-- a walk back stops at the first place of all, or where the test fails
+pub back-stops : (test : ℕ → Bool) (place : ℕ) → (back_while test place ≡ 0) ⊎ (test (back_while test place) ≡ false)
+back-stops test zero = inl refl
+back-stops test (suc place) = back-stops-chosen test place (back_while test place) (test (suc place)) refl (back-stops test place)
+
+-- and it passes no place at which the test fails
+pub back-greatest : (test : ℕ → Bool) (k place : ℕ) → test k ≡ false → k ≤ place → k ≤ back_while test place
+back-greatest test k zero e le = le
+back-greatest test k (suc place) e le = elim (cases_eq k (suc place)) [
+  | inl same ↦ omega (arith, le, back-fails test (suc place) (ap test (sym same) ∙ e))
+  | inr other ↦
+      let rest = back-greatest test k place e (omega (arith, le, other)) in
+      grind (arith, rest, other, le)
+]
 
 on-stops-chosen : (test : ℕ → Bool) (place n : ℕ) (b : Bool) → test place ≡ b → test (suc place + n) ≡ false → test (place + (if b then 1 + n else 0)) ≡ false
 on-stops-chosen test place n true e h =

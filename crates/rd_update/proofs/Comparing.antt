@@ -1,5 +1,5 @@
 -- Rows that are compared cell by cell.
-use Rattle.std.proofs.Common.{◌≡◌, inl, inr, ℕ, zero, suc, ◌+◌, ◌-◌, ◌<◌, ◌≤◌, ◌&&◌, not, nat_lt, Bool, true, false, if◌then◌else◌, List, [], ◌∷◌, length, get_or, refl, sym, ap, ◌∙◌, arith, rules}
+use Rattle.std.proofs.Common.{◌≡◌, inl, inr, ℕ, zero, suc, ◌-◌, ◌<◌, ◌≤◌, ◌&&◌, not, nat_lt, Bool, true, false, if◌then◌else◌, List, [], ◌∷◌, length, get_or, refl, sym, ap, ◌∙◌, arith, rules}
 use Rattle.std.specs.Cmp.Lexicographic.{pointwise}
 use Rattle.std.proofs.lemmas.Bool.{cases_lt}
 use Rattle.std.proofs.lemmas.Bool.Decides.{nat_tests}
@@ -10,6 +10,7 @@ use Rattle.rd_base.specs.declared.cell.Cell.{Cell}
 use Rattle.rd_base.specs.declared.cell.Cell.TheVariants.{Blank, First, Rest}
 use Rattle.rd_term.specs.Pictures.{blank, blank_row}
 use Rattle.rd_term.specs.Walks.{back_while}
+use Rattle.rd_term.proofs.Walks.{back-le, back-stops, back-greatest}
 use Rattle.rd_update.specs.Updates.{differs, end_before, end_of_differences, used}
 use Rattle.rd_update.proofs.Intervals.{behind-last, last-differs}
 
@@ -51,42 +52,26 @@ unequal-differ (x ∷ xs) (y ∷ ys) n =
 
 -- ---- from where a row is blank and plain to its end
 
-used-within-chosen : (row : List Cell) (k : ℕ) → used row ≤ k + 1 → same_cell blank (get_or row k blank) ≡ true → (k + 1 ≤ used row → same_cell blank (get_or row k blank) ≡ false) → used row ≤ k
-used-within-chosen row k le e other = elim (cases_lt k (used row)) [
-  | inl lt ↦ absurd (let f = other (omega (arith, lt)) in cc)
-  | inr ge ↦ ge
-]
-
--- a cell that is blank and plain is none of them
-used-less : (row : List Cell) (k : ℕ) → k < length row → used row ≤ k + 1 → same_cell blank (get_or row k blank) ≡ true → used row ≤ k
-used-less row k lt le e =
-    used-within-chosen row k le e (λ most.
-    ap (λ c. same_cell c (get_or row k blank)) (sym (get_or-replicate (length row) k blank blank lt))
-    ∙ last-differs same_cell blank (blank_row (length row)) row k (omega (arith, le, most)))
-
--- and any other cell is the last one
-used-here : (row : List Cell) (k : ℕ) → k < length row → used row ≤ k + 1 → same_cell blank (get_or row k blank) ≡ false → k + 1 ≡ used row
-used-here row k lt le e = elim (cases_lt k (used row)) [
-  | inl more ↦ omega (arith, le, more)
-  | inr ge ↦ absurd (
-      let f =
-      ap (λ c. same_cell c (get_or row k blank)) (sym (get_or-replicate (length row) k blank blank lt))
-      ∙ behind-last same_cell k blank (blank_row (length row)) row (length-replicate (length row) blank) lt ge in
-      cc)
-]
-
--- by whether that cell is, from what is so of the columns before it
-used-by : (row : List Cell) (k back : ℕ) (clear : Bool) → same_cell blank (get_or row k blank) ≡ clear → k < length row → used row ≤ k + 1 → (used row ≤ k → back ≡ used row)
-    → (if clear then back else suc k) ≡ used row
-used-by row k back true e lt le so = so (used-less row k lt le e)
-used-by row k back false e lt le so = omega (arith, used-here row k lt le e)
-
--- a walk back from the end of the row over cells that are blank and plain ends there
+-- a walk back from the end of the row over cells that are blank and plain ends there: it stops at no blank cell, and passes no other
 pub used-back : (row : List Cell) (end : ℕ) → used row ≤ end → end ≤ length row → back_while (λ column. same_cell blank (get_or row (column - 1) blank)) end ≡ used row
-used-back row zero le within = omega (arith, le)
-used-back row (suc k) le within =
+used-back row end le within =
     let test : ℕ → Bool = λ column. same_cell blank (get_or row (column - 1) blank) in
-    let here : k ≡ suc k - 1 = omega arith in
-    let same : same_cell blank (get_or row k blank) ≡ test (suc k) = ap (λ (j : ℕ). same_cell blank (get_or row j blank)) here in
-    used-by row k (back_while test k) (test (suc k)) same (omega (arith, within)) (omega (arith, le))
-    (λ less. used-back row k less (omega (arith, within)))
+    let stop = back_while test end in
+    let at = λ (k : ℕ) (lt : k < length row). ap (λ c. same_cell c (get_or row k blank)) (sym (get_or-replicate (length row) k blank blank lt)) in
+    let least : used row ≤ back_while test end = elim (cases_lt 0 (used row)) [
+      | inl some ↦
+          let next : suc (used row - 1) ≡ used row = omega (arith, some) in
+          back-greatest test (used row) end (at (used row - 1) (omega (arith, some, le, within)) ∙ last-differs same_cell blank (blank_row (length row)) row (used row - 1) next) le
+      | inr none ↦ omega (arith, none)
+    ] in
+    let most : back_while test end ≤ used row = elim (back-stops test end) [
+      | inl none ↦ omega (arith, none)
+      | inr fails ↦ elim (cases_lt (used row) (back_while test end)) [
+        | inl past ↦ absurd (
+            let lt : stop - 1 < length row = omega (arith, past, within, back-le test end) in
+            let same = at (stop - 1) lt ∙ behind-last same_cell (stop - 1) blank (blank_row (length row)) row (length-replicate (length row) blank) lt (omega (arith, past)) in
+            let f : true ≡ false = sym same ∙ fails in cc)
+        | inr ge ↦ ge
+      ]
+    ] in
+    omega (arith, least, most)

@@ -1,7 +1,7 @@
 -- The interval of a row that is sent is the least one that holds all differences and cuts no character.
 use Rattle.std.proofs.Common.{◌≡◌, if◌then◌else◌, ◌⊎◌, inl, inr, ◌||◌, ℕ, zero, suc, ◌-◌, ◌<◌, ◌≤◌, Bool, true, false, List, [], ◌∷◌, length, get_or, refl, sym, ap, ap₂, ◌∙◌, arith}
 use Rattle.std.proofs.lemmas.List.{get_or-take}
-use Rattle.std.proofs.lemmas.Bool.{cases_eq, cases_lt}
+use Rattle.std.proofs.lemmas.Bool.{cases_lt}
 use Rattle.rd_base.specs.Glyphs.{IsRowAfter}
 use Rattle.rd_base.specs.declared.cell.Cell.{Cell}
 use Rattle.rd_base.specs.declared.cell.Cell.TheVariants.{Blank, First, Rest}
@@ -9,9 +9,9 @@ use Rattle.rd_term.specs.Pictures.{blank}
 use Rattle.rd_update.specs.Laws.{IsLeastInterval}
 use Rattle.rd_base.specs.Equals.{same_cell}
 use Rattle.rd_base.proofs.Equals.{cell-itself}
-use Rattle.rd_term.proofs.Walks.{on-least}
-use Rattle.rd_update.specs.Updates.{first_difference, end_before, end_unlike, end_of_differences, is_rest, goes_on, begin_before, begin_of, end_of}
-use Rattle.rd_update.proofs.Spans.{front-same, first_before, behind-here, behind-step, last-step, end_within, begin-le, begin-is, end-is}
+use Rattle.rd_term.proofs.Walks.{back-stops, back-greatest, on-least}
+use Rattle.rd_update.specs.Updates.{first_difference, end_before, end_unlike, end_of_differences, is_rest, goes_on, begin_of, end_of}
+use Rattle.rd_update.proofs.Spans.{front-same, first_before, behind-here, behind-step, last-step, end_within, begin-le, end-is}
 
 -- ---- the first and the last difference
 
@@ -53,18 +53,6 @@ last-differs same d (x ∷ xs) (y ∷ ys) j p =
 
 -- ---- columns at which no character goes on
 
-begin-greatest-step : (old new : List Cell) (x column : ℕ) (b : Bool) → goes_on old new (suc column) ≡ b → goes_on old new x ≡ false
-    → (x ≤ column → x ≤ begin_before old new column) → x ≤ suc column → x ≤ (if b then begin_before old new column else suc column)
-begin-greatest-step old new x column false e f h le = le
-begin-greatest-step old new x column true e f h le = elim (cases_eq x (suc column)) [
-  | inl same ↦ absurd (let a : true ≡ false = sym e ∙ ap (goes_on old new) (sym same) ∙ f in cc)
-  | inr other ↦ h (omega (arith, le, other))
-]
-
-begin-greatest : (old new : List Cell) (x column : ℕ) → goes_on old new x ≡ false → x ≤ column → x ≤ begin_before old new column
-begin-greatest old new x zero f le = le
-begin-greatest old new x (suc column) f le = begin-greatest-step old new x column (goes_on old new (suc column)) refl f (begin-greatest old new x column f) le
-
 -- a row of whole characters begins with none that goes on
 row-begins : (cells : List Cell) → IsRowAfter 0 cells → is_rest (get_or cells 0 blank) ≡ false
 row-begins [] h = refl
@@ -96,7 +84,7 @@ interval-least old new same h k some =
           | inr past ↦ absurd (let a : true ≡ false = sym (behind-last same_cell j d old new same lt past) ∙ e in cc)
         ],
       );
-      whole = (begin-cuts-none old new (begin_of old new) h k (begin-is old new first), end-is old new same);
+      whole = (begin-cuts-none old new (begin_of old new) h k (back-stops (goes_on old new) first), end-is old new same);
       least = λ from to holds none.
           let inside = end_within same_cell old new in
           let order = first_before old new some in
@@ -105,5 +93,5 @@ interval-least old new same h k some =
           let next : suc (last - 1) ≡ end_of_differences old new = omega (arith, some) in
           let to_last = holds j blank (omega (arith, inside, next)) (last-differs same_cell blank old new j next) in
           let few = on-least (goes_on old new) last (length new - last) to none.1 (omega (arith, to_last.1, next)) in
-          (begin-greatest old new from first none.0 from_first.0, few);
+          (back-greatest (goes_on old new) from first none.0 from_first.0, few);
     }

@@ -1,5 +1,5 @@
 -- What the bytes of a row, and those of the rows that differ, do to a terminal.
-use Rattle.std.proofs.Common.{◌≡◌, if◌then◌else◌, ◌⊎◌, inl, inr, ℕ, zero, suc, ◌+◌, ◌-◌, ◌<◌, ◌≤◌, Bool, true, false, not, nat_lt, min, max, List, [], ◌∷◌, ◌++◌, length, get_or, set, take, drop, map, replicate, Option, None, Some, refl, sym, ap, ◌∙◌, subst, arith, append_assoc, append-nil, drop_of_length-le, le_refl}
+use Rattle.std.proofs.Common.{◌≡◌, if◌then◌else◌, ◌⊎◌, inl, inr, ℕ, zero, suc, ◌+◌, ◌-◌, ◌<◌, ◌≤◌, Bool, true, false, not, nat_lt, min, max, List, [], ◌∷◌, ◌++◌, length, get_or, set, take, drop, map, replicate, Option, None, Some, refl, sym, ap, ◌∙◌, subst, subst₂, arith, append_assoc, append-nil, drop_of_length-le, le_refl}
 use Rattle.std.specs.List.{AllByRecursion}
 use Rattle.std.proofs.lemmas.Bool.{cases_lt}
 use Rattle.std.proofs.lemmas.Bool.Decides.{nat_tests}
@@ -19,12 +19,12 @@ use Rattle.rd_term.specs.Walks.{passing}
 use Rattle.rd_term.specs.Terminals.{Tty, feed_bytes, known, erased_from, feed_byte}
 use Rattle.rd_term.proofs.Cutting.{Row, front as front_of, behind, overwritten-is, map-replicate}
 use Rattle.rd_term.proofs.Encoded.{Rows, standing}
-use Rattle.rd_term.proofs.Walks.{on-le}
+use Rattle.rd_term.proofs.Walks.{back-stops, on-le}
 use Rattle.std.proofs.lemmas.List.Sums.{fold-append}
 use Rattle.rd_update.specs.Updates.{move, erase_to_end, text_by, pen_behind, dress, first_difference, end_of_differences, goes_on, begin_of, end_of, used, differs, row_bytes, rows_bytes, rows_after, allows, less_one}
 use Rattle.rd_update.proofs.Dressing.{dress_fed}
 use Rattle.rd_update.proofs.Sequences.{move_fed}
-use Rattle.rd_update.proofs.Spans.{front-same, back-same, no-difference, first_before, end_within, blank-from, three-parts, begin-le, begin-is, end-is, begin-first, at-whole}
+use Rattle.rd_update.proofs.Spans.{front-same, back-same, no-difference, first_before, end_within, blank-from, three-parts, begin-le, end-is, begin-first, at-whole}
 use Rattle.rd_update.proofs.Texts.{TextFed, text_fed}
 
 -- a terminal with these rows and a plain pen between two sequences, wherever its cursor is
@@ -35,12 +35,7 @@ pub record Stands (region : Option (ℕ × ℕ)) (rows : Rows) (t : Tty) : Type 
   pub is : t ≡ standing region rows cursor wait (Some plain) latest
 
 stands-along : (region : Option (ℕ × ℕ)) → (rows rows2 : Rows) (t u : Tty) → rows ≡ rows2 → t ≡ u → Stands region rows t → Stands region rows2 u
-stands-along region rows rows2 t u r e h = record {
-  cursor = h.cursor;
-  wait = h.wait;
-  latest = h.latest;
-  is = sym e ∙ h.is ∙ ap (λ x. standing region x h.cursor h.wait (Some plain) h.latest) r;
-}
+stands-along region rows rows2 t u r e h = subst₂ (λ (x : Rows) (y : Tty). Stands region x y) r e h
 
 -- ---- parts of a row of whole characters
 
@@ -223,9 +218,9 @@ row_fed region above below old new cursor wait latest w few old_wide new_wide na
     ∙ sym (map-append Some (take a new) (cells ++ drop m new) ∙ ap (λ xs. map Some (take a new) ++ xs) (map-append Some cells (drop m new)))
     ∙ ap (map Some) (three-parts a m new (omega arith)) in
     let starts : first_column (front ++ (mid ++ back)) (length front) ≡ length front =
-    subst (λ j. first_column (front ++ (mid ++ back)) j ≡ j) (sym front_length) (subst (λ r. first_column r a ≡ a) row_old (begin-first old new a here (begin-is old new first))) in
+    subst (λ j. first_column (front ++ (mid ++ back)) j ≡ j) (sym front_length) (subst (λ r. first_column r a ≡ a) row_old (begin-first old new a here (back-stops (goes_on old new) first))) in
     let ends = at-whole old new b (end-is old new same) in
-    let from_begin : IsRowAfter 0 (drop a new) = begin-whole old new a (omega arith) row (begin-is old new first) in
+    let from_begin : IsRowAfter 0 (drop a new) = begin-whole old new a (omega arith) row (back-stops (goes_on old new) first) in
     let sum : begin_of old new + (m - begin_of old new) ≡ m = omega arith in
     let stops : later_columns (map Some (drop (m - a) (drop a new))) ≡ 0 = ap (λ xs. later_columns (map Some xs)) (drop-drop (m - a) a new ∙ ap (λ j. drop j new) sum) ∙ text-ends old new k m same refl past in
     let whole : IsRowAfter 0 cells = (whole-cut (m - a) 0 (drop a new) from_begin stops (omega (arith, length-drop a new))).0 in

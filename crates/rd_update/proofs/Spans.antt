@@ -113,17 +113,6 @@ three-parts a m xs le = ap (λ ys. take a xs ++ ys) (sym (drop_split xs a m le))
 pub begin-le : (old new : List Cell) (column : ℕ) → begin_before old new column ≤ column
 begin-le old new column = back-le (goes_on old new) column
 
-begin-is-chosen : (old new : List Cell) (column : ℕ) (b : Bool) → goes_on old new (suc column) ≡ b
-    → (begin_before old new column ≡ 0) ⊎ (goes_on old new (begin_before old new column) ≡ false)
-    → ((if b then begin_before old new column else suc column) ≡ 0) ⊎ (goes_on old new (if b then begin_before old new column else suc column) ≡ false)
-begin-is-chosen old new column true e h = h
-begin-is-chosen old new column false e h = inr e
-
--- it is the first column, or no character goes on there
-pub begin-is : (old new : List Cell) (column : ℕ) → (begin_before old new column ≡ 0) ⊎ (goes_on old new (begin_before old new column) ≡ false)
-begin-is old new zero = inl refl
-begin-is old new (suc column) = begin-is-chosen old new column (goes_on old new (suc column)) refl (begin-is old new column)
-
 -- no character goes on at the end of the interval
 pub end-is : (old new : List Cell) → length old ≡ length new → goes_on old new (end_of old new) ≡ false
 end-is old new same =

@@ -1,5 +1,5 @@
 -- What the text of whole characters does to a row.
-use Rattle.std.proofs.Common.{◌≡◌, ℕ, zero, suc, ◌+◌, ◌-◌, ◌<◌, ◌≤◌, Bool, false, nat_le, min, List, [], ◌∷◌, ◌++◌, length, get_or, take, drop, map, replicate, Option, None, Some, refl, sym, ap, ◌∙◌, subst, arith, append_assoc, append-nil}
+use Rattle.std.proofs.Common.{◌≡◌, ℕ, zero, suc, ◌+◌, ◌-◌, ◌<◌, ◌≤◌, Bool, false, nat_le, min, List, [], ◌∷◌, ◌++◌, length, get_or, take, drop, map, replicate, Option, None, Some, refl, sym, ap, ◌∙◌, subst, subst₂, arith, append_assoc, append-nil}
 use Rattle.std.specs.List.{AllByRecursion}
 use Rattle.std.proofs.lemmas.Bool.Decides.{nat_tests}
 use Rattle.std.proofs.lemmas.List.{length-append, length-map, length-take-le, length-drop, length-replicate, map-append, take-append-drop}
@@ -51,16 +51,8 @@ pub record TextFed (region : Option (ℕ × ℕ)) (above below : Rows) (front : 
 
 fed-along : (region : Option (ℕ × ℕ)) → (above below : Rows) (front : Row) (many other : ℕ) (back : Row) (new : List Cell) (pen : Attributes) (t u : Tty) → many ≡ other → u ≡ t
     → TextFed region above below front many back new pen t → TextFed region above below front other back new pen u
-fed-along region above below front many other back new pen t u e s h = record {
-  cursor = h.cursor;
-  wait = h.wait;
-  latest = h.latest;
-  left = h.left;
-  long = h.long ∙ e;
-  is = s ∙ h.is;
-  whole = h.whole;
-  goes_on = h.goes_on;
-}
+fed-along region above below front many other back new pen t u e s h =
+    subst₂ (λ (k : ℕ) (x : Tty). TextFed region above below front k back new pen x) e (sym s) h
 
 -- behind a character the row is whole again
 whole-behind : (front : Row) (chars : List Cell) (o2 back : Row) → later_columns back ≡ 0
