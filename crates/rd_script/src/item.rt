@@ -1,7 +1,7 @@
 //! Arrays in a value, item by item.
 ghost use Rattle.std.specs.Prelude.{◌≡◌, IfOk};
 ghost use Rattle.serde_json.specs.View.{items_view};
-ghost use Rattle.rd_script.specs.Fields.{each_item};
+ghost use Rattle.rd_script.specs.Fields.{each_item, two_items_of};
 
 use crate::form::{Form, small_within};
 use rd_base::{ListOf, Memory};
@@ -30,6 +30,28 @@ impl<F: Form> Form for AtMost<F> {
                 }
                 each(alloc, items.as_slice(), &self.of)
             }
+            None => Ok(None),
+        }
+    }
+}
+
+/// An array of two items, each of a form of its own.
+#[derive(Drop)]
+pub struct Two<A, B> {
+    pub first: A,
+    pub second: B,
+}
+
+impl<A: Form, B: Form> Form for Two<A, B> {
+    ghost use Rattle.rd_script.specs.Fields.{two_items};
+
+    type Said = (A::Said, B::Said);
+
+    ghost kind = { λ s. two_items (A.kind s.first) (B.kind s.second) };
+
+    fn read(&self, alloc: Global, value: &Value) -> Result<Option<(A::Said, B::Said)>, Memory> {
+        match value.as_array() {
+            Some(items) => pair_of(alloc, items.as_slice(), &self.first, &self.second),
             None => Ok(None),
         }
     }
@@ -89,4 +111,21 @@ fn each<F: Form>(
         }
     }
     Ok(Some(list))
+}
+
+/// What two items say, and None where there are not two, or one is of another form.
+fn pair_of<A: Form, B: Form>(
+    alloc: Global,
+    items: &[Value],
+    first: &A,
+    second: &B,
+) -> Result<Option<(A::Said, B::Said)>, Memory>
+    ensures { IfOk result (λ found. found ≡ two_items_of (A.kind first.now) (B.kind second.now) (items_view items.now)) }
+{
+    if items.len() != 2 {
+        return Ok(None);
+    }
+    let one = first.read(alloc, &items[0])?;
+    let other = second.read(alloc, &items[1])?;
+    Ok(one.zip(other))
 }

@@ -1,11 +1,11 @@
 //! The forms of what the ops that make objects say.
-ghost use Rattle.std.specs.Prelude.{◌≡◌, IfOk, option_map};
-ghost use Rattle.std.specs.Option.{option_zip};
+ghost use Rattle.std.specs.Prelude.{◌≡◌, option_map};
 ghost use Rattle.serde_json.specs.View.{view, items_view};
-ghost use Rattle.rd_script.specs.Fields.{whole, within, word, two_items_of, four_items_of};
-ghost use Rattle.rd_script.specs.Objects.{run_of, run_kinds, entry_of, glyph_text};
+ghost use Rattle.rd_script.specs.Fields.{whole, word, four_items_of};
+ghost use Rattle.rd_script.specs.Objects.{run_of, run_kinds, entry_of};
 
-use crate::form::{Form, small_within};
+use crate::form::{Form, Within};
+use crate::item::Two;
 use crate::object::{OpEntry, OpRun};
 use crate::text_form::GlyphText;
 use crate::word::Named;
@@ -67,31 +67,21 @@ impl Form for EntryForm {
     ghost kind = { λ _. entry };
 
     fn read(&self, alloc: Global, value: &Value) -> Result<Option<OpEntry>, Memory> {
-        match value.as_array() {
-            Some(items) => entry_of(alloc, items.as_slice()),
-            None => Ok(None),
-        }
+        let pair = Two {
+            first: Within {
+                least: 0,
+                greatest: 1_114_111,
+            },
+            second: GlyphText,
+        };
+        Ok(entry_of(pair.read(alloc, value)?))
     }
 }
 
-/// The entry that items say.
-fn entry_of(alloc: Global, items: &[Value]) -> Result<Option<OpEntry>, Memory>
-    ensures { IfOk result (λ found. found ≡ option_map entry_of (two_items_of (within 0 1114111) glyph_text (items_view items.now))) }
+/// The entry of a code and a text, where there are both.
+fn entry_of(pair: Option<(u32, ListOf<Ch>)>) -> Option<OpEntry>
+    ensures { result ≡ option_map entry_of pair }
 {
-    if items.len() != 2 {
-        return Ok(None);
-    }
-    let code = small_within(&items[0], 0, 1_114_111);
-    let text = GlyphText.read(alloc, &items[1])?;
-    Ok(entry_parts(code, text))
-}
-
-/// The entry of these parts, where there are both.
-fn entry_parts(code: Option<u32>, text: Option<ListOf<Ch>>) -> Option<OpEntry>
-    ensures { result ≡ option_map entry_of (option_zip code text) }
-{
-    Some(OpEntry {
-        code: code?,
-        text: text?,
-    })
+    let (code, text) = pair?;
+    Some(OpEntry { code, text })
 }

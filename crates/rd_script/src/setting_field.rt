@@ -1,16 +1,14 @@
 //! The fields that say a setting.
 ghost use Rattle.std.specs.Prelude.{◌≡◌, ◌∷◌, [], OnOk, codes};
-ghost use Rattle.serde_json.specs.Find.{as_bool};
-ghost use Rattle.serde_json.specs.View.{items_view, members_view};
-ghost use Rattle.rd_base.specs.declared.limits.TheConstants.{ATOMS};
-ghost use Rattle.rd_script.specs.Fields.{within, two_items_of, required, asked_too, IsRead, IsTaken};
+ghost use Rattle.serde_json.specs.View.{members_view};
+ghost use Rattle.rd_script.specs.Fields.{within, required, asked_too, IsRead, IsTaken};
 ghost use Rattle.rd_script.specs.Settings.{setting, value_of};
 
 use crate::asked::Asked;
 use crate::fault::OpFault;
 use crate::field::{named, optional, required};
-use crate::form::{Flag, Form, Whole, small_within};
-use crate::item::AtMost;
+use crate::form::{Flag, Form, Whole, Within};
+use crate::item::{AtMost, Two};
 use crate::place_field::within;
 use crate::setting::{Setting, SettingName};
 use rd_base::limits::{ATOMS, INVISIBLE_ATOMS, TAB_COLUMNS};
@@ -70,9 +68,16 @@ impl Form for InvisibleText {
     ghost kind = { λ _. invisible };
 
     fn read(&self, alloc: Global, value: &Value) -> Result<Option<Invisible>, Memory> {
+        // each pair is of an atom and whether an ellipsis stands for its text
         let pairs = AtMost {
             most: INVISIBLE_ATOMS,
-            of: AtomFlag,
+            of: Two {
+                first: Within {
+                    least: 0,
+                    greatest: ATOMS,
+                },
+                second: Flag,
+            },
         };
         match value.as_bool() {
             Some(true) => Ok(Some(Invisible::Every)),
@@ -82,36 +87,5 @@ impl Form for InvisibleText {
                 None => Ok(None),
             },
         }
-    }
-}
-
-/// A pair of an atom and whether an ellipsis stands for its text.
-#[derive(Drop)]
-struct AtomFlag;
-
-impl Form for AtomFlag {
-    ghost use Rattle.serde_json.specs.Find.{as_bool};
-    ghost use Rattle.rd_base.specs.declared.limits.TheConstants.{ATOMS};
-    ghost use Rattle.rd_script.specs.Fields.{within, two_items};
-
-    type Said = (u32, bool);
-
-    ghost kind = { λ _. two_items (within 0 ATOMS) as_bool };
-
-    fn read(&self, _alloc: Global, value: &Value) -> Result<Option<(u32, bool)>, Memory> {
-        match value.as_array() {
-            Some(items) => Ok(pair_of(items.as_slice())),
-            None => Ok(None),
-        }
-    }
-}
-
-/// The pair that items say.
-fn pair_of(items: &[Value]) -> Option<(u32, bool)>
-    ensures { result ≡ two_items_of (within 0 ATOMS) as_bool (items_view items.now) }
-{
-    match items {
-        [atom, flag] => Some((small_within(atom, 0, ATOMS)?, flag.as_bool()?)),
-        _ => None,
     }
 }
