@@ -5,12 +5,12 @@ use Rattle.std.specs.List.{position_or_len, suffix_len}
 use Rattle.std.proofs.lemmas.Bool.{cases_lt, not-true}
 use Rattle.std.proofs.lemmas.List.Edits.{length-between, get_or-between}
 use Rattle.std.proofs.lemmas.List.Elements.{All-from_get_or}
-use Rattle.std.proofs.lemmas.List.Sums.{list_all-from_AllPass, AllPass-from_list_all, passes_at_first, fails_before_first}
-use Rattle.rd_text.specs.Texts.{TextValue, IsText, is_newline, is_blank, is_ink, is_separator, between, EndsSeparator, IsParagraphStart}
+use Rattle.std.proofs.lemmas.List.Sums.{list_all-from_AllPass, passes_at_first, fails_before_first}
+use Rattle.rd_text.specs.Texts.{TextValue, IsText, is_newline, is_blank, is_ink, is_separator, EndsSeparator, IsParagraphStart}
 use Rattle.rd_text.specs.Pieces.{IsOpening}
 use Rattle.rd_text.proofs.Openings.{opened, separated_is}
 use Rattle.rd_text.proofs.Characters.{clash, newline_not_blank, blank_not_ink, blank_else}
-use Rattle.rd_text.proofs.Searches.{suffix_passes_at}
+use Rattle.rd_text.proofs.Searches.{suffix_passes_at, blank_at}
 use Rattle.rd_text.proofs.Summaries.{suffix_passes}
 
 module _ (t : TextValue) (pos at : ℕ) (right : IsText t) (low : t.begin ≤ pos) (high : pos ≤ t.end) (o : IsOpening t.text (t.begin - 1) (pos - 1) at) where
@@ -33,10 +33,9 @@ module _ (t : TextValue) (pos at : ℕ) (right : IsText t) (low : t.begin ≤ po
       let order = e.order in
       let in_line : (i : ℕ) → e.start - 1 ≤ i → i < r - 1 - 1 → is_blank (get_or t.text i 0) ≡ true
       = λ i lo hi.
-      let size = length-between t.text (e.start - 1) (r - 1 - 1) (omega arith) in
-      let there : e.start - 1 + (i - (e.start - 1)) ≡ i = omega arith in
-      ap is_blank (sym (get_or-between t.text (e.start - 1) (r - 1 - 1) (i - (e.start - 1)) 0 (omega arith) ∙ ap (λ (n : ℕ). get_or t.text n 0) there))
-      ∙ AllPass-from_list_all is_blank (between t e.start (r - 1)) e.blank (i - (e.start - 1)) 0 (omega arith) in
+      let there : i + 1 - 1 ≡ i = omega arith in
+      ap (λ (n : ℕ). is_blank (get_or t.text n 0)) (sym there)
+      ∙ blank_at t right e.start (r - 1) (i + 1) (elim e.begins [ inl same ↦ omega arith | inr line ↦ omega (arith, line.0) ]) (omega arith) (omega arith) (omega arith) e.blank in
       elim (cases_lt at (e.start - 1)) [
         | inr past ↦ in_line k (omega arith) to
         | inl inner ↦ elim e.begins [

@@ -1,14 +1,14 @@
 -- What the searches of a text tell of its characters.
-use Rattle.std.proofs.Common.{◌≡◌, ℕ, ◌+◌, ◌-◌, ◌<◌, ◌≤◌, Bool, true, false, not, List, length, get_or, reverse, refl, sym, ap, ◌∙◌, arith}
+use Rattle.std.proofs.Common.{◌≡◌, ℕ, ◌+◌, ◌-◌, ◌<◌, ◌≤◌, Bool, true, false, not, List, length, get_or, reverse, sym, ap, ◌∙◌, arith}
 use Rattle.std.specs.List.{position_or_len, suffix_len}
 use Rattle.std.proofs.lemmas.Bool.{not-true, not-false}
 use Rattle.std.proofs.lemmas.List.{get_or-reverse, length-reverse}
 use Rattle.std.proofs.lemmas.List.Edits.{length-between, get_or-between}
 use Rattle.std.proofs.lemmas.List.Elements.{All-from_get_or}
 use Rattle.std.proofs.lemmas.List.Folds.{list_all_at}
-use Rattle.std.proofs.lemmas.List.Sums.{list_all-from_AllPass, passes_at_first, fails_before_first, prefix_len_passes, prefix_len_stops, prefix_len-le-length, suffix_len-le-length}
+use Rattle.std.proofs.lemmas.List.Sums.{list_all-from_AllPass, AllPass-from_list_all, passes_at_first, fails_before_first, prefix_len_passes, prefix_len_stops, prefix_len-le-length, suffix_len-le-length}
 use Rattle.rd_text.specs.Texts.{TextValue, IsText, is_newline, is_blank, is_ink, is_separator, between, next_newline, prev_newline, prev_ink}
-use Rattle.rd_text.proofs.Characters.{clash, ink_not_blank}
+use Rattle.rd_text.proofs.Characters.{ink_not_blank}
 
 pub suffix_passes_at : (p : ℕ → Bool) (xs : List ℕ) (k : ℕ) → length xs ≤ k + suffix_len p xs → k < length xs → p (get_or xs k 0) ≡ true
 suffix_passes_at p xs k high less =
@@ -115,9 +115,6 @@ module _ (t : TextValue) (right : IsText t) where
       list_all_at is_blank (between t from to) (k - from) 0 (omega arith) (ap is_blank (between_at from to k low at less) ∙ ink_not_blank (get_or t.text (k - 1) 0) ink)
 
   pub blank_at : (from to k : ℕ) → t.begin ≤ from → from ≤ k → k < to → to ≤ t.end → is_separator (between t from to) ≡ true → is_blank (get_or t.text (k - 1) 0) ≡ true
-  blank_at from to k low at less high blank = go (is_blank (get_or t.text (k - 1) 0)) refl where
-    go : (b : Bool) → is_blank (get_or t.text (k - 1) 0) ≡ b → b ≡ true
-    go true e = refl
-    go false e =
-        let size = between_size from to low (omega arith) high in
-        clash _ blank (list_all_at is_blank (between t from to) (k - from) 0 (omega arith) (ap is_blank (between_at from to k low at less) ∙ e))
+  blank_at from to k low at less high blank =
+      let size = between_size from to low (omega arith) high in
+      ap is_blank (sym (between_at from to k low at less)) ∙ AllPass-from_list_all is_blank (between t from to) blank (k - from) 0 (omega arith)
