@@ -6,7 +6,7 @@ use Rattle.std.proofs.lemmas.Bool.{cases_lt}
 use Rattle.std.proofs.lemmas.List.{length-replicate, get_or_append_left, get_or-append_right, get_or-replicate, get_or_past, get_or-take, nil_from_length}
 use Rattle.rd_spans.specs.declared.run.ValueRun.{ValueRun}
 use Rattle.rd_spans.specs.Values.{value_at, values_put, values_opened, values_closed, CanMove, IsTrimmed}
-use Rattle.rd_spans.specs.Sides.{values_of, Rises, size_of, top, meet, needs, values_of_both, AtGap, IsCut}
+use Rattle.rd_spans.specs.Sides.{values_of, Rises, size_of, top, meet, needs, values_of_both, AtGap, IsCut, AreRuns, HaveRoom}
 use Rattle.rd_spans.proofs.Beside.{opened-before, opened-behind, closed-before, closed-behind}
 use Rattle.rd_spans.proofs.Sides.{size-values, few-runs, values_of_both-front, values_of_both-back, values_of_both-past, length-values_of_both, nothing-more, one-at-most}
 
@@ -185,11 +185,13 @@ open-few a b n ha hb more t m =
     let long : length (values_of_both a b) ≡ size_of a + size_of b = length-values_of_both a b ha hb in
     omega (arith, last-moves (values_of_both a b) n (size_of a + size_of b - 1) t m (omega arith))
 
-pub needs-most : (a b : List ValueRun) → needs a b ≤ length a + length b + 1
-needs-most a b = omega (arith, one-at-most (meet (top a) (top b)))
-
-pub needs-least : (a b : List ValueRun) → length a + length b ≤ needs a b
-needs-least a b = omega arith
+-- where the gap moved and then two runs were put, room for three more at first is room for them
+pub still-room : (front back a b c d : List ValueRun) (front_room back_room : ℕ) → AreRuns c d → needs a b ≤ needs front back → length c + length d ≤ length a + length b + 2
+    → length front + length back + 4 ≤ front_room → length front + length back + 4 ≤ back_room → HaveRoom c d front_room back_room
+still-room front back a b c d front_room back_room runs lighter two front_more back_more =
+    let before = one-at-most (meet (top front) (top back)) in
+    let after = one-at-most (meet (top c) (top d)) in
+    record { runs = runs; front_holds = omega (arith, before, after); back_holds = omega (arith, before, after) }
 
 -- whether a side is empty
 pub not-empty : (b : List ValueRun) (len : ℕ) → Rises 0 b → len ≡ length b → (len == 0) ≡ false → 0 < size_of b

@@ -1,8 +1,9 @@
 use Rattle.std.proofs.Common.{None, List, ℕ, Option, arith, ap, subst, sym, ◌∙◌}
+use Rattle.std.specs.Vec.{vec_capacity}
 use Rattle.rd_spans.specs.Values.{value_at, values_opened, CanMove, IsTrimmed}
 use Rattle.rd_spans.specs.Sides.{top, has_value}
 use Rattle.rd_spans.proofs.Sides.{one-at-most}
-use Rattle.rd_spans.proofs.Edits.{not-empty, is-empty, size-none, open-values, open-nothing, open-trimmed, open-few, needs-most, needs-least}
+use Rattle.rd_spans.proofs.Edits.{not-empty, is-empty, size-none, open-values, open-nothing, open-trimmed, open-few, still-room}
 use Rattle.rd_spans.proofs.gap.open.Goals as goal
 
 pub push-requires-clause-bound : goal.push-requires-clause-bound
@@ -33,16 +34,12 @@ returns-then-not-is_empty-clause-sides c =
     let t = subst IsTrimmed (sym m.same) c.requires.sides.trimmed in
     let can = subst (λ (xs : List (Option ℕ)). CanMove xs c.args.n) (sym m.same) c.requires.bound in
     let values = open-values a.items b.items new.items c.args.pos c.args.n m.at more c.push.ensures.order c.push.ensures.size c.push.ensures.values in
-    let most = needs-most c.args.front.now.items c.args.back.now.items in
-    let least = needs-least a.items b.items in
-    let now = needs-most new.items b.items in
     let one = one-at-most (has_value (top a.items) None) in
     record {
-      rooms = record {
-        runs = record { front_rises = c.push.ensures.order; back_rises = m.at.back_rises; few = omega (arith, open-few a.items b.items c.args.n m.at.front_rises m.at.back_rises more t can, c.push.ensures.size) };
-        front_holds = omega (arith, now, one, c.push.ensures.count, least, m.needs, most, c.push.ensures.room, c.move_to.ensures.front_room, c.requires.front_more);
-        back_holds = omega (arith, now, one, c.push.ensures.count, least, m.needs, most, c.move_to.ensures.back_room, c.requires.back_more);
-      };
+      rooms = still-room c.args.front.now.items c.args.back.now.items a.items b.items new.items b.items (vec_capacity new) (vec_capacity b)
+          (record { front_rises = c.push.ensures.order; back_rises = m.at.back_rises; few = omega (arith, open-few a.items b.items c.args.n m.at.front_rises m.at.back_rises more t can, c.push.ensures.size) })
+          m.needs (omega (arith, one, c.push.ensures.count))
+          (omega (arith, c.push.ensures.room, c.move_to.ensures.front_room, c.requires.front_more)) (omega (arith, c.move_to.ensures.back_room, c.requires.back_more));
       trimmed = open-trimmed a.items b.items new.items c.args.pos c.args.n m.at more c.push.ensures.order c.push.ensures.size values t;
     }
 

@@ -1,8 +1,9 @@
 use Rattle.std.proofs.Common.{List, ℕ, Option, arith, ap, subst, sym, ◌∙◌}
 use Rattle.std.proofs.lemmas.List.{nil_from_length}
+use Rattle.std.specs.Vec.{vec_capacity}
 use Rattle.rd_spans.specs.Values.{value_at, values_put, IsTrimmed}
 use Rattle.rd_spans.specs.Sides.{values_of_both}
-use Rattle.rd_spans.proofs.Edits.{length-none, size-none, values_of_both-none, put-filled, put-nothing, put-trimmed, needs-most, needs-least}
+use Rattle.rd_spans.proofs.Edits.{length-none, size-none, values_of_both-none, put-filled, put-nothing, put-trimmed, still-room}
 use Rattle.rd_spans.proofs.gap.put.Goals as goal
 
 pub returns-then-ends_there-clause-values : goal.returns-then-ends_there-clause-values
@@ -42,15 +43,11 @@ returns-else-ends_there-clause-sides c =
     let s = c.requires.sides in
     let ends = rw c.deref.ensures.value at c.ends_there.ensures.no in
     let values = put-filled a b new d c.args.from c.args.to c.args.value m.at c.requires.some c.fill.ensures.order c.fill.ensures.size c.fill.ensures.values c.cut.ensures.cut in
-    let most = needs-most c.args.front.now.items c.args.back.now.items in
-    let least = needs-least a b in
-    let now = needs-most new d in
     record {
-      rooms = record {
-        runs = record { front_rises = c.fill.ensures.order; back_rises = c.cut.ensures.cut.rises; few = omega (arith, m.at.gap, m.size, s.rooms.runs.few, c.cut.ensures.cut.size, c.fill.ensures.size, c.requires.bound, c.requires.some) };
-        front_holds = omega (arith, now, c.fill.ensures.count, c.cut.ensures.lighter.count, least, m.needs, most, c.fill.ensures.room, c.move_to.ensures.front_room, c.requires.front_more);
-        back_holds = omega (arith, now, c.fill.ensures.count, c.cut.ensures.lighter.count, least, m.needs, most, c.cut.ensures.room, c.move_to.ensures.back_room, c.requires.back_more);
-      };
+      rooms = still-room c.args.front.now.items c.args.back.now.items a b new d (vec_capacity c.fill.new.front) (vec_capacity c.cut.new.runs)
+          (record { front_rises = c.fill.ensures.order; back_rises = c.cut.ensures.cut.rises; few = omega (arith, m.at.gap, m.size, s.rooms.runs.few, c.cut.ensures.cut.size, c.fill.ensures.size, c.requires.bound, c.requires.some) })
+          m.needs (omega (arith, c.fill.ensures.count, c.cut.ensures.lighter.count))
+          (omega (arith, c.fill.ensures.room, c.move_to.ensures.front_room, c.requires.front_more)) (omega (arith, c.cut.ensures.room, c.move_to.ensures.back_room, c.requires.back_more));
       trimmed = put-trimmed a b new d c.args.from c.args.to c.args.value m.at c.requires.some c.fill.ensures.order c.fill.ensures.size c.cut.ensures.cut values
           (λ none v. ends c.if-ends_there.false (length-none d c.cut.ensures.cut.rises none) v) t;
     }
