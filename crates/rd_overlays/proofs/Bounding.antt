@@ -1,5 +1,5 @@
 -- Bounds that move with their overlays, and what lies outside them.
-use Rattle.std.proofs.Common.{◌≡◌, ℕ, ◌+◌, ◌-◌, ◌*◌, ◌/◌, ◌<◌, ◌≤◌, min, Bool, true, false, if◌then◌else◌, List, ◌++◌, length, map, get_or, Option, None, Some, inl, inr, refl, sym, ap, subst, ◌∙◌, arith, length-append}
+use Rattle.std.proofs.Common.{◌≡◌, ℕ, ◌+◌, ◌-◌, ◌*◌, ◌/◌, ◌<◌, ◌≤◌, ◌⊎◌, min, Bool, true, false, if◌then◌else◌, List, ◌++◌, length, map, get_or, Option, None, Some, inl, inr, refl, sym, ap, subst, ◌∙◌, arith, length-append}
 use Rattle.std.specs.Prelude.{slice_get, slice_set, nat_lt}
 use Rattle.std.specs.List.{All, range_with_len}
 use Rattle.std.specs.List.Sorted.{IsPermutation}
@@ -115,23 +115,15 @@ moved-index edit slots order bounds right follow h =
           (λ number b held. moved-holds edit b (overlay_at slots number) right (follows-by edit (slice_get slots number) (λ slot at. follow number slot at)) held);
     }
 
-below-low : (m : Meeting) (pos : ℕ) (o : Overlay) (b : Bounds) → Holds b o → pos < b.low → meets m pos o ≡ false
-below-low Covers pos o b h p = let q = h.low_from in let r : pos < o.from = omega arith in grind (arith, nat_tests)
-below-low Starts pos o b h p = let q = h.low_from in let r : pos < o.from = omega arith in grind (arith, nat_tests)
-below-low Ends pos o b h p = let q = h.low_to in let r : pos < o.to = omega arith in grind (arith, nat_tests)
+-- an overlay within bounds meets no position outside of them
+outside : (m : Meeting) (pos : ℕ) (o : Overlay) (b : Bounds) → Holds b o → (pos < b.low) ⊎ (b.high < pos) → meets m pos o ≡ false
+outside Covers pos o b h p = let low = h.low_from in let high = h.to_high in grind (arith, nat_tests)
+outside Starts pos o b h p = let low = h.low_from in let high = h.from_high in grind (arith, nat_tests)
+outside Ends pos o b h p = let low = h.low_to in let high = h.to_high in grind (arith, nat_tests)
 
-above-high : (m : Meeting) (pos : ℕ) (o : Overlay) (b : Bounds) → Holds b o → b.high < pos → meets m pos o ≡ false
-above-high Covers pos o b h p = let q = h.to_high in let r : o.to < pos = omega arith in grind (arith, nat_tests)
-above-high Starts pos o b h p = let q = h.from_high in let r : o.from < pos = omega arith in grind (arith, nat_tests)
-above-high Ends pos o b h p = let q = h.to_high in let r : o.to < pos = omega arith in grind (arith, nat_tests)
-
-pub away-below : (pos : ℕ) (b : Bounds) (slot : Option Overlay) → SlotHolds b slot → pos < b.low → IsAway pos slot
-away-below pos b None h p = tt
-away-below pos b (Some o) h p = λ m. below-low m pos o b h p
-
-pub away-above : (pos : ℕ) (b : Bounds) (slot : Option Overlay) → SlotHolds b slot → b.high < pos → IsAway pos slot
-away-above pos b None h p = tt
-away-above pos b (Some o) h p = λ m. above-high m pos o b h p
+pub away : (pos : ℕ) (b : Bounds) (slot : Option Overlay) → SlotHolds b slot → (pos < b.low) ⊎ (b.high < pos) → IsAway pos slot
+away pos b None h p = tt
+away pos b (Some o) h p = λ m. outside m pos o b h p
 
 -- what stands in the block of a place lies within its bounds
 pub passed-holds : (slots : List (Option Overlay)) (order : List ℕ) (bounds : List Bounds) (size block k number : ℕ) (b : Bounds) → IsBounded slots order bounds

@@ -1,9 +1,9 @@
-use Rattle.std.proofs.Common.{◌≡◌, ◌-◌, ◌*◌, ◌/◌, ◌<◌, ◌≤◌, ℕ, List, Option, Some, length, arith}
+use Rattle.std.proofs.Common.{◌≡◌, ◌-◌, ◌*◌, ◌/◌, ◌<◌, ◌≤◌, ℕ, List, Option, Some, inl, inr, length, arith}
 use Rattle.std.specs.Prelude.{slice_get}
 use Rattle.rd_overlays.specs.declared.overlay.Overlay.{Overlay}
 use Rattle.rd_overlays.specs.Overlays.{overlay_at}
 use Rattle.rd_overlays.specs.Bounds.{IsBounded, SlotHolds, passed}
-use Rattle.rd_overlays.proofs.Bounding.{away-below, away-above, passed-holds}
+use Rattle.rd_overlays.proofs.Bounding.{away, passed-holds}
 use Rattle.rd_overlays.proofs.index.Index.skip_to.Goals as goal
 use Rattle.rd_overlays.proofs.index.Index.skip_to.Goals.{After-at-bounds}
 
@@ -20,10 +20,10 @@ held c slots k number h low high here =
 
 pub returns-then-pos-bounds-clause-away : goal.returns-then-pos-bounds-clause-away
 returns-then-pos-bounds-clause-away c = λ slots k number h low high here.
-    away-below c.args.pos c.at-bounds.result (overlay_at slots number)
-    (held (goal.at.returns-then-pos-bounds-clause-away c).After-at-bounds slots k number h low high here) c.if-pos-bounds.true
+    away c.args.pos c.at-bounds.result (overlay_at slots number)
+    (held (goal.at.returns-then-pos-bounds-clause-away c).After-at-bounds slots k number h low high here) (inl c.if-pos-bounds.true)
 
 pub returns-then-bounds-pos-clause-away : goal.returns-then-bounds-pos-clause-away
 returns-then-bounds-pos-clause-away c = λ slots k number h low high here.
-    away-above c.args.pos c.at-bounds.result (overlay_at slots number)
-    (held (goal.at.returns-then-bounds-pos-clause-away c).After-at-bounds slots k number h low high here) c.if-bounds-pos.true
+    away c.args.pos c.at-bounds.result (overlay_at slots number)
+    (held (goal.at.returns-then-bounds-pos-clause-away c).After-at-bounds slots k number h low high here) (inr c.if-bounds-pos.true)
