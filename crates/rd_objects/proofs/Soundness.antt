@@ -73,18 +73,6 @@ string_sound o chars runs codes short sound = record {
   faces = All-from_recursion (λ run. HasColours run.value) (face_runs o.faces runs) (runs_coloured o.faces runs sound.faces);
 }
 
-pub nothing_sound : AreObjects nothing_made
-nothing_sound = record {
-  strings = All-nil IsString;
-  specs = All-nil IsSmallSpec;
-  faces = All-nil HasColours;
-  tables = All-nil IsTable;
-  few_strings = omega arith;
-  few_specs = omega arith;
-  few_faces = omega arith;
-  few_tables = omega arith;
-}
-
 -- all objects, kind by kind
 objects : (o : ObjectLists) → All IsString o.strings × (length o.strings ≤ 4096) → All IsSmallSpec o.specs × (length o.specs ≤ 4096)
     → All HasColours o.faces × (length o.faces ≤ 1024) → All IsTable o.tables × (length o.tables ≤ 64) → AreObjects o
@@ -98,6 +86,10 @@ objects o strings specs faces tables = record {
   few_faces = faces.1;
   few_tables = tables.1;
 }
+
+pub nothing_sound : AreObjects nothing_made
+nothing_sound =
+    objects nothing_made (All-nil IsString, omega arith) (All-nil IsSmallSpec, omega arith) (All-nil HasColours, omega arith) (All-nil IsTable, omega arith)
 
 pub string_keeps : (o : ObjectLists) (chars : List ℕ) (runs : List Run) → AreCodes chars → string_fault o chars runs ≡ None → AreObjects o → AreObjects (string_added o chars runs)
 string_keeps o chars runs codes e sound =
