@@ -2,8 +2,8 @@
 use Rattle.std.proofs.Common.{◌≡◌, ℕ, ◌+◌, ◌<◌, ◌≤◌, Bool, true, false, cond, min, max, ltb, List, [], ◌∷◌, take, drop, None, Some, refl, sym, ap, ◌∙◌, arith}
 use Rattle.std.proofs.lemmas.Bool.{cond-false, cond-true, le-ltb, lt-ltb}
 use Rattle.std.proofs.lemmas.Bool.Decides.{nat_tests}
-use Rattle.std.specs.List.{find, reduce}
-use Rattle.std.specs.Option.{option_map, unwrap_or}
+use Rattle.std.specs.List.{find, fold, reduce}
+use Rattle.std.specs.Option.{unwrap_or}
 use Rattle.rd_matrix.specs.Entries.{EntryMeaning}
 use Rattle.rd_matrix.specs.Sources.{SourceValues, rows_at}
 use Rattle.rd_rows.specs.Shapes.{ShapeValues}
@@ -17,7 +17,6 @@ use Rattle.rd_start.specs.declared.wanted.Chosen.{Chosen}
 use Rattle.rd_start.specs.declared.wanted.Wanted.{Wanted}
 use Rattle.rd_start.proofs.Lists.{find-first}
 use Rattle.rd_start.proofs.Sides.{Sees}
-use Rattle.rd_start.proofs.Spans.{span_of-greatest, span_of-least}
 
 abbrev chosen_at : List EntryMeaning → ℕ → ℕ → Chosen
 chosen_at rows j point = record { anchor = anchor_at rows j; point = point }
@@ -75,22 +74,21 @@ point_by Above w span = span.first
 point_by Within w span = w.point
 point_by Below w span = span.last
 
-pub point-spanned : (there : PointSide) (w : Wanted) (start row : ℕ) (view : List EntryMeaning) (span : Span) → Some span ≡ span_of (first_positions view) → 1 ≤ w.height
+forced-some : (w : Wanted) (ps : List ℕ) (span : Span) (shown above : Bool) → Some span ≡ span_of ps → cond shown w.point (cond above span.first span.last) ≡ forced_to w ps shown above
+forced-some w [] span shown above e = absurd cc
+forced-some w (p ∷ ps) span shown above e =
+    let is : span ≡ record { first = fold min p ps; last = fold max p ps } = cc in
+    ap (λ (s : Span). cond shown w.point (cond above s.first s.last)) is
+
+side-taken : (there : PointSide) (w : Wanted) (start row : ℕ) (span : Span) → Sees there start w.height row
+    → point_by there w span ≡ cond (is_in_view w.height start row) w.point (cond (ltb row start) span.first span.last)
+side-taken Within w start row span sees = sym (ap (λ b. cond b w.point (cond (ltb row start) span.first span.last)) (shown start w.height row sees.0 sees.1))
+side-taken Above w start row span low =
+    sym (ap (λ b. cond b w.point (cond (ltb row start) span.first span.last)) (hidden-above start w.height row low) ∙ ap (λ b. cond b span.first span.last) (lt-ltb row start low))
+side-taken Below w start row span high =
+    sym (ap (λ b. cond b w.point (cond (ltb row start) span.first span.last)) (hidden-below start w.height row high) ∙ ap (λ b. cond b span.first span.last) (le-ltb row start (omega (arith, high))))
+
+pub point-spanned : (there : PointSide) (w : Wanted) (start row : ℕ) (view : List EntryMeaning) (span : Span) → Some span ≡ span_of (first_positions view)
     → Sees there start w.height row → point_by there w span ≡ forced_point w start row view
-point-spanned Within w start row view span e some sees =
-    let low = sees.0 in
-    let high = sees.1 in
-    let t = shown start w.height row low high in
-    sym (ap (λ b. forced_to w (first_positions view) b (ltb row start)) t)
-point-spanned Above w start row view span e some low =
-    let ps = first_positions view in
-    let t = hidden-above start w.height row low in
-    let u = lt-ltb row start low in
-    let least = span_of-least ps ∙ ap (option_map (λ (s : Span). s.first)) (sym e) in
-    sym (ap (λ b. forced_to w ps b (ltb row start)) t ∙ (ap (forced_to w ps false) u ∙ ap (λ o. unwrap_or o w.point) least))
-point-spanned Below w start row view span e some high =
-    let ps = first_positions view in
-    let t = hidden-below start w.height row high in
-    let u = le-ltb row start (omega (arith, high)) in
-    let greatest = span_of-greatest ps ∙ ap (option_map (λ (s : Span). s.last)) (sym e) in
-    sym (ap (λ b. forced_to w ps b (ltb row start)) t ∙ (ap (forced_to w ps false) u ∙ ap (λ o. unwrap_or o w.point) greatest))
+point-spanned there w start row view span e sees =
+    side-taken there w start row span sees ∙ forced-some w (first_positions view) span (is_in_view w.height start row) (ltb row start) e

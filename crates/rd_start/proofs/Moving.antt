@@ -25,7 +25,7 @@ use Rattle.rd_start.proofs.NearRows.{forced-near, moving-near, old-near, point-n
 use Rattle.rd_start.proofs.Growth.{affords}
 use Rattle.rd_start.proofs.Reaching.{EdgePays}
 use Rattle.rd_start.proofs.Rows.{find_point}
-use Rattle.rd_start.proofs.Sides.{point-found, point-lost}
+use Rattle.rd_start.proofs.Sides.{point-told}
 use Rattle.rd_start.proofs.Suits.{old-is, point-is}
 
 abbrev pub near_of : SourceValues → Sweep → Wanted → ℕ → Bool
@@ -150,7 +150,7 @@ value-centred m sweep s w chosen e free follows is =
 pub has-found : (m : SourceValues) (s : Strip) → IsStrip m s → is_some (find_point s.strip_rows.items) ≡ true → HasPoint m s
 has-found m s h some =
     let o = some-of (find_point s.strip_rows.items) some in
-    let place = point-found m s o.0 h o.1 in
+    let place = point-told m s (Some o.0) h o.1 in
     let inside = place.0 in
     let here = place.1 in
     record { strip = h; from = omega arith; to = omega arith }
@@ -158,8 +158,8 @@ has-found m s h some =
 pub row-found : (m : SourceValues) (s : Strip) (d : ℕ) → HasPoint m s → (unwrap_or (find_point s.strip_rows.items) d < length s.strip_rows.items) × (first_row m s + unwrap_or (find_point s.strip_rows.items) d ≡ point_row m s.sweep)
 row-found m s d h = by (find_point s.strip_rows.items) refl where
   by : (o : Option ℕ) → find_point s.strip_rows.items ≡ o → (unwrap_or o d < length s.strip_rows.items) × (first_row m s + unwrap_or o d ≡ point_row m s.sweep)
-  by (Some row) found = point-found m s row h.strip found
-  by None lost = absurd (elim (point-lost m s h.strip lost) [ inl above ↦ omega (arith, above, h.from) | inr below ↦ omega (arith, below.0, h.to) ])
+  by (Some row) found = point-told m s (Some row) h.strip found
+  by None lost = absurd (elim (point-told m s None h.strip lost) [ inl above ↦ omega (arith, above, h.from) | inr below ↦ omega (arith, below.0, h.to) ])
 
 -- sweeps for one point at one shape
 pub points-same : (m : SourceValues) (a b : Sweep) → b.point ≡ a.point → b.shape ≡ a.shape → point_row m b ≡ point_row m a
@@ -195,7 +195,7 @@ value-centre m shape s new w place chosen e f point row is =
     is ∙ (ap (λ (ys : List EntryMeaning). record { anchor = anchor_at ys (first_row m new + place); point = w.point }) rows
     ∙ ap (λ n. record { anchor = anchor_at (rows_at m shape) n; point = w.point }) there)
 
--- what was paid, where it may be as much again
+-- what was paid is at most the costs of all blocks that have a row of the kind
 pub pays : (kind : ℕ → Bool) (base : ℕ) (m : SourceValues) (sweep : Sweep) (s : Strip) (steps : ℕ) → s.sweep ≡ sweep → IsPaid kind base m s steps → steps ≤ base + all_costs kind m sweep
 pays kind base m sweep s steps e paid =
     let bound = affords kind base m s.sweep s.blocks.items s.strip_rows.items s.home steps paid.0 paid.1 in

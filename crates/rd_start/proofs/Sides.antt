@@ -1,5 +1,5 @@
 -- Where point's row is, as seen from rows in view.
-use Rattle.std.proofs.Common.{◌≡◌, ℕ, ◌+◌, ◌<◌, ◌≤◌, ◌⊎◌, inl, inr, cond, ltb, min, length, None, Some, sym, ap, subst, ◌∙◌, arith}
+use Rattle.std.proofs.Common.{◌≡◌, ℕ, ◌+◌, ◌<◌, ◌≤◌, ◌⊎◌, inl, inr, cond, ltb, min, length, Option, None, Some, sym, ap, subst, ◌∙◌, arith}
 use Rattle.std.proofs.lemmas.Bool.{cases_Bool, le-ltb, lt-ltb, ltb-false, ltb-true}
 use Rattle.std.specs.List.{slice_get}
 use Rattle.rd_matrix.specs.Sources.{SourceValues}
@@ -70,30 +70,21 @@ pub seen : (m : SourceValues) (s : Strip) (from to height : ℕ) (side : PointSi
     → side_in s from to ≡ side → Sees side (first_row m s + from) height (point_row m s.sweep)
 seen m s from to height side h reached inside end is = subst (λ (x : PointSide). Sees x (first_row m s + from) height (point_row m s.sweep)) is (sees m s from to height h reached inside end)
 
--- a strip that has point's row, or has not
-pub point-found : (m : SourceValues) (s : Strip) (row : ℕ) → IsStrip m s → find_point s.strip_rows.items ≡ Some row → (row < length s.strip_rows.items) × (first_row m s + row ≡ point_row m s.sweep)
-point-found m s row h found =
-    elim (whereabouts m s.sweep s.blocks.items s.strip_rows.items s.home h) [
-      | inl above ↦ let none = above.none in absurd cc
+-- what point's place among the rows of a strip, or that it has none there, tells of point's row
+abbrev pub IsTold : SourceValues → Strip → Option ℕ → Type 0
+IsTold m s (Some row) = (row < length s.strip_rows.items) × (first_row m s + row ≡ point_row m s.sweep)
+IsTold m s None = (point_row m s.sweep < first_row m s) ⊎ ((first_row m s + length s.strip_rows.items ≤ point_row m s.sweep) × (point_row m s.sweep < count_in m s.sweep m.blocks))
+
+pub point-told : (m : SourceValues) (s : Strip) (found : Option ℕ) → IsStrip m s → find_point s.strip_rows.items ≡ found → IsTold m s found
+point-told m s found h is =
+    let home = h.home in
+    subst (IsTold m s) is (elim (whereabouts m s.sweep s.blocks.items s.strip_rows.items s.home h) [
+      | inl above ↦ let row = above.row in subst (IsTold m s) (sym above.none) (inl (omega arith))
       | inr other ↦ elim other [
         | inl among ↦
-            let here = among.here in
-            let same : among.row ≡ row = cc in
             let inside = among.inside in
             let place = among.place in
-            let home = h.home in
-            (omega arith, omega arith)
-        | inr below ↦ let none = below.none in absurd cc
+            subst (IsTold m s) (sym among.here) (omega arith, omega arith)
+        | inr below ↦ let row = below.row in subst (IsTold m s) (sym below.none) (inr (omega arith, below.inside))
       ]
-    ]
-
-pub point-lost : (m : SourceValues) (s : Strip) → IsStrip m s → find_point s.strip_rows.items ≡ None
-    → (point_row m s.sweep < first_row m s) ⊎ ((first_row m s + length s.strip_rows.items ≤ point_row m s.sweep) × (point_row m s.sweep < count_in m s.sweep m.blocks))
-point-lost m s h lost =
-    elim (whereabouts m s.sweep s.blocks.items s.strip_rows.items s.home h) [
-      | inl above ↦ let row = above.row in inl (omega arith)
-      | inr other ↦ elim other [
-        | inl among ↦ let here = among.here in absurd cc
-        | inr below ↦ let row = below.row in let home = h.home in inr (omega arith, below.inside)
-      ]
-    ]
+    ])

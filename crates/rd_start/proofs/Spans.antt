@@ -2,8 +2,7 @@
 use Rattle.std.proofs.Common.{◌≡◌, ℕ, min, max, List, [], ◌∷◌, ◌++◌, map, Option, None, Some, refl, sym, ap, ◌∙◌, arith}
 use Rattle.std.proofs.lemmas.List.{append-nil}
 use Rattle.std.proofs.lemmas.List.Sums.{fold-append}
-use Rattle.std.specs.List.{fold, reduce}
-use Rattle.std.specs.Option.{option_map}
+use Rattle.std.specs.List.{fold}
 use Rattle.rd_matrix.specs.Entries.{EntryMeaning}
 use Rattle.rd_start.specs.Chosen.{first_positions, positions_of}
 use Rattle.rd_start.specs.Strips.{joined_spans, strip_row_of, span_of}
@@ -35,14 +34,6 @@ span_of-append (x ∷ xs) (y ∷ ys) =
     let least : fold min x (xs ++ (y ∷ ys)) ≡ min (fold min x xs) (fold min y ys) = fold-append min x xs (y ∷ ys) ∙ fold-first min (λ a b c. omega arith) (fold min x xs) y ys in
     let greatest : fold max x (xs ++ (y ∷ ys)) ≡ max (fold max x xs) (fold max y ys) = fold-append max x xs (y ∷ ys) ∙ fold-first max (λ a b c. omega arith) (fold max x xs) y ys in
     cc
-
-pub span_of-least : (ps : List ℕ) → reduce min ps ≡ option_map (λ (s : Span). s.first) (span_of ps)
-span_of-least [] = refl
-span_of-least (p ∷ ps) = refl
-
-pub span_of-greatest : (ps : List ℕ) → reduce max ps ≡ option_map (λ (s : Span). s.last) (span_of ps)
-span_of-greatest [] = refl
-span_of-greatest (p ∷ ps) = refl
 
 abbrev pub spans : Option Span → List StripRow → Option Span
 spans a ls = fold (λ b l. joined_spans b l.span) a ls

@@ -23,7 +23,7 @@ use Rattle.rd_base.specs.declared.memory.Memory.{Memory}
 use Rattle.rd_start.proofs.Lists.{find-far, find-kept, find-none}
 use Rattle.rd_start.proofs.Reaching.{more-above, more-below}
 use Rattle.rd_start.proofs.Rows.{all-inside, find_point}
-use Rattle.rd_start.proofs.Sides.{point-lost}
+use Rattle.rd_start.proofs.Sides.{point-told}
 
 pub old-is : (m : SourceValues) (w : Wanted) (sweep : Sweep) → IsFor w sweep → (places_of m sweep.shape w).old ≡ home_row m sweep
 old-is m w sweep h = ap (λ (a : Anchor). anchor_row (rows_in m sweep) a m.blocks) (sym h.anchor)
@@ -64,7 +64,7 @@ pub lost-suits : (m : SourceValues) (s : Strip) (w : Wanted) (start : ℕ) → I
     → suits w (places_of m s.sweep.shape w) (first_row m s + start) ≡ false
 lost-suits m s w start h of lost reached =
     unseen w m s.sweep (first_row m s + start) of.point
-    (elim (point-lost m s h lost) [
+    (elim (point-told m s None h lost) [
       | inl above ↦ inl (omega arith)
       | inr below ↦
           let low = below.0 in

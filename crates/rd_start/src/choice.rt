@@ -86,7 +86,6 @@ fn forced<B: BlockSource, L: Ledger>(
 fn forced_point(window: &Window, start: usize) -> Pos
     requires strip { (m : SourceValues) × IsStrip m window.now.strip }
     requires start { start < length window.now.strip.strip_rows.items }
-    requires height { 1 ≤ window.now.wanted.height }
     ensures { (m : SourceValues) → IsStrip m window.now.strip → Reaches m window.now.strip (start + window.now.wanted.height)
         → result ≡ forced_point window.now.wanted (first_row m window.now.strip + start) (point_row m window.now.strip.sweep)
         (take window.now.wanted.height (drop (first_row m window.now.strip + start) (all_rows (rows_in m window.now.strip.sweep) m.blocks))) }

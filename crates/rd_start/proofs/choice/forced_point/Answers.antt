@@ -29,7 +29,7 @@ chosen c there is m h reached =
     let height = win.wanted.height in
     let back : c.min-end.result ≡ min (c.args.start + height) (length win.strip.strip_rows.items) = omega (arith, c.min-end.ensures, c.count.ensures.value) in
     point-spanned there win.wanted (first_row m win.strip + c.args.start) (point_row m win.strip.sweep) (view_of m win.strip c.args.start height) c.in-Some.span
-    (view-spans m win.strip c.args.start height c.min-end.result (Some c.in-Some.span) h reached c.requires.start back c.in-Some.ensures) c.requires.height
+    (view-spans m win.strip c.args.start height c.min-end.result (Some c.in-Some.span) h reached c.requires.start back c.in-Some.ensures)
     (seen m win.strip c.args.start c.min-end.result height there h reached c.requires.start back (sym c.side_of_point-side.ensures ∙ is))
 
 pub overflow_cast-result : goal.overflow_cast-result

@@ -1,4 +1,4 @@
-use Rattle.std.proofs.Common.{◌≡◌, ◌+◌, ◌<◌, sym, ap, ◌∙◌, arith}
+use Rattle.std.proofs.Common.{◌≡◌, ◌+◌, ◌<◌, Some, sym, ap, ◌∙◌, arith}
 use Rattle.std.specs.List.{find}
 use Rattle.std.specs.Option.{option_map}
 use Rattle.rd_matrix.specs.Sources.{SourceValues}
@@ -6,7 +6,7 @@ use Rattle.rd_start.specs.Chosen.{places_of}
 use Rattle.rd_start.specs.Starts.{both_at, suits}
 use Rattle.rd_start.specs.Strips.{ShowsPoint, first_row}
 use Rattle.rd_start.proofs.Reaching.{at-source}
-use Rattle.rd_start.proofs.Sides.{point-found}
+use Rattle.rd_start.proofs.Sides.{point-told}
 use Rattle.rd_start.proofs.Suits.{lost-nearest, nearest-here, nearest-later}
 use Rattle.rd_start.proofs.view.nearest.Given as given
 use Rattle.rd_start.proofs.view.nearest.Goals as goal
@@ -20,7 +20,7 @@ pub suiting_at-requires-clause-shows : goal.suiting_at-requires-clause-shows
 suiting_at-requires-clause-shows g c =
     let m = g.B.BlockSource.meaning c.args.source.now in
     let win = c.args.window.now in
-    let place = point-found m win.strip c.in-Some.row c.requires.moves.laid.strip (sym c.point_row.ensures ∙ c.in-Some.is) in
+    let place = point-told m win.strip (Some c.in-Some.row) c.requires.moves.laid.strip (sym c.point_row.ensures ∙ c.in-Some.is) in
     at-source (λ (x : SourceValues). ShowsPoint x win c.in-Some.row) (g.B.BlockSource.meaning c.loop-step.source) m (sym c.loop-step.invariant.source)
     (record { laid = c.requires.moves.laid; inside = place.0; point = place.1 })
 
