@@ -1,12 +1,14 @@
 -- The objects that a buffer names.
-use Rattle.std.specs.Prelude.{◌≡◌, ℕ, ◌<◌, IfSome, length, All, Option, None, Some}
+use Rattle.std.specs.Prelude.{◌≡◌, ℕ, ◌<◌, IfSome, List, [], ◌∷◌, ◌++◌, length, All, Option, None, Some}
 use Rattle.rd_base.specs.Settings.{SettingValues}
 use Rattle.rd_overlays.specs.declared.overlay.Overlay.{Overlay}
 use Rattle.rd_overlays.specs.declared.overlay.Kind.{Kind}
 use Rattle.rd_overlays.specs.declared.overlay.Kind.TheVariants.{Face, Display, Invisible, LinePrefix, WrapPrefix, Before, After}
-use Rattle.rd_overlays.specs.Overlays.{overlay_at}
+use Rattle.rd_overlays.specs.Overlays.{overlay_at, moved, dropped, given}
+use Rattle.rd_objects.specs.Sound.{Extends}
 use Rattle.rd_objects.specs.Things.{ObjectLists}
 use Rattle.rd_props.specs.Buffers.{BufferValue, property}
+use Rattle.rd_props.specs.Edits.{IsInsertion, IsDeletion, IsPut, HasOverlays}
 use Rattle.rd_props.specs.Seen.{Seen}
 use Rattle.rd_props.specs.Values.{value_of}
 
@@ -42,3 +44,17 @@ pub record SeesMade (objects : ObjectLists) (seen : Seen) : Type 0 where
   pub line_prefix : IfSome seen.appearance.line_prefix (λ number. number < length objects.strings)
   pub wrap_prefix : IfSome seen.appearance.wrap_prefix (λ number. number < length objects.strings)
   pub strings : All (λ number. number < length objects.strings) seen.strings
+
+-- edits name no object that was not made
+pub record MadeLaws : Type 0 where
+  pub inserted : (old new : BufferValue) (objects : ObjectLists) (place : ℕ) (chars : List ℕ) → AreMade old objects → SettingsMade objects new.settings → IsInsertion old new place chars → AreMade new objects
+  pub deleted : (old new : BufferValue) (objects : ObjectLists) (from to : ℕ) → AreMade old objects → SettingsMade objects new.settings → IsDeletion old new from to → AreMade new objects
+  pub put : (old new : BufferValue) (objects : ObjectLists) (kind : Kind) (from to : ℕ) (value : Option ℕ) → AreMade old objects → SettingsMade objects new.settings
+      → ((v : ℕ) → value ≡ Some v → IsMade objects kind v) → IsPut old new kind from to value → AreMade new objects
+  pub made : (old new : BufferValue) (objects : ObjectLists) (overlay : Overlay) → AreMade old objects → SettingsMade objects new.settings
+      → ((kind : Kind) (v : ℕ) → value_of kind (Some overlay) ≡ Some v → IsMade objects kind v) → HasOverlays old new (old.overlays ++ Some overlay ∷ []) → AreMade new objects
+  pub dropped : (old new : BufferValue) (objects : ObjectLists) (number : ℕ) → AreMade old objects → SettingsMade objects new.settings → HasOverlays old new (dropped old.overlays number) → AreMade new objects
+  pub given : (old new : BufferValue) (objects : ObjectLists) (number : ℕ) (kind : Kind) (value : Option ℕ) → AreMade old objects → SettingsMade objects new.settings
+      → ((v : ℕ) → value ≡ Some v → IsMade objects kind v) → HasOverlays old new (given old.overlays number kind value) → AreMade new objects
+  pub moved : (old new : BufferValue) (objects : ObjectLists) (number from to : ℕ) → AreMade old objects → SettingsMade objects new.settings → HasOverlays old new (moved old.overlays number from to) → AreMade new objects
+  pub extended : (s : BufferValue) (old new : ObjectLists) → AreMade s old → Extends old new → AreMade s new

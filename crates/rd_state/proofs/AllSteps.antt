@@ -12,6 +12,8 @@ use Rattle.rd_objects.specs.Things.{nothing_made}
 use Rattle.rd_script.specs.declared.op.Op.{Op}
 use Rattle.rd_script.specs.declared.op.Op.TheVariants as ops
 use Rattle.rd_script.specs.Forms.{IsInForm, is_buffer_name, is_plain_text}
+use Rattle.rd_tree.specs.Calls.{TreeLaws}
+use Rattle.rd_props.specs.Made.{MadeLaws}
 use Rattle.rd_state.specs.declared.moves.Move.{Move}
 use Rattle.rd_state.specs.declared.moves.Move.TheVariants.{Inserted, Deleted, Narrowed}
 use Rattle.rd_state.specs.declared.refused.Refused.{Refused}
@@ -27,7 +29,7 @@ use Rattle.rd_state.specs.Edits.{insertion, deletion, narrowing, widening, prope
 use Rattle.rd_state.specs.Making.{run_of, spec_of, table_of}
 use Rattle.rd_state.specs.Moves.{moved, moved_by, moved_in}
 use Rattle.rd_state.specs.Steps.{typing, raw_text, held, step, settled}
-use Rattle.rd_state.proofs.Below.{TextLaws, MadeLaws, ObjectLaws, TreeLaws}
+use Rattle.rd_state.proofs.Below.{TextLaws, ObjectLaws}
 use Rattle.rd_state.proofs.Naming.{setting-keeps, margin-keeps, objects-valid, small-spec, making-valid, new-valid}
 use Rattle.rd_state.proofs.Showing.{set-valid, placing-valid, point-keeps, placed-keeps, start-keeps, look-keeps, scroll-keeps, showing-valid, splitting-valid, removing-valid, resizing-valid, selecting-valid, mode_lining-valid, margining-valid}
 use Rattle.rd_state.proofs.Slots.{table-right}

@@ -1,5 +1,5 @@
 -- The laws of the layers below that the laws of a state stand on.
-use Rattle.std.proofs.Common.{◌≡◌, ℕ, ◌+◌, ◌-◌, ◌≤◌, min, max, pos, Bool, List, [], ◌∷◌, ◌++◌, length, Option, None, Some, Ok}
+use Rattle.std.proofs.Common.{◌≡◌, ℕ, ◌+◌, ◌-◌, ◌≤◌, min, max, pos, List, [], ◌∷◌, ◌++◌, length, Option, None, Some}
 use Rattle.rd_text.specs.Texts.{TextValue, IsText, IsAccessible, most_characters, inserted, deleted, narrowed, widened}
 use Rattle.rd_text.specs.Answers.{IsAccessibleRange, IsRangeOfAll}
 use Rattle.rd_overlays.specs.declared.overlay.Overlay.{Overlay}
@@ -7,19 +7,16 @@ use Rattle.rd_overlays.specs.declared.overlay.Kind.{Kind}
 use Rattle.rd_overlays.specs.Overlays.{overlay_at, moved, dropped, given}
 use Rattle.rd_base.specs.Cells.{HasColours}
 use Rattle.rd_base.specs.Faces.{Attributes}
-use Rattle.rd_base.specs.declared.limits.TheConstants.{FACES, FRAME_COLUMNS, FRAME_ROWS, TABLES}
+use Rattle.rd_base.specs.declared.limits.TheConstants.{FACES, TABLES}
 use Rattle.rd_objects.specs.Tables.{TableValue, IsTable}
 use Rattle.rd_objects.specs.Things.{ObjectLists, nothing_made, string_fault, spec_fault, full_fault, string_added, spec_added, face_added, table_added, IsSmallSpec}
 use Rattle.rd_objects.specs.Sound.{AreCodes, AreObjects, IsClosed, Extends}
 use Rattle.rd_objects.specs.declared.run.Run.{Run}
 use Rattle.rd_objects.specs.declared.run.Spec.{Spec}
-use Rattle.rd_tree.specs.Calls as tree
-use Rattle.rd_tree.specs.declared.side.Side.{Side}
 use Rattle.rd_props.specs.Buffers.{BufferValue}
-use Rattle.rd_props.specs.Values.{value_of}
 use Rattle.rd_props.specs.Agreement.{Unchanged, IsEdited}
 use Rattle.rd_props.specs.Edits.{AreOrdered, IsInsertion, IsDeletion, IsPut, HasOverlays}
-use Rattle.rd_props.specs.Made.{IsMade, SettingsMade, AreMade}
+use Rattle.rd_props.specs.Made.{AreMade}
 
 -- edits leave texts in which the accessible range lies
 abbrev pub TextLaws : Type 0
@@ -28,22 +25,6 @@ TextLaws = record {
   deleted : (t : TextValue) (from to : ℕ) → IsText t → IsAccessibleRange t from to → IsText (deleted t from to);
   narrowed : (t : TextValue) (from to : ℕ) → IsText t → IsRangeOfAll t from to → IsText (narrowed t from to);
   widened : (t : TextValue) → IsText t → IsText (widened t);
-}
-
--- edits name no object that was not made
-abbrev pub MadeLaws : Type 0
-MadeLaws = record {
-  inserted : (old new : BufferValue) (objects : ObjectLists) (place : ℕ) (chars : List ℕ) → AreMade old objects → SettingsMade objects new.settings → IsInsertion old new place chars → AreMade new objects;
-  deleted : (old new : BufferValue) (objects : ObjectLists) (from to : ℕ) → AreMade old objects → SettingsMade objects new.settings → IsDeletion old new from to → AreMade new objects;
-  put : (old new : BufferValue) (objects : ObjectLists) (kind : Kind) (from to : ℕ) (value : Option ℕ) → AreMade old objects → SettingsMade objects new.settings
-      → ((v : ℕ) → value ≡ Some v → IsMade objects kind v) → IsPut old new kind from to value → AreMade new objects;
-  made : (old new : BufferValue) (objects : ObjectLists) (overlay : Overlay) → AreMade old objects → SettingsMade objects new.settings
-      → ((kind : Kind) (v : ℕ) → value_of kind (Some overlay) ≡ Some v → IsMade objects kind v) → HasOverlays old new (old.overlays ++ Some overlay ∷ []) → AreMade new objects;
-  dropped : (old new : BufferValue) (objects : ObjectLists) (number : ℕ) → AreMade old objects → SettingsMade objects new.settings → HasOverlays old new (dropped old.overlays number) → AreMade new objects;
-  given : (old new : BufferValue) (objects : ObjectLists) (number : ℕ) (kind : Kind) (value : Option ℕ) → AreMade old objects → SettingsMade objects new.settings
-      → ((v : ℕ) → value ≡ Some v → IsMade objects kind v) → HasOverlays old new (given old.overlays number kind value) → AreMade new objects;
-  moved : (old new : BufferValue) (objects : ObjectLists) (number from to : ℕ) → AreMade old objects → SettingsMade objects new.settings → HasOverlays old new (moved old.overlays number from to) → AreMade new objects;
-  extended : (s : BufferValue) (old new : ObjectLists) → AreMade s old → Extends old new → AreMade s new;
 }
 
 -- what is done to overlays leaves what is seen elsewhere
@@ -101,14 +82,3 @@ pub record GrowLaws : Type 0 where
   pub spec : (o : ObjectLists) (spec : Spec) → Extends o (spec_added o spec)
   pub face : (o : ObjectLists) (face : Attributes) → Extends o (face_added o face)
   pub table : (o : ObjectLists) (table : TableValue) → Extends o (table_added o table)
-
--- calls leave valid trees
-abbrev pub TreeLaws : Type 0
-TreeLaws = record {
-  opening : (width height : ℕ) → 11 ≤ width → 1 ≤ height → width ≤ FRAME_COLUMNS → height ≤ FRAME_ROWS → tree.IsValid (tree.opening width height);
-  split : (c d : tree.Configuration) (window : ℕ) (side : Side) (size : ℕ) → tree.IsValid c → tree.split_tree c window side size ≡ Ok d → tree.IsValid d;
-  remove : (c d : tree.Configuration) (window : ℕ) → tree.IsValid c → tree.remove_tree c window ≡ Ok d → tree.IsValid d;
-  resize : (c d : tree.Configuration) (width height : ℕ) → width ≤ FRAME_COLUMNS → height ≤ FRAME_ROWS → tree.IsValid c → tree.resize_tree c width height ≡ Ok d → tree.IsValid d;
-  mode : (c d : tree.Configuration) (window : ℕ) (shown : Bool) → tree.IsValid c → tree.mode_tree c window shown ≡ Ok d → tree.IsValid d;
-  margins : (c d : tree.Configuration) (window columns : ℕ) → tree.IsValid c → tree.margins_tree c window columns ≡ Ok d → tree.IsValid d;
-}

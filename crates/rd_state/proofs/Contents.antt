@@ -16,13 +16,13 @@ use Rattle.rd_objects.specs.Sound.{AreCodes}
 use Rattle.rd_objects.specs.Things.{ObjectLists}
 use Rattle.rd_props.specs.Buffers as props
 use Rattle.rd_props.specs.Edits.{put_on, HasParts, IsInsertion, IsDeletion, IsPut, HasOverlays}
-use Rattle.rd_props.specs.Made.{IsMade, SettingsMade, AreMade}
+use Rattle.rd_props.specs.Made.{IsMade, SettingsMade, AreMade, MadeLaws}
 use Rattle.rd_props.specs.Values.{value_of}
 use Rattle.rd_script.specs.Forms.{is_text_kind}
 use Rattle.rd_state.specs.States.{ContentValue, seen, values_on, value_in}
 use Rattle.rd_state.specs.Valid.{IsWithin, IsContent}
 use Rattle.rd_state.specs.Edits.{is_range_of_all, is_made, is_value_made, marked_modified, grown, shrunk, seen_grown, seen_shrunk, with_seen}
-use Rattle.rd_state.proofs.Below.{TextLaws, MadeLaws}
+use Rattle.rd_state.proofs.Below.{TextLaws}
 use Rattle.rd_state.proofs.Tables.{AreAlike, value-in-table}
 use Rattle.rd_state.proofs.Within.{grown-within, shrunk-within, same-within, made-within, put-within, moved-within, given-within}
 

@@ -16,7 +16,7 @@ use Rattle.rd_objects.specs.Sound.{AreObjects, IsClosed, Extends, GoesOn}
 use Rattle.rd_objects.specs.Things.{ObjectLists, IsSmallSpec}
 use Rattle.rd_objects.specs.declared.fault.ObjectFault.{ObjectFault}
 use Rattle.rd_props.specs.Buffers as props
-use Rattle.rd_props.specs.Made.{SettingsMade}
+use Rattle.rd_props.specs.Made.{SettingsMade, MadeLaws}
 use Rattle.rd_margins.specs.Marks.{MarkValues, marked}
 use Rattle.rd_script.specs.Forms.{IsSettingInForm, IsSpecInForm, is_buffer_name}
 use Rattle.rd_script.specs.declared.object.OpSpec.{OpSpec}
@@ -29,7 +29,6 @@ use Rattle.rd_state.specs.Valid.{most_buffers, IsContent, IsValid}
 use Rattle.rd_state.specs.Edits.{is_made, is_setting_made, margin_putting, setting_putting, with_setting}
 use Rattle.rd_state.specs.Making.{unless_fault, spec_of}
 use Rattle.rd_state.specs.Steps.{with_objects, making}
-use Rattle.rd_state.proofs.Below.{MadeLaws}
 use Rattle.rd_state.proofs.Contents.{still-valid}
 use Rattle.rd_state.proofs.Keeping.{buffers-appended, windows-appended}
 use Rattle.rd_state.proofs.StepParts.{making-if}

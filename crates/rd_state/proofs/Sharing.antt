@@ -72,12 +72,15 @@ heir-selected old n e heir selected ws number is chosen =
 
 -- ---- a window that changes with the tree
 
-pub changes-with-tree : (s t : StateValue) (n i : ℕ) (e : NumberedWindow) (f : WindowState → WindowState) (q : StateValue → Result Configuration TreeFault) (d : Configuration)
-    → t ≡ s → IsFound n i t.windows e → q t ≡ Ok d
-    → in_window s n (λ w. changing n f (on_tree (q s) (λ c. record s { tree = c }))) ≡ Ok (record t { tree = d; windows = set t.windows i (e.0, f e.1) })
-changes-with-tree s t n i e f q d same there said =
-    at-window s t n i e (λ x w. changing n f (on_tree (q x) (λ c. record x { tree = c }))) same there
-    ∙ (ap (λ r. changing n f (on_tree r (λ c. record t { tree = c }))) said ∙ ap (λ xs. Ok (record t { tree = d; windows = xs })) (sym (there.changed f)))
+-- the tree is asked by the number that stands beside the window, and then the window is found again
+pub changes-with-tree : (s t : StateValue) (ws : List NumberedWindow) (n i : ℕ) (asks e : NumberedWindow) (f : WindowState → WindowState) (q : Configuration → ℕ → Result Configuration TreeFault) (d : Configuration)
+    → t ≡ s → ws ≡ t.windows → i ≡ place_in n ws → i < length ws → asks ≡ get_or t.windows i asks → e ≡ get_or t.windows i e → q t.tree asks.0 ≡ Ok d
+    → in_window s n (λ w. changing n f (on_tree (q s.tree n) (λ c. record s { tree = c }))) ≡ Ok (record t { tree = d; windows = set t.windows i (e.0, f e.1) })
+changes-with-tree s t ws n i asks e f q d same shown is less asked_at at said =
+    let there = found-in t ws n i e shown is less at in
+    at-window s t n i e (λ x w. changing n f (on_tree (q x.tree n) (λ c. record x { tree = c }))) same there
+    ∙ (ap (λ r. changing n f (on_tree r (λ c. record t { tree = c }))) (asked (q t.tree) n i t.windows asks (Ok d) (found-in t ws n i asks shown is less asked_at) said)
+    ∙ ap (λ xs. Ok (record t { tree = d; windows = xs })) (sym (there.changed f)))
 
 -- ---- splits
 

@@ -14,7 +14,7 @@ use Rattle.rd_text.specs.Texts.{IsAccessible}
 use Rattle.rd_script.specs.Forms.{IsFormat}
 use Rattle.rd_script.specs.Numbers.{is_near_zero}
 use Rattle.rd_tree.specs.Calls as tree
-use Rattle.rd_tree.specs.Calls.{Configuration, frame_of, split_tree, remove_tree, resize_tree, mode_tree, margins_tree}
+use Rattle.rd_tree.specs.Calls.{Configuration, frame_of, split_tree, remove_tree, resize_tree, mode_tree, margins_tree, TreeLaws}
 use Rattle.rd_tree.proofs.Keeping.{is_some-or}
 use Rattle.rd_tree.proofs.Steps.{split-means, remove-means, resize-means, mode-means, margins-means}
 use Rattle.rd_tree.specs.Windows.{Windows, Window, holds, is_single, split_at, removed, replaced, resized, first_leaf, sibling}
@@ -25,7 +25,6 @@ use Rattle.rd_state.specs.States.{BufferValue, ContentValue, StateValue, number_
 use Rattle.rd_state.specs.Windows.{AreApart, content_in, shown_content, window_of, with_entry, without_entry, leaf_at, leaf_of}
 use Rattle.rd_state.specs.Valid.{IsWindow, AreWindows, IsGoodFormat, IsValid}
 use Rattle.rd_state.specs.Steps.{in_window, changing, on_tree, splitting, removing, showing, placing, held, format_fault, mode_lining, margining}
-use Rattle.rd_state.proofs.Below.{TreeLaws}
 use Rattle.rd_state.proofs.ByNumber.{NumberedWindow, Hands, each-entry, each-without, window-end, apart-end, window-gone, entry-past, none-past, apart-becoming, get-window}
 use Rattle.rd_state.proofs.Keeping.{window-placed, windows-changed}
 use Rattle.rd_state.proofs.Leaves.{Leaf, leaf-resized, leaf-replaced, leaf-other, split-same, split-other, split-new, removed-same, removed-other, heir-held, is_some-leaf, unmade}

@@ -1,6 +1,6 @@
 -- What the calls of a window tree answer, and what they leave.
 use Rattle.std.specs.Prelude.{◌≡◌, ℕ, suc, ◌≤◌, Bool, false, if◌then◌else◌, nat_le, ◌&&◌, ◌||◌, length, Option, None, Some, Result, Ok, Err, ⊤}
-use Rattle.rd_base.specs.declared.limits.TheConstants.{FRAME_COLUMNS, FRAME_ROWS, WINDOWS}
+use Rattle.rd_base.specs.declared.limits.TheConstants.{FRAME_COLUMNS, FRAME_ROWS, LEAST_WINDOW_COLUMNS, WINDOWS}
 use Rattle.rd_tree.specs.declared.rect.Rect.{Rect}
 use Rattle.rd_tree.specs.declared.placed.Placed.{Placed}
 use Rattle.rd_tree.specs.declared.side.Side.{Side}
@@ -92,3 +92,12 @@ pub record IsValid (c : Configuration) : Type 0 where
   pub made : c.made ≤ 4294967295
   pub once : (number : ℕ) → times number c.windows ≤ 1
   pub known : (number : ℕ) → c.made ≤ number → times number c.windows ≡ 0
+
+-- the opening is a valid tree, and each call that is not refused leaves a valid tree valid
+pub record TreeLaws : Type 0 where
+  pub opening : (width height : ℕ) → LEAST_WINDOW_COLUMNS ≤ width → 1 ≤ height → width ≤ FRAME_COLUMNS → height ≤ FRAME_ROWS → IsValid (opening width height)
+  pub split : (c d : Configuration) (window : ℕ) (side : Side) (size : ℕ) → IsValid c → split_tree c window side size ≡ Ok d → IsValid d
+  pub remove : (c d : Configuration) (window : ℕ) → IsValid c → remove_tree c window ≡ Ok d → IsValid d
+  pub resize : (c d : Configuration) (width height : ℕ) → width ≤ FRAME_COLUMNS → height ≤ FRAME_ROWS → IsValid c → resize_tree c width height ≡ Ok d → IsValid d
+  pub mode : (c d : Configuration) (window : ℕ) (shown : Bool) → IsValid c → mode_tree c window shown ≡ Ok d → IsValid d
+  pub margins : (c d : Configuration) (window columns : ℕ) → IsValid c → margins_tree c window columns ≡ Ok d → IsValid d

@@ -1,5 +1,5 @@
 //! Laws of the definitions, for the layers above.
-ghost use Rattle.std.specs.Prelude.{ℕ, ◌≡◌, ◌==◌, ◌≤◌, Bool, true, false, ◌-◌, map, is_some, slice_get, Some, Ok, List, All};
+ghost use Rattle.std.specs.Prelude.{ℕ, ◌≡◌, ◌==◌, ◌≤◌, Bool, true, false, ◌-◌, map, is_some, slice_get, Some, List, All};
 ghost use Rattle.rd_base.specs.Cells.{AreColoured, bit_of};
 ghost use Rattle.rd_base.specs.Glyphs.{IsRowAfter};
 ghost use Rattle.rd_base.specs.declared.cell.Cell.{Cell};
@@ -7,20 +7,13 @@ ghost use Rattle.rd_tree.specs.declared.placed.Placed.{Placed};
 ghost use Rattle.rd_tree.specs.declared.rect.Rect.{Rect};
 ghost use Rattle.rd_tree.specs.declared.side.Side.{Side};
 ghost use Rattle.rd_tree.specs.Windows.{Windows, Window, HasRoom, NeedsMet, fits, placed, leaves, window_at, holds, halves, split_at, with_mode, with_margins, is_single, sibling, removed, resized, times};
-ghost use Rattle.rd_tree.specs.Calls.{Configuration, IsValid, opening, split_tree, remove_tree, resize_tree, mode_tree, margins_tree};
+ghost use Rattle.rd_tree.specs.Calls.{TreeLaws};
 ghost use Rattle.rd_tree.specs.Compositions.{composed, cell_at, HasSize, FillTheirRectangles, IsHeld};
 ghost use Rattle.rd_tree.specs.Places.{lies_in, windows_with, AllHaveRoom, StandsIn, in_place_of, without, is_among, shared_place};
 
-use rd_base::limits::{FRAME_COLUMNS, FRAME_ROWS, LEAST_WINDOW_COLUMNS};
-
 /// The opening is a valid tree, and each call that is not refused leaves a valid tree valid. The call does nothing.
 pub fn calls_keep_trees()
-    ensures opening { (width height : ℕ) → LEAST_WINDOW_COLUMNS ≤ width → 1 ≤ height → width ≤ FRAME_COLUMNS → height ≤ FRAME_ROWS → IsValid (opening width height) }
-    ensures split { (c d : Configuration) (window : ℕ) (side : Side) (size : ℕ) → IsValid c → split_tree c window side size ≡ Ok d → IsValid d }
-    ensures remove { (c d : Configuration) (window : ℕ) → IsValid c → remove_tree c window ≡ Ok d → IsValid d }
-    ensures resize { (c d : Configuration) (width height : ℕ) → width ≤ FRAME_COLUMNS → height ≤ FRAME_ROWS → IsValid c → resize_tree c width height ≡ Ok d → IsValid d }
-    ensures mode { (c d : Configuration) (window : ℕ) (shown : Bool) → IsValid c → mode_tree c window shown ≡ Ok d → IsValid d }
-    ensures margins { (c d : Configuration) (window columns : ℕ) → IsValid c → margins_tree c window columns ≡ Ok d → IsValid d }
+    ensures { TreeLaws }
 {}
 
 /// Where each window has room, each cell of the rectangle that they share lies in exactly one of them, and no other cell in any.

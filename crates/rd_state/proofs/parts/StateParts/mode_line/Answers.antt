@@ -6,7 +6,7 @@ use Rattle.rd_state.specs.declared.window.WindowState.{WindowState}
 use Rattle.rd_state.specs.Effects.{effect_of}
 use Rattle.rd_state.specs.Steps.{changing, on_tree, step}
 use Rattle.rd_state.proofs.Finding.{found-in, some-found}
-use Rattle.rd_state.proofs.Sharing.{refuses, tree-refuses, asked, changes-with-tree, good-format, format-refuses}
+use Rattle.rd_state.proofs.Sharing.{refuses, tree-refuses, changes-with-tree, good-format, format-refuses}
 use Rattle.rd_tree.proofs.Free.{mode-free}
 use Rattle.rd_state.proofs.Free.{tree-free}
 use Rattle.rd_state.proofs.parts.StateParts.mode_line.Goals as goal
@@ -39,12 +39,11 @@ unfolding step effect_of
 returns-clause-applies c =
     let t = the_view c.self.inside in
     let n = c.args.window in
-    let there = found-in t c.as_slice.result.now n c.in_ok-i.i c.index.result.now c.as_slice.ensures.value c.in_ok-i.ensures.0 c.in_ok-i.ensures.1 c.index.ensures in
-    let there_2 = found-in t c.as_slice.result.now n c.in_ok-i.i c.index_mut.result.now c.as_slice.ensures.value c.in_ok-i.ensures.0 c.in_ok-i.ensures.1 c.index_mut.ensures.value in
     let f : WindowState → WindowState = λ old. record old { format = c.args.format } in (
       good-format c.args.self.now n c.args.format c.in_ok-check_format.ensures
-          ∙ changes-with-tree c.args.self.now t n c.in_ok-i.i c.index_mut.result.now f (λ x. mode_tree x.tree n (is_some c.args.format)) c.mode.new.self c.self.view_is there_2
-          (asked (λ k. mode_tree t.tree k (is_some c.args.format)) n c.in_ok-i.i t.windows c.index.result.now _ there (ap (λ b. mode_tree t.tree c.index.result.now.0 b) (sym c.is_some.ensures) ∙ c.in_ok-mode.ensures)),
+          ∙ changes-with-tree c.args.self.now t c.as_slice.result.now n c.in_ok-i.i c.index.result.now c.index_mut.result.now f (λ d k. mode_tree d k (is_some c.args.format)) c.mode.new.self
+          c.self.view_is c.as_slice.ensures.value c.in_ok-i.ensures.0 c.in_ok-i.ensures.1 c.index.ensures c.index_mut.ensures.value
+          (ap (λ b. mode_tree t.tree c.index.result.now.0 b) (sym c.is_some.ensures) ∙ c.in_ok-mode.ensures),
       refl,
     )
 

@@ -6,7 +6,7 @@ use Rattle.rd_state.specs.declared.window.WindowState.{WindowState}
 use Rattle.rd_state.specs.Effects.{effect_of}
 use Rattle.rd_state.specs.Steps.{changing, on_tree, step}
 use Rattle.rd_state.proofs.Finding.{found-in}
-use Rattle.rd_state.proofs.Sharing.{tree-refuses, asked, changes-with-tree}
+use Rattle.rd_state.proofs.Sharing.{tree-refuses, changes-with-tree}
 use Rattle.rd_tree.proofs.Free.{margins-free}
 use Rattle.rd_state.proofs.Free.{tree-free}
 use Rattle.rd_state.proofs.parts.StateParts.set_margins.Goals as goal
@@ -26,12 +26,9 @@ pub returns-clause-applies : goal.returns-clause-applies
 unfolding step effect_of
 returns-clause-applies c =
     let t = the_view c.self.inside in
-    let there = found-in t c.as_slice.result.now c.args.window c.in_ok-i.i c.index.result.now c.as_slice.ensures.value c.in_ok-i.ensures.0 c.in_ok-i.ensures.1 c.index.ensures in
-    let there_2 = found-in t c.as_slice.result.now c.args.window c.in_ok-i.i c.index_mut.result.now c.as_slice.ensures.value c.in_ok-i.ensures.0 c.in_ok-i.ensures.1 c.index_mut.ensures.value in
-    let n = c.args.window in
     let f : WindowState → WindowState = λ old. record old { numbers = c.args.numbers; strings = c.args.strings } in (
-      changes-with-tree c.args.self.now t n c.in_ok-i.i c.index_mut.result.now f (λ x. margins_tree x.tree n (c.args.numbers + c.args.strings)) c.margins.new.self c.self.view_is there_2
-          (asked (λ k. margins_tree t.tree k (c.args.numbers + c.args.strings)) n c.in_ok-i.i t.windows c.index.result.now _ there c.in_ok-margins.ensures),
+      changes-with-tree c.args.self.now t c.as_slice.result.now c.args.window c.in_ok-i.i c.index.result.now c.index_mut.result.now f (λ d k. margins_tree d k (c.args.numbers + c.args.strings))
+          c.margins.new.self c.self.view_is c.as_slice.ensures.value c.in_ok-i.ensures.0 c.in_ok-i.ensures.1 c.index.ensures c.index_mut.ensures.value c.in_ok-margins.ensures,
       refl,
     )
 
