@@ -8,7 +8,7 @@ use Rattle.rd_io.specs.Devices.{Rose}
 use Rattle.rd_io.specs.Lines.{lines_of}
 use Rattle.rd_run.specs.Alike.{End, IsUndisturbed, AreGivenAlike, AreStarvedAlike, AreStarvedAlikeIn, AreAlike}
 use Rattle.rd_run.specs.Ends.{Drawn, Took, AreAll, AreInLimits, AreScript, Comes, ComesIn, IsBad, IsOver, IsPast, IsWhole, Ran, done_of, last_in, lines_in, sent_in, told_in}
-use Rattle.rd_run.specs.Given.{Given, AreTold, HasFailed, IsMode, ReadsScript}
+use Rattle.rd_run.specs.Given.{Given, IsMode, ReadsScript}
 use Rattle.rd_run.specs.Reports.{last_line}
 use Rattle.rd_run.specs.Runs.{Input, Mode, World, opened, run, run_line}
 use Rattle.rd_run.specs.Validity.{script_of}
@@ -258,57 +258,34 @@ pub taken-in : (given : Given) (mode : Mode) (script bytes : List ℕ) (left : O
     → IsTakenIn mode.generated script bytes left
 taken-in given mode script bytes left m taken = λ read. taken (m.words, m.said, sym m.generated ∙ read)
 
--- a status has come over the bytes of a script, undisturbed
-pub record Came (script : List ℕ) (given : Given) (mode : Option Mode) (status : Status) (inputs : List Input) : Type 0 where
-  pub bytes : List ℕ
-  pub source : Drawn
-  pub taken : ReadsScript given → IsTakenFrom script bytes source.left
-  pub told : AreTold given
-  pub fetched : HasFailed given → ⊥
-  pub read : Rose source.faults_before source.faults_after → ⊥
-  pub found : status ≡ NoMemory → ⊥
-  pub comes : Comes given mode status inputs bytes source
-
 -- as many lines were run from the beginning, if any, and the run stands at the same
 abbrev pub HaveRunAlike : Option Mode → List Input → List Input → Type 0
 HaveRunAlike None ts us = ts ≡ us
 HaveRunAlike (Some mode) ts us = AreRunAlike (opened mode) ts us
 
 -- both have begun alike, have run alike, and have one status
-came-alike : (script : List ℕ) (a b : Given) (m n : Option Mode) (s r : Status) (ts us : List Input) → AreGivenAlike a b → AreStarvedAlikeIn m ts us → Came script a m s ts → Came script b n r us
-    → (m ≡ n) × HaveRunAlike m ts us × (s ≡ r)
-came-alike script a b None None s r ts us h alike p q =
-    let x = refuses a s ts p.bytes p.source p.fetched p.found p.comes in
-    let y = refuses b r us q.bytes q.source q.fetched q.found q.comes in
-    (refl, x.1 ∙ sym y.1, refused-alike a b s r h p.told x.0 y.0)
-came-alike script a b None (Some n) s r ts us h alike p q =
-    absurd (not-begun a b s n h p.told (refuses a s ts p.bytes p.source p.fetched p.found p.comes).0 q.comes.0)
-came-alike script a b (Some m) None s r ts us h alike p q =
-    absurd (not-begun b a r m (flipped a b h) q.told (refuses b r us q.bytes q.source q.fetched q.found q.comes).0 p.comes.0)
-came-alike script a b (Some m) (Some n) s r ts us h alike p q =
-    let same = modes-same a b m n h p.told p.comes.0 q.comes.0 in
-    let other : ComesIn m r us q.bytes q.source = subst (λ k. ComesIn k r us q.bytes q.source) (sym same) q.comes.1 in
-    let first : IsTakenIn m.generated script p.bytes p.source.left = taken-in a m script p.bytes p.source.left p.comes.0 p.taken in
-    let second : IsTakenIn m.generated script q.bytes q.source.left = subst (λ (k : Mode). IsTakenIn k.generated script q.bytes q.source.left) (sym same)
-    (taken-in b n script q.bytes q.source.left q.comes.0 q.taken) in
-    let both = stops-alike m.generated (opened m) 0 ts us (script_of m.generated script) s r alike (comes-stops m script s ts p.bytes p.source first p.read p.found p.comes.1)
-    (comes-stops m script r us q.bytes q.source second q.read q.found other) in
+came-alike : (script : List ℕ) (a b : End) (m n : Option Mode) → AreGivenAlike a.given b.given → AreStarvedAlikeIn m a.inputs b.inputs → IsUndisturbed script a → IsUndisturbed script b
+    → Comes a.given m a.status a.inputs a.bytes a.source → Comes b.given n b.status b.inputs b.bytes b.source → (m ≡ n) × HaveRunAlike m a.inputs b.inputs × (a.status ≡ b.status)
+came-alike script a b None None h alike p q c d =
+    let x = refuses a.given a.status a.inputs a.bytes a.source p.faultless.fetched p.found c in
+    let y = refuses b.given b.status b.inputs b.bytes b.source q.faultless.fetched q.found d in
+    (refl, x.1 ∙ sym y.1, refused-alike a.given b.given a.status b.status h p.faultless.files x.0 y.0)
+came-alike script a b None (Some n) h alike p q c d =
+    absurd (not-begun a.given b.given a.status n h p.faultless.files (refuses a.given a.status a.inputs a.bytes a.source p.faultless.fetched p.found c).0 d.0)
+came-alike script a b (Some m) None h alike p q c d =
+    absurd (not-begun b.given a.given b.status m (flipped a.given b.given h) q.faultless.files (refuses b.given b.status b.inputs b.bytes b.source q.faultless.fetched q.found d).0 c.0)
+came-alike script a b (Some m) (Some n) h alike p q c d =
+    let same = modes-same a.given b.given m n h p.faultless.files c.0 d.0 in
+    let other : ComesIn m b.status b.inputs b.bytes b.source = subst (λ k. ComesIn k b.status b.inputs b.bytes b.source) (sym same) d.1 in
+    let first : IsTakenIn m.generated script a.bytes a.source.left = taken-in a.given m script a.bytes a.source.left c.0 p.faultless.taken in
+    let second : IsTakenIn m.generated script b.bytes b.source.left = subst (λ (k : Mode). IsTakenIn k.generated script b.bytes b.source.left) (sym same)
+    (taken-in b.given n script b.bytes b.source.left d.0 q.faultless.taken) in
+    let both = stops-alike m.generated (opened m) 0 a.inputs b.inputs (script_of m.generated script) a.status b.status alike (comes-stops m script a.status a.inputs a.bytes a.source first p.faultless.read p.found c.1)
+    (comes-stops m script b.status b.inputs b.bytes b.source second q.faultless.read q.found other) in
     (ap (λ k. Some k) same, both.0, both.1)
 
 whole-end : (script : List ℕ) (e : End) → IsUndisturbed script e → IsWhole e.given e.mode e.status e.inputs e.bytes e.source e.screen e.report
 whole-end script e h = whole-of e.given e.mode e.status e.inputs e.bytes e.source e.screen e.report h.faultless.sent h.faultless.told h.faultless.ended
-
-came : (script : List ℕ) (e : End) → IsUndisturbed script e → Came script e.given e.mode e.status e.inputs
-came script e h = record {
-  bytes = e.bytes;
-  source = e.source;
-  taken = h.faultless.taken;
-  told = h.faultless.files;
-  fetched = h.faultless.fetched;
-  read = h.faultless.read;
-  found = h.found;
-  comes = (whole-end script e h).comes;
-}
 
 sent-alike : (mode : Option Mode) (ts us : List Input) → HaveRunAlike mode ts us → sent_in mode ts ≡ sent_in mode us
 sent-alike None ts us h = refl
@@ -331,9 +308,9 @@ all-alike mode s ts us h = ap (λ front. front ++ last_in mode s ts) (told-alike
 
 pub ends-alike : (script : List ℕ) (a b : End) → AreGivenAlike a.given b.given → IsUndisturbed script a → IsUndisturbed script b → AreStarvedAlikeIn a.mode a.inputs b.inputs → AreAlike a b
 ends-alike script a b given p q h =
-    let same = came-alike script a.given b.given a.mode b.mode a.status b.status a.inputs b.inputs given h (came script a p) (came script b q) in
     let one = whole-end script a p in
     let other = whole-end script b q in
+    let same = came-alike script a b a.mode b.mode given h p q one.comes other.comes in
     let sent : Took b.screen (sent_in a.mode a.inputs) =
     subst (Took b.screen) (sym (sent-alike a.mode a.inputs b.inputs same.1)) (subst (λ m. Took b.screen (sent_in m b.inputs)) (sym same.0) other.sent) in
     let told : Took b.report (all_told a.mode a.status a.inputs) = subst (Took b.report) (sym (all-alike a.mode a.status a.inputs b.inputs same.1))
