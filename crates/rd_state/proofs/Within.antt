@@ -111,16 +111,21 @@ shrunk-within b c from to text within at same values overlays =
     (was.0, was.1, stays))
     (λ o is. subst (λ s. IsOverlayIn s (shrunk from to o)) (sym size) (shrunk-in (length b.text.text) from to o one ordered most is)) overlays
 
--- a buffer whose characters, values and overlays are the same
-pub same-within : (b c : props.BufferValue) → IsWithin b → c.text.text ≡ b.text.text → ((kind p : ℕ) → c.properties kind p ≡ b.properties kind p)
-    → c.overlays ≡ b.overlays → IsWithin c
-same-within b c within same values overlays = record {
+-- a buffer whose characters and values are another's, with few overlays, of which each lies in the text
+overlays-within : (b c : props.BufferValue) (slots : List (Option Overlay)) → IsWithin b → c.text.text ≡ b.text.text
+    → ((kind p : ℕ) → c.properties kind p ≡ b.properties kind p) → c.overlays ≡ slots → length slots ≤ 65536 → AreIn (length b.text.text) slots → IsWithin c
+overlays-within b c slots within same values overlays few all = record {
   kinds = λ kind p value h. within.kinds kind p value (sym (values kind p) ∙ h);
   first = λ kind p value h. within.first kind p value (sym (values kind p) ∙ h);
   last = λ kind p value h. subst (λ t. p ≤ length t) (sym same) (within.last kind p value (sym (values kind p) ∙ h));
-  few = subst (λ xs. length xs ≤ 65536) (sym overlays) within.few;
-  overlays = subst (λ t. AreIn (length t) c.overlays) (sym same) (subst (AreIn (length b.text.text)) (sym overlays) within.overlays);
+  few = subst (λ xs. length xs ≤ 65536) (sym overlays) few;
+  overlays = subst (λ t. AreIn (length t) c.overlays) (sym same) (subst (AreIn (length b.text.text)) (sym overlays) all);
 }
+
+-- one whose overlays are that one's too
+pub same-within : (b c : props.BufferValue) → IsWithin b → c.text.text ≡ b.text.text → ((kind p : ℕ) → c.properties kind p ≡ b.properties kind p)
+    → c.overlays ≡ b.overlays → IsWithin c
+same-within b c within same values overlays = overlays-within b c b.overlays within same values overlays within.few within.overlays
 
 -- ---- one overlay more, or another
 
@@ -132,23 +137,13 @@ room-left true b n from to ha hb h = absurd (cc)
 room-left false true n from to ha hb h = absurd (cc)
 room-left false false n from to ha hb h = leb-false 65536 n hb
 
--- a buffer with other overlays, of which each lies in the text
-overlays-within : (b : props.BufferValue) (overlays slots : List (Option Overlay)) (settings : SettingValues) → IsWithin b → overlays ≡ slots → length slots ≤ 65536
-    → AreIn (length b.text.text) slots → IsWithin (record b { overlays = overlays; settings = settings })
-overlays-within b overlays slots settings within is few all = record {
-  kinds = within.kinds;
-  first = within.first;
-  last = within.last;
-  few = subst (λ xs. length xs ≤ 65536) (sym is) few;
-  overlays = subst (AreIn (length b.text.text)) (sym is) all;
-}
-
 pub made-within : (b : props.BufferValue) (overlays : List (Option Overlay)) (settings : SettingValues) (from to : ℕ) (o : Overlay) → IsWithin b
     → is_range_of_all b.text from to ≡ true → make_fault b.overlays from to ≡ None → o.from ≡ from → o.to ≡ to → overlays ≡ b.overlays ++ Some o ∷ []
     → IsWithin (record b { overlays = overlays; settings = settings })
 made-within b overlays settings from to o within range none f g is =
     let room = room-left (nat_lt to from) (nat_le 65536 (length b.overlays)) (length b.overlays) from to refl refl none in
-    overlays-within b overlays (b.overlays ++ Some o ∷ []) settings within is (omega (arith, room, length-append b.overlays (Some o ∷ [])))
+    overlays-within b (record b { overlays = overlays; settings = settings }) (b.overlays ++ Some o ∷ []) within refl (λ kind p. refl) is
+    (omega (arith, room, length-append b.overlays (Some o ∷ [])))
     (λ number p h. elim (after-end b.overlays o number p h) [
       | inl old ↦ within.overlays number p old
       | inr same ↦ subst (IsOverlayIn (length b.text.text)) same (in-range b.text from to o range f g)
@@ -159,7 +154,7 @@ pub put-within : (b : props.BufferValue) (overlays : List (Option Overlay)) (set
     → ((p : Overlay) → slot ≡ Some p → IsOverlayIn (length b.text.text) p) → overlays ≡ set b.overlays number slot
     → IsWithin (record b { overlays = overlays; settings = settings })
 put-within b overlays settings number slot within new is =
-    overlays-within b overlays (set b.overlays number slot) settings within is (rw length-set within.few)
+    overlays-within b (record b { overlays = overlays; settings = settings }) (set b.overlays number slot) within refl (λ kind p. refl) is (rw length-set within.few)
     (λ k p h. elim (after-set b.overlays number slot k p h) [
       | inl old ↦ within.overlays k p old
       | inr here ↦ new p here
