@@ -127,27 +127,29 @@ turned-contained n ns (k, inside, is) =
 
 -- ---- values, faces and strings
 
-module _ (a b : List (Option Overlay)) where
-  last-same : (kind : Kind) (ns : List ℕ) → GiveSame a b ns → last_given (overlay_value a kind) ns ≡ last_given (overlay_value b kind) ns
-  last-same kind [] same = refl
-  last-same kind (n ∷ ns) same =
-      let rest = last-same kind ns (λ m h. same m (later-contained n m ns h)) in
-      let here = (same n (first-contained n ns)).value kind in
-      ap (λ (o : Option ℕ). option_or o (value_of kind (overlay_at a n))) rest ∙ ap (option_or (last_given (overlay_value b kind) ns)) here
+-- what is made of a listing from the front or the back is the same where what each of its numbers gives is
+each-same : {X : Type 0} (P : ℕ → Type 0) (f g : List ℕ → X) → f [] ≡ g [] → ((n : ℕ) (ns : List ℕ) → P n → f ns ≡ g ns → f (n ∷ ns) ≡ g (n ∷ ns))
+    → (ns : List ℕ) → ((n : ℕ) → Contains ns n → P n) → f ns ≡ g ns
+each-same P f g none more [] same = none
+each-same P f g none more (n ∷ ns) same = more n ns (same n (first-contained n ns)) (each-same P f g none more ns (λ m h. same m (later-contained n m ns h)))
 
-  faces-same : (objects : ObjectLists) (ns : List ℕ) (face : Attributes) → GiveSame a b ns → laid_over objects a ns face ≡ laid_over objects b ns face
-  faces-same objects [] face same = refl
-  faces-same objects (n ∷ ns) face same =
-      let here = (same n (first-contained n ns)).value Face in
-      faces-same objects ns (over (face_of objects (value_of Face (overlay_at a n))) face) (λ m h. same m (later-contained n m ns h))
-      ∙ ap (λ (o : Option ℕ). laid_over objects b ns (over (face_of objects o) face)) here
+pub laid-by : (o p : ObjectLists) (a b : List (Option Overlay)) (ns : List ℕ) (face : Attributes)
+    → ((n : ℕ) → Contains ns n → face_of o (value_of Face (overlay_at a n)) ≡ face_of p (value_of Face (overlay_at b n)))
+    → laid_over o a ns face ≡ laid_over p b ns face
+laid-by o p a b ns face same =
+    let P : ℕ → Type 0 = λ n. face_of o (value_of Face (overlay_at a n)) ≡ face_of p (value_of Face (overlay_at b n)) in
+    ap (λ (laid : Attributes → Attributes). laid face) (each-same P (laid_over o a) (laid_over p b) refl (λ n ns here rest i face. rest i (over (here i) face)) ns same)
+
+module _ (a b : List (Option Overlay)) where
+  abbrev GivesSameAt : ℕ → Type 0
+  GivesSameAt n = GivesSame (overlay_at a n) (overlay_at b n)
+
+  last-same : (kind : Kind) (ns : List ℕ) → GiveSame a b ns → last_given (overlay_value a kind) ns ≡ last_given (overlay_value b kind) ns
+  last-same kind =
+      each-same GivesSameAt (last_given (overlay_value a kind)) (last_given (overlay_value b kind)) refl (λ n ns here rest i. option_or (rest i) (here.value kind i))
 
   strings-same : (part : StringPlace) (ns : List ℕ) → GiveSame a b ns → strings_of part a ns ≡ strings_of part b ns
-  strings-same part [] same = refl
-  strings-same part (n ∷ ns) same =
-      let rest = strings-same part ns (λ m h. same m (later-contained n m ns h)) in
-      let here = (same n (first-contained n ns)).part part in
-      ap (λ (xs : List ℕ). xs ++ strings_of part a ns) here ∙ ap (λ (xs : List ℕ). part_in part (overlay_at b n) ++ xs) rest
+  strings-same part = each-same GivesSameAt (strings_of part a) (strings_of part b) refl (λ n ns here rest i. here.part part i ++ rest i)
 
 -- what two positions of two lists of overlays see of them is the same
 pub record SeeSame (x y : ℕ) (a b : List (Option Overlay)) : Type 0 where
@@ -167,7 +169,7 @@ module _ (listings : AreListings) (x y : ℕ) (a b : List (Option Overlay)) (see
 
   pub faces-agree : (objects : ObjectLists) (face : Attributes) → laid_over objects a (covering x a) face ≡ laid_over objects b (covering y b) face
   faces-agree objects face =
-      faces-same a b objects (covering x a) face covering-gives ∙ ap (λ (ns : List ℕ). laid_over objects b ns face) covering-same
+      laid-by objects objects a b (covering x a) face (λ n h. ap (face_of objects) ((covering-gives n h).value Face)) ∙ ap (λ (ns : List ℕ). laid_over objects b ns face) covering-same
 
   starts-agree : (part : StringPlace) → strings_of part a (starting x a) ≡ strings_of part b (starting y b)
   starts-agree part =

@@ -1,5 +1,6 @@
 -- The first change behind a position, and the last up to it, where one more property is looked at.
-use Rattle.std.proofs.Common.{◌≡◌, ◌⊎◌, inl, inr, ℕ, zero, suc, ◌+◌, ◌-◌, ◌<◌, ◌≤◌, min, max, List, ◌∷◌, drop, length, get_or, Option, None, Some, unwrap_or, sym, ap, subst, ◌∙◌, arith}
+use Rattle.std.proofs.Common.{◌≡◌, ◌⊎◌, inl, inr, ℕ, zero, suc, ◌+◌, ◌-◌, ◌<◌, ◌≤◌, min, max, List, ◌∷◌, drop, length, get_or, Option, None, Some, unwrap_or, sym, subst, ◌∙◌, arith}
+use Rattle.std.proofs.Math.Path.{subst₂}
 use Rattle.std.proofs.lemmas.Bool.{cases_lt}
 use Rattle.std.proofs.lemmas.List.{drop_more}
 use Rattle.rd_spans.specs.Values.{value_at, IsNextChange, IsFirstAlike}
@@ -19,7 +20,7 @@ reason-cons : (values : List (Option ℕ)) (spans : List (List (Option ℕ))) (s
 reason-cons values spans slots p pos stop (inl (kind, other)) = inl (suc kind, other)
 reason-cons values spans slots p pos stop (inr edge) = inr edge
 
-one-more : (values : List (Option ℕ)) (spans : List (List (Option ℕ))) (slots : List (Option Overlay)) (end pos stop : ℕ) (o : Option ℕ) → end < 4294967296
+pub one-more : (values : List (Option ℕ)) (spans : List (List (Option ℕ))) (slots : List (Option Overlay)) (end pos stop : ℕ) (o : Option ℕ) → end < 4294967296
     → IsFirstChange (values_of spans) slots end pos stop → IsNextChange values pos o → IsFirstChange (values_of (values ∷ spans)) slots end pos (min stop (unwrap_or o stop))
 one-more values spans slots end pos stop None small first next =
     let within = first.within in
@@ -48,25 +49,16 @@ one-more values spans slots end pos stop (Some q) small first next =
       ];
     }
 
--- a list of properties from one on
-from-one : (spans : List (List (Option ℕ))) (i j : ℕ) (values : List (Option ℕ)) → i ≡ j + 1 → i ≤ length spans → values ≡ get_or spans j values → values ∷ drop i spans ≡ drop j spans
-from-one spans i j values next within at =
+-- what holds of the properties from one on, with the values of the one before in front, holds of those from that one on
+pub from-back : (P : List (List (Option ℕ)) → ℕ → Type 0) (spans : List (List (Option ℕ))) (i j stop new : ℕ) (values : List (Option ℕ)) → i ≡ j + 1 → i ≤ length spans
+    → values ≡ get_or spans j values → new ≡ stop → P (values ∷ drop i spans) stop → P (drop j spans) new
+from-back P spans i j stop new values next within at is =
     let here : drop j spans ≡ get_or spans j values ∷ drop (j + 1) spans = drop_more spans j values (omega arith) in
-    ap (λ (x : List (Option ℕ)). x ∷ drop i spans) at ∙ (ap (λ (k : ℕ). get_or spans j values ∷ drop k spans) next ∙ sym here)
-
-carried : (P : List (List (Option ℕ)) → ℕ → Type 0) (xs ys : List (List (Option ℕ))) (x y : ℕ) → xs ≡ ys → y ≡ x → P xs x → P ys y
-carried P xs ys x y lists numbers h = subst (λ zs. P zs y) lists (subst (P xs) (sym numbers) h)
-
-pub from-back : (spans : List (List (Option ℕ))) (slots : List (Option Overlay)) (i j end pos stop new : ℕ) (values : List (Option ℕ)) (o : Option ℕ) → end < 4294967296 → i ≡ j + 1 → i ≤ length spans
-    → values ≡ get_or spans j values → IsNextChange values pos o → IsFirstChange (values_of (drop i spans)) slots end pos stop → new ≡ min stop (unwrap_or o stop)
-    → IsFirstChange (values_of (drop j spans)) slots end pos new
-from-back spans slots i j end pos stop new values o small next within at change first is =
-    carried (λ xs x. IsFirstChange (values_of xs) slots end pos x) _ _ _ new (from-one spans i j values next within at) is
-    (one-more values (drop i spans) slots end pos stop o small first change)
+    subst₂ P ((λ k. at k ∷ drop (next k) spans) ∙ sym here) (sym is)
 
 -- ---- back to the last change
 
-one-same : (values : List (Option ℕ)) (spans : List (List (Option ℕ))) (slots : List (Option Overlay)) (begin pos stop first : ℕ) → IsLastChange (values_of spans) slots begin pos stop
+pub one-same : (values : List (Option ℕ)) (spans : List (List (Option ℕ))) (slots : List (Option Overlay)) (begin pos stop first : ℕ) → IsLastChange (values_of spans) slots begin pos stop
     → IsFirstAlike values pos first → IsLastChange (values_of (values ∷ spans)) slots begin pos (max stop first)
 one-same values spans slots begin pos stop first so-far alike =
     let within = so-far.within in
@@ -83,10 +75,3 @@ one-same values spans slots begin pos stop first so-far alike =
         | inr more ↦ let e : stop ≡ max stop first = omega arith in subst P e (reason-cons values spans slots (stop - 1) pos stop (so-far.reason (omega arith)))
       ];
     }
-
-pub same-back : (spans : List (List (Option ℕ))) (slots : List (Option Overlay)) (i j begin pos stop new first : ℕ) (values : List (Option ℕ)) → i ≡ j + 1 → i ≤ length spans
-    → values ≡ get_or spans j values → IsFirstAlike values pos first → IsLastChange (values_of (drop i spans)) slots begin pos stop → new ≡ max stop first
-    → IsLastChange (values_of (drop j spans)) slots begin pos new
-same-back spans slots i j begin pos stop new first values next within at alike so-far is =
-    carried (λ xs x. IsLastChange (values_of xs) slots begin pos x) _ _ _ new (from-one spans i j values next within at) is
-    (one-same values (drop i spans) slots begin pos stop first so-far alike)

@@ -5,7 +5,7 @@ use Rattle.std.specs.Option.{unwrap_or}
 use Rattle.std.proofs.lemmas.Int.{ints}
 use Rattle.std.proofs.lemmas.Bool.Decides.{nat_tests}
 use Rattle.rd_base.proofs.Lists.{get-first, read-set}
-use Rattle.rd_base.specs.Faces.{Attributes, plain, over}
+use Rattle.rd_base.specs.Faces.{Attributes, plain}
 use Rattle.rd_text.specs.Texts.{TextValue}
 use Rattle.rd_overlays.specs.declared.overlay.Overlay.{Overlay}
 use Rattle.rd_overlays.specs.declared.overlay.Kind.{Kind}
@@ -21,7 +21,7 @@ use Rattle.rd_props.specs.Seen.{seen_at, Agree}
 use Rattle.rd_props.specs.Agreement.{IsInReach, IsSame, Unchanged, IsEdited}
 use Rattle.rd_props.specs.Edits.{IsPut, HasOverlays}
 use Rattle.rd_props.specs.Made.{AreMade}
-use Rattle.rd_props.proofs.Alike.{AreListings, AreAlike, SeeSame, mark_of, picked}
+use Rattle.rd_props.proofs.Alike.{AreListings, AreAlike, SeeSame, mark_of, picked, laid-by}
 use Rattle.rd_props.proofs.Texts.{ReadsAlike}
 use Rattle.rd_props.proofs.Editing.{StaysSame, same-by, stays-by}
 use Rattle.rd_props.proofs.Sees.{slot-made}
@@ -184,17 +184,11 @@ module _ (s : BufferValue) (old new : ObjectLists) (extends : Extends old new) (
       ap (λ (a : Option Attributes). unwrap_or a plain)
       (sym (get-first old.faces extends.faces.0 v (small v refl)) ∙ ap (λ (xs : List Attributes). slice_get xs v) (sym extends.faces.1))
 
-  laid-same : (numbers : List ℕ) (face : Attributes) → laid_over old s.overlays numbers face ≡ laid_over new s.overlays numbers face
-  laid-same [] face = refl
-  laid-same (n ∷ ns) face =
-      let here = face-same (value_of Face (overlay_at s.overlays n)) (λ v h. slot-made s old made n Face _ v refl h) in
-      laid-same ns (over (face_of old (value_of Face (overlay_at s.overlays n))) face)
-      ∙ ap (λ (a : Attributes). laid_over new s.overlays ns (over a face)) here
-
   seen-same : (x : ℕ) → Agree s old x s new x
   seen-same x =
       let own = face-same (property s Face x) (λ v h. made.properties Face x v h) in
-      let laid = laid-same (covering x s.overlays) (face_of old (property s Face x))
+      let laid = laid-by old new s.overlays s.overlays (covering x s.overlays) (face_of old (property s Face x))
+      (λ n _. face-same (value_of Face (overlay_at s.overlays n)) (λ v h. slot-made s old made n Face _ v refl h))
       ∙ ap (laid_over new s.overlays (covering x s.overlays)) own in
       let face : face_at s old x ≡ face_at s new x = ap (λ (a : Attributes). if nat_lt x s.text.end then a else plain) laid in
       λ i. record (seen_at s old x) { appearance = record (appearance_at s old x) { face = face i } }
