@@ -6,6 +6,7 @@
 
 mod bounds;
 mod edges;
+mod examples;
 mod fault;
 mod index;
 mod laws;
@@ -19,8 +20,8 @@ mod way;
 
 pub use fault::OverlayFault;
 pub use laws::{
-    edits_keep_starts_before_ends, insertions_at_edges, last_values_are_the_greatest_overlays,
-    listings_agree, listings_are_exact, overlays_that_meet,
+    edits_keep_starts_before_ends, last_values_are_the_greatest_overlays, listings_agree,
+    listings_are_exact,
 };
 pub use overlay::{Kind, Overlay, after_deletion};
 pub use overlays::Overlays;

@@ -1,10 +1,40 @@
 //! The definitions on worked examples.
 ghost use Rattle.std.specs.Prelude.{◌≡◌, true, false, None, Some, ◌∷◌, []};
+ghost use Rattle.rd_base.specs.Faces.{plain};
+ghost use Rattle.rd_base.specs.declared.settings.Invisible.TheVariants.{Every, Listed};
 ghost use Rattle.rd_objects.specs.Things.{nothing_made};
+ghost use Rattle.rd_props.specs.Faces.{face_at};
+ghost use Rattle.rd_props.specs.Shown.{hidden};
 ghost use Rattle.rd_props.specs.Strings.{strings_at};
 ghost use Rattle.rd_props.specs.Seen.{seen_at, Agree};
 ghost use Rattle.rd_props.specs.Edits.{with_more, with_less};
-ghost use Rattle.rd_props.specs.Examples.{enclosed};
+ghost use Rattle.rd_props.specs.declared.hiding.Hidden.TheVariants.{No, Plain, Ellipsis};
+ghost use Rattle.rd_props.specs.Examples.{enclosed, three_characters, coloured, two_faces, meeting, partly_invisible};
+
+/// A face of the text that an overlay's is laid over. A number that names no face is the plain one, and the face of the end is
+/// plain.
+fn faces_that_merge()
+    ensures before { face_at (coloured 1) two_faces 1 ≡ record plain { fg = 1 } }
+    ensures merged { face_at (coloured 1) two_faces 2 ≡ record plain { fg = 1; bg = 2 } }
+    ensures behind { face_at (coloured 1) two_faces 3 ≡ record plain { fg = 1 } }
+    ensures end { face_at (coloured 1) two_faces 4 ≡ plain }
+    ensures missing { face_at (coloured 9) two_faces 2 ≡ record plain { fg = 1 } }
+{}
+
+/// The order of the strings where five overlays meet, one of them empty.
+fn strings_that_meet()
+    ensures { strings_at (three_characters [] [] [] meeting) 2 ≡ 1 ∷ 0 ∷ 4 ∷ 5 ∷ 2 ∷ 3 ∷ [] }
+{}
+
+/// Which of three characters are hidden, where the first two have one atom and the second has a display spec.
+fn atoms_that_hide()
+    ensures every { hidden (partly_invisible Every) 1 ≡ Plain }
+    ensures replaced { hidden (partly_invisible Every) 2 ≡ No }
+    ensures without_atom { hidden (partly_invisible Every) 3 ≡ No }
+    ensures listed { hidden (partly_invisible (Listed ((8, false) ∷ (7, true) ∷ (7, false) ∷ []))) 1 ≡ Ellipsis }
+    ensures first_pair { hidden (partly_invisible (Listed ((7, false) ∷ (7, true) ∷ []))) 1 ≡ Plain }
+    ensures not_listed { hidden (partly_invisible (Listed ((8, true) ∷ []))) 1 ≡ No }
+{}
 
 /// Before the third of three characters stands the after-string of an overlay on the second.
 fn what_is_seen_of_three_characters()

@@ -1,8 +1,6 @@
 //! Laws of the definitions, for the layers above.
-ghost use Rattle.std.specs.Prelude.{◌≡◌, ◌<◌, ◌≤◌, ◌*◌, ◌+◌, ℕ, [], ◌∷◌, length, None, Some, true, false};
+ghost use Rattle.std.specs.Prelude.{◌≡◌, ◌<◌, ◌≤◌, ◌*◌, ◌+◌, ℕ, length, None, Some};
 ghost use Rattle.rd_base.specs.Cells.{HasColours};
-ghost use Rattle.rd_base.specs.Faces.{plain};
-ghost use Rattle.rd_base.specs.declared.settings.Invisible.TheVariants.{Every, Listed};
 ghost use Rattle.rd_overlays.specs.declared.overlay.Overlay.{Overlay};
 ghost use Rattle.rd_overlays.specs.declared.overlay.Kind.{Kind};
 ghost use Rattle.rd_overlays.specs.Values.{Gives, IsGreatest};
@@ -12,12 +10,10 @@ ghost use Rattle.rd_props.specs.Faces.{face_at};
 ghost use Rattle.rd_props.specs.Shown.{hidden};
 ghost use Rattle.rd_objects.specs.Sound.{AreObjects};
 ghost use Rattle.rd_objects.specs.Things.{ObjectLists};
-ghost use Rattle.rd_props.specs.Strings.{strings_at, strings_within};
+ghost use Rattle.rd_props.specs.Strings.{strings_within};
 ghost use Rattle.rd_props.specs.Appearance.{hidden_by};
 ghost use Rattle.rd_props.specs.Seen.{seen_at};
 ghost use Rattle.rd_props.specs.Stops.{IsNextStop, IsLastStop, LookAlike};
-ghost use Rattle.rd_props.specs.declared.hiding.Hidden.TheVariants.{No, Plain, Ellipsis};
-ghost use Rattle.rd_props.specs.Examples.{three_characters, coloured, two_faces, meeting, partly_invisible};
 
 use rd_overlays::{last_values_are_the_greatest_overlays, listings_agree};
 
@@ -62,29 +58,3 @@ pub fn nothing_changes_behind_the_last_stop()
 {
     listings_agree();
 }
-
-/// A face of the text that an overlay's is laid over. A number that names no face is the plain one, and the face of the end is
-/// plain. The call does nothing.
-pub fn faces_that_merge()
-    ensures before { face_at (coloured 1) two_faces 1 ≡ record plain { fg = 1 } }
-    ensures merged { face_at (coloured 1) two_faces 2 ≡ record plain { fg = 1; bg = 2 } }
-    ensures behind { face_at (coloured 1) two_faces 3 ≡ record plain { fg = 1 } }
-    ensures end { face_at (coloured 1) two_faces 4 ≡ plain }
-    ensures missing { face_at (coloured 9) two_faces 2 ≡ record plain { fg = 1 } }
-{}
-
-/// The order of the strings where five overlays meet, one of them empty. The call does nothing.
-pub fn strings_that_meet()
-    ensures { strings_at (three_characters [] [] [] meeting) 2 ≡ 1 ∷ 0 ∷ 4 ∷ 5 ∷ 2 ∷ 3 ∷ [] }
-{}
-
-/// Which of three characters are hidden, where the first two have one atom and the second has a display spec. The call does
-/// nothing.
-pub fn atoms_that_hide()
-    ensures every { hidden (partly_invisible Every) 1 ≡ Plain }
-    ensures replaced { hidden (partly_invisible Every) 2 ≡ No }
-    ensures without_atom { hidden (partly_invisible Every) 3 ≡ No }
-    ensures listed { hidden (partly_invisible (Listed ((8, false) ∷ (7, true) ∷ (7, false) ∷ []))) 1 ≡ Ellipsis }
-    ensures first_pair { hidden (partly_invisible (Listed ((7, false) ∷ (7, true) ∷ []))) 1 ≡ Plain }
-    ensures not_listed { hidden (partly_invisible (Listed ((8, true) ∷ []))) 1 ≡ No }
-{}

@@ -25,10 +25,9 @@ pub use edits::{
 pub use faces::face_at;
 pub use hiding::Hidden;
 pub use laws::{
-    atoms_that_hide, effective_values_are_the_greatest_overlays, faces_that_merge,
-    merged_faces_have_their_colours, nothing_changes_before_the_next_stop,
-    nothing_changes_behind_the_last_stop, overlays_have_two_strings, strings_that_meet,
-    what_is_seen_says_what_is_hidden,
+    effective_values_are_the_greatest_overlays, merged_faces_have_their_colours,
+    nothing_changes_before_the_next_stop, nothing_changes_behind_the_last_stop,
+    overlays_have_two_strings, what_is_seen_says_what_is_hidden,
 };
 pub use made::{edits_keep_what_is_made, made_objects_alone_are_seen};
 pub use shown::hidden;
