@@ -6,22 +6,22 @@ use Rattle.rd_text.specs.declared.stretch.Stretch.{Stretch}
 use Rattle.rd_text.proofs.Summaries.{opens-append}
 use Rattle.rd_text.proofs.stretch.Stretch.opens_before.Goals as goal
 
--- by the parts of what is kept
-joined : (s : Stretch) (codes rest : List ℕ) (opened : Bool) → s ≡ summary codes → opens rest ≡ opened → opens (codes ++ rest) ≡ (s.opens || (s.blank && opened))
-joined s codes rest opened is e =
+-- whether codes with more behind them open, by what is kept of the codes and whether what follows opens
+opens-before : (s : Stretch) (codes rest : List ℕ) (opened : Bool) → s ≡ summary codes → opens rest ≡ opened → opens (codes ++ rest) ≡ (s.opens || (s.blank && opened))
+opens-before s codes rest opened is e =
     opens-append codes rest ∙ ap (λ (b : Bool). opens codes || (list_all is_blank codes && b)) e ∙ ap (λ (t : Stretch). t.opens || (t.blank && opened)) (sym is)
 
 pub returns-then-self : goal.returns-then-self
 returns-then-self c codes rest is e =
     let s = c.args.self.now in
-    joined s codes rest c.args.opened is e ∙ ap (λ (b : Bool). b || (s.blank && c.args.opened)) c.if-self.true ∙ sym c.if-self.true
+    opens-before s codes rest c.args.opened is e ∙ ap (λ (b : Bool). b || (s.blank && c.args.opened)) c.if-self.true ∙ sym c.if-self.true
 
 pub returns-then-self-2 : goal.returns-then-self-2
 returns-then-self-2 c codes rest is e =
     let s = c.args.self.now in
-    joined s codes rest c.args.opened is e ∙ ap (λ (b : Bool). b || (s.blank && c.args.opened)) c.if-self.false ∙ ap (λ (b : Bool). b && c.args.opened) c.if-self-2.true
+    opens-before s codes rest c.args.opened is e ∙ ap (λ (b : Bool). b || (s.blank && c.args.opened)) c.if-self.false ∙ ap (λ (b : Bool). b && c.args.opened) c.if-self-2.true
 
 pub returns-else-self-2 : goal.returns-else-self-2
 returns-else-self-2 c codes rest is e =
     let s = c.args.self.now in
-    joined s codes rest c.args.opened is e ∙ ap (λ (b : Bool). b || (s.blank && c.args.opened)) c.if-self.false ∙ ap (λ (b : Bool). b && c.args.opened) c.if-self-2.false ∙ sym c.if-self-2.false
+    opens-before s codes rest c.args.opened is e ∙ ap (λ (b : Bool). b || (s.blank && c.args.opened)) c.if-self.false ∙ ap (λ (b : Bool). b && c.args.opened) c.if-self-2.false ∙ sym c.if-self-2.false
