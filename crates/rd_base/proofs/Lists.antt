@@ -192,7 +192,7 @@ lies pos from to = nat_le from pos && nat_lt pos to
 pub lies-empty : (pos from to : ℕ) → from ≡ to → lies pos from to ≡ false
 lies-empty pos from to same = grind (arith, nat_tests)
 
--- of two stretches that meet at most one has it
+-- a place lies in a stretch exactly where it lies in one of the two parts that the stretch is cut into, and in both it never lies
 pub lies-apart : (pos from mid to : ℕ) → from ≤ mid → mid ≤ to → cond (lies pos from mid) 1 0 + cond (lies pos mid to) 1 0 ≡ cond (lies pos from to) 1 0
 lies-apart pos from mid to low high = grind (arith, nat_tests)
 
