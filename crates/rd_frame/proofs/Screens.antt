@@ -2,7 +2,7 @@
 use Rattle.std.proofs.Common.{◌≡◌, ℕ, zero, suc, ◌+◌, ◌-◌, ◌<◌, ◌≤◌, Bool, true, false, Some, List, [], ◌∷◌, ◌++◌, length, take, get_or, refl, sym, ◌∙◌, ap, arith}
 use Rattle.std.specs.Prelude.{map, replicate, slice_get, if◌then◌else◌}
 use Rattle.std.specs.List.{AllByRecursion}
-use Rattle.std.proofs.lemmas.List.{append-nil, map-append, length-map, length-replicate, length-take-le, take_all, get_or-map, get_or-replicate, take_more}
+use Rattle.std.proofs.lemmas.List.{append-nil, map-append, length-map, length-take-le, take_all, get_or-map, take_more}
 use Rattle.rd_base.specs.Cells.{row_at}
 use Rattle.rd_base.specs.declared.cell.Cell.{Cell}
 use Rattle.rd_matrix.specs.declared.matrix.Entry.{Entry}
@@ -38,34 +38,56 @@ border-place false x width cells shares is = absurd (cc)
 
 -- ---- rows one after the other
 
-abbrev pub laid_on : Picture → ℕ → ℕ → List (List Cell) → Picture
+abbrev laid_on : Picture → ℕ → ℕ → List (List Cell) → Picture
 laid_on screen row column news = record screen { rows = laid_at row column news screen.rows }
+
+-- a screen of the same size, over which rows of a window's text are painted from a row on, with the border beside each
+pub record IsLaid (window : Placed) (border : Cell) (old new : Picture) (row : ℕ) (texts : List (List Cell)) : Type 0 where
+  pub painted : new ≡ laid_on old row window.rect.x (map (bordered (width_of old.rows) window border) texts)
+  pub columns : width_of new.rows ≡ width_of old.rows
+  pub rows : length new.rows ≡ length old.rows
 
 at-none : (row column : ℕ) (rows : List (List Cell)) → laid_at row column [] rows ≡ rows
 at-none zero column rows = refl
 at-none (suc row) column [] = refl
 at-none (suc row) column (top ∷ rows) = ap (λ (xs : List (List Cell)). top ∷ xs) (at-none row column rows)
 
-pub laid-none : (screen : Picture) (row column : ℕ) → screen ≡ laid_on screen row column []
-laid-none screen row column = ap (λ (rows : List (List Cell)). let p : Picture = record screen { rows = rows } in p) (sym (at-none row column screen.rows))
+pub laid-none : (window : Placed) (border : Cell) (screen : Picture) (row : ℕ) → IsLaid window border screen screen row []
+laid-none window border screen row = record {
+  painted = ap (λ (rows : List (List Cell)). let p : Picture = record screen { rows = rows } in p) (sym (at-none row window.rect.x screen.rows));
+  columns = refl;
+  rows = refl;
+}
 
 -- all rows are painted
-pub laid-whole : (old new : Picture) (row column i : ℕ) (all : List (List Cell)) → length all ≤ i → new ≡ laid_on old row column (take i all) → new ≡ record old { rows = laid_from row column all old.rows }
-laid-whole old new row column i all whole painted =
-    painted
-    ∙ (ap (laid_on old row column) (take_all i all whole)
-    ∙ ap (λ (rows : List (List Cell)). let p : Picture = record old { rows = rows } in p) (sym (at-rectangle row column all old.rows)))
+pub laid-whole : (window : Placed) (border : Cell) (old new : Picture) (row i : ℕ) (texts : List (List Cell)) → length texts ≤ i → IsLaid window border old new row (take i texts)
+    → new ≡ record old { rows = laid_from row window.rect.x (map (bordered (width_of old.rows) window border) texts) old.rows }
+laid-whole window border old new row i texts whole laid =
+    let beside = bordered (width_of old.rows) window border in
+    laid.painted
+    ∙ (ap (λ (xs : List (List Cell)). laid_on old row window.rect.x (map beside xs)) (take_all i texts whole)
+    ∙ ap (λ (rows : List (List Cell)). let p : Picture = record old { rows = rows } in p) (sym (at-rectangle row window.rect.x (map beside texts) old.rows)))
 
-pub laid-step : (old mid new : Picture) (row at column i : ℕ) (all : List (List Cell)) (cells : List Cell) → i < length all → at ≡ row + i → get_or all i [] ≡ cells
-    → mid ≡ laid_on old row column (take i all) → new ≡ record mid { rows = with_cells mid.rows at column cells } → new ≡ laid_on old row column (take (i + 1) all)
-laid-step old mid new row at column i all cells inside place here e f =
-    let before = take i all in
-    let count : length before ≡ i = length-take-le i all (omega arith) in
-    let more : with_cells (laid_at row column before old.rows) at column cells ≡ laid_at row column (take (i + 1) all) old.rows
-    = at-more row at column before cells old.rows (omega arith)
-    ∙ ap (λ (news : List (List Cell)). laid_at row column news old.rows) (ap (λ (c : List Cell). before ++ c ∷ []) (sym here) ∙ sym (take_more all i [] inside)) in
-    f ∙ (ap (λ (p : Picture). let q : Picture = record p { rows = with_cells p.rows at column cells } in q) e
-    ∙ ap (λ (rows : List (List Cell)). let q : Picture = record old { rows = rows } in q) more)
+pub laid-step : (window : Placed) (border : Cell) (old mid new : Picture) (row at i : ℕ) (texts : List (List Cell)) (cells : List Cell) → i < length texts → at ≡ row + i → get_or texts i [] ≡ cells
+    → IsLaid window border old mid row (take i texts) → new ≡ record mid { rows = with_cells mid.rows at window.rect.x (bordered (width_of mid.rows) window border cells) }
+    → width_of new.rows ≡ width_of mid.rows → length new.rows ≡ length mid.rows → IsLaid window border old new row (take (i + 1) texts)
+laid-step window border old mid new row at i texts cells inside place here laid painted columns rows =
+    let x = window.rect.x in
+    let beside = bordered (width_of old.rows) window border in
+    let before = map beside (take i texts) in
+    let count : length before ≡ i = length-map (take i texts) beside ∙ length-take-le i texts (omega arith) in
+    let news : before ++ beside cells ∷ [] ≡ map beside (take (i + 1) texts)
+    = ap (λ (c : List Cell). before ++ beside c ∷ []) (sym here) ∙ (sym (map-append beside (take i texts) (get_or texts i [] ∷ [])) ∙ ap (map beside) (sym (take_more texts i [] inside))) in
+    let more : with_cells (laid_at row x before old.rows) at x (beside cells) ≡ laid_at row x (map beside (take (i + 1) texts)) old.rows
+    = at-more row at x before (beside cells) old.rows (omega arith) ∙ ap (λ (xs : List (List Cell)). laid_at row x xs old.rows) news in
+    record {
+      painted = painted
+          ∙ (ap (λ (n : ℕ). let p : Picture = record mid { rows = with_cells mid.rows at x (bordered n window border cells) } in p) laid.columns
+          ∙ (ap (λ (p : Picture). let q : Picture = record p { rows = with_cells p.rows at x (beside cells) } in q) laid.painted
+          ∙ ap (λ (xs : List (List Cell)). let p : Picture = record old { rows = xs } in p) more));
+      columns = columns ∙ laid.columns;
+      rows = rows ∙ laid.rows;
+    }
 
 -- ---- the rows of a matrix
 
@@ -81,20 +103,13 @@ glyph-at [] (x ∷ es) (suc i) e d here = glyph-at [] es i e d here
 glyph-at (margin ∷ margins) (x ∷ es) zero e d here = let same : x ≡ e = cc in ap (λ (y : Entry). let r : GlyphRow = record { margin = margin; text = y.row.shown.cells } in r) same
 glyph-at (margin ∷ margins) (x ∷ es) (suc i) e d here = glyph-at margins es i e d here
 
--- the row at a place among the rows of a matrix, with the border beside it
-pub row-of-matrix : (width : ℕ) (window : Placed) (border : Cell) (margins : List (List Cell)) (es : List Entry) (i : ℕ) (e : Entry) → i < length es → slice_get es i ≡ Some e
-    → get_or (map (bordered width window border) (map row_cells (glyph_rows margins es))) i [] ≡ bordered width window border (get_or margins i [] ++ e.row.shown.cells)
-row-of-matrix width window border margins es i e inside here =
+-- the row at a place among the rows of a matrix
+pub row-of-matrix : (margins : List (List Cell)) (es : List Entry) (i : ℕ) (e : Entry) → i < length es → slice_get es i ≡ Some e
+    → get_or (map row_cells (glyph_rows margins es)) i [] ≡ get_or margins i [] ++ e.row.shown.cells
+row-of-matrix margins es i e inside here =
     let d : GlyphRow = record { margin = []; text = [] } in
-    let rows = glyph_rows margins es in
     let count = glyph-count margins es in
-    get_or-map (bordered width window border) (map row_cells rows) i [] [] (omega (arith, length-map rows row_cells))
-    ∙ ap (bordered width window border) (get_or-map row_cells rows i d [] (omega arith) ∙ ap row_cells (glyph-at margins es i e d here))
-
-pub row-of-blanks : (beside : List Cell → List Cell) (count columns i : ℕ) → i < count → get_or (map beside (replicate count (blank_row columns))) i [] ≡ beside (blank_row columns)
-row-of-blanks beside count columns i inside =
-    get_or-map beside (replicate count (blank_row columns)) i [] [] (omega (arith, length-replicate count (blank_row columns)))
-    ∙ ap beside (get_or-replicate count i (blank_row columns) [] inside)
+    get_or-map row_cells (glyph_rows margins es) i d [] (omega arith) ∙ ap row_cells (glyph-at margins es i e d here)
 
 -- ---- a window
 
