@@ -20,9 +20,9 @@ all-last c =
     ap (λ (t : Bool). if t then all else change_of (min c.head all.head) (max (moved all.added c.tail) all.tail) (c.added +ℤ all.added)) (or_right (is_all c) (is_all all) refl)
 
 -- the parts of a change make that change, and where it is all they need not
-joined : (c : Change) (t : Bool) (head tail : ℕ) (added : ℤ) → IsChange c → t ≡ is_all c → head ≡ c.head → tail ≡ c.tail → added ≡ c.added → (if t then all else change_of head tail added) ≡ c
-joined c true head tail added is t h l a = sym (all-is c (sym t))
-joined c false head tail added is t h l a =
+made-of-parts : (c : Change) (t : Bool) (head tail : ℕ) (added : ℤ) → IsChange c → t ≡ is_all c → head ≡ c.head → tail ≡ c.tail → added ≡ c.added → (if t then all else change_of head tail added) ≡ c
+made-of-parts c true head tail added is t h l a = sym (all-is c (sym t))
+made-of-parts c false head tail added is t h l a =
     ap (λ n. change_of n tail added) h
     ∙ (ap (λ n. change_of c.head n added) l
     ∙ (ap (λ n. change_of c.head c.tail n) a
@@ -32,13 +32,13 @@ pub none-last : (c : Change) → IsChange c → join c none ≡ c
 none-last c is =
     let head : min c.head 4294967295 ≡ c.head = let h = is.head in omega (arith, h) in
     let tail : max (c.tail + 0) 0 ≡ c.tail = omega arith in
-    joined c (is_all c || is_all none) (min c.head 4294967295) (max (c.tail + 0) 0) (c.added +ℤ pos 0) is (or-false (is_all c)) head tail (+ℤ_idr c.added)
+    made-of-parts c (is_all c || is_all none) (min c.head 4294967295) (max (c.tail + 0) 0) (c.added +ℤ pos 0) is (or-false (is_all c)) head tail (+ℤ_idr c.added)
 
 pub none-first : (c : Change) → IsChange c → moved c.added 0 ≤ c.tail → join none c ≡ c
 none-first c is low =
     let head : min 4294967295 c.head ≡ c.head = let h = is.head in omega (arith, h) in
     let tail : max (moved c.added 0) c.tail ≡ c.tail = omega (arith, low) in
-    joined c (is_all none || is_all c) (min 4294967295 c.head) (max (moved c.added 0) c.tail) (pos 0 +ℤ c.added) is refl head tail (+ℤ_idl c.added)
+    made-of-parts c (is_all none || is_all c) (min 4294967295 c.head) (max (moved c.added 0) c.tail) (pos 0 +ℤ c.added) is refl head tail (+ℤ_idl c.added)
 
 -- an edit adds no more than what stands before its tail
 
