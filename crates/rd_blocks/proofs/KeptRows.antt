@@ -1,6 +1,6 @@
 -- Rows that a block keeps are its rows.
 use Rattle.std.proofs.Common.{◌≡◌, ◌⊎◌, inl, inr, ℕ, zero, suc, ◌+◌, ◌<◌, ◌≤◌, ◌==◌, nat_le, Bool, true, false, not, if◌then◌else◌, List, [], ◌∷◌, length, Option, None, Some, refl, sym, ap, subst, ◌∙◌, arith}
-use Rattle.std.specs.Prelude.{pos, ◌-ℤ◌, ◌^◌, slice_get}
+use Rattle.std.specs.Prelude.{pos, ◌-ℤ◌, slice_get}
 use Rattle.std.specs.List.{list_all}
 use Rattle.std.specs.Ordering.{int_eq}
 use Rattle.std.proofs.lemmas.Bool.{and_parts, both_ways, leb-true, not-true, or_cases}
@@ -245,13 +245,3 @@ module _ (laws : FreshLaws) (old new : BufferValue) (made objects : ObjectLists)
   rows-fresh b among kept =
       let parts = and_parts (is_outside c b) (are_whole b.base (shown_rows (taken es c b.start))) kept in
       fresh b among parts.0 parts.1
-
--- no block of a text reaches 2^32
-pub ends-small : ((s : BufferValue) → s.text.begin ≤ s.text.end → (k : ℕ) (b : ℕ × ℕ) → slice_get (blocks_of s) k ≡ Some b → IsBlock s b.0 b.1) → (s : BufferValue) (objects : ObjectLists) (files : Data) → IsText s.text
-    → (b : Block) → IsAmong (text_source s objects files).blocks b → b.end < 2 ^ 32
-ends-small listed s objects files text b among =
-    let block = among-block files.classes s (listed s text.ordered) b among in
-    let last = block.last in
-    let within = text.last in
-    let short = text.short in
-    omega arith

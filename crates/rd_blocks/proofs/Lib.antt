@@ -9,7 +9,7 @@ pub mod Listed
 mod Prefixes
 mod Made
 mod Local
-mod SameReading
+pub mod SameReading
 mod EntryBlocks
 mod KeptRows
 pub mod Leading

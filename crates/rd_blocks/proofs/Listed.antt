@@ -1,11 +1,11 @@
 -- A block of a buffer stands in the list of its blocks, and those behind and before it are found by where they start and end.
-use Rattle.std.proofs.Common.{◌≡◌, ℕ, suc, ◌+◌, ◌-◌, ◌<◌, ◌≤◌, true, List, inl, inr, None, Some, refl, ap, sym, subst, ◌∙◌, arith}
+use Rattle.std.proofs.Common.{◌≡◌, ℕ, suc, ◌+◌, ◌-◌, ◌^◌, ◌<◌, ◌≤◌, true, List, inl, inr, None, Some, refl, ap, sym, subst, ◌∙◌, arith}
 use Rattle.std.specs.Prelude.{slice_get}
 use Rattle.std.specs.Option.{option_map}
 use Rattle.std.proofs.lemmas.Bool.{cases_lt}
 use Rattle.std.proofs.lemmas.Option.{slice_get-map}
 use Rattle.rd_base.proofs.Lists.{get-map}
-use Rattle.rd_text.specs.Texts.{IsAccessible}
+use Rattle.rd_text.specs.Texts.{IsAccessible, IsText}
 use Rattle.rd_ucd.specs.declared.spans.Span.{Span}
 use Rattle.rd_props.specs.Buffers.{BufferValue}
 use Rattle.rd_items.specs.Blocks.{blocks_of, Adjoin, StartsBlock, IsBlock, IsBlockAt, is_shown_newline}
@@ -89,6 +89,14 @@ module _ (classes : List Span) (s : BufferValue) where
   among-block blocks b among =
       let found = get-map (block_in classes s) (blocks_of s) among.0 b among.1 in
       subst (λ (x : Block). IsBlock s x.start x.end) found.2 (blocks among.0 found.0 found.1)
+
+  -- so none reaches 2^32
+  pub among-small : ((k : ℕ) (b : ℕ × ℕ) → slice_get (blocks_of s) k ≡ Some b → IsBlock s b.0 b.1) → IsText s.text → (b : Block) → IsAmong (blocks_in classes s) b → b.end < 2 ^ 32
+  among-small blocks text b among =
+      let last = (among-block blocks b among).last in
+      let within = text.last in
+      let short = text.short in
+      omega arith
 
   pub among-base : (b : Block) → IsAmong (blocks_in classes s) b → b.base ≡ block_base classes s b.start
   among-base b among =

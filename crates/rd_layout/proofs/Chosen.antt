@@ -23,7 +23,7 @@ module _ (m : SourceValues) (shape : ShapeValues) (source : IsSource m) (is : Is
   abbrev pub Inside : ℕ → Type 0
   Inside p = IsWithin p m.blocks
 
-  pub block-inside : (b : Block) → IsAmong m.blocks b → (p : ℕ) → b.start ≤ p → p < b.end → Inside p
+  block-inside : (b : Block) → IsAmong m.blocks b → (p : ℕ) → b.start ≤ p → p < b.end → Inside p
   block-inside b at p low high = among-within m.blocks b p source.blocks.stand at low high
 
   view-inside : (height start : ℕ) → AllByRecursion Inside (first_positions (take height (drop start (rows_at m shape))))

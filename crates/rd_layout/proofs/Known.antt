@@ -129,7 +129,7 @@ module _ (laws : StepLaws) (s t : StateValue) (op : Op) (valid : IsValid s) (for
       let seen-same : seen both.1.content ≡ seen both.0.content = moves.contents number v.buffer both.0 both.1 both.2 both.3 quiet in
       let text = subst (λ (x : ContentValue). IsText x.text) both.4 content.text in
       let named = subst (λ (x : ContentValue). AreMade (seen x) s.objects) both.4 content.names in
-      let over = objects-over laws.over (seen (shown_content s w)) s.objects t.objects valid.closed named (laws.objects s t op valid form is) text laws.views files w.anchor l known.shape (known.stands before rest.0) in
+      let over = objects-over laws.over (seen (shown_content s w)) s.objects t.objects valid.closed named (laws.objects s t op valid form is) text laws.views files w.anchor l (known.stands before rest.0) in
       let one-seen : seen (shown_content s w) ≡ seen (shown_content t v) = ap seen (sym both.4) ∙ (sym seen-same ∙ ap seen both.5) in
       subst₂ (λ (x : props.BufferValue) (a : Anchor). Stands (text_source x t.objects files) a l) one-seen (sym rest.1) over
 

@@ -1,25 +1,26 @@
 -- A last layout stands over a later state in which nothing changed of what its window shows.
-use Rattle.std.proofs.Common.{◌≡◌, ◌⊎◌, inl, inr, ℕ, zero, suc, ◌+◌, ◌-◌, ◌<◌, ◌≤◌, ◌==◌, ◌&&◌, ◌||◌, min, max, nat_le, Bool, true, false, if◌then◌else◌, ◌+ℤ◌, [], ◌∷◌, ap, refl, subst, ◌∙◌, arith}
+use Rattle.std.proofs.Common.{◌≡◌, ◌⊎◌, inl, inr, ℕ, ◌^◌, ◌<◌, ◌==◌, ◌&&◌, ◌||◌, min, max, nat_le, Bool, true, false, if◌then◌else◌, ◌+ℤ◌, ap, refl, subst, ◌∙◌, arith}
 use Rattle.std.proofs.lemmas.Bool.{leb-true}
 use Rattle.rd_base.specs.declared.settings.Anchor.{Anchor}
 use Rattle.rd_base.specs.Settings.{without_flags}
+use Rattle.rd_blocks.proofs.Listed.{among-block, among-small}
+use Rattle.rd_blocks.proofs.SameReading.{reads-before}
 use Rattle.rd_blocks.specs.Bases.{blocks_in}
 use Rattle.rd_blocks.specs.Leads.{LeadsTo}
 use Rattle.rd_blocks.specs.Sources.{rows_in, text_source}
-use Rattle.rd_items.specs.Readings.{ends_block, reading, reading_from}
-use Rattle.rd_matrix.proofs.HeldLemmas.{later-start}
-use Rattle.rd_matrix.specs.Blocks.{IsAmong, first_start}
+use Rattle.rd_items.specs.Blocks.{IsBlock}
+use Rattle.rd_items.specs.Readings.{reading}
+use Rattle.rd_matrix.specs.Blocks.{IsAmong}
 use Rattle.rd_matrix.specs.Sources.{SourceValues}
 use Rattle.rd_matrix.specs.declared.block.Block.{Block}
 use Rattle.rd_objects.specs.Sound.{IsClosed, Extends}
 use Rattle.rd_objects.specs.Things.{ObjectLists}
 use Rattle.rd_props.specs.Buffers.{BufferValue}
 use Rattle.rd_props.specs.Made.{AreMade}
-use Rattle.rd_props.specs.Seen.{seen_at}
 use Rattle.rd_reuse.specs.Changes.{IsChange, all, change_of, edit, is_all, is_none, is_small, join, moved, none}
 use Rattle.rd_reuse.specs.declared.change.Change.{Change}
 use Rattle.rd_rows.specs.Laws.{seen_rows}
-use Rattle.rd_rows.specs.Shapes.{IsShape, ShapeValues}
+use Rattle.rd_rows.specs.Shapes.{ShapeValues}
 use Rattle.rd_state.specs.declared.effect.Effect.{Effect}
 use Rattle.rd_state.specs.declared.effect.Effect.TheVariants.{Nothing, Edit, Moved, All, Window}
 use Rattle.rd_text.specs.Texts.{IsText}
@@ -29,8 +30,6 @@ use Rattle.rd_window.specs.declared.layout.Layout.{Layout}
 use Rattle.rd_layout.specs.Changes.{change_by, if_shown, restyled}
 use Rattle.rd_layout.specs.Laws.{ViewLaws}
 use Rattle.rd_layout.proofs.Calm.{edit-tail, joined-tail, moved-tail, tail-told}
-use Rattle.rd_layout.proofs.Chosen.{block-inside}
-use Rattle.rd_layout.proofs.Settling.{accessible}
 
 -- what the layers below say
 pub record OverLaws : Type 0 where
@@ -87,35 +86,20 @@ first-none laws x y is same h = subst (λ (c : Change). is_none c ≡ true) (ap 
 -- ---- objects that were made since
 
 module _ (laws : OverLaws) (s : BufferValue) (made objects : ObjectLists) (closed : IsClosed made) (named : AreMade s made) (extends : Extends made objects) (text : IsText s.text) where
-  agree : (p : ℕ) → s.text.begin ≤ p → p ≤ s.text.end → seen_at s made p ≡ seen_at s objects p
-  agree p low high = elim (laws.grown s made objects closed named extends) [
+  same-reading : (b : Block) → IsBlock s b.start b.end → b.end < 2 ^ 32 → reading s made b.start ≡ reading s objects b.start
+  same-reading b block small = elim (laws.grown s made objects closed named extends) [
     | inl same ↦ absurd (none-not-all same)
-    | inr leads ↦
-        let last = text.last in
-        let short = text.short in
-        (leads.follows.unchanged.before p low (omega arith) (inl high)).agree
+    | inr leads ↦ reads-before s made s objects refl none leads.follows.unchanged b.start b.end block (omega arith)
   ] where
     none-not-all : none ≡ all → ⊥
     none-not-all h = let heads : 4294967295 ≡ 0 = ap (λ (c : Change). c.head) h in absurd (omega (arith, heads))
 
-  reads-same : (n p : ℕ) → s.text.begin ≤ p → p + n ≤ s.text.end → reading_from s made n p ≡ reading_from s objects n p
-  reads-same zero p low high = let here = agree p low (omega arith) in λ i. here i ∷ []
-  reads-same (suc n) p low high =
-      let here = agree p low (omega arith) in
-      let behind = reads-same n (suc p) (omega arith) (omega arith) in
-      λ i. here i ∷ (if ends_block s p then [] else behind i)
+  block-rows : (views : ViewLaws) (files : Data) (shape : ShapeValues) (b : Block) → IsAmong (blocks_in files.classes s) b → seen_rows (rows_in s objects files b shape) ≡ seen_rows (rows_in s made files b shape)
+  block-rows views files shape b among =
+      let blocks = views.listed s text.ordered in
+      let reads = same-reading b (among-block files.classes s blocks b among) (among-small files.classes s blocks text b among) in
+      ap seen_rows (laws.local s s made objects files b b shape refl closed named extends refl reads)
 
-  same-reading : (p : ℕ) → s.text.begin ≤ p → p ≤ s.text.end → reading s made p ≡ reading s objects p
-  same-reading p low high = reads-same (s.text.end - p) p low (omega arith)
-
-  block-rows : (views : ViewLaws) (files : Data) (shape : ShapeValues) (is : IsShape shape) (b : Block) → IsAmong (blocks_in files.classes s) b
-      → seen_rows (rows_in s objects files b shape) ≡ seen_rows (rows_in s made files b shape)
-  block-rows views files shape is b among =
-      let source = views.source s made files text in
-      let some = (later-start (first_start (blocks_in files.classes s)) among.0 (blocks_in files.classes s) b source.blocks.stand among.1).1 in
-      let inside = accessible views files.classes s b.start text (block-inside (text_source s made files) shape source is b among b.start (omega arith) some) in
-      ap seen_rows (laws.local s s made objects files b b shape refl closed named extends refl (same-reading b.start inside.0 inside.1))
-
-  pub objects-over : (views : ViewLaws) (files : Data) (anchor : Anchor) (l : Layout) → IsShape l.shape → Stands (text_source s made files) anchor l → Stands (text_source s objects files) anchor l
-  objects-over views files anchor l is stands =
-      laws.stand (text_source s made files) (text_source s objects files) anchor l refl (block-rows views files l.shape is) stands
+  pub objects-over : (views : ViewLaws) (files : Data) (anchor : Anchor) (l : Layout) → Stands (text_source s made files) anchor l → Stands (text_source s objects files) anchor l
+  objects-over views files anchor l stands =
+      laws.stand (text_source s made files) (text_source s objects files) anchor l refl (block-rows views files l.shape) stands

@@ -1,17 +1,15 @@
 -- The items that begin in the rows of a last layout end at positions.
-use Rattle.std.proofs.Common.{◌-◌, ◌^◌, ◌<◌, List, arith}
+use Rattle.std.proofs.Common.{List, arith}
 use Rattle.std.proofs.lemmas.List.Elements.{All-map}
 use Rattle.rd_base.proofs.Lists.{all-at}
 use Rattle.std.specs.List.{All}
 use Rattle.std.specs.Prelude.{slice_index_or}
+use Rattle.rd_blocks.proofs.Listed.{among-small}
 use Rattle.rd_blocks.specs.Kept.{AreRowsAt}
 use Rattle.rd_blocks.specs.Sources.{text_source}
 use Rattle.rd_matrix.proofs.EachRow.{begins-each}
-use Rattle.rd_matrix.proofs.HeldLemmas.{later-start}
-use Rattle.rd_matrix.specs.Blocks.{IsAmong, first_start}
 use Rattle.rd_matrix.specs.Entries.{shown_entries, shown_entry}
 use Rattle.rd_matrix.specs.Sources.{IsSource, SourceValues, rows_at}
-use Rattle.rd_matrix.specs.declared.block.Block.{Block}
 use Rattle.rd_matrix.specs.declared.matrix.Entry.{Entry}
 use Rattle.rd_objects.specs.Things.{ObjectLists}
 use Rattle.rd_props.specs.Buffers as props
@@ -24,8 +22,6 @@ use Rattle.rd_visual.specs.Hits.{AreInPositions, AreInRow, Fits}
 use Rattle.rd_window.specs.declared.layout.Layout.{Layout}
 use Rattle.rd_layout.specs.Laws.{ViewLaws}
 use Rattle.rd_layout.specs.Since.{IsKnown}
-use Rattle.rd_layout.proofs.Chosen.{block-inside}
-use Rattle.rd_layout.proofs.Settling.{accessible}
 
 module _ (views : ViewLaws) (s : props.BufferValue) (objects : ObjectLists) (files : Data) (shape : ShapeValues) (text : IsText s.text) (is : IsShape shape) where
   abbrev m : SourceValues
@@ -34,18 +30,9 @@ module _ (views : ViewLaws) (s : props.BufferValue) (objects : ObjectLists) (fil
   source : IsSource m
   source = views.source s objects files text
 
-  block-end : (b : Block) → IsAmong m.blocks b → b.end < 2 ^ 32
-  block-end b at =
-      let some = (later-start (first_start m.blocks) at.0 m.blocks b source.blocks.stand at.1).1 in
-      let inside = accessible views files.classes s (b.end - 1) text (block-inside m shape source is b at (b.end - 1) (omega arith) (omega arith)) in
-      let high = inside.1 in
-      let last = text.last in
-      let short = text.short in
-      omega arith
-
   rows-fit : All AreInRow (rows_at m shape)
   rows-fit = begins-each Fits (λ b. m.rows_of b shape) m.blocks (λ b at. λ k x below.
-      let low = block-end b at in
+      let low = among-small files.classes s (views.listed s text.ordered) text b at in
       let lies = (source.rows b shape at is).inside k x below in
       let high = lies.1 in
       omega (arith, low, high))

@@ -1,5 +1,6 @@
 use Rattle.rd_blocks.proofs.EntryBlocks.{slice-rows}
-use Rattle.rd_blocks.proofs.KeptRows.{rows-fresh, ends-small}
+use Rattle.rd_blocks.proofs.KeptRows.{rows-fresh}
+use Rattle.rd_blocks.proofs.Listed.{among-small}
 use Rattle.rd_blocks.proofs.locality.kept_rows_are_fresh.Goals as goal
 
 pub returns-clause-changed : goal.returns-clause-changed
@@ -13,7 +14,7 @@ returns-clause-changed c = λ old new made objects files change shape rows right
 pub returns-clause-all : goal.returns-clause-all
 returns-clause-all c = λ s objects files shape rows text.
     c.all_keeps_no_block.ensures.source _ rows shape (c.buffers_are_sources.ensures s objects files text)
-    (ends-small c.blocks_are_listed.ensures.blocks s objects files text)
+    (among-small files.classes s (c.blocks_are_listed.ensures.blocks s text.ordered) text)
 
 pub returns-clause-rows : goal.returns-clause-rows
 returns-clause-rows c = slice-rows
