@@ -1,9 +1,10 @@
 -- The items of rows that cover a position, and the hits of these rows.
 use Rattle.std.proofs.Common.{◌≡◌, ℕ, zero, suc, ◌+◌, ◌<◌, ◌≤◌, nat_le, nat_lt, Bool, true, false, cond, List, [], ◌∷◌, ◌++◌, length, Option, None, Some, All, refl, ap, sym, ◌∙◌, subst, arith, add-one}
-use Rattle.std.specs.Prelude.{count_by, slice_get}
+use Rattle.std.specs.Prelude.{count_by, option_and_then, slice_get}
 use Rattle.std.specs.Option.{option_map}
 use Rattle.std.proofs.lemmas.Bool.{and_parts}
 use Rattle.std.proofs.lemmas.Bool.Decides.{nat_tests}
+use Rattle.std.proofs.lemmas.Option.{slice_get-map, slice_get_past}
 use Rattle.rd_base.proofs.Lists.{all-at, total-append}
 use Rattle.rd_matrix.proofs.Covering.{covering, count_at, few-whole}
 use Rattle.rd_matrix.proofs.EachRow.{entry-at}
@@ -80,34 +81,29 @@ hit-column es row column point e true None there cell found hit = absurd cc
 hit-column es row column point e true (Some b) there cell found hit =
     record { entry = e; item = b; there = there; cell = let lt = cell in grind (arith, nat_tests); found = found; least = cc }
 
-moved-down : (x : EntryMeaning) (es : List EntryMeaning) (row column point : ℕ) → IsHit es row column point → IsHit (x ∷ es) (suc row) column point
-moved-down x es row column point h = record { entry = h.entry; item = h.item; there = h.there; cell = h.cell; found = h.found; least = h.least }
-
 hit-parts : (es : List EntryMeaning) (row column point : ℕ) → hit_in es row column ≡ Some point → IsHit es row column point
-hit-parts [] row column point hit = absurd cc
-hit-parts (e ∷ es) zero column point hit = hit-column (e ∷ es) zero column point e _ _ refl refl refl hit
-hit-parts (e ∷ es) (suc row) column point hit = moved-down e es row column point (hit-parts es row column point hit)
+hit-parts es row column point hit = by (slice_get es row) refl hit where
+  by : (o : Option EntryMeaning) → slice_get es row ≡ o → option_and_then (λ e. least_at e column) o ≡ Some point → IsHit es row column point
+  by None there hit = absurd cc
+  by (Some e) there hit = hit-column es row column point e _ _ there refl refl hit
 
-hit-there : (es : List EntryMeaning) (row column : ℕ) (e : EntryMeaning) → slice_get es row ≡ Some e → hit_in es row column ≡ least_at e column
-hit-there [] row column e there = absurd cc
-hit-there (x ∷ xs) zero column e there = let same : x ≡ e = cc in ap (λ (y : EntryMeaning). least_at y column) same
-hit-there (x ∷ xs) (suc row) column e there = hit-there xs row column e there
+-- what is hit of a row that may not be there
+hit-of : (es : List EntryMeaning) (row column : ℕ) (o : Option EntryMeaning) → slice_get es row ≡ o → hit_in es row column ≡ option_and_then (λ e. least_at e column) o
+hit-of es row column o there = ap (option_and_then (λ (e : EntryMeaning). least_at e column)) there
 
 hit-made : (es : List EntryMeaning) (row column : ℕ) (e : EntryMeaning) (b : Begin) → slice_get es row ≡ Some e → column < length e.row.cells → item_at (reading_column e.row column) e.row.begins ≡ Some b
     → hit_in es row column ≡ Some (e.start + b.from)
 hit-made es row column e b there cell found =
     let lt : nat_lt column (length e.row.cells) ≡ true = grind (arith, nat_tests) in
-    hit-there es row column e there ∙ rw (lt, found) refl
+    hit-of es row column (Some e) there ∙ rw (lt, found) refl
 
 -- what the code needs
 
 pub hit-outside : (es : List Entry) (row column : ℕ) → length es ≤ row → hit_in (shown_entries es) row column ≡ None
-hit-outside [] row column out = refl
-hit-outside (e ∷ es) zero column out = absurd (omega (arith, out))
-hit-outside (e ∷ es) (suc row) column out = hit-outside es row column (omega (arith, out))
+hit-outside es row column out = hit-of (shown_entries es) row column None (slice_get-map shown_entry es row ∙ ap (option_map shown_entry) (slice_get_past es row out))
 
 pub hit-entry : (es : List Entry) (row column : ℕ) (e : Entry) → slice_get es row ≡ Some e → hit_in (shown_entries es) row column ≡ least_at (shown_entry e) column
-hit-entry es row column e there = hit-there (shown_entries es) row column (shown_entry e) (entry-at es row e there)
+hit-entry es row column e there = hit-of (shown_entries es) row column (Some (shown_entry e)) (entry-at es row e there)
 
 pub fits-entry : (es : List Entry) (row : ℕ) (e : Entry) → AreInPositions (shown_entries es) → slice_get es row ≡ Some e → AreInRow (shown_entry e)
 fits-entry es row e fits there = all-at AreInRow (shown_entries es) row (shown_entry e) fits (entry-at es row e there)

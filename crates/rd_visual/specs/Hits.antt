@@ -1,5 +1,5 @@
 -- Which position a cell shows.
-use Rattle.std.specs.Prelude.{◌≡◌, ℕ, zero, suc, ◌+◌, ◌^◌, ◌<◌, ◌==◌, ◌&&◌, nat_lt, nat_le, Bool, if◌then◌else◌, List, [], ◌∷◌, ◌++◌, length, All, Option, None, Some}
+use Rattle.std.specs.Prelude.{◌≡◌, ℕ, ◌+◌, ◌^◌, ◌<◌, ◌==◌, ◌&&◌, nat_lt, nat_le, Bool, if◌then◌else◌, List, [], ◌∷◌, ◌++◌, length, slice_get, All, Option, None, Some, option_and_then}
 use Rattle.std.specs.Option.{option_map}
 use Rattle.rd_matrix.specs.Columns.{shown_column}
 use Rattle.rd_matrix.specs.Entries.{EntryMeaning}
@@ -42,9 +42,7 @@ least_at e column = option_map (λ b. e.start + b.from) (item_of_cell e.row colu
 
 -- the least position that the item of a cell covers, by row and column, and None where there is no such row
 abbrev pub hit_in : List EntryMeaning → ℕ → ℕ → Option ℕ
-hit_in [] row column = None
-hit_in (e ∷ es) zero column = least_at e column
-hit_in (e ∷ es) (suc row) column = hit_in es row column
+hit_in es row column = option_and_then (λ e. least_at e column) (slice_get es row)
 
 -- an item of a row whose block begins at a position, up to the end of which each place fits a position
 abbrev pub Fits : ℕ → Begin → Type 0

@@ -16,7 +16,6 @@ returns c = λ s text. record {
       record {
         size = c.blocks_are_read_whole.ensures.length s objects b.start b.end is;
         tile = c.items_cover_their_block.ensures.tile scene es read;
-        give = c.items_cover_their_block.ensures.give scene es read;
         end = c.items_cover_their_block.ensures.end scene es read;
       };
 }
