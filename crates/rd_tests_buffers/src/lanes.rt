@@ -1,4 +1,5 @@
 //! Searches at each length from 0 to 65, so with and without numbers behind the last whole lanes.
+use crate::claims::assert_at_length;
 use rd_lanes::{all_below, count, find, first_diff, last_diff, rfind};
 use std::test::Fail;
 
@@ -59,8 +60,8 @@ fn differ_at(a: &[u64], b: &[u64], at: usize) -> bool {
 #[test]
 fn searches_at_each_length(rt: HostRuntime) -> Result<(), Fail> {
     for length in 0..=LONGEST {
-        assert!(rt; are_searched(length));
-        assert!(rt; are_compared(length));
+        assert_at_length(&rt, "searches", length, are_searched(length));
+        assert_at_length(&rt, "comparisons", length, are_compared(length));
     }
     Ok(())
 }

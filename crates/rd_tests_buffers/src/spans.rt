@@ -1,5 +1,7 @@
 //! Spans on a few positions.
+use crate::claims::assert_of;
 use rd_spans::Spans;
+use std::process::Abort;
 use std::test::Fail;
 
 #[test]
@@ -36,6 +38,30 @@ fn positions_are_taken_away(rt: HostRuntime) -> Result<(), Fail> {
     Ok(())
 }
 
+/// Positions behind edits at many places, and their values.
+const VALUES: [(&'static str, u32, Option<u32>); 13] = [
+    ("before all values", 4, None),
+    ("what is left of the first value", 5, Some(3)),
+    ("behind the positions that were taken away", 6, Some(1)),
+    ("the last one before those that were opened", 8, Some(1)),
+    ("the first one that was opened", 9, None),
+    ("the last one that was opened", 13, None),
+    ("the first one behind those that were opened", 14, Some(1)),
+    ("the last one of the second value", 18, Some(1)),
+    ("behind the second value", 19, None),
+    ("the last one of those whose value was cleared", 31, None),
+    ("the first one that is left of the third value", 32, Some(2)),
+    ("the last one of the third value", 38, Some(2)),
+    ("behind all values", 39, None),
+];
+
+/// Asserts which values those positions have.
+fn assert_values(rt: &impl Abort, spans: &Spans) {
+    for (name, pos, value) in &VALUES {
+        assert_of(rt, name, spans.at(*pos) == *value);
+    }
+}
+
 #[test]
 fn edits_move_the_gap(rt: HostRuntime) -> Result<(), Fail> {
     let mut spans = Spans::new(rt.alloc())?;
@@ -45,24 +71,7 @@ fn edits_move_the_gap(rt: HostRuntime) -> Result<(), Fail> {
     spans.inserted(15, 5)?;
     spans.put(33, 38, None)?;
     spans.deleted(6, 12);
-    let rows = [
-        (4, None),
-        (5, Some(3)),
-        (6, Some(1)),
-        (8, Some(1)),
-        (9, None),
-        (13, None),
-        (14, Some(1)),
-        (18, Some(1)),
-        (19, None),
-        (31, None),
-        (32, Some(2)),
-        (38, Some(2)),
-        (39, None),
-    ];
-    for (pos, wanted) in rows {
-        assert_eq!(rt; spans.at(pos), wanted);
-    }
+    assert_values(&rt, &spans);
     assert_eq!(rt; spans.next_change(6), Some(9));
     assert_eq!(rt; spans.next_change(9), Some(14));
     assert_eq!(rt; spans.next_change(32), Some(39));
