@@ -1,5 +1,5 @@
 -- A step leads from a valid state to a valid one: the ops on buffers and on objects.
-use Rattle.std.proofs.Common.{◌≡◌, ℕ, ◌+◌, ◌≤◌, ◌&&◌, Bool, true, false, is_some, if◌then◌else◌, nat_lt, nat_le, ℤ, Option, Some, Result, Ok, Err, List, [], ◌∷◌, ◌++◌, length, map, min, max, subst, sym, ap, refl, ◌∙◌, arith, IsTrue}
+use Rattle.std.proofs.Common.{◌≡◌, ℕ, ◌+◌, ◌≤◌, ◌&&◌, Bool, true, false, is_some, if◌then◌else◌, nat_lt, nat_le, ℤ, Option, Some, Result, Ok, Err, List, [], ◌∷◌, ◌++◌, length, map, min, max, subst, sym, refl, arith, IsTrue}
 use Rattle.std.proofs.lemmas.Bool.{leb-true, or_right}
 use Rattle.std.proofs.lemmas.Bool.Decides.{nat_tests}
 use Rattle.std.proofs.lemmas.List.Elements.{All-map, All-weaker}
@@ -95,14 +95,16 @@ insertion-means pos new c d h =
     let m = both-ok (is_accessible c.text pos) (has_room c.text new) (grown c pos new) TextTooLarge OutOfRange d h in
     (is_accessible-means c.text pos m.0, leb-true (length c.text.text + length new) most_characters m.1, m.2)
 
+-- what an edit makes is what it gives
+made-keeps : (o : ObjectLists) (f : ℕ → ℕ) (c made d : ContentValue) → made ≡ d → IsContent o made → ((p : ℕ) → IsAccessible c.text p → IsAccessible made.text (f p))
+    → IsContent o d × ((p : ℕ) → IsAccessible c.text p → IsAccessible d.text (f p))
+made-keeps o f c made d same v at = subst (λ (x : ContentValue). IsContent o x × ((p : ℕ) → IsAccessible c.text p → IsAccessible x.text (f p))) same (v, at)
+
 pub insertion-keeps : (texts : TextLaws) (made : MadeLaws) (o : ObjectLists) (pos : ℕ) (new : List ℕ) → AreCodes new → Keeps o (place_after (Inserted pos (length new))) (insertion pos new)
 insertion-keeps texts made o pos new codes c d v h =
-    let m = insertion-means pos new c d h in (
-      subst (IsContent o) m.2 (grown-valid texts made o c pos new v codes m.0 m.1),
-      λ p a.
-          let moves = place-moves (nat_lt pos p) p (length new) in
-          subst (λ (x : ContentValue). IsAccessible x.text (point_after_insertion pos (length new) p)) m.2 (omega (arith, moves.0, a.0), omega (arith, moves.1, a.1)),
-    )
+    let m = insertion-means pos new c d h in
+    made-keeps o (point_after_insertion pos (length new)) c (grown c pos new) d m.2 (grown-valid texts made o c pos new v codes m.0 m.1)
+    (λ p a. let moves = place-moves (nat_lt pos p) p (length new) in (omega (arith, moves.0, a.0), omega (arith, moves.1, a.1)))
 
 pub deletion-means : (from to : ℕ) (c d : ContentValue) → deletion from to c ≡ Ok d → IsAccessibleRange c.text from to × (shrunk c from to ≡ d)
 deletion-means from to c d h =
@@ -112,11 +114,9 @@ deletion-means from to c d h =
 pub deletion-keeps : (texts : TextLaws) (made : MadeLaws) (o : ObjectLists) (from to : ℕ) → Keeps o (place_after (Deleted from to)) (deletion from to)
 deletion-keeps texts made o from to c d v h =
     let m = deletion-means from to c d h in
-    let at = m.0 in (
-      subst (IsContent o) m.1 (shrunk-valid texts made o c from to v at),
-      λ p a. subst (λ (x : ContentValue). IsAccessible x.text (after_deletion from to p)) m.1
-          (deletion-within c.text.begin c.text.end from to p at.first at.ordered at.last a.0 a.1),
-    )
+    let at = m.0 in
+    made-keeps o (after_deletion from to) c (shrunk c from to) d m.1 (shrunk-valid texts made o c from to v at)
+    (λ p a. deletion-within c.text.begin c.text.end from to p at.first at.ordered at.last a.0 a.1)
 
 brought : (from to p : ℕ) → from ≤ to → (from ≤ max from (min p to)) × (max from (min p to) ≤ to)
 brought from to p h = (omega arith, omega arith)
@@ -129,26 +129,20 @@ narrowing-means from to c d h =
 pub narrowing-keeps : (texts : TextLaws) (o : ObjectLists) (from to : ℕ) → Keeps o (place_after (Narrowed from to)) (narrowing from to)
 narrowing-keeps texts o from to c d v h =
     let m = narrowing-means from to c d h in
-    let at = m.0 in
-    let ordered = at.ordered in (
-      subst (IsContent o) m.1 (narrowed-valid texts o c from to v at),
-      λ p a. subst (λ (x : ContentValue). IsAccessible x.text (brought_into from to p)) m.1 (brought from to p ordered),
-    )
+    made-keeps o (brought_into from to) c _ d m.1 (narrowed-valid texts o c from to v m.0) (λ p a. brought from to p m.0.ordered)
 
 pub widening-keeps : (texts : TextLaws) (o : ObjectLists) → Keeps o (λ p. p) widening
 widening-keeps texts o c d v h =
     let made : ContentValue = record c { text = record { text = c.text.text; begin = 1; end = length c.text.text + 1 } } in
     let same : made ≡ d = cc (h) in
     let first = v.text.first in
-    let last = v.text.last in (
-      subst (IsContent o) same (widened-valid texts o c v),
-      λ p a. let low = a.0 in let high = a.1 in subst (λ (x : ContentValue). IsAccessible x.text p) same (omega arith, omega arith),
-    )
+    let last = v.text.last in
+    made-keeps o (λ p. p) c made d same (widened-valid texts o c v) (λ p a. let low = a.0 in let high = a.1 in (omega arith, omega arith))
 
 -- an edit that leaves the text
 pub text-kept : (o : ObjectLists) (c made d : ContentValue) → made ≡ d → made.text ≡ c.text → IsContent o made
     → IsContent o d × ((p : ℕ) → IsAccessible c.text p → IsAccessible d.text p)
-text-kept o c made d same text v = (subst (IsContent o) same v, λ p a. subst (λ (x : TextValue). IsAccessible x p) (sym text ∙ ap (λ (x : ContentValue). x.text) same) a)
+text-kept o c made d same text v = made-keeps o (λ p. p) c made d same v (λ p. subst (λ (x : TextValue). IsAccessible x p) (sym text))
 
 pub putting-means : (o : ObjectLists) (from to : ℕ) (kind : Kind) (value : Option ℕ) (c d : ContentValue) → property_putting o from to kind value c ≡ Ok d
     → IsAccessibleRange c.text from to × (is_value_made o kind value ≡ true) × (with_property c from to kind value ≡ d)
