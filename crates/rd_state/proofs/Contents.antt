@@ -58,15 +58,19 @@ settings-kept o s t a b d h = record {
   wrap_prefix = subst (λ (x : Option ℕ). IfSome x (λ number. number < length o.strings)) (sym d) h.wrap_prefix;
 }
 
--- what a buffer holds is valid with other characters, values, overlays and margin strings, where these are and its tab stops are the same
-pub still-valid : (o p : ObjectLists) (c d : ContentValue) → IsContent o c → d.settings.tab_width ≡ c.settings.tab_width
-    → IsText d.text → AreCodes d.text.text → IsWithin (seen d) → AreMade (seen d) p → ((overlay string : ℕ) → get d.marks overlay ≡ Some string → string < length p.strings) → IsContent p d
-still-valid o p c d v tab text characters within names marks = record {
+-- tab stops of 1 to 32 columns
+abbrev pub IsTab : SettingValues → Type 0
+IsTab s = (1 ≤ s.tab_width) × (s.tab_width ≤ 32)
+
+-- what a buffer holds is still valid where its tab stops, characters, values, overlays and margin strings are
+pub still-valid : (o : ObjectLists) (c : ContentValue) → IsTab c.settings → IsText c.text → AreCodes c.text.text → IsWithin (seen c) → AreMade (seen c) o
+    → ((overlay string : ℕ) → get c.marks overlay ≡ Some string → string < length o.strings) → IsContent o c
+still-valid o c tab text characters within names marks = record {
   text = text;
   characters = characters;
   within = within;
-  least_tab = rw tab v.least_tab;
-  most_tab = rw tab v.most_tab;
+  least_tab = tab.0;
+  most_tab = tab.1;
   names = names;
   marks = marks;
 }
@@ -77,7 +81,7 @@ grown-valid texts made o c pos new v codes at room =
     let code = λ (x : ℕ). IsTrue (is_code x) in
     let first = All-append code (take (pos - 1) c.text.text) new (All-take code (pos - 1) c.text.text v.characters) codes in
     let settings = settings-kept o c.settings (marked_modified (nat_lt 0 (length new)) c.settings) refl refl refl v.names.settings in
-    still-valid o o c (grown c pos new) v refl (texts.inserted c.text pos new v.text at room)
+    still-valid o (grown c pos new) (v.least_tab, v.most_tab) (texts.inserted c.text pos new v.text at room)
     (All-append code (take (pos - 1) c.text.text ++ new) (drop (pos - 1) c.text.text) first (All-drop code (pos - 1) c.text.text v.characters))
     (listed-within (seen_grown c pos new) (opened-within c pos new v.text v.within at))
     (made.inserted (seen c) (seen (grown c pos new)) o pos new v.names settings (grown-is c pos new v.text v.within at)) v.marks
@@ -94,7 +98,7 @@ pub shrunk-valid : (texts : TextLaws) (made : MadeLaws) (o : ObjectLists) (c : C
 shrunk-valid texts made o c from to v at =
     let code = λ (x : ℕ). IsTrue (is_code x) in
     let settings = settings-kept o c.settings (marked_modified (nat_lt from to) c.settings) refl refl refl v.names.settings in
-    still-valid o o c (shrunk c from to) v refl (texts.deleted c.text from to v.text at)
+    still-valid o (shrunk c from to) (v.least_tab, v.most_tab) (texts.deleted c.text from to v.text at)
     (All-append code (take (from - 1) c.text.text) (drop (to - 1) c.text.text) (All-take code (from - 1) c.text.text v.characters) (All-drop code (to - 1) c.text.text v.characters))
     (listed-within (seen_shrunk c from to) (closed-within c from to v.text v.within at))
     (made.deleted (seen c) (seen (shrunk c from to)) o from to v.names settings (shrunk-is c from to v.text v.within at)) v.marks
@@ -103,7 +107,7 @@ shrunk-valid texts made o c from to v at =
 
 range-valid : (o : ObjectLists) (c : ContentValue) (t : TextValue) → IsContent o c → IsText t → t.text ≡ c.text.text → IsContent o (record c { text = t })
 range-valid o c t v text same =
-    still-valid o o c (record c { text = t }) v refl text (subst AreCodes (sym same) v.characters)
+    still-valid o (record c { text = t }) (v.least_tab, v.most_tab) text (subst AreCodes (sym same) v.characters)
     (same-within (seen c) (seen (record c { text = t })) v.within same (λ kind p. refl) refl)
     (record { properties = v.names.properties; overlays = v.names.overlays; settings = v.names.settings }) v.marks
 
@@ -177,7 +181,7 @@ value-made o kind value h v e = made-number (length o.strings) value v h e
 pub put-valid : (made : MadeLaws) (o : ObjectLists) (c : ContentValue) (from to : ℕ) (kind : Kind) (value : Option ℕ) → IsContent o c → is_text_kind kind ≡ true
     → IsAccessibleRange c.text from to → is_value_made o kind value ≡ true → IsContent o (with_property c from to kind value)
 put-valid made o c from to kind value v is at numbered =
-    still-valid o o c (with_property c from to kind value) v refl v.text v.characters
+    still-valid o (with_property c from to kind value) (v.least_tab, v.most_tab) v.text v.characters
     (listed-within (put_values c from to kind value) (put_on-within (seen c) from to kind value v.text v.within is at))
     (made.put (seen c) (seen (with_property c from to kind value)) o kind from to value v.names v.names.settings (value-made o kind value numbered) (put-is c from to kind value v.text v.within is at)) v.marks
 
@@ -192,7 +196,7 @@ overlays-are c overlays = record { text = refl; properties = λ kind p. refl; ov
 
 overlays-valid : (o : ObjectLists) (c : ContentValue) (overlays : List (Option Overlay)) → IsContent o c → IsWithin (seen (with_overlays c overlays)) → AreMade (seen (with_overlays c overlays)) o
     → IsContent o (with_overlays c overlays)
-overlays-valid o c overlays v within names = still-valid o o c (with_overlays c overlays) v refl v.text v.characters within names v.marks
+overlays-valid o c overlays v within names = still-valid o (with_overlays c overlays) (v.least_tab, v.most_tab) v.text v.characters within names v.marks
 
 no-value : (kind : Kind) (from to : ℕ) (priority : ℤ) (front rear : Bool) (v : ℕ) → value_of kind (Some (new_overlay from to priority front rear)) ≡ Some v → ⊥
 no-value kinds.Face from to priority front rear v h = cc

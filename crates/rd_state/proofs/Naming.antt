@@ -29,7 +29,7 @@ use Rattle.rd_state.specs.Valid.{most_buffers, IsContent, IsValid}
 use Rattle.rd_state.specs.Edits.{is_made, is_setting_made, margin_putting, setting_putting, with_setting}
 use Rattle.rd_state.specs.Making.{unless_fault, spec_of}
 use Rattle.rd_state.specs.Steps.{with_objects, making}
-use Rattle.rd_state.proofs.Contents.{still-valid}
+use Rattle.rd_state.proofs.Contents.{IsTab, still-valid}
 use Rattle.rd_state.proofs.Keeping.{buffers-appended, windows-appended}
 use Rattle.rd_state.proofs.StepParts.{making-if}
 use Rattle.rd_state.proofs.Stepping.{Keeps, text-kept}
@@ -49,9 +49,6 @@ with_settings-made o (setting.LinePrefix number) s h v = record { table = v.tabl
 with_settings-made o (setting.WrapPrefix number) s h v = record { table = v.table; line_prefix = v.line_prefix; wrap_prefix = number-made (length o.strings) number h }
 with_settings-made o value s h v = record { table = v.table; line_prefix = v.line_prefix; wrap_prefix = v.wrap_prefix }
 
-abbrev IsTab : SettingValues → Type 0
-IsTab s = (1 ≤ s.tab_width) × (s.tab_width ≤ 32)
-
 with_setting-tab : (value : Setting) (s : SettingValues) → IsSettingInForm value → IsTab s → IsTab (with_setting value s)
 with_setting-tab (setting.TabWidth n) s form h = (form.0, form.1)
 with_setting-tab value s form h = h
@@ -60,16 +57,10 @@ pub setting-keeps : (o : ObjectLists) (value : Setting) → IsSettingInForm valu
 setting-keeps o value form c d v h =
     let new : ContentValue = record c { settings = with_setting value c.settings } in
     let parts = made-ok (is_setting_made o value) new NoObject d h in
-    let tab = with_setting-tab value c.settings form (v.least_tab, v.most_tab) in
-    text-kept o c new d parts.1 refl (record {
-      text = v.text;
-      characters = v.characters;
-      within = record { kinds = v.within.kinds; first = v.within.first; last = v.within.last; few = v.within.few; overlays = v.within.overlays };
-      least_tab = tab.0;
-      most_tab = tab.1;
-      names = record { properties = v.names.properties; overlays = v.names.overlays; settings = with_settings-made o value c.settings parts.0 v.names.settings };
-      marks = v.marks;
-    })
+    text-kept o c new d parts.1 refl
+    (still-valid o new (with_setting-tab value c.settings form (v.least_tab, v.most_tab)) v.text v.characters
+    (record { kinds = v.within.kinds; first = v.within.first; last = v.within.last; few = v.within.few; overlays = v.within.overlays })
+    (record { properties = v.names.properties; overlays = v.names.overlays; settings = with_settings-made o value c.settings parts.0 v.names.settings }) v.marks)
 
 -- ---- margin strings
 
@@ -88,7 +79,7 @@ margin-keeps o number string c d v h =
     let new : ContentValue = record c { marks = marked c.marks number string } in
     let m = both-ok (is_some (overlay_at c.overlays number)) (is_made (length o.strings) string) new NoObject NoOverlay d h in
     text-kept o c new d m.2 refl
-    (still-valid o o c new v refl v.text v.characters v.within v.names (margin-made (length o.strings) c.marks number string m.1 v.marks))
+    (still-valid o new (v.least_tab, v.most_tab) v.text v.characters v.within v.names (margin-made (length o.strings) c.marks number string m.1 v.marks))
 
 -- ---- objects
 
@@ -98,7 +89,7 @@ longer old new (more, is) = omega (arith, ap length is, length-append old more)
 content-extended : (made : MadeLaws) (o p : ObjectLists) (c : ContentValue) → Extends o p → IsContent o c → IsContent p c
 content-extended made o p c more v =
     let size = longer o.strings p.strings more.strings in
-    still-valid o p c c v refl v.text v.characters v.within (made.extended (seen c) o p v.names more) (λ k x h. let old = v.marks k x h in omega arith)
+    still-valid p c (v.least_tab, v.most_tab) v.text v.characters v.within (made.extended (seen c) o p v.names more) (λ k x h. let old = v.marks k x h in omega arith)
 
 -- other objects, that go on from those that there were
 pub objects-valid : (made : MadeLaws) (s : StateValue) (fault : Option ObjectFault) (added : ObjectLists) → IsValid s → (fault ≡ None → AreObjects added) → (fault ≡ None → IsClosed added)
@@ -140,19 +131,14 @@ empty-seen = λ i. record {
 }
 
 pub new-valid : (o : ObjectLists) → IsContent o new_content
-new-valid o = record {
-  text = no_text-is_text;
-  characters = All-nil (λ (c : ℕ). IsTrue (is_code c));
-  within = nothing-within (seen new_content) empty-seen;
-  least_tab = omega arith;
-  most_tab = omega arith;
-  names = record {
-    properties = λ kind p value h. absurd (none-some value (sym (none-in (place_of kind) p) ∙ h));
-    overlays = λ number value kind overlay h e. absurd (cc);
-    settings = record { table = tt; line_prefix = tt; wrap_prefix = tt };
-  };
-  marks = λ k x h. absurd (no-margin k x h);
-}
+new-valid o =
+    still-valid o new_content (omega arith, omega arith) no_text-is_text (All-nil (λ (c : ℕ). IsTrue (is_code c))) (nothing-within (seen new_content) empty-seen)
+    (record {
+      properties = λ kind p value h. absurd (none-some value (sym (none-in (place_of kind) p) ∙ h));
+      overlays = λ number value kind overlay h e. absurd (cc);
+      settings = record { table = tt; line_prefix = tt; wrap_prefix = tt };
+    })
+    (λ k x h. absurd (no-margin k x h))
 
 pub making-valid : (s : StateValue) (name : List ℕ) → IsValid s → IsTrue (is_buffer_name name) → IfOk (making s name) IsValid
 making-valid s name v form =
