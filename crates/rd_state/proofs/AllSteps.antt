@@ -23,7 +23,7 @@ use Rattle.rd_state.specs.declared.window.WindowState.{WindowState}
 use Rattle.rd_state.specs.States.{BufferValue, ContentValue, StateValue, opening, main_name, opening_window, new_buffer}
 use Rattle.rd_state.specs.Windows.{window_of, with_entry, leaf_of}
 use Rattle.rd_state.proofs.ByNumber.{window-each}
-use Rattle.rd_state.proofs.Keeping.{holding}
+use Rattle.rd_state.proofs.Keeping.{holding, window-still}
 use Rattle.rd_state.specs.Valid.{IsContent, IsWindow, IsValid}
 use Rattle.rd_state.specs.Edits.{insertion, deletion, narrowing, widening, property_putting, overlay_making, overlay_moving, overlay_dropping, overlay_putting, margin_putting, setting_putting}
 use Rattle.rd_state.specs.Making.{run_of, spec_of, table_of}
@@ -31,7 +31,7 @@ use Rattle.rd_state.specs.Moves.{moved, moved_by, moved_in}
 use Rattle.rd_state.specs.Steps.{typing, raw_text, held, step, settled}
 use Rattle.rd_state.proofs.Below.{TextLaws, ObjectLaws}
 use Rattle.rd_state.proofs.Naming.{setting-keeps, margin-keeps, objects-valid, small-spec, making-valid, new-valid}
-use Rattle.rd_state.proofs.Showing.{set-valid, placing-valid, point-keeps, placed-keeps, start-keeps, look-keeps, scroll-keeps, showing-valid, splitting-valid, removing-valid, resizing-valid, selecting-valid, mode_lining-valid, margining-valid}
+use Rattle.rd_state.proofs.Showing.{set-valid, placing-valid, point-keeps, placed-keeps, start-keeps, scroll-keeps, showing-valid, splitting-valid, removing-valid, resizing-valid, selecting-valid, mode_lining-valid, margining-valid}
 use Rattle.rd_state.proofs.Slots.{table-right}
 use Rattle.rd_state.proofs.StepParts.{with_content, setting-if, typing-if}
 use Rattle.rd_state.proofs.Stepping.{raw-codes, edited-valid, edited_moving-valid, moving-valid, insertion-keeps, insertion-means, deletion-keeps, narrowing-keeps, widening-keeps, put-keeps, making-keeps, moving-keeps, dropping-keeps, giving-keeps}
@@ -152,10 +152,10 @@ step-valid laws s (ops.Scroll window rows) v form =
     (λ w lives old. scroll-keeps s.buffers (w.pending +ℤ rows) w old))
 step-valid laws s (ops.Hscroll window columns) v form =
     setting-if IsValid s window _ (set-valid s window (λ old. record old { hscroll = columns }) v (λ w. refl)
-    (λ w lives old. look-keeps s.buffers w (record w { hscroll = columns }) refl refl refl old.pending form.1 old.format old.numbers old.strings old))
+    (λ w lives old. window-still s.buffers (record w { hscroll = columns }) old.made old.point old.anchor old.pending form.1 old.format old.numbers old.strings))
 step-valid laws s (ops.Wrap window mode) v form =
     setting-if IsValid s window _ (set-valid s window (λ old. record old { wrap = mode }) v (λ w. refl)
-    (λ w lives old. look-keeps s.buffers w (record w { wrap = mode }) refl refl refl old.pending old.hscroll old.format old.numbers old.strings old))
+    (λ w lives old. window-still s.buffers (record w { wrap = mode }) old.made old.point old.anchor old.pending old.hscroll old.format old.numbers old.strings))
 step-valid laws s (ops.ModeLine window format) v form = mode_lining-valid laws.trees s window format v form.1
 step-valid laws s (ops.Scrolling margin conservatively) v form = framed-valid s margin conservatively s.echo s.shifting v form.0 form.1 v.echo
 step-valid laws s (ops.Echo text) v form = framed-valid s s.margin s.conservatively text s.shifting v v.margin v.conservatively form
@@ -192,16 +192,7 @@ opening-shown : (b : BufferValue) → slice_get (new_buffer main_name ∷ []) 0 
 opening-shown b h = only-main (λ x. IsAccessible x.content.text 1) (omega arith, omega arith) 0 b h
 
 opening-looks : IsWindow (new_buffer main_name ∷ []) opening_window
-opening-looks = record {
-  made = omega arith;
-  point = opening-shown;
-  anchor = opening-shown;
-  pending = refl;
-  hscroll = omega arith;
-  format = tt;
-  numbers = omega arith;
-  strings = omega arith;
-}
+opening-looks = window-still (new_buffer main_name ∷ []) opening_window (omega arith) opening-shown opening-shown refl (omega arith) tt (omega arith) (omega arith)
 
 opening-windows : (k : ℕ) (e : ℕ × WindowState) → slice_get ((0, opening_window) ∷ []) k ≡ Some e → IsWindow (new_buffer main_name ∷ []) e.1
 opening-windows zero e h =

@@ -1,5 +1,5 @@
 -- What stays valid where one part of a state becomes another.
-use Rattle.std.proofs.Common.{◌≡◌, ◌≢◌, ◌⊎◌, ℕ, ◌<◌, ◌≤◌, inl, inr, ◌==◌, Bool, true, false, if◌then◌else◌, Some, List, [], ◌∷◌, ◌++◌, length, map, get_or, subst, sym, ap, refl, ◌∙◌, arith, length-append}
+use Rattle.std.proofs.Common.{◌≡◌, ◌≢◌, ◌⊎◌, ℕ, ◌<◌, ◌≤◌, inl, inr, ◌==◌, Bool, true, false, if◌then◌else◌, Some, List, [], ◌∷◌, ◌++◌, length, map, get_or, pos, subst, sym, ap, refl, ◌∙◌, arith, length-append}
 use Rattle.std.proofs.lemmas.Bool.{eqb-true, eqb-false, cases_eq}
 use Rattle.std.proofs.lemmas.List.{length-set}
 use Rattle.std.proofs.lemmas.List.Sums.{fails_before_first}
@@ -7,18 +7,20 @@ use Rattle.std.proofs.lemmas.Option.{slice_get_within, get_or_from_slice_get}
 use Rattle.std.proofs.lemmas.Slice.Eq.{bytes_eq-Decides}
 use Rattle.rd_base.proofs.Lists.{get-set, get-end, get-map}
 use Rattle.rd_base.proofs.Choices.{either, is_some-map}
-use Rattle.std.specs.Prelude.{slice_get, slice_set, option_map, IsTrue, IsSome}
+use Rattle.std.specs.Prelude.{slice_get, slice_set, option_map, IsTrue, IsSome, IfSome}
 use Rattle.std.specs.Str.{bytes_eq}
 use Rattle.rd_base.specs.declared.settings.Anchor.{Anchor}
+use Rattle.rd_base.specs.declared.limits.TheConstants.{PENDING_ROWS}
 use Rattle.rd_text.specs.Texts.{IsAccessible}
 use Rattle.rd_objects.specs.Things.{ObjectLists}
 use Rattle.rd_script.specs.Forms.{is_buffer_name}
+use Rattle.rd_script.specs.Numbers.{is_near_zero}
 use Rattle.rd_tree.specs.Calls as tree
 use Rattle.rd_state.specs.declared.moves.Move.{Move}
 use Rattle.rd_state.specs.declared.window.WindowState.{WindowState}
 use Rattle.rd_state.specs.States.{BufferValue, ContentValue, new_buffer, new_content, number_of}
 use Rattle.rd_state.specs.Windows.{window_of, with_entry, leaf_at, leaf_of}
-use Rattle.rd_state.specs.Valid.{most_buffers, AreBuffers, IsContent, IsWindow, AreWindows}
+use Rattle.rd_state.specs.Valid.{most_buffers, AreBuffers, IsContent, IsGoodFormat, IsWindow, AreWindows}
 use Rattle.rd_state.specs.Moves.{place_after, moved, moved_by, moved_in}
 use Rattle.rd_state.proofs.ByNumber.{NumberedWindow, Hands, became, each-entry, each-with, under-became, apart-became, window-same, entry-other, some-with, none-past, apart-becoming}
 use Rattle.rd_state.proofs.Options.{map-map}
@@ -77,20 +79,29 @@ buffers-appended o bs name v new form room free =
 
 -- ---- windows over other buffers
 
+-- a window is one of some buffers where its point and the beginning of its view are accessible in the one that it shows, and its numbers
+-- are in range
+pub window-still : (bs : List BufferValue) (x : WindowState) → x.buffer < length bs
+    → ((b : BufferValue) → slice_get bs x.buffer ≡ Some b → IsAccessible b.content.text x.point)
+    → ((b : BufferValue) → slice_get bs x.buffer ≡ Some b → IsAccessible b.content.text x.anchor.pos) → IsTrue (is_near_zero (pos PENDING_ROWS) x.pending)
+    → x.hscroll ≤ 1000000 → IfSome x.format IsGoodFormat → x.numbers ≤ 10 → x.strings ≤ 20 → IsWindow bs x
+window-still bs x made point anchor pending hscroll format numbers strings = record {
+  made = made;
+  point = point;
+  anchor = anchor;
+  pending = pending;
+  hscroll = hscroll;
+  format = format;
+  numbers = numbers;
+  strings = strings;
+}
+
 -- a window of some buffers is one of others where it shows one of these, with point and the beginning of its view accessible there
 pub window-placed : (bs cs : List BufferValue) (w : WindowState) (buffer place : ℕ) (anchor : Anchor) → IsWindow bs w → buffer < length cs
     → ((c : BufferValue) → slice_get cs buffer ≡ Some c → IsAccessible c.content.text place)
     → ((c : BufferValue) → slice_get cs buffer ≡ Some c → IsAccessible c.content.text anchor.pos) → IsWindow cs (record w { buffer = buffer; point = place; anchor = anchor })
-window-placed bs cs w buffer place anchor v made point start = record {
-  made = made;
-  point = point;
-  anchor = start;
-  pending = v.pending;
-  hscroll = v.hscroll;
-  format = v.format;
-  numbers = v.numbers;
-  strings = v.strings;
-}
+window-placed bs cs w buffer place anchor v made point start =
+    window-still cs (record w { buffer = buffer; point = place; anchor = anchor }) made point start v.pending v.hscroll v.format v.numbers v.strings
 
 -- the same where each position that counts is accessible there
 pub window-over : (bs cs : List BufferValue) (w : WindowState) → length bs ≤ length cs

@@ -26,7 +26,7 @@ use Rattle.rd_state.specs.Windows.{AreApart, content_in, shown_content, window_o
 use Rattle.rd_state.specs.Valid.{IsWindow, AreWindows, IsGoodFormat, IsValid}
 use Rattle.rd_state.specs.Steps.{in_window, changing, on_tree, splitting, removing, showing, placing, held, format_fault, mode_lining, margining}
 use Rattle.rd_state.proofs.ByNumber.{NumberedWindow, Hands, each-entry, each-without, window-end, apart-end, window-gone, entry-past, none-past, apart-becoming, get-window}
-use Rattle.rd_state.proofs.Keeping.{window-placed, windows-changed}
+use Rattle.rd_state.proofs.Keeping.{window-still, window-placed, windows-changed}
 use Rattle.rd_state.proofs.Leaves.{Leaf, leaf-resized, leaf-replaced, leaf-other, split-same, split-other, split-new, removed-same, removed-other, heir-held, is_some-leaf, unmade}
 use Rattle.rd_state.proofs.StepParts.{found, unless, tree-if, treed-if, placing-if}
 use Rattle.rd_state.proofs.Tests.{is_accessible-means}
@@ -86,27 +86,12 @@ pub point-keeps : (bs : List BufferValue) (place : ℕ) (w : WindowState) → Is
     → IsWindow bs (record w { point = place })
 point-keeps bs place w v at = window-placed bs bs w w.buffer place w.anchor v v.made at v.anchor
 
--- another window of the same buffer with the same positions
-pub look-keeps : (bs : List BufferValue) (w x : WindowState) → x.buffer ≡ w.buffer → x.point ≡ w.point → x.anchor ≡ w.anchor → IsTrue (is_near_zero (pos PENDING_ROWS) x.pending)
-    → x.hscroll ≤ 1000000 → IfSome x.format IsGoodFormat → x.numbers ≤ 10 → x.strings ≤ 20 → IsWindow bs w → IsWindow bs x
-look-keeps bs w x buffer point anchor pending hscroll format numbers strings v = record {
-  made = subst (λ (i : ℕ). i < length bs) (sym buffer) v.made;
-  point = λ b h. subst (IsAccessible b.content.text) (sym point) (v.point b (ap (slice_get bs) (sym buffer) ∙ h));
-  anchor = λ b h. subst (λ a. IsAccessible b.content.text a.pos) (sym anchor) (v.anchor b (ap (slice_get bs) (sym buffer) ∙ h));
-  pending = pending;
-  hscroll = hscroll;
-  format = format;
-  numbers = numbers;
-  strings = strings;
-}
-
 -- another point and start, in any buffer, with no rows to go
 pub placed-keeps : (bs : List BufferValue) (w : WindowState) (buffer point : ℕ) (anchor : Anchor) (forced : Bool) → IsWindow bs w → buffer < length bs
     → ((b : BufferValue) → slice_get bs buffer ≡ Some b → IsAccessible b.content.text point) → ((b : BufferValue) → slice_get bs buffer ≡ Some b → IsAccessible b.content.text anchor.pos)
     → IsWindow bs (record w { buffer = buffer; point = point; anchor = anchor; forced = forced; pending = pos 0 })
 placed-keeps bs w buffer point anchor forced v made at from =
-    let placed : WindowState = record w { buffer = buffer; point = point; anchor = anchor } in
-    look-keeps bs placed (record placed { forced = forced; pending = pos 0 }) refl refl refl none-pending v.hscroll v.format v.numbers v.strings (window-placed bs bs w buffer point anchor v made at from)
+    window-still bs (record w { buffer = buffer; point = point; anchor = anchor; forced = forced; pending = pos 0 }) made at from none-pending v.hscroll v.format v.numbers v.strings
 
 pub start-keeps : (bs : List BufferValue) (place row : ℕ) (w : WindowState) → IsWindow bs w → ((b : BufferValue) → slice_get bs w.buffer ≡ Some b → IsAccessible b.content.text place)
     → IsWindow bs (record w { anchor = record { pos = place; row = row }; forced = true; pending = pos 0 })
@@ -126,7 +111,7 @@ held-small (negsuc n) = held-below (nat_lt 999999999 n) n refl
 
 pub scroll-keeps : (bs : List BufferValue) (rows : ℤ) (w : WindowState) → IsWindow bs w → IsWindow bs (record w { forced = true; pending = held rows })
 scroll-keeps bs rows w v =
-    look-keeps bs w (record w { forced = true; pending = held rows }) refl refl refl (held-small rows) v.hscroll v.format v.numbers v.strings v
+    window-still bs (record w { forced = true; pending = held rows }) v.made v.point v.anchor (held-small rows) v.hscroll v.format v.numbers v.strings
 
 -- a buffer shown from its beginning
 pub shown-keeps : (s : StateValue) (i : ℕ) (b : BufferValue) (w : WindowState) → IsValid s → slice_get s.buffers i ≡ Some b → IsWindow s.buffers w
@@ -183,7 +168,7 @@ mode_lining-valid laws s number format v form =
     (λ w lives. unless IsValid (format_fault format) _
     (λ good. retold-valid s number (λ old. record old { format = format }) (λ x. (shown, x.1)) (mode_tree s.tree number shown) v
     (λ d at. (laws.mode s.tree d number shown v.windows.tree at, (mode-means s.tree d number shown at).2)) (λ x. refl)
-    (λ x old. look-keeps s.buffers x (record x { format = format }) refl refl refl old.pending old.hscroll (good-format format form good) old.numbers old.strings old)))
+    (λ x old. window-still s.buffers (record x { format = format }) old.made old.point old.anchor old.pending old.hscroll (good-format format form good) old.numbers old.strings)))
 
 pub margining-valid : (laws : TreeLaws) (s : StateValue) (number numbers strings : ℕ) → IsValid s → numbers ≤ 10 → strings ≤ 20 → IfOk (margining s number numbers strings) IsValid
 margining-valid laws s number numbers strings v few some =
@@ -191,7 +176,7 @@ margining-valid laws s number numbers strings v few some =
     found IsValid _ (window_of number s.windows) _
     (λ w lives. retold-valid s number (λ old. record old { numbers = numbers; strings = strings }) (λ x. (x.0, columns)) (margins_tree s.tree number columns) v
     (λ d at. (laws.margins s.tree d number columns v.windows.tree at, (margins-means s.tree d number columns at).2)) (λ x. refl)
-    (λ x old. look-keeps s.buffers x (record x { numbers = numbers; strings = strings }) refl refl refl old.pending old.hscroll old.format few some old))
+    (λ x old. window-still s.buffers (record x { numbers = numbers; strings = strings }) old.made old.point old.anchor old.pending old.hscroll old.format few some))
 
 -- ---- splits
 
@@ -233,7 +218,7 @@ split-windows s d number side size w copy v valid is found leaf new =
     }
 
 copy-keeps : (bs : List BufferValue) (w : WindowState) → IsWindow bs w → IsWindow bs (record w { forced = false; pending = pos 0 })
-copy-keeps bs w v = look-keeps bs w (record w { forced = false; pending = pos 0 }) refl refl refl none-pending v.hscroll v.format v.numbers v.strings v
+copy-keeps bs w v = window-still bs (record w { forced = false; pending = pos 0 }) v.made v.point v.anchor none-pending v.hscroll v.format v.numbers v.strings
 
 pub window-valid : (s : StateValue) (number : ℕ) (w : WindowState) → IsValid s → window_of number s.windows ≡ Some w → IsWindow s.buffers w
 window-valid s number w v found = let at = get-window number s.windows w found in v.windows.each at.0 (number, w) at.1
