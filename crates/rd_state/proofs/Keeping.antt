@@ -113,18 +113,21 @@ window-over bs cs w more old v =
     (λ c h. let o = old c h in o.2 w.point (v.point o.0 o.1))
     (λ c h. let o = old c h in o.2 w.anchor.pos (v.anchor o.0 o.1))
 
-windows-over : (bs cs : List BufferValue) (c : tree.Configuration) (ws : List NumberedWindow) (n : ℕ) → ((w : WindowState) → IsWindow bs w → IsWindow cs w) → AreWindows bs c ws n → AreWindows cs c ws n
-windows-over bs cs c ws n keep v = record {
-  tree = v.tree;
-  leaves = v.leaves;
+-- windows over other buffers, in a tree with the same leaves
+pub windows-over : (bs cs : List BufferValue) (c d : tree.Configuration) (ws : List NumberedWindow) (n m : ℕ) → tree.IsValid d
+    → ((k : ℕ) → leaf_at k d.windows ≡ leaf_at k c.windows) → IsSome (window_of m ws) → ((w : WindowState) → IsWindow bs w → IsWindow cs w)
+    → AreWindows bs c ws n → AreWindows cs d ws m
+windows-over bs cs c d ws n m valid same lives keep v = record {
+  tree = valid;
+  leaves = λ k. same k ∙ v.leaves k;
   apart = v.apart;
   each = λ k e h. keep e.1 (v.each k e h);
-  selected = v.selected;
+  selected = lives;
 }
 
 pub windows-appended : (bs : List BufferValue) (name : List ℕ) (c : tree.Configuration) (ws : List NumberedWindow) (n : ℕ) → AreWindows bs c ws n → AreWindows (bs ++ new_buffer name ∷ []) c ws n
 windows-appended bs name c ws n v =
-    windows-over bs (bs ++ new_buffer name ∷ []) c ws n (λ w o.
+    windows-over bs (bs ++ new_buffer name ∷ []) c c ws n n v.tree (λ k. refl) v.selected (λ w o.
     let made = o.made in
     window-over bs (bs ++ new_buffer name ∷ []) w (omega (arith, length-append bs (new_buffer name ∷ [])))
     (λ x h. elim (get-end bs (new_buffer name) w.buffer x h) [ inl p ↦ (x, p, λ p a. a) | inr p ↦ absurd (omega (arith, p.0)) ]) o) v
@@ -146,7 +149,7 @@ windows-became bs cs c f ws n same keep v = record {
 pub windows-replaced : (bs : List BufferValue) (i : ℕ) (b : BufferValue) (d : ContentValue) (c : tree.Configuration) (ws : List NumberedWindow) (n : ℕ) → slice_get bs i ≡ Some b
     → ((p : ℕ) → IsAccessible b.content.text p → IsAccessible d.text p) → AreWindows bs c ws n → AreWindows (slice_set bs i (holding b d)) c ws n
 windows-replaced bs i b d c ws n at keep v =
-    windows-over bs (slice_set bs i (holding b d)) c ws n (λ w o.
+    windows-over bs (slice_set bs i (holding b d)) c c ws n n v.tree (λ k. refl) v.selected (λ w o.
     window-over bs (slice_set bs i (holding b d)) w (rw length-set (omega arith))
     (λ x h. elim (get-set bs i w.buffer (holding b d) x h) [
       | inl p ↦ (b, ap (slice_get bs) p.0 ∙ at, λ q a. subst (λ (z : BufferValue). IsAccessible z.content.text q) (sym p.1) (keep q a))

@@ -26,7 +26,7 @@ use Rattle.rd_state.specs.Windows.{AreApart, content_in, shown_content, window_o
 use Rattle.rd_state.specs.Valid.{IsWindow, AreWindows, IsGoodFormat, IsValid}
 use Rattle.rd_state.specs.Steps.{in_window, changing, on_tree, splitting, removing, showing, placing, held, format_fault, mode_lining, margining}
 use Rattle.rd_state.proofs.ByNumber.{NumberedWindow, Hands, each-entry, each-without, window-end, apart-end, window-gone, entry-past, none-past, apart-becoming, get-window}
-use Rattle.rd_state.proofs.Keeping.{window-still, window-placed, windows-changed}
+use Rattle.rd_state.proofs.Keeping.{window-still, window-placed, windows-over, windows-changed}
 use Rattle.rd_state.proofs.Leaves.{Leaf, leaf-resized, leaf-replaced, leaf-other, split-same, split-other, split-new, removed-same, removed-other, heir-held, is_some-leaf, unmade}
 use Rattle.rd_state.proofs.StepParts.{found, unless, tree-if, treed-if, placing-if}
 use Rattle.rd_state.proofs.Tests.{is_accessible-means}
@@ -291,21 +291,14 @@ resizing-valid laws s width height v wide narrow high low =
     let columns : d.width ≡ width = sym (ap (λ (x : Configuration). x.width) is) in
     let rows : d.height ≡ height - 1 = sym (ap (λ (x : Configuration). x.height) is) in
     let shapes : d.windows ≡ resized s.tree.windows (tree.frame width (height - 1)) = sym (ap (λ (x : Configuration). x.windows) is) in
-    with_parts s s.buffers s.objects d s.windows s.selected width height v v.buffers v.objects v.closed (record {
-      tree = valid;
-      leaves = λ k. ap (leaf_at k) shapes ∙ (leaf-resized k s.tree.windows (tree.frame width (height - 1)) ∙ v.windows.leaves k);
-      apart = v.windows.apart;
-      each = v.windows.each;
-      selected = v.windows.selected;
-    }) (record { wide = wide; narrow = narrow; high = high; low = low; columns = columns; rows = omega (arith, rows) }))
+    with_parts s s.buffers s.objects d s.windows s.selected width height v v.buffers v.objects v.closed
+    (windows-over s.buffers s.buffers s.tree d s.windows s.selected s.selected valid (λ k. ap (leaf_at k) shapes ∙ leaf-resized k s.tree.windows (tree.frame width (height - 1)))
+    v.windows.selected (λ w old. old) v.windows)
+    (record { wide = wide; narrow = narrow; high = high; low = low; columns = columns; rows = omega (arith, rows) }))
 
 pub selecting-valid : (s : StateValue) (number : ℕ) → IsValid s → IfOk (in_window s number (λ w. Ok (record s { selected = number }))) IsValid
 selecting-valid s number v =
     found IsValid _ (window_of number s.windows) _
-    (λ w lives. with_windows s s.tree s.windows number v (record {
-      tree = v.windows.tree;
-      leaves = v.windows.leaves;
-      apart = v.windows.apart;
-      each = v.windows.each;
-      selected = ap (λ (o : Option WindowState). is_some o) lives;
-    }) refl refl)
+    (λ w lives. with_windows s s.tree s.windows number v
+    (windows-over s.buffers s.buffers s.tree s.tree s.windows s.selected number v.windows.tree (λ k. refl) (ap (λ (o : Option WindowState). is_some o) lives) (λ x old. old) v.windows)
+    refl refl)
