@@ -1,11 +1,8 @@
 -- What holds of all that a position can give holds of the items of what is read, and these are few.
-use Rattle.std.proofs.Common.{◌≡◌, ℕ, zero, suc, ◌+◌, ◌≤◌, List, [], ◌∷◌, ◌++◌, length, Option, None, Some, IfSome, length-append, subst, arith}
+use Rattle.std.proofs.Common.{ℕ, zero, suc, ◌+◌, ◌≤◌, List, [], ◌∷◌, ◌++◌, length, Option, None, Some, IfSome, length-append, subst, arith}
 use Rattle.std.specs.List.{AllByRecursion}
 use Rattle.std.proofs.lemmas.List.{length-map}
 use Rattle.rd_base.proofs.Choices.{if-value}
-use Rattle.rd_base.specs.declared.cell.Glyph.{Glyph}
-use Rattle.rd_base.specs.declared.class.Class.{Class}
-use Rattle.rd_base.specs.declared.class.Class.TheVariants.{B, S, ON}
 use Rattle.rd_objects.specs.declared.run.Spec.{Spec}
 use Rattle.rd_glyphs.specs.Marks.{marks_joined}
 use Rattle.rd_glyphs.proofs.Joined.{Grows}
@@ -15,41 +12,33 @@ use Rattle.rd_items.specs.Pieces.{Scene, spec_in, string_piece, string_pieces, p
 use Rattle.rd_items.specs.Items.{piece_joins, items_by, covered_to, covering, items_of}
 use Rattle.rd_items.specs.declared.item.Item.{Item}
 use Rattle.rd_items.specs.declared.item.ItemKind.{ItemKind}
-use Rattle.rd_items.specs.declared.item.ItemKind.TheVariants as kind
 use Rattle.rd_items.specs.declared.piece.Piece.{Piece}
 use Rattle.rd_stack.specs.Limits.{strings_in}
+use Rattle.rd_stack.specs.Lines.{IsKind}
 use Rattle.rd_items.proofs.EachItem.{GivesOnly, items-each}
 use Rattle.rd_stack.proofs.Joined.{marks_joined-few}
 
--- what holds of whatever a position can give, where its character is one of these
-pub record Gives (R : Class → ItemKind → Type 0) (C : ℕ → Type 0) (s : Scene) : Type 0 where
-  pub string : (n : ℕ) → R ON (kind.Text n)
-  pub space : (number : ℕ) (spec : Spec) → spec_in s.objects number ≡ spec → R S (kind.Space spec)
-  pub char : (class : Class) (c : ℕ) → C c → R class (kind.Char c)
-  pub marked : (class : Class) (g : Glyph) → R class (kind.Marked g)
-  pub ellipsis : R ON kind.Ellipsis
-  pub ender : R B kind.Ender
-
-module _ (R : Class → ItemKind → Type 0) (C : ℕ → Type 0) (s : Scene) (gives : Gives R C s) where
+module _ (C : ℕ → Type 0) (S : Spec → Type 0) (s : Scene) (specs : (number : ℕ) → S (spec_in s.objects number)) where
   abbrev Holds : Piece → Type 0
-  Holds x = IfSome x.kind (R x.class)
+  Holds x = IfSome x.kind (λ (k : ItemKind). IsKind C S k)
 
   of-seen : (k to : ℕ) (e : Seen) → IfSome e.character C → GivesOnly s Holds k to e
   of-seen k to e code = record {
-    string = λ i d inside. gives.string _;
-    text = λ covers m n shown is. gives.string n;
-    space = λ m spec shown is. gives.space m spec is;
-    char = λ c is. gives.char _ c (subst (λ (ch : Option ℕ). IfSome ch C) is code);
+    string = λ i d inside. tt;
+    text = λ covers m n shown is. tt;
+    space = λ m spec shown is. subst S is (specs m);
+    char = λ c is. subst (λ (ch : Option ℕ). IfSome ch C) is code;
     nothing = tt;
-    ellipsis = λ covers. gives.ellipsis;
-    ender = gives.ender;
+    ellipsis = λ covers. tt;
+    ender = tt;
   }
 
   grows : Grows piece_joins Holds
-  grows held next glyph these those e = gives.marked held.class glyph
+  grows held next glyph these those e = tt
 
-  pub items-hold : (es : List Seen) → AllByRecursion (λ (e : Seen). IfSome e.character C) es → AllByRecursion (λ (i : Item). R i.class i.kind) (items_of s es)
-  items-hold = items-each s Holds (λ (i : Item). R i.class i.kind) (λ (e : Seen). IfSome e.character C) of-seen grows (λ since x holds. holds)
+  -- items are of these kinds where all that is read has one of the characters, and all specs are among those
+  pub items-hold : (es : List Seen) → AllByRecursion (λ (e : Seen). IfSome e.character C) es → AllByRecursion (λ (i : Item). IsKind C S i.kind) (items_of s es)
+  items-hold = items-each s Holds (λ (i : Item). IsKind C S i.kind) (λ (e : Seen). IfSome e.character C) of-seen grows (λ since x holds. holds)
 
 -- whatever is read
 pub all-read : (es : List Seen) → AllByRecursion (λ (e : Seen). IfSome e.character (λ c. Unit {0})) es

@@ -1,5 +1,5 @@
 -- The elements of strings and of items of sound objects are sound and measured, and take few columns.
-use Rattle.std.proofs.Common.{◌≡◌, ℕ, ◌*◌, ◌≤◌, ◌^◌, ◌<◌, Bool, true, false, IsTrue, List, [], ◌∷◌, length, map, Option, None, Some, All, IfSome, refl, subst, ◌∙◌, arith}
+use Rattle.std.proofs.Common.{◌≡◌, ℕ, ◌*◌, ◌≤◌, ◌^◌, ◌<◌, Bool, true, false, IsTrue, List, [], ◌∷◌, length, map, Option, None, Some, All, IfSome, refl, ◌∙◌, arith}
 use Rattle.std.specs.Prelude.{slice_get, slice_index_or, replicate, if◌then◌else◌, unwrap_or}
 use Rattle.std.specs.List.{flat_map}
 use Rattle.std.proofs.Math.Nat.{mul-le-mul_right}
@@ -37,11 +37,11 @@ use Rattle.rd_levels.specs.declared.turn.Turn.{Turn}
 use Rattle.rd_levels.proofs.Turns.{turns-count}
 use Rattle.rd_stack.specs.Strings.{string_parts}
 use Rattle.rd_stack.specs.Shown.{ellipsis_glyphs, space_elements, kind_elements, display_part_elements, display_elements, before_row_end, is_row_end, outside, prefix, IsRight, put_text, put_part}
-use Rattle.rd_stack.specs.Lines.{origin_of, item_class, item_code, item_turns, line_of_items, line_elements, IsCodedKind, AreCodedItems, put_turn, put_item}
+use Rattle.rd_stack.specs.Lines.{origin_of, item_class, item_code, item_turns, line_of_items, line_elements, IsKind, IsCodedKind, AreCodedItems, put_turn, put_item}
 use Rattle.rd_stack.specs.Limits.{AreFew, AreRightWithin, most_display_columns, most_overlay_columns, most_columns}
 use Rattle.rd_stack.specs.declared.part.Shown.{Shown}
 use Rattle.rd_stack.proofs.Good.{both-right, good-nil, good-one, good-more, good-each, found}
-use Rattle.rd_stack.proofs.Holds.{Gives, items-hold, all-read, items-few}
+use Rattle.rd_stack.proofs.Holds.{items-hold, all-read, items-few}
 use Rattle.rd_stack.proofs.Parts.{IsFitKind, IsFitShown, spec-small, string-at, string-fit, string-few}
 use Rattle.rd_stack.proofs.Lists.{each-any}
 use Rattle.rd_stack.proofs.Prefixes.{before-each}
@@ -55,9 +55,9 @@ pub record GlyphLaws : Type 0 where
   pub text_measured : (face : Attributes) (origin : Origin) (text : List Glyph) → IsTrue (is_glyph_text text) → AreMeasured (glyph_elements face origin text)
   pub text_columns : (face : Attributes) (origin : Origin) (text : List Glyph) → IsTrue (is_glyph_text text) → columns_at_most (glyph_elements face origin text) ≤ 48
 
+-- a space that an item shows is small
 abbrev IsSmallItem : ItemKind → Type 0
-IsSmallItem (item.Space spec) = IsSmallSpec spec
-IsSmallItem k = Unit {0}
+IsSmallItem k = IsKind (λ c. Unit {0}) IsSmallSpec k
 
 -- ---- tables
 
@@ -87,36 +87,16 @@ item-fit (item.Space spec) measured coded small = small
 item-fit item.Ellipsis measured coded small = tt
 item-fit item.Ender measured coded small = tt
 
-small-gives : (s : Scene) → AreObjects s.objects → Gives (λ class k. IsSmallItem k) (λ c. Unit {0}) s
-small-gives s sound = record {
-  string = λ n. tt;
-  space = λ number spec is. subst IsSmallSpec is (spec-small s.objects sound number);
-  char = λ class c code. tt;
-  marked = λ class g. tt;
-  ellipsis = tt;
-  ender = tt;
-}
-
 items-small : (s : Scene) → AreObjects s.objects → (es : List Seen) → All (λ (i : Item). IsSmallItem i.kind) (items_of s es)
 items-small s sound es =
     All-from_recursion (λ (i : Item). IsSmallItem i.kind) (items_of s es)
-    (items-hold (λ class k. IsSmallItem k) (λ c. Unit {0}) s (small-gives s sound) es (all-read es))
-
-coded-gives : (s : Scene) → Gives (λ class k. IsCodedKind k) (λ c. IsTrue (is_code c)) s
-coded-gives s = record {
-  string = λ n. tt;
-  space = λ number spec is. tt;
-  char = λ class c code. code;
-  marked = λ class g. tt;
-  ellipsis = tt;
-  ender = tt;
-}
+    (items-hold (λ c. Unit {0}) IsSmallSpec s (spec-small s.objects sound) es (all-read es))
 
 -- the items of what has codes
 pub items-coded : (s : Scene) (es : List Seen) → HaveCodes es → AreCodedItems (items_of s es)
 items-coded s es codes =
     All-from_recursion (λ (i : Item). IsCodedKind i.kind) (items_of s es)
-    (items-hold (λ class k. IsCodedKind k) (λ c. IsTrue (is_code c)) s (coded-gives s) es (recursion_from_All (λ (e : Seen). IfSome e.character (λ c. IsTrue (is_code c))) es codes))
+    (items-hold (λ c. IsTrue (is_code c)) (λ spec. Unit {0}) s (λ number. tt) es (recursion_from_All (λ (e : Seen). IfSome e.character (λ c. IsTrue (is_code c))) es codes))
 
 -- ---- elements of one part
 

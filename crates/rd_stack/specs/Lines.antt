@@ -7,6 +7,7 @@ use Rattle.rd_base.specs.declared.class.Class.{Class}
 use Rattle.rd_base.specs.declared.element.Element.{Element}
 use Rattle.rd_base.specs.declared.element.Look.TheVariants as look
 use Rattle.rd_base.specs.declared.element.Origin.{Origin}
+use Rattle.rd_objects.specs.declared.run.Spec.{Spec}
 use Rattle.rd_props.specs.Seen.{Seen}
 use Rattle.rd_items.specs.Pieces.{Scene}
 use Rattle.rd_items.specs.Items.{items_of, bracket_code}
@@ -52,10 +53,15 @@ line_of_items s base items = flat_map (put_item kind_elements s base items) (ite
 abbrev pub line_elements : Scene → ℕ → List Seen → List Element
 line_elements s base seen = line_of_items s base (items_of s seen)
 
+-- the character that an item shows is one of these, and the spec of its space one of those
+abbrev pub IsKind : (ℕ → Type 0) → (Spec → Type 0) → ItemKind → Type 0
+IsKind C S (kind.Char c) = C c
+IsKind C S (kind.Space spec) = S spec
+IsKind C S k = Unit {0}
+
 -- a character that an item shows has a code
 abbrev pub IsCodedKind : ItemKind → Type 0
-IsCodedKind (kind.Char c) = IsTrue (is_code c)
-IsCodedKind k = Unit {0}
+IsCodedKind k = IsKind (λ c. IsTrue (is_code c)) (λ spec. Unit {0}) k
 
 abbrev pub AreCodedItems : List Item → Type 0
 AreCodedItems items = All (λ item. IsCodedKind item.kind) items
