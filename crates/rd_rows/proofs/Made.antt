@@ -1,11 +1,10 @@
 -- A maker of rows, as the layer above knows it.
 use Rattle.std.proofs.Common.{◌≡◌, ℕ, ◌+◌, ◌≤◌, Bool, true, false, List, [], ◌++◌, refl, sym, subst, arith}
 use Rattle.rd_base.proofs.Rows.{columns-append}
-use Rattle.rd_base.specs.Elements.{IsSound, AreSound}
+use Rattle.rd_base.specs.Elements.{IsSound, AreSound, columns_at_most}
 use Rattle.rd_base.specs.Glyphs.{AreMeasured}
 use Rattle.rd_base.specs.declared.cell.Glyph.{Glyph}
 use Rattle.rd_base.specs.declared.element.Element.{Element}
-use Rattle.rd_base.proofs.Lists.{all-back}
 use Rattle.rd_rows.specs.declared.cutting.Cutting.{Cutting}
 use Rattle.rd_rows.specs.Copies.{RowValues}
 use Rattle.rd_rows.specs.Cuts.{ends_some}
@@ -19,7 +18,7 @@ use Rattle.rd_rows.specs.Shapes.{ShapeValues}
 use Rattle.rd_rows.specs.Whole.{IsWhole, AreWhole, IsMark, IsMeasuredPrefix}
 use Rattle.rd_rows.proofs.Ends.{on-line_ends, once-before}
 use Rattle.std.proofs.lemmas.List.Elements.{All-append, All-nil}
-use Rattle.rd_rows.proofs.Fill.{once-behind}
+use Rattle.rd_rows.proofs.Fill.{line-behind}
 use Rattle.rd_rows.proofs.Wholeness.{cutting-measured, whole-line}
 
 -- a maker that has made no row
@@ -55,10 +54,7 @@ asked m es making on asks =
 pub asks-again : (m : MakerValues) (es : List Element) → ends_some m.held ≡ false → (m.finished ≡ false → IsLine m.spot.column (m.held ++ es)) → Asks m es
 unfolding columns_held is_finished
 asks-again m es waits line on =
-    let all = line on in
-    let sum = columns-append m.held es in
-    let few = all.columns in
-    record { sound = all-back IsSound m.held es all.sound; end = once-behind m.held es (on-line_ends m.held waits) all.end; columns = omega (arith, sum, few) }
+    line-behind m.spot.column (m.spot.column + columns_at_most m.held) m.held es (on-line_ends m.held waits) (omega arith) (line on)
 
 finished-rows : (m : MakerValues) (es : List Element) → m.finished ≡ true → rows_behind m es ≡ []
 finished-rows m es h = rw h refl
