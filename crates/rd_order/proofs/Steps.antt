@@ -173,23 +173,16 @@ runs-between f n base low high a b up rise order within tall low_before low_afte
     let before : BeginsLow f (base + i) a = λ x e. let l = low_before x e in omega arith in
     record { order = order; within = within; high = all; before = before; after = λ less. let l = low_after less in omega arith }
 
--- the runs that are entered at once: those from a level up to the lowest level in them
-pub entered : (f : ℕ → ℕ) (n base level lowest a b p q r : ℕ) → base ≤ level → level < lowest → IsRun f n (level + 1) a b → AreHigh f lowest a b
-    → a ≤ q → q < b → IsTurnedBy (lowest - level) a b q r → Comes f n base (level - base) p q → Comes f n base (lowest - base) p r
-entered f n base level lowest a b p q r up rise run high from to turn c =
-    let runs = runs-between f n base level lowest a b up rise run.order run.within high run.before run.after in
-    let all : (lowest - level) + (level - base) ≡ lowest - base = omega arith in
-    Comes-equal f n base p all refl ((across f n base (level - base) (lowest - level) p q r a b runs from to turn).0 c)
-
--- the runs that are left at once: those from a level down to the highest level beside them
-pub left_at : (f : ℕ → ℕ) (n base level outer a b p q r : ℕ) → base ≤ outer → outer < level → IsRun f n level a b → BeginsLow f (outer + 1) a
-    → (b < n → f b < outer + 1) → a ≤ r → r < b → IsTurnedBy (level - outer) a b q r → Comes f n base (level - base) p q → Comes f n base (outer - base) p r
-left_at f n base level outer a b p q r up fall run low_before low_after from to turn c =
-    let runs = runs-between f n base outer level a b up fall run.order run.within run.high low_before low_after in
-    let all : level - base ≡ (level - outer) + (outer - base) = omega arith in
-    let even = turn.even in let odd = turn.odd in
-    let back : IsTurnedBy (level - outer) a b r q = record { even = λ e. omega arith; odd = λ e. omega arith } in
-    (across f n base (outer - base) (level - outer) p r q a b runs from to back).1 (Comes-equal f n base p all refl c)
+-- the runs that are entered or left at once: those from a lower level up to a higher one, where no level in them is below the higher
+-- one and none beside them above the lower one
+pub between : (f : ℕ → ℕ) (n base low high a b p q r : ℕ) → base ≤ low → low < high → a < b → b ≤ n → AreHigh f high a b → BeginsLow f (low + 1) a → (b < n → f b < low + 1)
+    → a ≤ q → q < b → IsTurnedBy (high - low) a b q r
+    → (Comes f n base (low - base) p q → Comes f n base (high - base) p r) × (Comes f n base (high - base) p r → Comes f n base (low - base) p q)
+between f n base low high a b p q r up rise order within tall low_before low_after from to turn =
+    let runs = runs-between f n base low high a b up rise order within tall low_before low_after in
+    let all : (high - low) + (low - base) ≡ high - base = omega arith in
+    let both = across f n base (low - base) (high - low) p q r a b runs from to turn in
+    (λ c. Comes-equal f n base p all refl (both.0 c), λ c. both.1 (Comes-equal f n base p (sym all) refl c))
 
 -- at the end of the line in the direction of the base nothing is left
 pub last : (base m p q : ℕ) (levels : List ℕ) → m ≡ 0 → Comes (λ i. get_or levels i 0) (length levels) base m p q

@@ -1,6 +1,6 @@
-use Rattle.std.proofs.Common.{◌+◌, ◌-◌, ◌<◌, inl, inr, length, slice_index, arith}
+use Rattle.std.proofs.Common.{◌+◌, ◌-◌, ◌<◌, inl, inr, length, slice_index, sym, arith}
 use Rattle.rd_order.specs.Places.{BeginsLow}
-use Rattle.rd_order.proofs.Steps.{beside, known, last, left_at, turned_by}
+use Rattle.rd_order.proofs.Steps.{IsTurnedBy, beside, between, known, last, turned_by}
 use Rattle.rd_order.proofs.visual.following.Goals as goal
 
 pub loop-beside-init : goal.loop-beside-init
@@ -47,10 +47,11 @@ loop-beside-preserved c =
     ] in
     let before : BeginsLow (slice_index c.args.levels.now) (outer + 1) run.start = λ q e. let h = beside_it.before q e in omega arith in
     let up = beside_it.base in
+    let back : IsTurnedBy (c.loop-beside.level - outer) run.start run.end c.turned-place.result c.loop-beside.place = record { even = λ e. sym (turn.0.even e); odd = λ e. let h = turn.0.odd e in omega (arith, h) } in
     record {
       base = up;
       place = omega arith;
       high = λ _. let h = facts.run.high c.turned-place.result from to in omega arith;
-      comes = λ p at. left_at (slice_index c.args.levels.now) (length c.args.levels.now) c.args.base c.loop-beside.level outer run.start run.end p
-          c.loop-beside.place c.turned-place.result up fall facts.run before (λ less. let h = beside_it.after less in omega arith) from to turn.0 (inv.comes p at);
+      comes = λ p at. (between (slice_index c.args.levels.now) (length c.args.levels.now) c.args.base outer c.loop-beside.level run.start run.end p
+          c.turned-place.result c.loop-beside.place up fall facts.run.order facts.run.within facts.run.high before (λ less. let h = beside_it.after less in omega arith) from to back).1 (inv.comes p at);
     }

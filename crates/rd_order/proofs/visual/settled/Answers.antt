@@ -1,5 +1,5 @@
 use Rattle.std.proofs.Common.{◌-◌, length, slice_index, arith}
-use Rattle.rd_order.proofs.Steps.{entered, shows, turned_by}
+use Rattle.rd_order.proofs.Steps.{between, shows, turned_by}
 use Rattle.rd_order.proofs.visual.settled.Goals as goal
 
 pub loop-level-preserved : goal.loop-level-preserved
@@ -17,8 +17,8 @@ loop-level-preserved c =
       base = omega arith;
       place = omega arith;
       high = λ _. facts.lowest c.turned-place.result from to;
-      comes = λ p came. entered (slice_index c.args.levels.now) (length c.args.levels.now) c.args.base c.loop-level.level run.lowest run.start run.end p
-          c.loop-level.place c.turned-place.result base (omega arith) facts.run facts.lowest facts.from facts.to turn.0 (inv.comes p came);
+      comes = λ p came. (between (slice_index c.args.levels.now) (length c.args.levels.now) c.args.base c.loop-level.level run.lowest run.start run.end p
+          c.loop-level.place c.turned-place.result base (omega arith) facts.run.order within facts.lowest facts.run.before facts.run.after facts.from facts.to turn.0).0 (inv.comes p came);
     }
 
 pub returns : goal.returns
