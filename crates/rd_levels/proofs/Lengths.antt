@@ -1,4 +1,4 @@
--- The level of a separator at the end of a line is the base.
+-- A line has as many levels as places, and a separator at its end has at most the level of the base.
 use Rattle.std.proofs.Common.{◌≡◌, ℕ, suc, ◌≤◌, Bool, true, false, List, [], ◌∷◌, ◌++◌, length, replicate, refl, sym, ap, ◌∙◌, length-append, arith}
 use Rattle.std.specs.Prelude.{slice_index, slice_set}
 use Rattle.std.proofs.lemmas.Bool.{cond_both}

@@ -16,8 +16,8 @@ use rd_base::limits::PREFIX_COLUMNS;
 use rd_base::{Element, ListOf, Look, Memory};
 use std::alloc::Global;
 
-/// A row that is being made, whether an element of the line stands in it, and where lines are wrapped between words the last
-/// place at which the row can be left, with the elements behind it.
+/// A row that is being made. `empty` says that no element of the line stands in it yet. Where lines are wrapped between words,
+/// `last_break` is the last place at which the row can be left, and `waiting` has the elements behind it.
 #[derive(Drop)]
 pub struct Filling {
     pub draft: Draft,
