@@ -42,8 +42,9 @@ abbrev pub rests : Option Layout → SourceValues → ShapeValues → Wanted →
 rests None m shape w = false
 rests (Some l) m shape w = is_current l shape w && suits w (places_of m shape w) (places_of m shape w).old
 
--- how many elements may be placed for a window: three times the weights of the blocks that have a row near it and do not keep
--- those of its last layout, and none where the cursor alone moves
+-- The most steps that the layout of a window takes: none where the cursor alone moves, and else three times the costs of the blocks that
+-- have a row near it, where a block costs nothing that keeps the rows of the last layout. The choice of the start takes up to two of the
+-- three, and the rows in view take the third.
 abbrev pub allowance : Option Layout → SourceValues → ShapeValues → Wanted → ℕ
 allowance last m shape w = if rests last m shape w then 0 else 3 * near_costs (kept_by last m shape) shape w
 
