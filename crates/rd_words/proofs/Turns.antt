@@ -6,7 +6,7 @@ use Rattle.std.specs.Option.{option_map_or}
 use Rattle.std.specs.Str.{bytes_eq, chars}
 use Rattle.clap.specs.Lexer.{long_of, long_of_rest, short_of, short_of_rest, strip_byte}
 use Rattle.clap.specs.Kinds.{Kinds, or_else}
-use Rattle.clap.specs.Walk.{Held, Row, Rule, Step, Walk, after_flag, after_step, bundle_met, bundle_step, finished, flag_met, idle, long_met, long_or_other, option, option_met, plain, plain_word, reacted, settled, settled_rows, short_or_plain, takes_values, trailing, walk_from, walked}
+use Rattle.clap.specs.Walk.{Held, Outcome, Row, Rule, Step, Walk, after_flag, after_step, bundle_met, bundle_step, finished, flag_met, idle, long_met, long_or_other, option, option_met, plain, plain_word, reacted, settled, settled_rows, short_or_plain, takes_values, trailing, walk_from, walked}
 use Rattle.clap.specs.Walk.{arg_by_long}
 use Rattle.clap.specs.Simple.{Shape, built, filled}
 use Rattle.clap.specs.Faults.{bundle_fault, bundle_step_fault, check_fault, defaults_fault, flag_word_fault, flags_fault, long_fault, option_fault, react_fault, settle_fault, step_fault, turn_fault, walk_fault}
@@ -91,6 +91,10 @@ outcome-is w (word ∷ words) =
 abbrev pub turned : Walk → Text → List Text → Kinds → Held × Step → Option WordValues
 turned w word rest fault m = unless (or_else fault (step_fault shape 1 m.0 m.1)) (outcome (after_step shape.rules word w m.0 m.1) rest)
 
+-- the same of a word that names flags or an option
+abbrev pub flagged : Walk → Text → List Text → Kinds → Held × Outcome → Option WordValues
+flagged w word rest fault m = turned w word rest fault (after_flag shape.rules w.waiting word m.0 m.1)
+
 -- behind an option whose value is still to come, and behind `--`
 abbrev pub awaiting : Held → Text → Walk
 awaiting h id = record (walk_from (record h { pending = Some (id, []) })) { waiting = option id }
@@ -126,9 +130,8 @@ dashes h (word ∷ words) = refl
 
 module _ (rows : List Row) (pending : Option (Text × List Text)) (word : Text) (rest : List Text) where
   bundled : (k : ℕ) (flags : Text) (o : Option ℕ)
-      → turned (walk_from (held rows pending)) word rest (bundle_step_fault shape.rules false o flags 0 (held rows pending) (flags_fault shape.rules false k))
-      (after_flag shape.rules idle word (bundle_step shape.rules o flags 0 plain (held rows pending) (bundle_met shape.rules k)).0
-      (bundle_step shape.rules o flags 0 plain (held rows pending) (bundle_met shape.rules k)).1) ≡ None
+      → flagged (walk_from (held rows pending)) word rest (bundle_step_fault shape.rules false o flags 0 (held rows pending) (flags_fault shape.rules false k))
+      (bundle_step shape.rules o flags 0 plain (held rows pending) (bundle_met shape.rules k)) ≡ None
   bundled k flags None = refl
   bundled k flags (Some x) = refl
 
@@ -141,10 +144,9 @@ module _ (rows : List Row) (pending : Option (Text × List Text)) (word : Text) 
   stray (Some (x ∷ xs)) = bundled (length xs) (x ∷ xs) (slice_get (chars (x ∷ xs)) 0)
 
   by_kind : (a : Rule) (v : Option Text) (t : Bool)
-      → turned (walk_from (held rows pending)) word rest
+      → flagged (walk_from (held rows pending)) word rest
       (if t then option_fault shape.rules false a v (held rows pending) else (if is_some v then kind.TooManyValues ∷ [] else react_fault shape.rules false a [] (held rows pending)))
-      (after_flag shape.rules idle word (if t then option_met shape.rules a v (held rows pending) else flag_met shape.rules a v (held rows pending)).0
-      (if t then option_met shape.rules a v (held rows pending) else flag_met shape.rules a v (held rows pending)).1)
+      (if t then option_met shape.rules a v (held rows pending) else flag_met shape.rules a v (held rows pending))
       ≡ (if t then met_option (held rows pending) a v rest else met_flag (held rows pending) a v rest)
   by_kind a (Some v) true = unless-nil (react_fault shape.rules false a (v ∷ []) (held rows pending)) _
   by_kind a None true = unless-nil (settle_fault shape.rules false (held rows pending)) _
@@ -152,9 +154,7 @@ module _ (rows : List Row) (pending : Option (Text × List Text)) (word : Text) 
   by_kind a None false = unless-nil (react_fault shape.rules false a [] (held rows pending)) _
 
   long : (a : Option Rule) (v : Option Text)
-      → turned (walk_from (held rows pending)) word rest (long_fault shape.rules false a v (held rows pending))
-      (after_flag shape.rules idle word (long_met shape.rules a v (held rows pending)).0 (long_met shape.rules a v (held rows pending)).1)
-      ≡ met (held rows pending) a v rest
+      → flagged (walk_from (held rows pending)) word rest (long_fault shape.rules false a v (held rows pending)) (long_met shape.rules a v (held rows pending)) ≡ met (held rows pending) a v rest
   long None v = refl
   long (Some a) v = by_kind a v (takes_values a)
 
@@ -297,9 +297,8 @@ module _ (rows : List Row) (id : Text) (word : Text) (rest : List Text) where
     refused_long (Some a) v = refused_kind a v (takes_values a)
 
     waits_bundled : (k : ℕ) (flags : Text) (o : Option ℕ)
-        → turned waiting_walk word rest (bundle_step_fault shape.rules false o flags 0 waiting_held (flags_fault shape.rules false k))
-        (after_flag shape.rules (option id) word (bundle_step shape.rules o flags 0 plain waiting_held (bundle_met shape.rules k)).0
-        (bundle_step shape.rules o flags 0 plain waiting_held (bundle_met shape.rules k)).1)
+        → flagged waiting_walk word rest (bundle_step_fault shape.rules false o flags 0 waiting_held (flags_fault shape.rules false k))
+        (bundle_step shape.rules o flags 0 plain waiting_held (bundle_met shape.rules k))
         ≡ (if is_some o then None else outcome (walk_from (held rows (Some (id, word ∷ [])))) rest)
     waits_bundled k flags None = takes
     waits_bundled k flags (Some x) = refl

@@ -55,8 +55,8 @@ const MOST: u64 = 2_147_483_647;
 /// word of its own is no flag, so it begins with no hyphen but where it is the hyphen alone. N is 0 to 2,147,483,647 in decimal
 /// digits, before which a plus may stand. A last word `--` says nothing.
 ///
-/// `Usage` comes exactly for other words, `--help` among them: where `clap` refuses the words of this command. Memory comes where
-/// an allocation was refused, whatever the words are.
+/// `Usage` comes exactly for other words, `--help` among them: where `clap` refuses the words of this command. Memory may be
+/// answered at any time, whatever the words are.
 pub fn read_words<'a>(alloc: Global, words: &'a [String]) -> Result<Words<'a>, WordsFault>
     ensures { ReadsWords result (values_of (texts words.now)) }
 {
