@@ -37,10 +37,10 @@ struct Prepared {
 impl Session {
     /// Lays the windows out, brings the screen to what they show, and settles their starts and points. Where `stop` is given at most so
     /// many of the rows that differ are sent: Stopped says that more differ, and Shown that these were all; both have the number of rows
-    /// that were sent. NoMemory says that an allocation was refused, and then no byte was sent: all memory is taken before the first
-    /// byte. WriteFault comes only where the sink's count of faults rose: a front of the bytes was sent. After either the frame is
-    /// garbaged, and all else is as it was. A window whose last layout stands and whose start suits its point costs nothing; another one
-    /// costs what the blocks that it looks at have of elements, without those whose rows are kept.
+    /// that were sent. NoMemory may be answered at any time, and then no byte was sent: all memory is taken before the first byte.
+    /// WriteFault comes only where the sink's count of faults rose: a front of the bytes was sent. After either the frame is garbaged, and
+    /// all else is as it was. A window whose last layout stands and whose start suits its point costs nothing; another one costs what the
+    /// blocks that it looks at have of elements, without those whose rows are kept.
     pub fn redisplay<K: Sink, L: Ledger>(
         &mut self,
         sink: &mut K,

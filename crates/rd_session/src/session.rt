@@ -68,9 +68,8 @@ impl Session {
     /// all as it was: NoBuffer, NoWindow, NoOverlay and NoObject where the op names what is not there, OutOfRange for a position or a
     /// range that is not where the op asks it to be, NotShown for a hit in a window whose last layout is not what it shows, TextTooLarge,
     /// ObjectTooLong, NameTaken, LastWindow, TooSmall where a window would have fewer columns or rows than it needs, BadFormat with the
-    /// place of the first bad code, or that there are too many buffers, windows, overlays or objects. Memory comes only from `go` and
-    /// from the ops of the state that take memory, which `State::apply` lists, where an allocation was refused; then too nothing has
-    /// changed.
+    /// place of the first bad code, or that there are too many buffers, windows, overlays or objects. Memory may be answered at any time
+    /// by `go` and by the ops of the state that take memory, which `State::apply` lists, and by no other; then too nothing has changed.
     pub fn apply(&mut self, op: Op) -> Result<(), Refused>
         requires form { IsInForm op }
         requires applied { IsStep op }
