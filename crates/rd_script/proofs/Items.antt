@@ -8,14 +8,14 @@ use Rattle.serde_json.specs.declared.value.Value.{Value}
 use Rattle.rd_base.proofs.Lists.{drop-read}
 use Rattle.rd_script.specs.Fields.{kept_if, items_count, consed, each_item, list_of, two_items_of, four_items_of}
 
--- items that were found before others
-abbrev pub joined : {T : Type 0} → List T → Option (List T) → Option (List T)
-joined xs None = None
-joined xs (Some ys) = Some (xs ++ ys)
+-- the items that were found, and behind them the rest, where it is of the kind too
+abbrev pub behind_found : {T : Type 0} → List T → Option (List T) → Option (List T)
+behind_found xs None = None
+behind_found xs (Some ys) = Some (xs ++ ys)
 
-joined-push : {T : Type 0} (xs : List T) (x : T) (o : Option (List T)) → joined (xs ++ x ∷ []) o ≡ joined xs (consed (Some x) o)
-joined-push xs x None = refl
-joined-push xs x (Some ys) = ap Some (append_assoc xs (x ∷ []) ys)
+behind_found-push : {T : Type 0} (xs : List T) (x : T) (o : Option (List T)) → behind_found (xs ++ x ∷ []) o ≡ behind_found xs (consed (Some x) o)
+behind_found-push xs x None = refl
+behind_found-push xs x (Some ys) = ap Some (append_assoc xs (x ∷ []) ys)
 
 -- what is left of the items, by the next one
 each-step : {T : Type 0} (kind : Data → Option T) (vs : List Value) (i : ℕ) (v : Value) → i < length vs → v ≡ get_or vs i v
@@ -23,16 +23,16 @@ each-step : {T : Type 0} (kind : Data → Option T) (vs : List Value) (i : ℕ) 
 each-step kind vs i v less is = ap (λ l. each_item kind (items_view l)) (drop-read vs i v less is)
 
 pub each-more : {T : Type 0} (kind : Data → Option T) (vs : List Value) (i : ℕ) (v : Value) (list : List T) (x : T) (whole : Option (List T)) → i < length vs → v ≡ get_or vs i v
-    → Some x ≡ kind (view v) → joined list (each_item kind (items_view (drop i vs))) ≡ whole
-    → joined (list ++ x ∷ []) (each_item kind (items_view (drop (i + 1) vs))) ≡ whole
+    → Some x ≡ kind (view v) → behind_found list (each_item kind (items_view (drop i vs))) ≡ whole
+    → behind_found (list ++ x ∷ []) (each_item kind (items_view (drop (i + 1) vs))) ≡ whole
 each-more kind vs i v list x whole less is found h =
-    joined-push list x (each_item kind (items_view (drop (i + 1) vs)))
-    ∙ (ap (λ o. joined list (consed o (each_item kind (items_view (drop (i + 1) vs))))) found ∙ (ap (joined list) (sym (each-step kind vs i v less is)) ∙ h))
+    behind_found-push list x (each_item kind (items_view (drop (i + 1) vs)))
+    ∙ (ap (λ o. behind_found list (consed o (each_item kind (items_view (drop (i + 1) vs))))) found ∙ (ap (behind_found list) (sym (each-step kind vs i v less is)) ∙ h))
 
 pub each-fails : {T : Type 0} (kind : Data → Option T) (vs : List Value) (i : ℕ) (v : Value) (list : List T) (whole : Option (List T)) → i < length vs → v ≡ get_or vs i v
-    → None ≡ kind (view v) → joined list (each_item kind (items_view (drop i vs))) ≡ whole → None ≡ whole
+    → None ≡ kind (view v) → behind_found list (each_item kind (items_view (drop i vs))) ≡ whole → None ≡ whole
 each-fails kind vs i v list whole less is found h =
-    ap (λ o. joined list (consed o (each_item kind (items_view (drop (i + 1) vs))))) found ∙ (ap (joined list) (sym (each-step kind vs i v less is)) ∙ h)
+    ap (λ o. behind_found list (consed o (each_item kind (items_view (drop (i + 1) vs))))) found ∙ (ap (behind_found list) (sym (each-step kind vs i v less is)) ∙ h)
 
 -- ---- an array of at most so many items
 

@@ -1,4 +1,4 @@
-//! The fields that several ops have: buffers, windows, overlays, ranges and numbers of a range.
+//! The fields that several ops have: the buffer that an op is about, a range of positions, both of them, and a number of a range.
 ghost use Rattle.rd_script.specs.Fields.{within, required, IsTaken};
 ghost use Rattle.rd_script.specs.Table.{buffer_field, range_fields, stretch_fields};
 
