@@ -1,12 +1,12 @@
 -- Texts that are written piece by piece.
-use Rattle.std.proofs.Common.{◌≡◌, ℕ, ◌+◌, ◌≤◌, ◌<◌, List, [], ◌++◌, length, Option, Result, Ok, Err, true≢false, sym, ap, ◌∙◌, subst, append_assoc, arith, drop, get_or}
+use Rattle.std.proofs.Common.{◌≡◌, ℕ, ◌+◌, ◌≤◌, ◌<◌, List, [], ◌++◌, length, Option, Result, Ok, Err, true≢false, sym, ap, ◌∙◌, subst, arith, drop, get_or}
 use Rattle.std.specs.Result.{IsErr}
 use Rattle.std.specs.Io.KnownBytes.{Appends}
 use Rattle.std.proofs.KnownBytes.{Appends-nil, Appends-trans}
 use Rattle.std.proofs.lemmas.List.{drop_all, drop_more}
 use Rattle.std.specs.List.{flat_map}
 use Rattle.rd_io.specs.Devices.{Writes}
-use Rattle.rd_io.proofs.Bytes.{front-after, front-before, rose-after}
+use Rattle.rd_io.proofs.Bytes.{Going, front-after, front-before, going-by, rose-after}
 use Rattle.rd_dump.specs.Prints.{Prints}
 
 -- a writer that failed, as the answer of the one that called it
@@ -32,22 +32,10 @@ prints-then a b c f g h xs ys t (Ok u) p q =
 prints-then a b c f g h xs ys t (Err d) p q =
     record { whole = tt; front = front-after a b c xs ys p.whole q.front; never_falls = omega (arith, p.never_falls, q.never_falls); failed = rose-after f g h p.never_falls q.failed }
 
--- a text of which a front was written, and what is left
-pub record Going (a b : Option (List ℕ)) (f g : ℕ) (all rest : List ℕ) : Type 0 where
-  pub done : List ℕ
-  pub split : all ≡ done ++ rest
-  pub printed : Appends a b done
-  pub never_falls : f ≤ g
-
 -- the next piece was written
 pub going-on : {T E : Type 0} (a b c : Option (List ℕ)) (f g h : ℕ) (all rest piece more : List ℕ) (t : T)
     → Going a b f g all rest → rest ≡ piece ++ more → Prints {T = T} {E = E} b c g h piece (Ok t) → Going a c f h all more
-going-on a b c f g h all rest piece more t going e p = record {
-  done = going.done ++ piece;
-  split = going.split ∙ ap (λ l. going.done ++ l) e ∙ sym (append_assoc going.done piece more);
-  printed = Appends-trans a b c going.done piece going.printed p.whole;
-  never_falls = omega (arith, going.never_falls, p.never_falls);
-}
+going-on a b c f g h all rest piece more t going e p = going-by a b c f g h all rest piece more going e p.whole p.never_falls
 
 -- what is left is written by another
 pub going-last : {U F : Type 0} (a b c : Option (List ℕ)) (f g h : ℕ) (all rest : List ℕ) (s : Result U F)

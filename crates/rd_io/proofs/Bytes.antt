@@ -43,13 +43,22 @@ pub writes-then : {T E : Type 0} (r : Result T E) (a b c : Option (List ℕ)) (f
 writes-then (Ok x) a b c front back p q = record { whole = Appends-trans a b c front back p q.whole; front = tt }
 writes-then (Err x) a b c front back p q = record { whole = tt; front = front-after a b c front back p q.front }
 
--- a write adds to the front, and the rest gets shorter
-pub front-written : (a b c : Option (List ℕ)) (bytes front rest back : List ℕ) (n : ℕ) → bytes ≡ front ++ rest → back ≡ drop n rest → Appends a b front → Appends b c (take n rest)
-    → (more : List ℕ) × (bytes ≡ more ++ back) × Appends a c more
-front-written a b c bytes front rest back n e is p q =
-    let split : bytes ≡ (front ++ take n rest) ++ back =
-    e ∙ ap (λ l. front ++ l) (sym (take-append-drop n rest) ∙ ap (λ l. take n rest ++ l) (sym is)) ∙ sym (append_assoc front (take n rest) back) in
-    (front ++ take n rest, split, Appends-trans a b c front (take n rest) p q)
+-- a text of which a front was written, and what is left
+pub record Going (a b : Option (List ℕ)) (f g : ℕ) (all rest : List ℕ) : Type 0 where
+  pub done : List ℕ
+  pub split : all ≡ done ++ rest
+  pub printed : Appends a b done
+  pub never_falls : f ≤ g
+
+-- the next piece was written
+pub going-by : (a b c : Option (List ℕ)) (f g h : ℕ) (all rest piece more : List ℕ) → Going a b f g all rest → rest ≡ piece ++ more → Appends b c piece → g ≤ h
+    → Going a c f h all more
+going-by a b c f g h all rest piece more going e p low = record {
+  done = going.done ++ piece;
+  split = going.split ∙ ap (λ l. going.done ++ l) e ∙ sym (append_assoc going.done piece more);
+  printed = Appends-trans a b c going.done piece going.printed p;
+  never_falls = omega (arith, going.never_falls, low);
+}
 
 -- these bytes are a front of the file, where its bytes are known
 abbrev pub IsFront : List ℕ → Option (List ℕ) → Type 0

@@ -1,6 +1,6 @@
 use Rattle.std.proofs.Common.{◌≡◌, drop, length}
+use Rattle.rd_io.proofs.Bytes.{Going}
 use Rattle.rd_dump.specs.Dumps.{rows_text}
-use Rattle.rd_dump.proofs.Writing.{Going}
 use Rattle.rd_dump.proofs.dump.print_rows.Given as goal
 
 abbrev pub invariant-loop-row : goal.invariant-loop-row

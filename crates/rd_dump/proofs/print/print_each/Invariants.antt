@@ -1,7 +1,7 @@
 use Rattle.std.proofs.Common.{ℕ, List, drop}
 use Rattle.std.specs.List.{flat_map}
+use Rattle.rd_io.proofs.Bytes.{Going}
 use Rattle.rd_dump.specs.Prints.{PrintsItems}
-use Rattle.rd_dump.proofs.Writing.{Going}
 use Rattle.rd_dump.proofs.print.print_each.Given as goal
 
 abbrev pub invariant-loop-item : goal.invariant-loop-item

@@ -1,7 +1,7 @@
 use Rattle.std.proofs.Common.{drop}
 use Rattle.rd_term.specs.Pens.{numbers_of_face}
+use Rattle.rd_io.proofs.Bytes.{Going}
 use Rattle.rd_dump.specs.Dumps.{numbers_text, numbers_behind}
-use Rattle.rd_dump.proofs.Writing.{Going}
 use Rattle.rd_dump.proofs.runs.print_numbers.Given as goal
 
 abbrev pub invariant-loop-number : goal.invariant-loop-number

@@ -1,7 +1,7 @@
 use Rattle.std.proofs.Common.{◌≡◌, drop}
+use Rattle.rd_io.proofs.Bytes.{Going}
 use Rattle.rd_dump.specs.Dumps.{runs_of_row, faces_of}
 use Rattle.rd_dump.proofs.OnePass.{open_text}
-use Rattle.rd_dump.proofs.Writing.{Going}
 use Rattle.rd_dump.proofs.runs.print_runs.Given as goal
 
 abbrev pub invariant-loop-cell : goal.invariant-loop-cell

@@ -1,17 +1,17 @@
-use Rattle.std.proofs.Common.{arith, rules}
-use Rattle.rd_io.proofs.Bytes.{front-stopped, front-written}
+use Rattle.std.proofs.Common.{◌++◌, ◌∙◌, ap, sym, take, take-append-drop, rules}
+use Rattle.rd_io.proofs.Bytes.{front-stopped, going-by}
 use Rattle.rd_io.proofs.traits.write_whole.Goals as goal
 
 pub returns-in_err-n-clause-bytes : goal.returns-in_err-n-clause-bytes
 returns-in_err-n-clause-bytes g c =
-    let front = c.loop-rest.invariant.0 in
+    let front = c.loop-rest.invariant in
     let kept = c.in_err-n.ensures.bytes in
-    let stopped = front-stopped _ _ _ c.args.bytes.now front.0 c.loop-rest.rest.now front.1 front.2 kept in
+    let stopped = front-stopped _ _ _ c.args.bytes.now front.done c.loop-rest.rest.now front.split front.printed kept in
     record { whole = search rules; front = search rules }
 
 pub loop-rest-preserved : goal.loop-rest-preserved
 loop-rest-preserved g c =
-    let front = c.loop-rest.invariant.0 in (
-      front-written _ _ _ c.args.bytes.now front.0 c.loop-rest.rest.now c.split_at.result.1.now c.in_ok-n.n front.1 c.split_at.ensures.back front.2 c.in_ok-n.ensures.bytes,
-      omega (arith, c.in_ok-n.ensures.never_falls, c.loop-rest.invariant.1),
-    )
+    let rest = c.loop-rest.rest.now in
+    let piece = take c.in_ok-n.n rest in
+    let split = sym (take-append-drop c.in_ok-n.n rest) ∙ ap (λ l. piece ++ l) (sym c.split_at.ensures.back) in
+    going-by _ _ _ _ _ _ c.args.bytes.now rest piece c.split_at.result.1.now c.loop-rest.invariant split c.in_ok-n.ensures.bytes c.in_ok-n.ensures.never_falls
