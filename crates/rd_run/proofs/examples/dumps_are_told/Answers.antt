@@ -2,10 +2,9 @@ use Rattle.std.proofs.Common.{refl}
 use Rattle.rd_run.proofs.OnRuns.{on_ops}
 use Rattle.rd_run.proofs.examples.dumps_are_told.Goals as goal
 
-pub returns-clause-one : goal.returns-clause-one
+pub returns : goal.returns
 unfolding on_ops
-returns-clause-one c = refl
-
-pub returns-clause-two : goal.returns-clause-two
-unfolding on_ops
-returns-clause-two c = refl
+returns c = record {
+  one = refl;
+  two = refl;
+}
