@@ -1,10 +1,14 @@
 -- Lists by numbers: what stands under one, and the windows of a state.
-use Rattle.std.proofs.Common.{◌≡◌, ◌≢◌, ℕ, zero, suc, ◌+◌, ◌<◌, ◌⊎◌, inl, inr, ◌==◌, not, if◌then◌else◌, Option, None, Some, List, [], ◌∷◌, ◌++◌, length, map, nat_lt, set, get_or, subst, sym, ap, refl, ◌∙◌, arith}
-use Rattle.std.proofs.lemmas.Bool.{cases_eq, cond-false, cond-true, eq-eqb, ltb-false, ne_eqb, not_from_false, not_from_true}
-use Rattle.std.proofs.lemmas.List.Sums.{prefix_len-le-length}
+use Rattle.std.proofs.Common.{◌≡◌, ◌≢◌, ℕ, zero, suc, ◌+◌, ◌<◌, ◌⊎◌, inl, inr, ◌==◌, false, not, cond, if◌then◌else◌, Option, None, Some, List, [], ◌∷◌, ◌++◌, length, map, nat_lt, set, get_or, subst, sym, ap, refl, ◌∙◌, arith}
+use Rattle.std.proofs.lemmas.Bool.{cases_eq, cond-false, cond-true, eq-eqb, eqb-true, ltb-false, ne_eqb, not_from_false, not_from_true}
+use Rattle.std.proofs.lemmas.List.Elements.{recursion_from_All}
+use Rattle.std.proofs.lemmas.List.Sums.{fails_before_first}
+use Rattle.std.proofs.lemmas.Map.{lookup-none}
+use Rattle.std.proofs.lemmas.Map.Entries.{place_from_lookup}
 use Rattle.std.proofs.lemmas.Option.{none-some, slice_get-get_or}
 use Rattle.std.specs.Prelude.{slice_get, option_map, position, IsSome}
 use Rattle.std.specs.List.{remove}
+use Rattle.std.specs.Map.{lookup}
 use Rattle.std.specs.Option.{option_or}
 use Rattle.rd_base.proofs.Choices.{is_some-map, none-chosen}
 use Rattle.rd_state.specs.declared.window.WindowState.{WindowState}
@@ -36,14 +40,15 @@ place-there n e rest h = cond-true (not (e.0 == n)) (1 + place_in n rest) 0 (not
 
 -- ---- finding
 
+-- what stands under a number is what a map's look-up finds
+under-lookup : {X : Type 0} (n : ℕ) (es : List (ℕ × X)) → under n es ≡ lookup (λ k. k == n) es
+under-lookup n [] = refl
+under-lookup n (e ∷ es) = ap (cond (e.0 == n) (Some e.1)) (under-lookup n es)
+
 pub get-window : (n : ℕ) (ws : List NumberedWindow) (w : WindowState) → window_of n ws ≡ Some w → (k : ℕ) × (slice_get ws k ≡ Some (n, w))
-get-window n [] w h = absurd (cc)
-get-window n (e ∷ rest) w h = elim (cases_eq e.0 n) [
-  | inl p ↦
-      let same : e.1 ≡ w = cc (sym (under-here n e rest p) ∙ h) in
-      (0, λ i. Some (p i, same i))
-  | inr q ↦ let there = get-window n rest w (sym (under-there n e rest q) ∙ h) in (suc there.0, there.1)
-]
+get-window n ws w h =
+    let at = place_from_lookup (λ k. k == n) ws w (sym (under-lookup n ws) ∙ h) in
+    (at.0, at.2 ∙ ap (λ (k : ℕ). Some (k, w)) (eqb-true at.1 n at.3))
 
 -- an entry that stands at the place of a number
 pub record IsFound {X : Type 0} (n i : ℕ) (es : List (ℕ × X)) (e : ℕ × X) : Type 0 where
@@ -90,18 +95,11 @@ found-entry n i es e is less at =
     let same : there.0 ≡ e = cc (sym there.1.at ∙ (slice_get-get_or es i e less ∙ ap Some (sym at))) in
     subst (IsFound n i es) same there.1
 
-absent : {X : Type 0} (n : ℕ) (es : List (ℕ × X)) → length es ≡ place_in n es → under n es ≡ None
-absent n [] h = refl
-absent n (e ∷ rest) h = elim (cases_eq e.0 n) [
-  | inl p ↦ absurd (omega (arith, place-here n e rest p, h))
-  | inr q ↦ under-there n e rest q ∙ absent n rest (omega (arith, place-there n e rest q, h))
-]
-
 -- where no place is found nothing stands under the number
 pub nowhere : {X : Type 0} (n : ℕ) (es : List (ℕ × X)) → position (λ e. e.0 == n) es ≡ None → under n es ≡ None
 nowhere {X} n es h =
     let past = ltb-false (place_in n es) (length es) (none-chosen (nat_lt (place_in n es) (length es)) (place_in n es) None h).0 in
-    absent n es (omega (arith, past, prefix_len-le-length (λ (e : ℕ × X). not (e.0 == n)) es))
+    under-lookup n es ∙ lookup-none (λ k. k == n) es (recursion_from_All (λ (e : ℕ × X). (e.0 == n) ≡ false) es (λ k d p. fails_before_first (λ (e : ℕ × X). e.0 == n) es k d (omega (arith, past, p))))
 
 -- ---- what becomes something else, or goes
 
