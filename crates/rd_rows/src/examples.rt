@@ -19,12 +19,14 @@ fn a_wide_character_at_the_edge()
     ensures three { cells (rows narrow (letters 0 (97 ∷ 98 ∷ 99 ∷ 100 ∷ 101 ∷ 102 ∷ 103 ∷ 104 ∷ 105 ∷ []) ++ wide 9 20013 3 ∷ line_end 10)) ≡ text (97 ∷ 98 ∷ 99 ∷ 100 ∷ 101 ∷ 102 ∷ 103 ∷ 104 ∷ 105 ∷ 32 ∷ 32 ∷ 92 ∷ []) ∷ (glyph_cells 3 (single 20013 3) plain ++ blanks 9 plain) ∷ [] }
 {}
 
-/// A tab reaches to its stop, or is cut at the room; behind a full row it begins the next.
+/// A tab reaches to its stop, or is cut at the room; behind a full row it begins the next. Behind one that ends the room the cursor is
+/// in the last column.
 fn tabs_of_a_continued_line()
     ensures stop { cells (rows narrow (letters 0 (97 ∷ 98 ∷ 99 ∷ 100 ∷ 101 ∷ 102 ∷ 103 ∷ []) ++ tab 7 ∷ letter 8 120 ∷ line_end 9)) ≡ text (97 ∷ 98 ∷ 99 ∷ 100 ∷ 101 ∷ 102 ∷ 103 ∷ 32 ∷ 120 ∷ 32 ∷ 32 ∷ 32 ∷ []) ∷ [] }
     ensures cut { cells (rows narrow (letters 0 (97 ∷ 98 ∷ 99 ∷ 100 ∷ 101 ∷ 102 ∷ 103 ∷ 104 ∷ []) ++ tab 8 ∷ letter 9 120 ∷ line_end 10)) ≡ text (97 ∷ 98 ∷ 99 ∷ 100 ∷ 101 ∷ 102 ∷ 103 ∷ 104 ∷ 32 ∷ 32 ∷ 32 ∷ 92 ∷ []) ∷ text (120 ∷ 32 ∷ 32 ∷ 32 ∷ 32 ∷ 32 ∷ 32 ∷ 32 ∷ 32 ∷ 32 ∷ 32 ∷ 32 ∷ []) ∷ [] }
     ensures last { cells (rows narrow (letters 0 (97 ∷ 98 ∷ 99 ∷ 100 ∷ 101 ∷ 102 ∷ 103 ∷ 104 ∷ 105 ∷ 106 ∷ []) ++ tab 10 ∷ line_end 11)) ≡ text (97 ∷ 98 ∷ 99 ∷ 100 ∷ 101 ∷ 102 ∷ 103 ∷ 104 ∷ 105 ∷ 106 ∷ 32 ∷ 32 ∷ []) ∷ [] }
     ensures next { cells (rows narrow (letters 0 (97 ∷ 98 ∷ 99 ∷ 100 ∷ 101 ∷ 102 ∷ 103 ∷ 104 ∷ 105 ∷ 106 ∷ 107 ∷ []) ++ tab 11 ∷ letter 12 120 ∷ line_end 13)) ≡ text (97 ∷ 98 ∷ 99 ∷ 100 ∷ 101 ∷ 102 ∷ 103 ∷ 104 ∷ 105 ∷ 106 ∷ 107 ∷ 92 ∷ []) ∷ text (32 ∷ 32 ∷ 32 ∷ 32 ∷ 32 ∷ 120 ∷ 32 ∷ 32 ∷ 32 ∷ 32 ∷ 32 ∷ 32 ∷ []) ∷ [] }
+    ensures end { begins (rows narrow (letters 0 (97 ∷ 98 ∷ 99 ∷ 100 ∷ 101 ∷ 102 ∷ 103 ∷ 104 ∷ 105 ∷ 106 ∷ []) ++ tab 10 ∷ line_end 11)) ≡ (at 0 0 ∷ at 1 1 ∷ at 2 2 ∷ at 3 3 ∷ at 4 4 ∷ at 5 5 ∷ at 6 6 ∷ at 7 7 ∷ at 8 8 ∷ at 9 9 ∷ at 10 10 ∷ at 11 11 ∷ []) ∷ [] }
 {}
 
 /// A truncated row ends with its mark, at a wide character with blanks before it, and places the elements that are not seen.
@@ -110,14 +112,6 @@ fn words_behind_prefixes()
     ensures none { cells (rows_behind by_words (62 ∷ 32 ∷ []) (62 ∷ 32 ∷ []) (letters 0 (97 ∷ 98 ∷ 99 ∷ 100 ∷ 101 ∷ 102 ∷ 103 ∷ 104 ∷ 105 ∷ 106 ∷ 107 ∷ 108 ∷ 109 ∷ []) ++ line_end 13)) ≡ text (62 ∷ 32 ∷ 97 ∷ 98 ∷ 99 ∷ 100 ∷ 101 ∷ 102 ∷ 103 ∷ 104 ∷ 105 ∷ 92 ∷ []) ∷ (text (62 ∷ 32 ∷ 106 ∷ 107 ∷ 108 ∷ 109 ∷ []) ++ blanks 6 plain) ∷ [] }
     ensures again { cells (rows_behind by_words [] (49 ∷ 50 ∷ 51 ∷ 52 ∷ 53 ∷ 54 ∷ []) (letters 0 (97 ∷ 98 ∷ 32 ∷ 99 ∷ 100 ∷ 101 ∷ 102 ∷ 103 ∷ 104 ∷ 105 ∷ 106 ∷ 107 ∷ 32 ∷ 108 ∷ 109 ∷ 110 ∷ []) ++ line_end 16)) ≡ (text (97 ∷ 98 ∷ []) ++ blanks 10 plain) ∷ text (49 ∷ 50 ∷ 51 ∷ 52 ∷ 53 ∷ 54 ∷ 99 ∷ 100 ∷ 101 ∷ 102 ∷ 103 ∷ 92 ∷ []) ∷ (text (49 ∷ 50 ∷ 51 ∷ 52 ∷ 53 ∷ 54 ∷ 104 ∷ 105 ∷ 106 ∷ 107 ∷ []) ++ blanks 2 plain) ∷ (text (49 ∷ 50 ∷ 51 ∷ 52 ∷ 53 ∷ 54 ∷ 108 ∷ 109 ∷ 110 ∷ []) ++ blanks 3 plain) ∷ [] }
     ensures weights { weights (rows_behind by_words [] (49 ∷ 50 ∷ 51 ∷ 52 ∷ 53 ∷ 54 ∷ []) (letters 0 (97 ∷ 98 ∷ 32 ∷ 99 ∷ 100 ∷ 101 ∷ 102 ∷ 103 ∷ 104 ∷ 105 ∷ 106 ∷ 107 ∷ 32 ∷ 108 ∷ 109 ∷ 110 ∷ []) ++ line_end 16)) ≡ 3 ∷ 11 ∷ 11 ∷ 10 ∷ [] }
-{}
-
-/// Three lines with tabs: one that fits, one that is cut at the room, and one at the end, where the cursor is in the last column.
-fn lines_with_tabs()
-    ensures fits { cells (rows narrow (letters 0 (97 ∷ 98 ∷ 99 ∷ 100 ∷ 101 ∷ 102 ∷ 103 ∷ []) ++ tab 7 ∷ letter 8 120 ∷ line_end 9)) ≡ (text (97 ∷ 98 ∷ 99 ∷ 100 ∷ 101 ∷ 102 ∷ 103 ∷ 32 ∷ 120 ∷ []) ++ blanks 3 plain) ∷ [] }
-    ensures cut { cells (rows narrow (letters 0 (97 ∷ 98 ∷ 99 ∷ 100 ∷ 101 ∷ 102 ∷ 103 ∷ 104 ∷ []) ++ tab 8 ∷ letter 9 120 ∷ line_end 10)) ≡ text (97 ∷ 98 ∷ 99 ∷ 100 ∷ 101 ∷ 102 ∷ 103 ∷ 104 ∷ 32 ∷ 32 ∷ 32 ∷ 92 ∷ []) ∷ (text (120 ∷ []) ++ blanks 11 plain) ∷ [] }
-    ensures last { cells (rows narrow (letters 0 (97 ∷ 98 ∷ 99 ∷ 100 ∷ 101 ∷ 102 ∷ 103 ∷ 104 ∷ 105 ∷ 106 ∷ []) ++ tab 10 ∷ line_end 11)) ≡ (text (97 ∷ 98 ∷ 99 ∷ 100 ∷ 101 ∷ 102 ∷ 103 ∷ 104 ∷ 105 ∷ 106 ∷ []) ++ blanks 2 plain) ∷ [] }
-    ensures end { begins (rows narrow (letters 0 (97 ∷ 98 ∷ 99 ∷ 100 ∷ 101 ∷ 102 ∷ 103 ∷ 104 ∷ 105 ∷ 106 ∷ []) ++ tab 10 ∷ line_end 11)) ≡ (at 0 0 ∷ at 1 1 ∷ at 2 2 ∷ at 3 3 ∷ at 4 4 ∷ at 5 5 ∷ at 6 6 ∷ at 7 7 ∷ at 8 8 ∷ at 9 9 ∷ at 10 10 ∷ at 11 11 ∷ []) ∷ [] }
 {}
 
 /// Text that is aligned at the eighth of sixteen columns, and text that has passed it: the stretch begins in the column of the

@@ -2,10 +2,6 @@ use Rattle.std.proofs.Common.{refl}
 use Rattle.unicode_width.specs.Width.{char_width}
 use Rattle.rd_stack.proofs.examples.faces_of_strings_and_ellipses.Goals as goal
 
-pub returns-clause-strings : goal.returns-clause-strings
+pub returns : goal.returns
 unfolding char_width
-returns-clause-strings c = refl
-
-pub returns-clause-ellipsis : goal.returns-clause-ellipsis
-unfolding char_width
-returns-clause-ellipsis c = refl
+returns c = record { strings = refl; ellipsis = refl }

@@ -2,10 +2,6 @@ use Rattle.std.proofs.Common.{refl}
 use Rattle.unicode_width.specs.Width.{char_width}
 use Rattle.rd_stack.proofs.examples.line_with_a_stretch.Goals as goal
 
-pub returns-clause-short : goal.returns-clause-short
+pub returns : goal.returns
 unfolding char_width
-returns-clause-short c = refl
-
-pub returns-clause-passed : goal.returns-clause-passed
-unfolding char_width
-returns-clause-passed c = refl
+returns c = record { short = refl; passed = refl }

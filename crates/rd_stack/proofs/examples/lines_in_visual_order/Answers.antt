@@ -2,10 +2,6 @@ use Rattle.std.proofs.Common.{refl}
 use Rattle.unicode_width.specs.Width.{char_width}
 use Rattle.rd_stack.proofs.examples.lines_in_visual_order.Goals as goal
 
-pub returns-clause-left : goal.returns-clause-left
+pub returns : goal.returns
 unfolding char_width
-returns-clause-left c = refl
-
-pub returns-clause-right : goal.returns-clause-right
-unfolding char_width
-returns-clause-right c = refl
+returns c = record { left = refl; right = refl }
