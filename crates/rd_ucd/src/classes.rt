@@ -5,30 +5,14 @@ ghost use Rattle.rd_ucd.specs.Reading.{IsReading};
 
 use crate::fault::UcdFault;
 use crate::lines::read_lines;
+use crate::listing::Listing;
 use crate::reader::Reader;
-use crate::search::entry_at;
 use crate::spans::Span;
-use rd_base::{Ch, Class, ListOf};
+use rd_base::{Ch, Class};
 use std::alloc::Global;
-use std::marker::Model;
 
 /// The classes that a file gives. Contracts see them as ranges of codes with a class, in ascending order.
-#[derive(Drop)]
-pub struct Classes {
-    spans: ListOf<Span>,
-}
-
-impl Model for Classes {
-    ghost use Rattle.std.specs.Prelude.{List};
-    ghost use Rattle.rd_ucd.specs.declared.spans.Span.{Span};
-    ghost use Rattle.rd_ucd.specs.Lookup.{IsAscending};
-
-    ghost Value = { List Span };
-
-    ghost view = { λ classes. classes.spans };
-
-    ghost invariant = { λ classes. IsAscending (λ s. s.first) (λ s. s.last) classes.spans };
-}
+pub type Classes = Listing<Span>;
 
 impl Classes {
     ghost use Rattle.std.specs.Prelude.{◌≡◌};
@@ -57,7 +41,7 @@ impl Classes {
         if code >= 1_114_112 {
             return Class::L;
         }
-        entry_at(self.spans.as_slice(), code).map_or(Class::L, |span| span.class)
+        self.entry(code).map_or(Class::L, |span| span.class)
     }
 }
 
@@ -67,9 +51,7 @@ fn finish(reader: Reader) -> Result<Classes, UcdFault>
     ensures { Answers result (behind reader.spans (ended reader.opened)) }
 {
     match reader.opened {
-        None => Ok(Classes {
-            spans: reader.spans,
-        }),
+        None => Ok(Listing::of(reader.spans)),
         Some(first) => Err(UcdFault::BadRange(first.number)),
     }
 }

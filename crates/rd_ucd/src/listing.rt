@@ -77,19 +77,36 @@ impl<E: Covers> Model for Listing<E> {
     ghost invariant = { λ listing. IsAscending E.first E.last listing.entries };
 }
 
+impl<E: Covers + Copy> Listing<E> {
+    ghost use Rattle.std.specs.Prelude.{◌≡◌};
+    ghost use Rattle.rd_ucd.specs.Lookup.{IsAscending, entry_in};
+
+    /// Entries that ascend.
+    pub(crate) fn of(entries: ListOf<E>) -> Listing<E>
+        requires { IsAscending E.first E.last entries }
+        ensures { result ≡ entries }
+    {
+        Listing { entries }
+    }
+
+    /// The entry that covers a code, if there is one. It costs the logarithm of their number.
+    pub(crate) fn entry(&self, code: u32) -> Option<E>
+        ensures { result ≡ entry_in E.first E.last self.now code }
+    {
+        entry_at(self.entries.as_slice(), code)
+    }
+}
+
 impl<E: Listed> Listing<E> {
     ghost use Rattle.std.specs.Prelude.{◌≡◌, []};
     ghost use Rattle.rd_ucd.specs.ListFile.{listed_in};
-    ghost use Rattle.rd_ucd.specs.Lookup.{entry_in};
     ghost use Rattle.rd_ucd.specs.Results.{Answers};
 
     /// No entry at all, as an empty file gives them. It takes no memory.
     pub fn none(alloc: Global) -> Listing<E>
         ensures { result ≡ [] }
     {
-        Listing {
-            entries: ListOf::new(alloc),
-        }
+        Listing::of(ListOf::new(alloc))
     }
 
     /// Reads a file. Its lines end at byte 10, before which one byte 13 is dropped; the last may lack it. From `#` on a line is a
@@ -104,15 +121,7 @@ impl<E: Listed> Listing<E> {
             entries: ListOf::new(alloc),
             least: 0,
         };
-        let entries = read_lines(empty, bytes)?.entries;
-        Ok(Listing { entries })
-    }
-
-    /// The entry that covers a code, if there is one. It costs the logarithm of their number.
-    pub(crate) fn entry(&self, code: u32) -> Option<E>
-        ensures { result ≡ entry_in E.first E.last self.now code }
-    {
-        entry_at(self.entries.as_slice(), code)
+        Ok(Listing::of(read_lines(empty, bytes)?.entries))
     }
 }
 
