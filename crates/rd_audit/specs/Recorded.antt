@@ -1,11 +1,10 @@
 -- What a run of a script leaves for the auditor: a stream and a report.
 use Rattle.std.specs.Prelude.{◌≡◌, ℕ, ◌≤◌, true, false, if◌then◌else◌, List, [], ◌∷◌, ◌++◌, length, None, Some, IsSome}
-use Rattle.rd_base.specs.declared.limits.TheConstants.{FILE_BYTES}
+use Rattle.rd_base.specs.declared.limits.TheConstants.{FILE_BYTES, STREAM_BYTES}
 use Rattle.rd_run.specs.Alike.{End}
 use Rattle.rd_run.specs.Ends.{Ended}
 use Rattle.rd_run.specs.Runs.{Effect, Input, Mode, World, effect, is_sent, is_shown, opened, outcome_at, run, run_line}
 use Rattle.rd_run.specs.declared.status.Status.TheVariants.{Done}
-use Rattle.rd_audit.specs.declared.stream.TheConstants.{STREAM_BYTES}
 
 -- ---- the stream
 

@@ -1,7 +1,7 @@
 -- What the steps of an audit answer.
 use Rattle.std.specs.Prelude.{◌≡◌, ℕ, ◌<◌, ◌≤◌, List, [], length, drop, Option, Result, Ok, Err}
 use Rattle.rd_base.specs.declared.cell.Cell.{Cell}
-use Rattle.rd_base.specs.declared.limits.TheConstants.{FRAME_COLUMNS, FRAME_ROWS, LEAST_FRAME_COLUMNS}
+use Rattle.rd_base.specs.declared.limits.TheConstants.{FRAME_COLUMNS, FRAME_ROWS, LEAST_FRAME_COLUMNS, STREAM_BYTES}
 use Rattle.rd_io.specs.Lines.{lines_of}
 use Rattle.rd_term.specs.Pictures.{Picture, IsGrid, width_of}
 use Rattle.rd_term.specs.Terminals.{Tty, feed_bytes}
@@ -15,7 +15,6 @@ use Rattle.rd_audit.specs.declared.dump.DumpFault.TheVariants.{Bad, Memory}
 use Rattle.rd_audit.specs.declared.dump.LineStart.{LineStart}
 use Rattle.rd_audit.specs.declared.stream.StreamFault.{StreamFault}
 use Rattle.rd_audit.specs.declared.stream.StreamFault.TheVariants.{Failed, TooLong}
-use Rattle.rd_audit.specs.declared.stream.TheConstants.{STREAM_BYTES}
 
 -- the picture that a dump is
 abbrev pub picture_in : Dump → Picture

@@ -4,7 +4,7 @@ use Rattle.std.specs.Global.{Global}
 use Rattle.std.specs.Io.KnownBytes.{Appends, IsAtEnd}
 use Rattle.rd_base.specs.Equals.{same_cell}
 use Rattle.rd_base.specs.declared.cell.Cell.{Cell}
-use Rattle.rd_base.specs.declared.limits.TheConstants.{FILE_BYTES}
+use Rattle.rd_base.specs.declared.limits.TheConstants.{FILE_BYTES, STREAM_BYTES}
 use Rattle.rd_io.specs.Devices.{AppendsFront, Rose}
 use Rattle.rd_term.specs.Pictures.{Picture, width_of}
 use Rattle.rd_term.specs.Terminals.{Tty, Shows, unknown, feed_bytes}
@@ -13,7 +13,6 @@ use Rattle.rd_audit.specs.declared.verdict.Verdict.{Verdict}
 use Rattle.rd_audit.specs.declared.verdict.Verdict.TheVariants.{Yes, No, Usage, BadDump, TooLong, ReadFault, WriteFault, NoMemory}
 use Rattle.rd_audit.specs.declared.verdict.Difference.{Difference}
 use Rattle.rd_audit.specs.declared.verdict.Difference.TheVariants as differences
-use Rattle.rd_audit.specs.declared.stream.TheConstants.{STREAM_BYTES}
 
 -- ---- what differs
 

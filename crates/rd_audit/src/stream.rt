@@ -4,11 +4,9 @@ ghost use Rattle.std.specs.Io.KnownBytes.{Consumes};
 ghost use Rattle.rd_io.specs.Devices.{Rose};
 ghost use Rattle.rd_audit.specs.Results.{Feeds};
 
+use rd_base::limits::STREAM_BYTES;
 use rd_io::{Failed, Source};
 use rd_term::Terminal;
-
-/// The most bytes of a stream.
-pub const STREAM_BYTES: u32 = 16_777_216;
 
 /// How many bytes are read at a time.
 const ROOM: usize = 4096;

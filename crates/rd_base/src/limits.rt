@@ -110,3 +110,6 @@ pub const LINES: u32 = 1_000_000;
 
 /// Bytes in a data file.
 pub const FILE_BYTES: u32 = 8_388_608;
+
+/// Bytes in a recorded stream that the auditor judges.
+pub const STREAM_BYTES: u32 = 16_777_216;
