@@ -4,8 +4,8 @@ use Rattle.std.proofs.lemmas.Bool.{cond-false, ne_eqb}
 use Rattle.std.specs.Option.{option_or}
 use Rattle.std.specs.Prelude.{option_map}
 use Rattle.rd_state.specs.Moves.{moved_by, moved_in}
-use Rattle.rd_state.specs.Windows.{window_of, with_entry, without_entry}
-use Rattle.rd_state.proofs.ByNumber.{NumberedWindow, none-past, some-before, window-each, window-end}
+use Rattle.rd_state.specs.Windows.{window_of, with_entry, without_entry, NumberedWindow}
+use Rattle.rd_state.proofs.ByNumber.{none-past, some-before, window-each, window-end}
 use Rattle.rd_state.specs.declared.moves.Move.{Move}
 use Rattle.rd_state.specs.declared.window.WindowState.{WindowState}
 

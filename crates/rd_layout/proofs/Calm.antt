@@ -11,14 +11,14 @@ use Rattle.rd_reuse.specs.declared.change.Change.{Change}
 use Rattle.rd_state.specs.Effects.{covered_effect, moved_effect}
 use Rattle.rd_state.specs.Moves.{moved as moved_window, moved_by, moved_in}
 use Rattle.rd_state.specs.States.{BufferValue, ContentValue, seen}
-use Rattle.rd_state.specs.Windows.{AreApart, window_of, with_entry, without_entry}
+use Rattle.rd_state.specs.Windows.{AreApart, window_of, with_entry, without_entry, NumberedWindow}
 use Rattle.rd_state.specs.declared.effect.Effect.{Effect}
 use Rattle.rd_state.specs.declared.effect.Effect.TheVariants.{Edit, Moved, All}
 use Rattle.rd_state.specs.declared.moves.Move.{Move}
 use Rattle.rd_state.specs.declared.window.WindowState.{WindowState}
 use Rattle.rd_layout.specs.Changes.{change_by, if_shown, restyled}
 use Rattle.rd_layout.proofs.ByNumber.{Lives, lives-end, lives-moved, lives-with, lives-without}
-use Rattle.rd_state.proofs.ByNumber.{NumberedWindow, Each, each-same, each-with, each-moved, each-end, each-without, entry-other}
+use Rattle.rd_state.proofs.ByNumber.{Each, each-same, each-with, each-moved, each-end, each-without, entry-other}
 use Rattle.rd_state.proofs.Options.{one-value}
 
 -- an effect tells no change of a window that shows a buffer

@@ -19,7 +19,7 @@ use Rattle.rd_state.specs.Effects.{effect_of, overlay_in}
 use Rattle.rd_state.specs.Making.{table_of, string_making, spec_making, face_making, table_making}
 use Rattle.rd_state.specs.States.{BufferValue, ContentValue, StateValue, new_buffer, number_of, opening_window, seen}
 use Rattle.rd_state.specs.Steps.{changing, with_objects, on_tree, edited, edited_moving, setting, placing, format_fault, held, raw_text, step}
-use Rattle.rd_state.specs.Windows.{selected_window, window_of}
+use Rattle.rd_state.specs.Windows.{selected_window, window_of, NumberedWindow}
 use Rattle.rd_state.specs.declared.effect.Effect.{Effect}
 use Rattle.rd_state.specs.declared.effect.Effect.TheVariants.{Nothing, Edit, Window}
 use Rattle.rd_state.specs.declared.moves.Move.{Move}
@@ -29,7 +29,6 @@ use Rattle.rd_state.specs.declared.refused.Refused.TheVariants.{NoObject, NoOver
 use Rattle.rd_state.specs.declared.window.WindowState.{WindowState}
 use Rattle.rd_layout.specs.Sessions.{is_frame}
 use Rattle.rd_state.proofs.StepParts.{found, unless, objects-if, tree-if, treed-if, making-if, edited-if, edited_moving-if, typing-if, setting-if, placing-if}
-use Rattle.rd_state.proofs.ByNumber.{NumberedWindow}
 use Rattle.rd_layout.proofs.Calm.{Contents, Kept, Loud, Quiet, Same, Turned, contents-pushed, contents-same, contents-set, covered-loud, loud-all, loud-edit, moved-loud, turned-end, turned-moved, turned-same, turned-typed, turned-with, turned-without}
 
 -- no count of windows falls

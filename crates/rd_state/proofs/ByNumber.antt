@@ -13,10 +13,7 @@ use Rattle.std.specs.Option.{option_or}
 use Rattle.rd_base.proofs.Choices.{is_some-map, none-chosen}
 use Rattle.rd_state.specs.declared.window.WindowState.{WindowState}
 use Rattle.rd_state.proofs.Options.{one-value}
-use Rattle.rd_state.specs.Windows.{under, window_of, place_in, kept_as, becoming, with_entry, without_entry, AreApart}
-
-abbrev pub NumberedWindow : Type 0
-NumberedWindow = ℕ × WindowState
+use Rattle.rd_state.specs.Windows.{under, window_of, place_in, kept_as, becoming, with_entry, without_entry, AreApart, NumberedWindow}
 
 -- ---- the first entry, and the others
 

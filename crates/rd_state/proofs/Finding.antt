@@ -5,8 +5,8 @@ use Rattle.rd_state.specs.declared.refused.Refused.TheVariants.{NoWindow}
 use Rattle.rd_state.specs.declared.window.WindowState.{WindowState}
 use Rattle.rd_state.specs.States.{StateValue}
 use Rattle.rd_state.specs.Steps.{with_found, in_window, changing, setting}
-use Rattle.rd_state.specs.Windows.{place_in, with_entry}
-use Rattle.rd_state.proofs.ByNumber.{NumberedWindow, IsFound, found, found-entry}
+use Rattle.rd_state.specs.Windows.{place_in, with_entry, NumberedWindow}
+use Rattle.rd_state.proofs.ByNumber.{IsFound, found, found-entry}
 
 -- what `find` answers, of the windows of a state
 pub found-in : (s : StateValue) (ws : List NumberedWindow) (n i : ℕ) (e : NumberedWindow) → ws ≡ s.windows → i ≡ place_in n ws → i < length ws → e ≡ get_or s.windows i e → IsFound n i s.windows e

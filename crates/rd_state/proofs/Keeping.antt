@@ -19,10 +19,10 @@ use Rattle.rd_tree.specs.Calls as tree
 use Rattle.rd_state.specs.declared.moves.Move.{Move}
 use Rattle.rd_state.specs.declared.window.WindowState.{WindowState}
 use Rattle.rd_state.specs.States.{BufferValue, ContentValue, new_buffer, new_content, number_of}
-use Rattle.rd_state.specs.Windows.{window_of, with_entry, leaf_at, leaf_of}
+use Rattle.rd_state.specs.Windows.{window_of, with_entry, leaf_at, leaf_of, NumberedWindow}
 use Rattle.rd_state.specs.Valid.{most_buffers, AreBuffers, IsContent, IsGoodFormat, IsWindow, AreWindows}
 use Rattle.rd_state.specs.Moves.{place_after, moved, moved_by, moved_in}
-use Rattle.rd_state.proofs.ByNumber.{NumberedWindow, Hands, became, each-entry, each-with, under-became, apart-became, window-same, entry-other, some-with, none-past, apart-becoming}
+use Rattle.rd_state.proofs.ByNumber.{Hands, became, each-entry, each-with, under-became, apart-became, window-same, entry-other, some-with, none-past, apart-becoming}
 use Rattle.rd_state.proofs.Options.{map-map}
 
 -- ---- buffers

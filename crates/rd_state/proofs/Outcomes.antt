@@ -25,7 +25,7 @@ use Rattle.rd_state.specs.declared.refused.Refused.{Refused}
 use Rattle.rd_state.specs.declared.window.WindowState.{WindowState}
 use Rattle.rd_state.specs.States.{BufferValue, ContentValue, StateValue, opening_window, new_buffer, number_of}
 use Rattle.rd_state.specs.Valid.{IsValid}
-use Rattle.rd_state.specs.Windows.{window_of, with_entry, selected_window}
+use Rattle.rd_state.specs.Windows.{window_of, with_entry, selected_window, NumberedWindow}
 use Rattle.rd_state.specs.Changes.{Stays, StaysWhole, Leaves}
 use Rattle.rd_state.specs.Edits.{insertion, deletion, narrowing, widening, property_putting, overlay_making, overlay_moving, overlay_dropping, overlay_putting, margin_putting, setting_putting}
 use Rattle.rd_state.specs.Effects.{overlay_in, inserted_effect, covered_effect, moved_effect, effect_of}
@@ -34,7 +34,7 @@ use Rattle.rd_state.specs.Moves.{moved_by, moved_in}
 use Rattle.rd_state.specs.Steps.{with_objects, changing, inserting, typing, on_tree, edited, edited_moving, format_fault, making, raw_text, step}
 use Rattle.rd_state.proofs.AllSteps.{moved-buffer}
 use Rattle.rd_state.proofs.Below.{LeaveLaws, GrowLaws}
-use Rattle.rd_state.proofs.ByNumber.{NumberedWindow, Each, window-each, each-same, each-with, each-moved, each-end, each-without}
+use Rattle.rd_state.proofs.ByNumber.{Each, window-each, each-same, each-with, each-moved, each-end, each-without}
 use Rattle.rd_state.proofs.Leaving.{whole, whole-objects, stays-inserted, stays-deleted, StaysAround, stays-put, stays-made, AroundOverlay, stays-dropped, stays-given, stays-moved, stays-margin, others-whole, part-stays}
 use Rattle.rd_state.proofs.StepParts.{with_content, found, unless, tree-if, treed-if, making-if, edited-if, edited_moving-if, typing-if, setting-if, placing-if}
 use Rattle.rd_state.proofs.Stepping.{IsEditOf}

@@ -25,8 +25,8 @@ use Rattle.rd_state.specs.Shown.{ChecksFormat}
 use Rattle.rd_state.specs.States.{StateValue}
 use Rattle.rd_state.specs.Steps.{changing, format_fault, in_window, mode_lining, on_tree, refused_tree, removing, splitting, step, unless_bad, without_window}
 use Rattle.rd_state.specs.Valid.{IsValid}
-use Rattle.rd_state.specs.Windows.{place_in}
-use Rattle.rd_state.proofs.ByNumber.{NumberedWindow, IsFound}
+use Rattle.rd_state.specs.Windows.{place_in, NumberedWindow}
+use Rattle.rd_state.proofs.ByNumber.{IsFound}
 use Rattle.rd_state.proofs.Finding.{at-window, found-in}
 use Rattle.rd_state.proofs.Leaves.{facts, is_some-leaf, leaf-placed}
 

@@ -22,10 +22,10 @@ use Rattle.rd_tree.specs.declared.fault.TreeFault.{TreeFault}
 use Rattle.rd_tree.specs.declared.side.Side.{Side}
 use Rattle.rd_state.specs.declared.window.WindowState.{WindowState}
 use Rattle.rd_state.specs.States.{BufferValue, ContentValue, StateValue, number_of}
-use Rattle.rd_state.specs.Windows.{AreApart, content_in, shown_content, window_of, with_entry, without_entry, leaf_at, leaf_of}
+use Rattle.rd_state.specs.Windows.{AreApart, content_in, shown_content, window_of, with_entry, without_entry, leaf_at, leaf_of, NumberedWindow}
 use Rattle.rd_state.specs.Valid.{IsWindow, AreWindows, IsGoodFormat, IsValid}
 use Rattle.rd_state.specs.Steps.{in_window, changing, on_tree, splitting, removing, showing, placing, held, format_fault, mode_lining, margining}
-use Rattle.rd_state.proofs.ByNumber.{NumberedWindow, Hands, each-entry, each-without, window-end, apart-end, window-gone, entry-past, none-past, apart-becoming, get-window}
+use Rattle.rd_state.proofs.ByNumber.{Hands, each-entry, each-without, window-end, apart-end, window-gone, entry-past, none-past, apart-becoming, get-window}
 use Rattle.rd_state.proofs.Keeping.{window-still, window-placed, windows-over, windows-changed}
 use Rattle.rd_state.proofs.Leaves.{Leaf, leaf-resized, leaf-replaced, leaf-other, split-same, split-other, split-new, removed-same, removed-other, heir-held, is_some-leaf, unmade}
 use Rattle.rd_state.proofs.StepParts.{found, unless, tree-if, treed-if, placing-if}

@@ -26,9 +26,9 @@ use Rattle.rd_state.specs.Valid.{AreWindows, IsContent, IsValid}
 use Rattle.rd_state.specs.Edits.{is_accessible, is_accessible_range, is_range_of_all, has_room, is_value_made, most_overlays, grown, shrunk, insertion, deletion, narrowing, widening, property_putting, overlay_making, overlay_moving, overlay_dropping, overlay_putting}
 use Rattle.rd_state.specs.Moves.{point_after_insertion, brought_into, place_after, moved_in}
 use Rattle.rd_state.specs.Steps.{edited, edited_moving, raw_text}
+use Rattle.rd_state.specs.Windows.{NumberedWindow}
 use Rattle.rd_state.proofs.Below.{TextLaws}
 use Rattle.rd_state.proofs.Contents.{grown-valid, shrunk-valid, narrowed-valid, widened-valid, put-valid, made-valid, moved-valid, dropped-valid, given-valid, with_property, with_overlays}
-use Rattle.rd_state.proofs.ByNumber.{NumberedWindow}
 use Rattle.rd_state.proofs.Keeping.{holding, buffers-replaced, windows-replaced, windows-moved}
 use Rattle.rd_state.proofs.StepParts.{with_content, edited-if, edited_moving-if}
 use Rattle.rd_state.proofs.Tests.{is_accessible-means, is_accessible_range-means, is_range_of_all-means}

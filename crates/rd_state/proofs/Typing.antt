@@ -18,9 +18,9 @@ use Rattle.rd_state.specs.Moves.{moved_in}
 use Rattle.rd_state.specs.Effects.{inserted_effect}
 use Rattle.rd_state.specs.Steps.{with_found, in_shown, replaced, moving, changing, typing, step}
 use Rattle.rd_state.specs.Valid.{IsValid}
-use Rattle.rd_state.specs.Windows.{place_in, with_entry, selected_window}
+use Rattle.rd_state.specs.Windows.{place_in, with_entry, selected_window, NumberedWindow}
 use Rattle.rd_state.proofs.ByName.{AnswersAt}
-use Rattle.rd_state.proofs.ByNumber.{NumberedWindow, IsFound, found-entry}
+use Rattle.rd_state.proofs.ByNumber.{IsFound, found-entry}
 use Rattle.rd_state.proofs.Finding.{at-window}
 use Rattle.rd_state.proofs.Stepping.{insertion-means}
 

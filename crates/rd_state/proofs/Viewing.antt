@@ -14,8 +14,8 @@ use Rattle.rd_state.specs.Edits.{is_accessible}
 use Rattle.rd_state.specs.States.{BufferValue, StateValue, number_of}
 use Rattle.rd_state.specs.Steps.{changing, held, in_buffer, in_shown, placing, setting, showing, with_found}
 use Rattle.rd_state.specs.Valid.{IsValid}
-use Rattle.rd_state.specs.Windows.{place_in}
-use Rattle.rd_state.proofs.ByNumber.{NumberedWindow, IsFound}
+use Rattle.rd_state.specs.Windows.{place_in, NumberedWindow}
+use Rattle.rd_state.proofs.ByNumber.{IsFound}
 use Rattle.rd_state.proofs.Finding.{at-window, found-in, sets-window}
 use Rattle.rd_state.proofs.Showing.{held-small, window-valid}
 

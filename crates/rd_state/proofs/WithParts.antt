@@ -5,7 +5,7 @@ use Rattle.rd_objects.specs.Things.{ObjectLists}
 use Rattle.rd_tree.specs.Calls.{Configuration}
 use Rattle.rd_state.specs.States.{BufferValue, StateValue}
 use Rattle.rd_state.specs.Valid.{AreBuffers, AreWindows, IsFrame, IsValid}
-use Rattle.rd_state.proofs.ByNumber.{NumberedWindow}
+use Rattle.rd_state.specs.Windows.{NumberedWindow}
 
 pub with_parts : (s : StateValue) (bs : List BufferValue) (objects : ObjectLists) (c : Configuration) (ws : List NumberedWindow) (n width height : ℕ) → IsValid s
     → AreBuffers objects bs → AreObjects objects → IsClosed objects → AreWindows bs c ws n → IsFrame c width height

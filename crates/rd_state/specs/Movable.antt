@@ -2,11 +2,7 @@
 use Rattle.std.specs.Prelude.{◌≡◌, ℕ, ◌+◌, ◌<◌, ◌≤◌}
 use Rattle.rd_state.specs.declared.moves.Move.{Move}
 use Rattle.rd_state.specs.declared.moves.Move.TheVariants.{Inserted, Deleted, Narrowed}
-use Rattle.rd_state.specs.declared.window.WindowState.{WindowState}
-
--- a window under its number
-abbrev pub NumberedWindow : Type 0
-NumberedWindow = ℕ × WindowState
+use Rattle.rd_state.specs.Windows.{NumberedWindow}
 
 -- a position stays one of 32 bits when it moves
 abbrev pub IsMovable : Move → ℕ → Type 0

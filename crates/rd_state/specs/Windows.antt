@@ -6,13 +6,17 @@ use Rattle.rd_tree.specs.Windows.{Windows, Window, Split}
 use Rattle.rd_state.specs.declared.window.WindowState.{WindowState}
 use Rattle.rd_state.specs.States.{BufferValue, ContentValue, StateValue, new_content, opening_window}
 
+-- a window under its number
+abbrev pub NumberedWindow : Type 0
+NumberedWindow = ℕ × WindowState
+
 -- what stands under a number
 abbrev pub under : {X : Type 0} → ℕ → List (ℕ × X) → Option X
 under number [] = None
 under number (e ∷ rest) = if e.0 == number then Some e.1 else under number rest
 
 -- the window with a number, where it lives
-abbrev pub window_of : ℕ → List (ℕ × WindowState) → Option WindowState
+abbrev pub window_of : ℕ → List NumberedWindow → Option WindowState
 window_of number windows = under number windows
 
 -- the place of what stands under a number, and the count of entries where nothing does
@@ -38,7 +42,7 @@ abbrev pub without_entry : {X : Type 0} → ℕ → List (ℕ × X) → List (�
 without_entry number es = becoming number (λ x. None) es
 
 -- no number stands twice
-abbrev pub AreApart : List (ℕ × WindowState) → Type 0
+abbrev pub AreApart : List NumberedWindow → Type 0
 AreApart [] = Unit {0}
 AreApart (e ∷ rest) = (window_of e.0 rest ≡ None) × AreApart rest
 

@@ -1,7 +1,8 @@
 //! Where the points and the views of windows move when the text that they show changes.
 ghost use Rattle.std.specs.Prelude.{◌≡◌, ℕ, ◌+◌, ◌<◌, Some, map, slice_get};
 ghost use Rattle.rd_state.specs.Moves.{point_after_insertion, place_after, moved, moved_in};
-ghost use Rattle.rd_state.specs.Movable.{IsMovable, NumberedWindow, CanMove};
+ghost use Rattle.rd_state.specs.Movable.{IsMovable, CanMove};
+ghost use Rattle.rd_state.specs.Windows.{NumberedWindow};
 
 use crate::window::WindowState;
 use rd_base::Pos;

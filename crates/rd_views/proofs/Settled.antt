@@ -12,7 +12,7 @@ use Rattle.rd_state.specs.Shown.{IsShownAt}
 use Rattle.rd_state.specs.States.{ContentValue, StateValue}
 use Rattle.rd_state.specs.Steps.{settled}
 use Rattle.rd_state.specs.Valid.{IsValid}
-use Rattle.rd_state.specs.Windows.{AreApart, content_in, shown_content, under, window_of, with_entry}
+use Rattle.rd_state.specs.Windows.{AreApart, content_in, shown_content, under, window_of, with_entry, NumberedWindow}
 use Rattle.rd_state.specs.declared.window.WindowState.{WindowState}
 use Rattle.rd_text.specs.Texts.{IsAccessible}
 use Rattle.rd_tree.proofs.Listing.{placed-here, placed-there}
@@ -23,7 +23,7 @@ use Rattle.rd_ucd.specs.Data.{Data}
 use Rattle.rd_layout.specs.Screens.{settled_at, settled_by, settled_state}
 use Rattle.rd_layout.specs.Sessions.{SessionValue, layout_of}
 use Rattle.rd_layout.specs.Windows.{place_of, places, view_in, wanted_of, window_shape, window_source}
-use Rattle.rd_state.proofs.ByNumber.{NumberedWindow, apart-became, under-became, under-here, under-there, some-with, entry-other, window-same, window-with}
+use Rattle.rd_state.proofs.ByNumber.{apart-became, under-became, under-here, under-there, some-with, entry-other, window-same, window-with}
 use Rattle.rd_layout.proofs.Known.{Last}
 use Rattle.rd_views.specs.Layings.{AreDesired, AreOnce, CanSettle, IsDesiredBy, all_settled}
 use Rattle.rd_views.specs.declared.desired.LaidWindow.{LaidWindow}

@@ -3,7 +3,7 @@ use Rattle.std.proofs.lemmas.List.{drop_more, get_or_at, length-map, length-take
 use Rattle.std.proofs.lemmas.List.Edits.{map_over_more}
 use Rattle.std.proofs.lemmas.Option.{slice_get-get_or}
 use Rattle.rd_state.specs.Moves.{moved_in}
-use Rattle.rd_state.proofs.ByNumber.{NumberedWindow}
+use Rattle.rd_state.specs.Windows.{NumberedWindow}
 use Rattle.rd_state.proofs.moves.move_windows.Goals as goal
 
 pub move_entry-requires : goal.move_entry-requires

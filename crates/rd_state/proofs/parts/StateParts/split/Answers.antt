@@ -4,7 +4,7 @@ use Rattle.rd_state.specs.contracts.parts.StateParts.{the_view}
 use Rattle.rd_state.specs.declared.window.WindowState.{WindowState}
 use Rattle.rd_state.specs.Effects.{effect_of}
 use Rattle.rd_state.specs.Steps.{step}
-use Rattle.rd_state.proofs.ByNumber.{NumberedWindow}
+use Rattle.rd_state.specs.Windows.{NumberedWindow}
 use Rattle.rd_state.proofs.Finding.{found-in}
 use Rattle.rd_state.proofs.Sharing.{split-found, splits-window, split-refused}
 use Rattle.rd_state.proofs.parts.StateParts.split.Goals as goal

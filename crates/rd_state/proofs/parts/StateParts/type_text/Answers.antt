@@ -8,9 +8,8 @@ use Rattle.rd_state.specs.States.{BufferValue, buffers_of}
 use Rattle.rd_state.specs.Steps.{step}
 use Rattle.rd_state.specs.Effects.{effect_of}
 use Rattle.rd_state.specs.Valid.{IsValid}
-use Rattle.rd_state.specs.Windows.{place_in}
+use Rattle.rd_state.specs.Windows.{place_in, NumberedWindow}
 use Rattle.rd_state.proofs.ByName.{answers-at, length-buffers_of}
-use Rattle.rd_state.proofs.ByNumber.{NumberedWindow}
 use Rattle.rd_state.proofs.Finding.{found-in}
 use Rattle.rd_state.proofs.Small.{inserted-small}
 use Rattle.rd_state.proofs.Typing.{can-insert, shows-made, found-moved, typing-ok, typing-err, typing-effect, refuses-unless}
