@@ -3,7 +3,7 @@ ghost use Rattle.rd_dump.specs.Prints.{Prints};
 ghost use Rattle.rd_audit.specs.Verdicts.{line_of, difference_line, cell_line, bad_line};
 
 use crate::verdict::{Difference, Verdict};
-use rd_dump::{Token, print_between, print_bytes, print_tokens};
+use rd_dump::{print_between, print_bytes, print_placed};
 use rd_io::{Failed, Sink};
 
 /// Writes the line of a verdict.
@@ -37,16 +37,7 @@ fn tell_difference<R: Sink>(report: &mut R, difference: Difference) -> Result<()
 fn tell_cell<R: Sink>(report: &mut R, row: u32, column: u32) -> Result<(), Failed>
     ensures { Prints (R.written report.old) (R.written report.new) (R.faults report.old) (R.faults report.new) (cell_line row column) result }
 {
-    print_tokens(
-        report,
-        &[
-            Token::Text("no "),
-            Token::Number(row as u64),
-            Token::Text(","),
-            Token::Number(column as u64),
-            Token::Text("\n"),
-        ],
-    )
+    print_placed(report, "no ", (row, column))
 }
 
 /// Writes the line that names a bad line of the file.

@@ -1,8 +1,8 @@
 //! The dump of a screen and of the windows on it.
-ghost use Rattle.std.specs.Prelude.{◌≤◌, OnErr};
+ghost use Rattle.std.specs.Prelude.{◌≤◌, ◌++◌, OnErr, Some};
 ghost use Rattle.rd_base.specs.Glyphs.{glyph_bytes};
 ghost use Rattle.rd_io.specs.Devices.{Rose, Writes};
-ghost use Rattle.rd_dump.specs.Dumps.{dump_text, windows_text, window_line, place_text, cursor_line, rows_text, row_line, cells_text, cell_text};
+ghost use Rattle.rd_dump.specs.Dumps.{dump_text, windows_text, window_line, place_text, rows_text, row_line, cells_text, cell_text};
 ghost use Rattle.rd_dump.specs.Prints.{Prints};
 
 use crate::at_once::{Printed, print_at_once};
@@ -58,7 +58,7 @@ impl Printed for DumpLine<'_> {
         match self {
             DumpLine::Window(facts) => print_window_tokens(sink, facts),
             DumpLine::Row(row, cells) => print_row_tokens(sink, *row, cells),
-            DumpLine::Cursor(place) => print_cursor_tokens(sink, *place),
+            DumpLine::Cursor(place) => print_placed(sink, "cursor ", *place),
         }
     }
 }
@@ -109,25 +109,23 @@ fn print_place<K: Sink>(sink: &mut K, place: Option<(u32, u32)>) -> Result<(), F
     ensures { Prints (K.written sink.old) (K.written sink.new) (K.faults sink.old) (K.faults sink.new) (place_text place) result }
 {
     match place {
-        Some((row, column)) => print_tokens(
-            sink,
-            &[
-                Token::Number(row as u64),
-                Token::Text(","),
-                Token::Number(column as u64),
-                Token::Text("\n"),
-            ],
-        ),
+        Some(place) => print_placed(sink, "", place),
         None => print_tokens(sink, &[Token::Text("none\n")]),
     }
 }
 
-/// Writes the tokens of the cursor's line.
-fn print_cursor_tokens<K: Sink>(sink: &mut K, place: (u32, u32)) -> Result<(), Failed>
-    ensures { Prints (K.written sink.old) (K.written sink.new) (K.faults sink.old) (K.faults sink.new) (cursor_line place) result }
+/// Writes a word, the row and the column of a place, and the end of the line.
+pub fn print_placed<K: Sink>(sink: &mut K, word: &str, place: (u32, u32)) -> Result<(), Failed>
+    ensures { Prints (K.written sink.old) (K.written sink.new) (K.faults sink.old) (K.faults sink.new) (word.now ++ place_text (Some place)) result }
 {
-    print_tokens(sink, &[Token::Text("cursor ")])?;
-    print_place(sink, Some(place))
+    let tokens = [
+        Token::Text(word),
+        Token::Number(place.0 as u64),
+        Token::Text(","),
+        Token::Number(place.1 as u64),
+        Token::Text("\n"),
+    ];
+    print_tokens(sink, &tokens)
 }
 
 /// Writes a line for each row of a screen.

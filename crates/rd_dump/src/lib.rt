@@ -10,5 +10,5 @@ mod print;
 mod runs;
 
 pub use at_once::{Printed, TokenLine, print_at_once};
-pub use dump::{WindowFacts, print_dump};
+pub use dump::{WindowFacts, print_dump, print_placed};
 pub use print::{Token, print_between, print_bytes, print_character, print_each, print_tokens};
