@@ -17,7 +17,7 @@ use Rattle.rd_rows.specs.Shapes.{ShapeValues, IsShape}
 use Rattle.rd_rows.specs.Whole.{IsWhole, AreWhole, IsMark, IsMeasuredPrefix, IsMeasuredCutting}
 use Rattle.rd_rows.specs.declared.cutting.Cutting.{Cutting}
 use Rattle.rd_stack.specs.Lines.{line_elements}
-use Rattle.rd_stack.specs.Shown.{prefix, AreInside, AreOpen, AreOfOneRow, AreColoured}
+use Rattle.rd_stack.specs.Shown.{prefix, AreInside, AreOfOneRow, AreColoured}
 use Rattle.rd_blocks.specs.Rows.{line_prefix_of, wrap_prefix_of, prefix_elements, line_prefix, wrap_prefix, truncation_mark, continuation_mark, block_cutting, block_rows}
 use Rattle.rd_blocks.proofs.Prefixes.{is-prefix}
 use Rattle.rd_blocks.proofs.Marks.{truncation-is, continuation-is}
@@ -35,10 +35,8 @@ all-coloured rows all = All-map (λ (r : RowMeaning). All IsColoured r.cells) (�
 
 -- of prefixes
 pub record PrefixLaws : Type 0 where
-  pub sound : (scene : Scene) (base number : ℕ) → AreObjects scene.objects → AreSoundParts scene.parts → AreSound (prefix scene base number)
-  pub measured : (scene : Scene) (base number : ℕ) → AreObjects scene.objects → AreSoundParts scene.parts → AreMeasured (prefix scene base number)
+  pub inside : (scene : Scene) (base number : ℕ) → AreObjects scene.objects → AreSoundParts scene.parts → AreInside (prefix scene base number)
   pub row : (scene : Scene) (base number : ℕ) → AreOfOneRow (prefix scene base number)
-  pub on : (scene : Scene) (base number : ℕ) → AreOpen (prefix scene base number)
 
 -- of rows
 pub record RowLaws : Type 0 where
@@ -52,11 +50,8 @@ module _ (laws : PrefixLaws) (rows : RowLaws) (scene : Scene) (base : ℕ) (soun
   prefix-measured None = record { prefix = record { sound = λ k d inside. absurd (omega arith); on = refl }; measured = λ k d inside. absurd (omega arith) }
   prefix-measured (Some number) =
       let es = prefix scene base number in
-      let fine = laws.sound scene base number sound parts in
-      let measured = laws.measured scene base number sound parts in
-      let on = laws.on scene base number in
-      let inside : AreInside es = λ k d within. record { sound = fine k d within; measured = measured k d within; inside = on k d within } in
-      record { prefix = is-prefix es inside (laws.row scene base number); measured = measured }
+      let inside = laws.inside scene base number sound parts in
+      record { prefix = is-prefix es inside (laws.row scene base number); measured = λ k d within. (inside k d within).measured }
 
   pub rows-whole : (shape : ShapeValues) (es : List Seen) → IsShape shape → AreSound (line_elements scene base es) → AreMeasured (line_elements scene base es) → AreWhole shape.width (block_rows scene base shape es)
   rows-whole shape es is fine measured =

@@ -76,7 +76,6 @@ pub fn rows_of_buffers_are_whole()
     rows_are_whole();
     lines_are_sound();
     prefixes_are_sound();
-    prefixes_end_no_line();
     readings_have_codes();
     scenes_are_sound();
 }

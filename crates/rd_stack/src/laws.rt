@@ -15,7 +15,7 @@ ghost use Rattle.rd_props.specs.Seen.{Seen};
 ghost use Rattle.rd_items.specs.Readings.{IsReading, HaveCodes, reading};
 ghost use Rattle.rd_items.specs.Pieces.{Scene, scene_in};
 ghost use Rattle.rd_items.specs.Items.{items_of, AreMeasuredItems};
-ghost use Rattle.rd_stack.specs.Shown.{prefix, AreOpen, AreOfOneRow, AreColoured};
+ghost use Rattle.rd_stack.specs.Shown.{prefix, AreOpen, AreInside, AreOfOneRow, AreColoured};
 ghost use Rattle.rd_stack.specs.Lines.{line_elements, AreCodedItems};
 ghost use Rattle.rd_stack.specs.Limits.{AreFew, AreRightWithin, most_columns, most_display_columns, most_overlay_columns};
 
@@ -64,10 +64,9 @@ pub fn prefixes_end_no_line()
 {}
 
 /// The elements of a prefix are sound, and its glyphs have the columns that Unicode gives them, where the objects are sound and a tab
-/// has 1 to 32 columns. They take at most the columns of a display string. None of them ends a row. The call does nothing.
+/// has 1 to 32 columns. They take at most the columns of a display string. None of them ends a row or the line. The call does nothing.
 pub fn prefixes_are_sound()
-    ensures sound { (scene : Scene) (base number : ℕ) → AreObjects scene.objects → AreSoundParts scene.parts → AreSound (prefix scene base number) }
-    ensures measured { (scene : Scene) (base number : ℕ) → AreObjects scene.objects → AreSoundParts scene.parts → AreMeasured (prefix scene base number) }
+    ensures inside { (scene : Scene) (base number : ℕ) → AreObjects scene.objects → AreSoundParts scene.parts → AreInside (prefix scene base number) }
     ensures columns { (scene : Scene) (base number : ℕ) → AreObjects scene.objects → AreSoundParts scene.parts → columns_at_most (prefix scene base number) ≤ most_display_columns }
     ensures row { (scene : Scene) (base number : ℕ) → AreOfOneRow (prefix scene base number) }
 {

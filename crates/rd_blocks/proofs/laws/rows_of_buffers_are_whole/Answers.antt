@@ -16,12 +16,7 @@ use Rattle.rd_blocks.proofs.laws.rows_of_buffers_are_whole.Goals as goal
 
 pub returns : goal.returns
 returns c =
-    let prefixes : PrefixLaws = record {
-      sound = c.prefixes_are_sound.ensures.sound;
-      measured = c.prefixes_are_sound.ensures.measured;
-      row = c.prefixes_are_sound.ensures.row;
-      on = c.prefixes_end_no_line.ensures;
-    } in
+    let prefixes : PrefixLaws = record { inside = c.prefixes_are_sound.ensures.inside; row = c.prefixes_are_sound.ensures.row } in
     let rows : RowLaws = record { cutting = c.rows_are_whole.ensures.cutting; rows = c.rows_are_whole.ensures.rows } in
     let whole : (s : BufferValue) (objects : ObjectLists) (files : Data) (b : Block) (shape : ShapeValues)
     → AreObjects objects → 1 ≤ s.settings.tab_width → s.settings.tab_width ≤ TAB_COLUMNS → AreCodes s.text.text → IsShape shape

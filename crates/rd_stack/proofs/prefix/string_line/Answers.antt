@@ -1,11 +1,7 @@
 use Rattle.std.proofs.Common.{sym, subst, ap, ◌∙◌}
-use Rattle.std.specs.Prelude.{slice_get}
-use Rattle.rd_base.specs.Faces.{plain}
 use Rattle.rd_items.specs.Pieces.{scene_of}
-use Rattle.rd_stack.specs.Shown.{display_elements, outside, prefix, before_row_end, AreInside, AreOfOneRow}
-use Rattle.rd_stack.proofs.Prefixes.{of-one-row, prefix-none, prefix-some, are-inside}
-use Rattle.rd_stack.proofs.Ends.{prefix-open}
-use Rattle.rd_stack.proofs.Good.{both-right}
+use Rattle.rd_stack.specs.Shown.{before_row_end, AreInside, AreOfOneRow}
+use Rattle.rd_stack.proofs.Prefixes.{prefix-none, prefix-some}
 use Rattle.rd_stack.proofs.prefix.string_line.Goals as goal
 
 pub returns-in_default-clause-value : goal.returns-in_default-clause-value
@@ -20,16 +16,8 @@ returns-clause-value c =
 
 pub returns-clause-inside : goal.returns-clause-inside
 returns-clause-inside c =
-    let s = scene_of c.args.view.now in
-    let whole = prefix s c.args.base c.args.string in
-    let objects = c.view_stays_sound.ensures.objects in
-    let parts = c.view_stays_sound.ensures.parts in
     subst AreInside (sym (returns-clause-value c))
-    (are-inside whole
-    (both-right whole (c.prefixes_are_sound.ensures.sound s c.args.base c.args.string objects parts) (c.prefixes_are_sound.ensures.measured s c.args.base c.args.string objects parts))
-    (prefix-open s c.args.base c.args.string))
+    (c.prefixes_are_sound.ensures.inside (scene_of c.args.view.now) c.args.base c.args.string c.view_stays_sound.ensures.objects c.view_stays_sound.ensures.parts)
 
 pub returns-clause-row : goal.returns-clause-row
-returns-clause-row c =
-    let s = scene_of c.args.view.now in
-    subst AreOfOneRow (sym (returns-clause-value c)) (of-one-row (display_elements s c.args.base outside plain (slice_get s.objects.strings c.args.string)))
+returns-clause-row c = subst AreOfOneRow (sym (returns-clause-value c)) (c.prefixes_are_sound.ensures.row (scene_of c.args.view.now) c.args.base c.args.string)
