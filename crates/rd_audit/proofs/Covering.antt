@@ -12,6 +12,7 @@ use Rattle.rd_base.specs.Faces.{Attributes, plain}
 use Rattle.rd_base.specs.Glyphs.{IsRowAfter}
 use Rattle.rd_base.specs.declared.cell.Cell.{Cell}
 use Rattle.rd_base.specs.declared.cell.Cell.TheVariants.{Blank, First, Rest}
+use Rattle.rd_base.proofs.Choices.{either}
 use Rattle.rd_base.proofs.Equals.{face-told, face-itself}
 use Rattle.rd_base.proofs.Colours.{plain-coloured}
 use Rattle.rd_term.specs.Pictures.{blank}
@@ -50,13 +51,10 @@ abbrev is_headed : Attributes → List Stretch → Bool
 is_headed face [] = true
 is_headed face (run ∷ runs) = same_face face run.1
 
-headed_at : (n : ℕ) (face : Attributes) (run : Stretch) (runs : List Stretch) (t : Bool) → is_headed face (if t then (n + run.0, face) ∷ runs else (n, face) ∷ run ∷ runs) ≡ true
-headed_at n face run runs true = face-itself face
-headed_at n face run runs false = face-itself face
-
 headed : (n : ℕ) (face : Attributes) (runs : List Stretch) → is_headed face (with_columns n face runs) ≡ true
 headed n face [] = face-itself face
-headed n face (run ∷ runs) = headed_at n face run runs (same_face face run.1)
+headed n face (run ∷ runs) =
+    either (λ l. is_headed face l ≡ true) (same_face face run.1) ((n + run.0, face) ∷ runs) ((n, face) ∷ run ∷ runs) (face-itself face) (face-itself face)
 
 covers-more_at : (cell : Cell) (face : Attributes) (run : Stretch) (runs : List Stretch) (cells : List Cell) (t : Bool) → same_face face run.1 ≡ t → with_face face cell ≡ cell → HasColours face
     → (t ≡ false → is_start cells ≡ true) → Covers (run ∷ runs) cells → Covers (if t then (1 + run.0, face) ∷ runs else (1, face) ∷ run ∷ runs) (cell ∷ cells)
@@ -120,16 +118,12 @@ runs-spaced : (column : ℕ) (runs : List Stretch) → runs_text column runs ≡
 runs-spaced column [] = refl
 runs-spaced column (run ∷ runs) = spaced_at column (column + run.0) run.1 runs (same_face run.1 plain) (runs-spaced (column + run.0) runs)
 
-texts-lack_at : (byte column end : ℕ) (face : Attributes) (more : List (List ℕ)) (t : Bool) → lacks byte (run_piece column (end - 1) face) ≡ true → AllLack byte more
-    → AllLack byte (if t then more else run_piece column (end - 1) face ∷ more)
-texts-lack_at byte column end face more true p q = q
-texts-lack_at byte column end face more false p q = (p, q)
-
 texts-lack : (byte column : ℕ) (runs : List Stretch) → ((first last : ℕ) (face : Attributes) → lacks byte (run_piece first last face) ≡ true) → AllLack byte (texts column runs)
 texts-lack byte column [] h = tt
 texts-lack byte column (run ∷ runs) h =
-    texts-lack_at byte column (column + run.0) run.1 (texts (column + run.0) runs) (same_face run.1 plain) (h column (column + run.0 - 1) run.1)
-    (texts-lack byte (column + run.0) runs h)
+    let more = texts-lack byte (column + run.0) runs h in
+    either (AllLack byte) (same_face run.1 plain) (texts (column + run.0) runs) (run_piece column (column + run.0 - 1) run.1 ∷ texts (column + run.0) runs)
+    more (h column (column + run.0 - 1) run.1, more)
 
 spaced-lacks : (byte : ℕ) (more : List (List ℕ)) → not (32 == byte) ≡ true → AllLack byte more → lacks byte (spaced more) ≡ true
 spaced-lacks byte [] p h = refl

@@ -9,6 +9,7 @@ use Rattle.std.proofs.lemmas.List.Splits.{slice_split_at, slice_split_none}
 use Rattle.std.specs.Fmt.{digits, digits_onto, digit_glyph}
 use Rattle.rd_io.specs.Lines.{lines_of}
 use Rattle.rd_base.specs.Cuts.{cut}
+use Rattle.rd_base.proofs.Choices.{either}
 use Rattle.rd_audit.specs.Cuts.{cut_last_or, cut_last, pieces}
 use Rattle.rd_audit.proofs.Cutting.{lines-cut, last-none}
 
@@ -32,17 +33,13 @@ is_no_digit byte = nat_lt byte 48 || nat_lt 57 byte
 glyph-other : (byte d : ℕ) → is_no_digit byte ≡ true → d < 10 → not (digit_glyph false d == byte) ≡ true
 glyph-other byte d other less = grind (arith, nat_tests)
 
-onto-step : (byte k n : ℕ) (acc : List ℕ) (t : Bool) → (lacks byte acc ≡ true → lacks byte (digits_onto k 10 false (n / 10) acc) ≡ true) → lacks byte acc ≡ true
-    → lacks byte (if t then acc else digits_onto k 10 false (n / 10) acc) ≡ true
-onto-step byte k n acc true so h = h
-onto-step byte k n acc false so h = so h
-
 lacks-onto : (byte k n : ℕ) (acc : List ℕ) → is_no_digit byte ≡ true → lacks byte acc ≡ true → lacks byte (digits_onto k 10 false n acc) ≡ true
 lacks-onto byte zero n acc other h = h
 lacks-onto byte (suc k) n acc other h =
     let small : n % 10 < 10 = omega arith in
-    onto-step byte k n (digit_glyph false (n % 10) ∷ acc) (n / 10 == 0) (lacks-onto byte k (n / 10) (digit_glyph false (n % 10) ∷ acc) other)
-    (and_from (not (digit_glyph false (n % 10) == byte)) (lacks byte acc) (glyph-other byte (n % 10) other small) h)
+    let more = digit_glyph false (n % 10) ∷ acc in
+    let lack : lacks byte more ≡ true = and_from (not (digit_glyph false (n % 10) == byte)) (lacks byte acc) (glyph-other byte (n % 10) other small) h in
+    either (λ l. lacks byte l ≡ true) (n / 10 == 0) more (digits_onto k 10 false (n / 10) more) lack (lacks-onto byte k (n / 10) more other lack)
 
 pub lacks-decimal : (byte n : ℕ) → is_no_digit byte ≡ true → lacks byte (decimal n) ≡ true
 unfolding digits

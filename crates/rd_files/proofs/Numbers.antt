@@ -7,6 +7,7 @@ use Rattle.std.specs.Str.Lines.{strip_carriage_return}
 use Rattle.std.proofs.lemmas.List.Splits.{length-slice_split}
 use Rattle.std.proofs.lemmas.List.Sums.{count_by-le-length}
 use Rattle.rd_base.specs.declared.class.Class.{Class}
+use Rattle.rd_base.proofs.Choices.{either}
 use Rattle.rd_ucd.specs.declared.fault.UcdFault.{UcdFault}
 use Rattle.rd_ucd.specs.declared.fault.UcdFault.TheVariants as ucd
 use Rattle.rd_ucd.specs.declared.spans.Span.{Span}
@@ -45,15 +46,10 @@ module _ {T : Type 0} (most : ℕ) where
       → (n : ℕ) (lines : List (List ℕ)) → 1 ≤ n → n + length lines ≤ suc most → AreWithin most (entries_in passed_over entry (numbered n lines))
   entries-within passed_over entry each n [] some fits = tt
   entries-within passed_over entry each n (line ∷ lines) some fits =
-      go (passed_over line) (entries-within passed_over entry each (suc n) lines (omega arith) (omega arith))
-    where
-      low : IsLine most n
-      low = (some, omega arith)
-
-      go : (b : Bool) → AreWithin most (entries_in passed_over entry (numbered (suc n) lines))
-          → AreWithin most (if b then entries_in passed_over entry (numbered (suc n) lines) else (n, entry n line) ∷ entries_in passed_over entry (numbered (suc n) lines))
-      go true rest = rest
-      go false rest = (low, each n line low, rest)
+      let low : IsLine most n = (some, omega arith) in
+      let rest = entries-within passed_over entry each (suc n) lines (omega arith) (omega arith) in
+      either (AreWithin most) (passed_over line) (entries_in passed_over entry (numbered (suc n) lines)) ((n, entry n line) ∷ entries_in passed_over entry (numbered (suc n) lines))
+      rest (low, each n line low, rest)
 
   behind-within : (values : List T) (result : Result (List T) UcdFault) → IsWithin most result → IsWithin most (behind values result)
   behind-within values (Ok more) h = tt
@@ -63,12 +59,8 @@ module _ {T : Type 0} (most : ℕ) where
   ascending-within key least [] h = tt
   ascending-within key least ((n, Err fault) ∷ entries) h = h.1
   ascending-within key least ((n, Ok e) ∷ entries) h =
-      go (nat_lt (key e) least) (behind-within (e ∷ []) (ascending_from key (suc (key e)) entries) (ascending-within key (suc (key e)) entries h.2))
-    where
-      go : (b : Bool) → IsWithin most (behind (e ∷ []) (ascending_from key (suc (key e)) entries))
-          → IsWithin most (if b then Err (ucd.NotAscending n) else behind (e ∷ []) (ascending_from key (suc (key e)) entries))
-      go true rest = h.0
-      go false rest = rest
+      either (IsWithin most) (nat_lt (key e) least) (Err (ucd.NotAscending n)) (behind (e ∷ []) (ascending_from key (suc (key e)) entries)) h.0
+      (behind-within (e ∷ []) (ascending_from key (suc (key e)) entries) (ascending-within key (suc (key e)) entries h.2))
 
 -- ---- class files
 
@@ -78,15 +70,10 @@ coded-within most n (Some code) kind None h = h
 coded-within most n (Some code) kind (Some class) h = tt
 
 entry-within : (most n : ℕ) (line : List ℕ) → IsLine most n → IsWithin most (entry_of n line)
-entry-within most n line h = go (nat_lt 4 (length (fields_of (strip_carriage_return line))))
-  where
-    fields : List (List ℕ)
-    fields = fields_of (strip_carriage_return line)
-
-    go : (b : Bool)
-        → IsWithin most (if b then coded n (code_of (slice_index_or fields 0 [])) (kind_of_name (slice_index_or fields 1 [])) (named (slice_index_or fields 4 [])) else Err (ucd.BadLine n))
-    go true = coded-within most n (code_of (slice_index_or fields 0 [])) (kind_of_name (slice_index_or fields 1 [])) (named (slice_index_or fields 4 [])) h
-    go false = h
+entry-within most n line h =
+    let fields = fields_of (strip_carriage_return line) in
+    either (IsWithin most) (nat_lt 4 (length fields)) (coded n (code_of (slice_index_or fields 0 [])) (kind_of_name (slice_index_or fields 1 [])) (named (slice_index_or fields 4 []))) (Err (ucd.BadLine n))
+    (coded-within most n (code_of (slice_index_or fields 0 [])) (kind_of_name (slice_index_or fields 1 [])) (named (slice_index_or fields 4 [])) h) h
 
 abbrev IsOpenWithin : ℕ → Option Opened → Type 0
 IsOpenWithin most None = Unit {0}
@@ -124,11 +111,9 @@ both-within most n (Some code) None h = h
 both-within most n (Some code) (Some other) h = tt
 
 codes-within : (most count n : ℕ) (fields : List (List ℕ)) → IsLine most n → IsWithin most (codes_of count n fields)
-codes-within most count n fields h = go (length fields == count)
-  where
-    go : (b : Bool) → IsWithin most (if b then both n (code_of (trimmed_field fields 0)) (code_of (trimmed_field fields 1)) else Err (ucd.BadLine n))
-    go true = both-within most n (code_of (trimmed_field fields 0)) (code_of (trimmed_field fields 1)) h
-    go false = h
+codes-within most count n fields h =
+    either (IsWithin most) (length fields == count) (both n (code_of (trimmed_field fields 0)) (code_of (trimmed_field fields 1))) (Err (ucd.BadLine n))
+    (both-within most n (code_of (trimmed_field fields 0)) (code_of (trimmed_field fields 1)) h) h
 
 pair-within : (most n : ℕ) (fields : List (List ℕ)) → IsLine most n → IsWithin most (pair_of n fields)
 pair-within most n fields h = go (codes_of 2 n fields) (codes-within most 2 n fields h)

@@ -1,5 +1,6 @@
 -- No status but its own has want of memory in it.
-use Rattle.std.proofs.Common.{◌≡◌, ◌≢◌, ℕ, inl, inr, Bool, true, false, if◌then◌else◌, List, [], ◌∷◌, Option, None, Some, is_some, Result, Err, ap, ◌∙◌}
+use Rattle.std.proofs.Common.{◌≡◌, ◌≢◌, ℕ, inl, inr, List, [], ◌∷◌, Option, None, Some, is_some, Result, Err, ap, ◌∙◌}
+use Rattle.rd_base.proofs.Choices.{either}
 use Rattle.rd_files.specs.declared.fault.BadFile.{BadFile}
 use Rattle.rd_files.specs.declared.fault.DataFile.{DataFile}
 use Rattle.rd_files.specs.declared.fault.DataKind.{DataKind}
@@ -54,13 +55,10 @@ effect-free law now t = effect-is now t (λ e. IsFreeFault e.fault) (record {
   fed = λ stop. none-free;
 })
 
-run_line-if : LineLaw → (over : Bool) (w : World) (t : Input) → IsFreeFault w.fault → IsFreeFault (if over then w else after w (effect w.now t)).fault
-run_line-if law true w t h = h
-run_line-if law false w t h = effect-free law w.now t
-
 run-free : LineLaw → (w : World) (ts : List Input) → IsFreeFault w.fault → IsFreeFault (run w ts).fault
 run-free law w [] h = h
-run-free law w (t ∷ ts) h = run-free law (run_line w t) ts (run_line-if law (is_some w.fault) w t h)
+run-free law w (t ∷ ts) h =
+    run-free law (run_line w t) ts (either (λ (v : World). IsFreeFault v.fault) (is_some w.fault) w (after w (effect w.now t)) h (effect-free law w.now t))
 
 -- ---- statuses
 
