@@ -1,5 +1,5 @@
 -- Buffers on which the definitions are worked out.
-use Rattle.std.specs.Prelude.{ℕ, ◌+◌, Bool, List, [], ◌∷◌, Some}
+use Rattle.std.specs.Prelude.{ℕ, ◌+◌, Bool, List, [], ◌∷◌, map, Some}
 use Rattle.rd_base.specs.Cells.{single}
 use Rattle.rd_base.specs.Settings.{opening}
 use Rattle.rd_base.specs.declared.cell.Cell.{Cell}
@@ -13,11 +13,16 @@ use Rattle.rd_objects.specs.Things.{ObjectLists, nothing_made}
 use Rattle.rd_props.specs.Buffers.{BufferValue, values_of}
 use Rattle.rd_props.specs.Examples.{put_once}
 use Rattle.rd_props.specs.Examples as props
+use Rattle.rd_matrix.specs.Entries.{made_entry}
+use Rattle.rd_matrix.specs.Sources.{rows_at}
 use Rattle.rd_matrix.specs.declared.block.Block.{Block}
+use Rattle.rd_matrix.specs.declared.matrix.Entry.{Entry}
+use Rattle.rd_reuse.specs.Keeping.{is_kept}
+use Rattle.rd_reuse.specs.declared.change.Change.{Change}
 use Rattle.rd_rows.specs.Examples.{cells}
 use Rattle.rd_rows.specs.Shapes.{ShapeValues}
 use Rattle.rd_blocks.specs.Bases.{blocks_in}
-use Rattle.rd_blocks.specs.Sources.{rows_in}
+use Rattle.rd_blocks.specs.Sources.{rows_in, text_source}
 
 -- blanks, digits, and two letters that are read from the right, r and t
 abbrev pub files : Data
@@ -93,3 +98,11 @@ bases_of s = blocks_in files.classes s
 -- the cells of the rows of a block
 abbrev pub cells_of : ShapeValues → BufferValue → ObjectLists → Block → List (List Cell)
 cells_of shape s objects b = cells (rows_in s objects files b shape)
+
+-- all rows of a text, as they were laid out
+abbrev pub older_rows : BufferValue → List Entry
+older_rows s = map made_entry (rows_at (text_source s no_objects files) going_on)
+
+-- which blocks of a text keep the rows that they had in an older one
+abbrev pub keeping : BufferValue → BufferValue → Change → List Bool
+keeping old new change = map (is_kept (older_rows old) change) (bases_of new)

@@ -4,4 +4,3 @@ pub mod Sources
 pub mod Examples
 pub mod Kept
 pub mod Leads
-pub mod KeptExamples

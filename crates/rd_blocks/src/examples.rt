@@ -4,7 +4,8 @@ ghost use Rattle.rd_base.specs.Faces.{plain};
 ghost use Rattle.rd_base.specs.Glyphs.{blanks};
 ghost use Rattle.rd_base.specs.declared.settings.Direction.TheVariants.{Auto, Right};
 ghost use Rattle.rd_rows.specs.Examples.{text};
-ghost use Rattle.rd_blocks.specs.Examples.{buffer, two_lines, hidden_at, narrowed_to, with_prefixes, prefixed, with_marks, arrows, no_objects, marks, cut_by, going_on, bases_of, cells_of};
+ghost use Rattle.rd_reuse.specs.Changes.{all, edit, none};
+ghost use Rattle.rd_blocks.specs.Examples.{buffer, two_lines, hidden_at, narrowed_to, with_prefixes, prefixed, with_marks, arrows, no_objects, marks, cut_by, going_on, bases_of, cells_of, keeping};
 
 /// Two blocks of which the second has a letter that is read from the right, and the same with other settings of the direction.
 fn blocks_with_their_bases()
@@ -49,4 +50,20 @@ fn marks_of_rows_that_go_on()
     ensures right { cells_of going_on (buffer (114 ∷ 114 ∷ 114 ∷ 114 ∷ 114 ∷ 114 ∷ 114 ∷ 114 ∷ 114 ∷ 114 ∷ 114 ∷ 114 ∷ [])) no_objects (record { start = 1; end = 14; base = 1 }) ≡ text (47 ∷ 114 ∷ 114 ∷ 114 ∷ 114 ∷ 114 ∷ 114 ∷ 114 ∷ 114 ∷ 114 ∷ 114 ∷ 114 ∷ []) ∷ (blanks 11 plain ++ text (114 ∷ [])) ∷ [] }
     ensures table { cells_of going_on (with_marks (97 ∷ 98 ∷ 99 ∷ 100 ∷ 101 ∷ 102 ∷ 103 ∷ 104 ∷ 105 ∷ 106 ∷ 107 ∷ 108 ∷ [])) marks (record { start = 1; end = 14; base = 0 }) ≡ text (97 ∷ 98 ∷ 99 ∷ 100 ∷ 101 ∷ 102 ∷ 103 ∷ 104 ∷ 105 ∷ 106 ∷ 107 ∷ 38 ∷ []) ∷ (text (108 ∷ []) ++ blanks 11 plain) ∷ [] }
     ensures cut { cells_of (cut_by 0) (with_marks (97 ∷ 98 ∷ 99 ∷ 100 ∷ 101 ∷ 102 ∷ 103 ∷ 104 ∷ 105 ∷ 106 ∷ 107 ∷ 108 ∷ [])) marks (record { start = 1; end = 14; base = 0 }) ≡ text (97 ∷ 98 ∷ 99 ∷ 100 ∷ 101 ∷ 102 ∷ 103 ∷ 104 ∷ 105 ∷ 106 ∷ 107 ∷ 43 ∷ []) ∷ [] }
+{}
+
+/// The lines a, b and c. A letter that is put into the second leaves the first and the third. Where the newline behind the first is
+/// taken away or the second is cut in two, the lines that join and those that split are laid out again.
+fn rows_that_edits_leave()
+    ensures typed { keeping (buffer (97 ∷ 10 ∷ 98 ∷ 10 ∷ 99 ∷ [])) (buffer (97 ∷ 10 ∷ 120 ∷ 98 ∷ 10 ∷ 99 ∷ [])) (edit 3 0 1) ≡ true ∷ false ∷ true ∷ [] }
+    ensures joined { keeping (buffer (97 ∷ 10 ∷ 98 ∷ 10 ∷ 99 ∷ [])) (buffer (97 ∷ 98 ∷ 10 ∷ 99 ∷ [])) (edit 2 1 0) ≡ false ∷ true ∷ [] }
+    ensures split { keeping (buffer (97 ∷ 10 ∷ 98 ∷ 98 ∷ 10 ∷ 99 ∷ [])) (buffer (97 ∷ 10 ∷ 98 ∷ 10 ∷ 98 ∷ 10 ∷ 99 ∷ [])) (edit 4 0 1) ≡ true ∷ false ∷ false ∷ true ∷ [] }
+    ensures untouched { keeping (buffer (97 ∷ 10 ∷ 98 ∷ [])) (buffer (97 ∷ 10 ∷ 98 ∷ [])) none ≡ true ∷ true ∷ [] }
+    ensures forgotten { keeping (buffer (97 ∷ 10 ∷ 98 ∷ [])) (buffer (97 ∷ 10 ∷ 98 ∷ [])) all ≡ false ∷ false ∷ [] }
+{}
+
+/// A letter that is read from the right before the digit of a paragraph's first line: the second line, which no edit touched, has
+/// another base level, so that its rows are laid out again.
+fn base_levels_that_flip()
+    ensures { keeping (buffer (49 ∷ 10 ∷ 97 ∷ [])) (buffer (114 ∷ 49 ∷ 10 ∷ 97 ∷ [])) (edit 1 0 1) ≡ false ∷ false ∷ [] }
 {}

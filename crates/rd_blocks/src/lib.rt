@@ -8,7 +8,6 @@ mod base;
 mod blocks;
 mod changes;
 mod examples;
-mod keeping;
 mod laws;
 mod locality;
 mod rows;
