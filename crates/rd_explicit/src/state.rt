@@ -63,7 +63,7 @@ impl State {
     }
 
     /// For X2 to X5, an embedding, or an override, at a level above the last entry's. What can't be added overflows.
-    fn embed(&mut self, level: u8, direction: Option<Class>)
+    fn x2_to_x5_embed(&mut self, level: u8, direction: Option<Class>)
         requires above { (top self.old.stack).level < level }
         requires ready { IsReady 4294967294 self.old }
         ensures state { self.new ≡ embedded level direction self.old }
@@ -75,7 +75,7 @@ impl State {
     }
 
     /// For X5a to X5c, an isolate at a level above the last entry's. What can't be added overflows.
-    fn isolate(&mut self, level: u8)
+    fn x5a_to_x5c_isolate(&mut self, level: u8)
         requires above { (top self.old.stack).level < level }
         requires ready { IsReady 4294967294 self.old }
         ensures state { self.new ≡ isolated level self.old }
@@ -98,9 +98,9 @@ impl State {
     {
         let level = self.stack.top().level;
         if self.overflow_isolates == 0 && self.overflow_embeddings == 0 && x5c_starts_right(rest) {
-            self.isolate(level_above(1, level));
+            self.x5a_to_x5c_isolate(level_above(1, level));
         } else {
-            self.isolate(level_above(0, level));
+            self.x5a_to_x5c_isolate(level_above(0, level));
         }
     }
 
@@ -149,17 +149,17 @@ impl State {
         let entry = self.stack.top();
         match class {
             // X2: an RLE opens an embedding at the next odd level.
-            Class::RLE => self.embed(level_above(1, entry.level), None),
+            Class::RLE => self.x2_to_x5_embed(level_above(1, entry.level), None),
             // X3: an LRE opens an embedding at the next even level.
-            Class::LRE => self.embed(level_above(0, entry.level), None),
+            Class::LRE => self.x2_to_x5_embed(level_above(0, entry.level), None),
             // X4: an RLO opens an override to R at the next odd level.
-            Class::RLO => self.embed(level_above(1, entry.level), Some(Class::R)),
+            Class::RLO => self.x2_to_x5_embed(level_above(1, entry.level), Some(Class::R)),
             // X5: an LRO opens an override to L at the next even level.
-            Class::LRO => self.embed(level_above(0, entry.level), Some(Class::L)),
+            Class::LRO => self.x2_to_x5_embed(level_above(0, entry.level), Some(Class::L)),
             // X5a: an RLI opens an isolate at the next odd level.
-            Class::RLI => self.isolate(level_above(1, entry.level)),
+            Class::RLI => self.x5a_to_x5c_isolate(level_above(1, entry.level)),
             // X5b: an LRI opens an isolate at the next even level.
-            Class::LRI => self.isolate(level_above(0, entry.level)),
+            Class::LRI => self.x5a_to_x5c_isolate(level_above(0, entry.level)),
             Class::FSI => self.x5c_first_strong_isolate(rest),
             Class::PDI => {
                 self.x6a_pop_directional_isolate();

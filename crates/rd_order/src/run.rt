@@ -27,7 +27,7 @@ impl ReversedRun {
 
 /// The maximal run at `level` or above around an index of that level or above. It costs a look at each index of the run and
 /// at the two beside it.
-pub fn around(levels: &[u8], level: u8, place: usize) -> ReversedRun
+pub fn l2_run_around(levels: &[u8], level: u8, place: usize) -> ReversedRun
     requires place { place < length levels.now }
     requires level { level ≤ slice_index levels.now place }
     ensures run { IsRun (slice_index levels.now) (length levels.now) level result.start result.end }

@@ -3,7 +3,7 @@ ghost use Rattle.std.specs.Prelude.{◌≡◌, ℕ, suc, ◌+◌, ◌-◌, ◌<�
 ghost use Rattle.rd_order.specs.Order.{l2_visual_order};
 ghost use Rattle.rd_order.specs.Places.{Comes, IsBeside};
 
-use crate::run::{ReversedRun, around};
+use crate::run::{ReversedRun, l2_run_around};
 
 /// A walk through the indexes of a line in visual order (L2), from the reading edge. It holds the next index and no list.
 #[derive(Clone, Copy, Debug)]
@@ -27,12 +27,12 @@ impl Visual {
     {
         Visual {
             base,
-            place: first(levels, base),
+            place: l2_first(levels, base),
             given: 0,
         }
     }
 
-    /// The next index, counted from 0, and None exactly after all. It asks for the levels that the walk was started with. It looks at the
+    /// The next index by L2, counted from 0, and None exactly after all. It asks for the levels that the walk was started with. It looks at the
     /// neighbour where the level stays, and where it changes at the run that is entered or left, once for each level that
     /// occurs in between: a whole line costs at most about twice its length times the number of its levels.
     pub fn next(&mut self, levels: &[u8]) -> Option<usize>
@@ -42,24 +42,24 @@ impl Visual {
         ensures within { MatchOption result (Unit {0}) (λ i. i < length levels.now) }
     {
         let place = self.place?;
-        self.place = following(levels, self.base, place);
+        self.place = l2_following(levels, self.base, place);
         self.given += 1;
         Some(place)
     }
 }
 
 /// The first index of the visual order, if there is one.
-fn first(levels: &[u8], base: u8) -> Option<usize>
+fn l2_first(levels: &[u8], base: u8) -> Option<usize>
     ensures { result ≡ slice_get (l2_visual_order base levels.now) 0 }
 {
     if levels.is_empty() {
         return None;
     }
-    Some(settled(levels, base, base, 0))
+    Some(l2_settled(levels, base, base, 0))
 }
 
 /// The index that follows `index` in visual order, and None where it is the last.
-fn following(levels: &[u8], base: u8, index: usize) -> Option<usize>
+fn l2_following(levels: &[u8], base: u8, index: usize) -> Option<usize>
     requires { index < length levels.now }
     ensures { (p : ℕ) → slice_get (l2_visual_order base levels.now) p ≡ Some index → slice_get (l2_visual_order base levels.now) (p + 1) ≡ result }
 {
@@ -67,12 +67,12 @@ fn following(levels: &[u8], base: u8, index: usize) -> Option<usize>
     let mut place = index;
     loop {
         if let Some(beside) = neighbour(levels, level, base, place) {
-            return Some(settled(levels, base, level, beside));
+            return Some(l2_settled(levels, base, level, beside));
         }
         if level == base {
             return None;
         }
-        let run = around(levels, level, place);
+        let run = l2_run_around(levels, level, place);
         let outer = highest_beside(levels, base, &run);
         place = run.turned(place, level - outer);
         level = outer;
@@ -118,7 +118,7 @@ fn highest_beside(levels: &[u8], base: u8, run: &ReversedRun) -> u8
 
 /// The index that the order gives where it comes to `place` in the run at `level`: runs of higher levels around it are turned
 /// round.
-fn settled(levels: &[u8], base: u8, level: u8, place: usize) -> usize
+fn l2_settled(levels: &[u8], base: u8, level: u8, place: usize) -> usize
     requires base { base ≤ level }
     requires place { place < length levels.now }
     requires high { base < level → level ≤ slice_index levels.now place }
@@ -127,7 +127,7 @@ fn settled(levels: &[u8], base: u8, level: u8, place: usize) -> usize
     let mut level = level;
     let mut place = place;
     while levels[place] > level {
-        let run = around(levels, level + 1, place);
+        let run = l2_run_around(levels, level + 1, place);
         place = run.turned(place, run.lowest - level);
         level = run.lowest;
     }

@@ -5,7 +5,7 @@ ghost use Rattle.rd_text.specs.Texts.{IsAccessible, between, is_newline, next_ne
 ghost use Rattle.rd_para.specs.Paragraphs.{base_at, decided};
 ghost use Rattle.rd_para.specs.Known.{IsKnown, IsParagraph};
 
-use crate::line::{is_blank_line, level_of_line};
+use crate::line::{is_blank_line, p2_p3_level_of_line};
 use crate::paragraph::Paragraph;
 use rd_base::{Direction, Pos};
 use rd_text::Buffer;
@@ -71,7 +71,7 @@ pub fn next_line(text: &Buffer, classes: &Classes, known: &Paragraph) -> Paragra
     Paragraph { from, to, base }
 }
 
-/// The level of a paragraph that begins at a position.
+/// The level of a paragraph that begins at a position (P2, P3).
 fn paragraph_level(text: &Buffer, classes: &Classes, from: Pos) -> u8
     requires { IsAccessible text.now from }
     ensures { result ≡ unwrap_or (decided classes.now (slice_split is_newline (between text.now from text.now.end))) 0 }
@@ -83,7 +83,7 @@ fn paragraph_level(text: &Buffer, classes: &Classes, from: Pos) -> u8
         if is_blank_line(text, from, to) {
             return 0;
         }
-        if let Some(level) = level_of_line(text, classes, from, to) {
+        if let Some(level) = p2_p3_level_of_line(text, classes, from, to) {
             return level;
         }
         if to >= end {

@@ -19,7 +19,7 @@ pub fn is_blank_line(text: &Buffer, from: Pos, to: Pos) -> bool
 
 /// The level, 0 or 1, that rules P2 and P3 find in the characters from one position to another, that one not included;
 /// None where they find no strong character.
-pub fn level_of_line(text: &Buffer, classes: &Classes, from: Pos, to: Pos) -> Option<u8>
+pub fn p2_p3_level_of_line(text: &Buffer, classes: &Classes, from: Pos, to: Pos) -> Option<u8>
     requires first { 1 ≤ from }
     requires order { from ≤ to }
     requires last { to ≤ length text.now.text + 1 }

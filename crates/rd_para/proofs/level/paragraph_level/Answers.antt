@@ -28,15 +28,15 @@ returns-then-is_blank_line c =
     let some = some_line c.args.text.now c.lines.from c.next_newline-to.result (cut at) in
     told at some.0 true (line_level c.args.classes.now (line at)) some.1 (sym c.is_blank_line.ensures ∙ c.if-is_blank_line.true) refl
 
-pub level_of_line-requires-clause-first : goal.level_of_line-requires-clause-first
-level_of_line-requires-clause-first c =
+pub p2_p3_level_of_line-requires-clause-first : goal.p2_p3_level_of_line-requires-clause-first
+p2_p3_level_of_line-requires-clause-first c =
     let first = c.lines.invariant.text.first in
     let begin = c.lines.invariant.begin in
     omega arith
 
-pub level_of_line-requires-clause-last : goal.level_of_line-requires-clause-last
-level_of_line-requires-clause-last c =
-    let within = (cut (goal.at.level_of_line-requires-clause-last c).After-next_newline-to).within in
+pub p2_p3_level_of_line-requires-clause-last : goal.p2_p3_level_of_line-requires-clause-last
+p2_p3_level_of_line-requires-clause-last c =
+    let within = (cut (goal.at.p2_p3_level_of_line-requires-clause-last c).After-next_newline-to).within in
     let last = c.lines.invariant.text.last in
     omega arith
 

@@ -3,7 +3,7 @@ use Rattle.rd_base.specs.Classes.{depth_after}
 use Rattle.rd_para.specs.Paragraphs.{line_level}
 use Rattle.rd_text.specs.Texts.{between}
 use Rattle.rd_para.proofs.Chars.{level_by}
-use Rattle.rd_para.proofs.line.level_of_line.Goals as goal
+use Rattle.rd_para.proofs.line.p2_p3_level_of_line.Goals as goal
 
 pub returns-in-Some : goal.returns-in-Some
 returns-in-Some c =

@@ -1,7 +1,7 @@
 use Rattle.std.proofs.Common.{◌+◌, ◌-◌, ◌<◌, inl, inr, length, slice_index, sym, arith}
 use Rattle.rd_order.specs.Places.{BeginsLow}
 use Rattle.rd_order.proofs.Steps.{IsTurnedBy, beside, between, known, last, turned_by}
-use Rattle.rd_order.proofs.visual.following.Goals as goal
+use Rattle.rd_order.proofs.visual.l2_following.Goals as goal
 
 pub loop-beside-init : goal.loop-beside-init
 loop-beside-init c =
@@ -19,7 +19,7 @@ returns-in-Some c = λ p at.
     let base = inv.base in
     let high = inv.high in
     let found = c.in-Some.ensures in
-    c.settled.ensures (p + 1) (beside (slice_index c.args.levels.now) (length c.args.levels.now) c.args.base (c.loop-beside.level - c.args.base) p c.loop-beside.place
+    c.l2_settled.ensures (p + 1) (beside (slice_index c.args.levels.now) (length c.args.levels.now) c.args.base (c.loop-beside.level - c.args.base) p c.loop-beside.place
     c.in-Some.beside found.0 inv.place found.1 (λ more. omega arith) found.2 (inv.comes p at))
 
 pub returns-then-level-base : goal.returns-then-level-base
@@ -29,8 +29,8 @@ returns-then-level-base c = λ p at.
 pub loop-beside-preserved : goal.loop-beside-preserved
 loop-beside-preserved c =
     let inv = c.loop-beside.invariant in
-    let run = c.around-run.result in
-    let facts = c.around-run.ensures in
+    let run = c.l2_run_around-run.result in
+    let facts = c.l2_run_around-run.ensures in
     let outer = c.highest_beside-outer.result in
     let beside_it = c.highest_beside-outer.ensures in
     let turn = turned_by (c.loop-beside.level - outer) run.start run.end c.loop-beside.place c.turned-place.result facts.from facts.to c.turned-place.ensures in

@@ -1,12 +1,12 @@
 use Rattle.std.proofs.Common.{◌-◌, length, slice_index, arith}
 use Rattle.rd_order.proofs.Steps.{between, shows, turned_by}
-use Rattle.rd_order.proofs.visual.settled.Goals as goal
+use Rattle.rd_order.proofs.visual.l2_settled.Goals as goal
 
 pub loop-level-preserved : goal.loop-level-preserved
 loop-level-preserved c =
     let inv = c.loop-level.invariant in
-    let run = c.around-run.result in
-    let facts = c.around-run.ensures in
+    let run = c.l2_run_around-run.result in
+    let facts = c.l2_run_around-run.ensures in
     let turn = turned_by (run.lowest - c.loop-level.level) run.start run.end c.loop-level.place c.turned-place.result facts.from facts.to c.turned-place.ensures in
     let from = turn.1 in
     let to = turn.2 in

@@ -1,6 +1,6 @@
 use Rattle.std.proofs.Common.{ℕ, ◌-◌, ◌<◌, ◌≤◌, length, slice_index}
 use Rattle.rd_order.specs.Places.{Comes}
-use Rattle.rd_order.proofs.visual.settled.Given as goal
+use Rattle.rd_order.proofs.visual.l2_settled.Given as goal
 
 abbrev pub invariant-loop-level : goal.invariant-loop-level
 invariant-loop-level l = record {

@@ -1,7 +1,7 @@
 use Rattle.std.proofs.Common.{◌≡◌, ℕ, ◌-◌, ◌<◌, ◌≤◌, length, slice_index, slice_get, Some}
 use Rattle.rd_order.specs.Order.{l2_visual_order}
 use Rattle.rd_order.specs.Places.{Comes}
-use Rattle.rd_order.proofs.visual.following.Given as goal
+use Rattle.rd_order.proofs.visual.l2_following.Given as goal
 
 abbrev pub invariant-loop-beside : goal.invariant-loop-beside
 invariant-loop-beside l = record {

@@ -1,7 +1,7 @@
 use Rattle.std.proofs.Common.{◌+◌, ◌-◌, ◌<◌, ◌≤◌, length}
 use Rattle.std.specs.Prelude.{slice_index}
 use Rattle.rd_order.specs.Places.{AreHigh}
-use Rattle.rd_order.proofs.run.around.Given as goal
+use Rattle.rd_order.proofs.run.l2_run_around.Given as goal
 
 abbrev pub invariant-loop-start : goal.invariant-loop-start
 invariant-loop-start l = record {

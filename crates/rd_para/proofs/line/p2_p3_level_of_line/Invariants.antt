@@ -3,7 +3,7 @@ use Rattle.rd_base.specs.Classes.{first_strong}
 use Rattle.rd_text.specs.Texts.{between}
 use Rattle.rd_ucd.specs.Lookup.{class_of}
 use Rattle.rd_para.specs.Paragraphs.{line_level}
-use Rattle.rd_para.proofs.line.level_of_line.Given as goal
+use Rattle.rd_para.proofs.line.p2_p3_level_of_line.Given as goal
 
 abbrev pub invariant-loop-pos : goal.invariant-loop-pos
 invariant-loop-pos l = record {
