@@ -15,7 +15,7 @@ use Rattle.rd_tree.specs.Windows.{placed, columns_for, rows_for}
 use Rattle.rd_tree.specs.declared.placed.Placed.{Placed}
 use Rattle.rd_frame.specs.Panes.{GlyphRow, PaneValues, has_border, body_width, body_height, row_cells, body_rows, bordered, mode_line_row, window_rows}
 use Rattle.rd_frame.specs.Frames.{FrameValues, rows_of, frame_rows, selected_window, on_frame, frame_cursor, frame_picture}
-use Rattle.rd_frame.specs.Fits.{FitsRow, FitsWindow, IsInBody, FitsFrame, EachPart, EachPartOf}
+use Rattle.rd_frame.specs.Fits.{FitsWindow, IsInBody, FitsFrame, EachPart, EachPartOf}
 
 -- ---- a window
 
@@ -66,13 +66,16 @@ body-length columns height rows few =
     length-append (map row_cells rows) (replicate (height - length rows) (blank_row columns))
     ∙ omega (arith, length-map rows row_cells, length-replicate (height - length rows) (blank_row columns))
 
-body-wide : (width columns height : ℕ) (window : Placed) (rows : List GlyphRow) → window.margins + body_width width window ≡ columns → All (FitsRow width window) rows → All (λ row. length row ≡ columns) (body_rows columns height rows)
-body-wide width columns height window rows e fits =
-    All-append (λ row. length row ≡ columns) (map row_cells rows) (replicate (height - length rows) (blank_row columns))
-    (All-map (λ row. length row ≡ columns) row_cells rows (λ k d in'.
-    let r = get_or rows k d in
-    length-append r.margin r.text ∙ (let a = (fits k d in').margin in let b = (fits k d in').text in omega arith)))
-    (All-replicate (λ row. length row ≡ columns) (height - length rows) (blank_row columns) (length-replicate columns blank))
+-- what holds of the cells of each glyph row and of a blank row, and with the border beside them as another, holds of the window's rows
+rows-each : (P Q : List Cell → Type 0) (width : ℕ) (pane : PaneValues) (window : Placed) → All (λ row. P (row_cells row)) pane.rows → P (blank_row (window.margins + body_width width window))
+    → ((row : List Cell) → P row → Q (bordered width window pane.border row)) → (window.mode ≡ true → Q pane.mode_line) → All Q (window_rows width pane window)
+rows-each P Q width pane window rows blank beside line =
+    let columns : ℕ = window.margins + body_width width window in
+    let body = body_rows columns (body_height window) pane.rows in
+    let inside : All P body = All-append P (map row_cells pane.rows) (replicate (body_height window - length pane.rows) (blank_row columns))
+    (All-map P row_cells pane.rows rows) (All-replicate P (body_height window - length pane.rows) (blank_row columns) blank) in
+    All-append Q (map (bordered width window pane.border) body) (mode_line_row window pane.mode_line)
+    (All-map Q (bordered width window pane.border) body (λ k d in'. beside (get_or body k d) (inside k d in'))) (line-each Q window.mode pane.mode_line line)
 
 -- the rows of a window fill its rectangle
 pub window-size : (width : ℕ) (pane : PaneValues) (window : Placed) → columns_for window.margins ≤ window.rect.width → rows_for window.mode ≤ window.rect.height → FitsWindow width pane window
@@ -81,8 +84,7 @@ window-size width pane window across down fits =
     let columns : ℕ = window.margins + body_width width window in
     let body = body_rows columns (body_height window) pane.rows in
     let beside = bordered width window pane.border in
-    let whole = columns-shared width window across in
-    let wide = body-wide width columns (body_height window) window pane.rows refl fits.rows in (
+    let whole = columns-shared width window across in (
       length-append (map beside body) (mode_line_row window pane.mode_line)
           ∙ omega (
             arith,
@@ -91,25 +93,17 @@ window-size width pane window across down fits =
             line-length window.mode pane.mode_line,
             rows-shared window down,
           ),
-      All-append (λ row. length row ≡ window.rect.width) (map beside body) (mode_line_row window pane.mode_line)
-          (All-map (λ row. length row ≡ window.rect.width) beside body (λ k d in'.
-          bordered-length width window pane.border (get_or body k d) ∙ (let n = wide k d in' in omega (arith, whole))))
-          (line-each (λ row. length row ≡ window.rect.width) window.mode pane.mode_line fits.mode_line),
+      rows-each (λ row. length row ≡ columns) (λ row. length row ≡ window.rect.width) width pane window
+          (λ k d in'. let r = get_or pane.rows k d in length-append r.margin r.text ∙ (let a = (fits.rows k d in').margin in let b = (fits.rows k d in').text in omega arith))
+          (length-replicate columns blank) (λ row n. bordered-length width window pane.border row ∙ omega (arith, n, whole)) fits.mode_line,
     )
 
 -- what holds of each part of a window and of rows that are joined holds of the window's rows
 pub window-each : (P : List Cell → Type 0) → ((left right : List Cell) → P left → P right → P (left ++ right)) → ((columns : ℕ) → P (blank_row columns))
     → (width : ℕ) (pane : PaneValues) (window : Placed) → EachPart P pane window → All P (window_rows width pane window)
 window-each P both blanks width pane window each =
-    let columns : ℕ = window.margins + body_width width window in
-    let body = body_rows columns (body_height window) pane.rows in
-    let beside = bordered width window pane.border in
-    let inside : All P body = All-append P (map row_cells pane.rows) (replicate (body_height window - length pane.rows) (blank_row columns))
-    (All-map P row_cells pane.rows (λ k d in'. both (get_or pane.rows k d).margin (get_or pane.rows k d).text (each.margins k d in') (each.texts k d in')))
-    (All-replicate P (body_height window - length pane.rows) (blank_row columns) (blanks columns)) in
-    All-append P (map beside body) (mode_line_row window pane.mode_line)
-    (All-map P beside body (λ k d in'. bordered-each P both (has_border width window) pane.border (get_or body k d) each.border (inside k d in')))
-    (line-each P window.mode pane.mode_line each.mode_line)
+    rows-each P P width pane window (λ k d in'. both (get_or pane.rows k d).margin (get_or pane.rows k d).text (each.margins k d in') (each.texts k d in'))
+    (blanks (window.margins + body_width width window)) (λ row h. bordered-each P both (has_border width window) pane.border row each.border h) each.mode_line
 
 -- ---- a frame
 
