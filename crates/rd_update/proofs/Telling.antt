@@ -3,8 +3,8 @@ use Rattle.std.proofs.Common.{◌≡◌, inl, inr, if◌then◌else◌, cond, �
 use Rattle.std.specs.Cmp.Derive.{one_truth}
 use Rattle.std.specs.List.{AllByRecursion, position_or_len, suffix_len}
 use Rattle.std.specs.Prelude.{zip}
-use Rattle.std.proofs.lemmas.Bool.{and_parts, cases_eq}
-use Rattle.std.proofs.lemmas.Bool.Decides.{nat_tests, Decides-eqb}
+use Rattle.std.proofs.lemmas.Bool.{cases_eq}
+use Rattle.std.proofs.lemmas.Bool.Decides.{nat_tests, Decides-and, Decides-eqb}
 use Rattle.std.proofs.lemmas.List.{take_more}
 use Rattle.std.proofs.lemmas.List.Concat.{flat_map-append}
 use Rattle.std.proofs.lemmas.List.Elements.{All-append, All-from_recursion, recursion_from_All}
@@ -37,26 +37,16 @@ three-words Rest = refl
 abbrev pub IsTold : Cell → Type 0
 IsTold x = IsSmall x × AreOnlyOf x (words_of x)
 
-words-itself : (x : Cell) → (word x 0 == word x 0 && word x 1 == word x 1 && word x 2 == word x 2) ≡ true
-words-itself x =
-    let a = (Decides-eqb (word x 0) (word x 0)).1 refl in
-    let b = (Decides-eqb (word x 1) (word x 1)).1 refl in
-    let c = (Decides-eqb (word x 2) (word x 2)).1 refl in
-    rw (a, b, c) refl
-
 words-same : (x y : Cell) → IsTold x → IsSmall y → (word x 0 == word y 0 && word x 1 == word y 1 && word x 2 == word y 2) ≡ same_cell x y
 words-same x y told small =
+    let one = Decides-and _ _ (Decides-eqb (word x 0) (word y 0)) (Decides-eqb (word x 1) (word y 1)) in
+    let all = Decides-and _ _ one (Decides-eqb (word x 2) (word y 2)) in
     one_truth (word x 0 == word y 0 && word x 1 == word y 1 && word x 2 == word y 2) (same_cell x y)
     (λ e.
-    let two = and_parts _ _ e in
-    let one = and_parts _ _ two.0 in
-    let a = (Decides-eqb (word x 0) (word y 0)).0 one.0 in
-    let b = (Decides-eqb (word x 1) (word y 1)).0 one.1 in
-    let c = (Decides-eqb (word x 2) (word y 2)).0 two.1 in
-    let words : words_of y ≡ words_of x = three-words y ∙ rw (sym a, sym b, sym c) (sym (three-words x)) in
-    let same = told.1 y told.0 small words in
-    subst (λ z. same_cell x z ≡ true) (sym same) (cell-itself x))
-    (λ e. subst (λ z. (word x 0 == word z 0 && word x 1 == word z 1 && word x 2 == word z 2) ≡ true) (cell-told x y e) (words-itself x))
+    let is = all.0 e in
+    let words : words_of y ≡ words_of x = three-words y ∙ rw (sym is.0.0, sym is.0.1, sym is.1) (sym (three-words x)) in
+    subst (λ z. same_cell x z ≡ true) (sym (told.1 y told.0 small words)) (cell-itself x))
+    (λ e. let same = cell-told x y e in all.1 ((ap (λ z. word z 0) same, ap (λ z. word z 1) same), ap (λ z. word z 2) same))
 
 length-row : (cells : List Cell) → length (row_words cells) ≡ 3 * length cells
 length-row [] = omega arith
