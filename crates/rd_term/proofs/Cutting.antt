@@ -1,6 +1,6 @@
 -- Cells in place of others: the columns of characters that are cut, and rows that are filled part by part.
-use Rattle.std.proofs.Common.{◌≡◌, if◌then◌else◌, ℕ, zero, suc, ◌+◌, ◌-◌, ◌<◌, ◌≤◌, Bool, List, [], ◌∷◌, ◌++◌, length, get_or, set, take, drop, map, replicate, Option, None, Some, refl, sym, ap, ◌∙◌, arith, append_assoc, drop_of_length-le}
-use Rattle.std.proofs.lemmas.List.{take_at, drop_at, set_at, drop_more, length-append, length-take-le, length-replicate, length-drop, length-map}
+use Rattle.std.proofs.Common.{◌≡◌, if◌then◌else◌, ℕ, zero, suc, ◌+◌, ◌-◌, ◌<◌, ◌≤◌, Bool, List, [], ◌∷◌, ◌++◌, length, get_or, set, take, drop, map, replicate, Option, None, Some, refl, sym, ap, ap₂, ◌∙◌, arith, append_assoc, drop_of_length-le}
+use Rattle.std.proofs.lemmas.List.{take_at, take_more_set, drop_at, drop-set-lt, drop_more, length-append, length-take-le, length-replicate, length-drop, length-map}
 use Rattle.std.proofs.lemmas.List.Folds.{drop_split}
 use Rattle.std.proofs.lemmas.List.Sums.{prefix_len-le-length}
 use Rattle.rd_base.proofs.Rows.{glyph_length}
@@ -30,12 +30,12 @@ later-passing row column (suc more) e =
 
 -- ---- parts of a row
 
-pub filled-seam : {X : Type 0} (a m c : List X) (from to : ℕ) (v : X) → length a ≡ from → from + length m ≡ to
-    → take from (a ++ (m ++ c)) ++ (replicate (to - from) v ++ drop to (a ++ (m ++ c))) ≡ a ++ (replicate (to - from) v ++ c)
-filled-seam a m c from to v p q =
+pub filled-seam : {X : Type 0} (a m n c : List X) (from to : ℕ) → length a ≡ from → from + length m ≡ to
+    → take from (a ++ (m ++ c)) ++ (n ++ drop to (a ++ (m ++ c))) ≡ a ++ (n ++ c)
+filled-seam a m n c from to p q =
     let above = take_at a (m ++ c) from p in
-    let n : length (a ++ m) ≡ to = omega (arith, length-append a m) in
-    let below = ap (drop to) (sym (append_assoc a m c)) ∙ drop_at (a ++ m) c to n in
+    let size : length (a ++ m) ≡ to = omega (arith, length-append a m) in
+    let below = ap (drop to) (sym (append_assoc a m c)) ∙ drop_at (a ++ m) c to size in
     rw (above, below) refl
 
 -- the part before a column, where what is left of a character that is cut there is unknown
@@ -76,40 +76,31 @@ cut-made row r1 r2 from to begin end lt order le b e within p q =
     ∙ ap (λ xs. F ++ xs) (drop_split row from to (omega arith) ∙ ap (λ xs. M ++ xs) (drop_split row to end (omega arith)))
     ∙ sym (append_assoc F M (L ++ D)) in
     q ∙ ap (λ r. take to r ++ (replicate (end - to) None ++ drop end r)) made
-    ∙ filled-seam (F ++ M) L D to end None n (omega arith)
+    ∙ filled-seam (F ++ M) L (replicate (end - to) None) D to end n (omega arith)
     ∙ append_assoc F M (replicate (end - to) None ++ D)
     ∙ ap (λ k. F ++ (M ++ (replicate k None ++ D))) some
     ∙ ap (λ k. F ++ (M ++ (replicate (later_columns (drop to row)) None ++ drop k row))) e
     ∙ sym (overwritten-is row from to M (omega arith))
 
--- one value in place of what was put
-pub refilled : (row r M : Row) (column to : ℕ) (v : Option Cell) → column ≤ length row → r ≡ overwritten column M row → column + length M ≡ to
-    → take column r ++ (replicate (to - column) v ++ drop to r) ≡ overwritten column (replicate (to - column) v) row
-refilled row r M column to v le p e =
-    let f = length-front row column le in
-    let n : column + length (replicate (to - column) v) ≡ to = omega (arith, length-replicate (to - column) v) in
-    ap (λ r. take column r ++ (replicate (to - column) v ++ drop to r)) (p ∙ overwritten-is row column to M e)
-    ∙ filled-seam (front row column) M (behind row to) column to v f e
-    ∙ sym (overwritten-is row column to (replicate (to - column) v) n)
+-- other cells in place of what was put
+pub refilled : (row r M N : Row) (column to : ℕ) → column ≤ length row → r ≡ overwritten column M row → column + length M ≡ to → column + length N ≡ to
+    → take column r ++ (N ++ drop to r) ≡ overwritten column N row
+refilled row r M N column to le p e n =
+    ap (λ r. take column r ++ (N ++ drop to r)) (p ∙ overwritten-is row column to M e)
+    ∙ filled-seam (front row column) M N (behind row to) column to (length-front row column le) e
+    ∙ sym (overwritten-is row column to N n)
 
 -- a first value and others in place of what was put
 pub refilled-first : (row r M : Row) (column to : ℕ) (x v : Option Cell) → column ≤ length row → r ≡ overwritten column M row → column + length M ≡ to → column < to
     → take (column + 1) (set r column x) ++ (replicate (to - (column + 1)) v ++ drop to (set r column x)) ≡ overwritten column (x ∷ replicate (to - (column + 1)) v) row
-refilled-first row r [] column to x v le p e lt = absurd (omega arith)
-refilled-first row r (m ∷ ms) column to x v le p e lt =
-    let F = front row column in
-    let T = behind row to in
+refilled-first row r M column to x v le p e lt =
     let k = to - (column + 1) in
-    let f = length-front row column le in
-    let g : length (F ++ x ∷ []) ≡ column + 1 = omega (arith, length-append F (x ∷ [])) in
+    let long = ap length (p ∙ overwritten-is row column to M e) in
+    let inside : column < length r = omega (arith, long, length-append (front row column) (M ++ behind row to), length-append M (behind row to), length-front row column le) in
     let n : column + length (x ∷ replicate (to - (column + 1)) v) ≡ to = omega (arith, length-replicate (to - (column + 1)) v) in
-    ap (λ r. take (column + 1) r ++ (replicate k v ++ drop to r)) (
-    ap (λ r. set r column x) (p ∙ overwritten-is row column to (m ∷ ms) e)
-    ∙ set_at F m (ms ++ T) x column f
-    ∙ sym (append_assoc F (x ∷ []) (ms ++ T)))
-    ∙ filled-seam (F ++ x ∷ []) ms T (column + 1) to v g (omega arith)
-    ∙ append_assoc F (x ∷ []) (replicate k v ++ T)
-    ∙ sym (overwritten-is row column to (x ∷ replicate k v) n)
+    ap₂ (λ (a b : Row). a ++ (replicate k v ++ b)) (take_more_set r column x inside) (drop-set-lt to r column x lt)
+    ∙ append_assoc (take column r) (x ∷ []) (replicate k v ++ drop to r)
+    ∙ refilled row r M (x ∷ replicate k v) column to le p e n
 
 pub map-replicate : {X Y : Type 0} (f : X → Y) (n : ℕ) (x : X) → map f (replicate n x) ≡ replicate n (f x)
 map-replicate f zero x = refl

@@ -1,5 +1,5 @@
 use Rattle.std.proofs.Common.{◌≡◌, if◌then◌else◌, ℕ, ◌+◌, ◌-◌, ◌≤◌, ◌∙◌, ◌∷◌, ◌++◌, Bool, length, map, take, drop, replicate, Some, ap, sym, arith}
-use Rattle.std.proofs.lemmas.List.{length-take-le, length-drop}
+use Rattle.std.proofs.lemmas.List.{length-take-le, length-replicate, length-drop}
 use Rattle.rd_base.specs.Faces.{Attributes}
 use Rattle.rd_base.specs.declared.cell.Glyph.{Glyph}
 use Rattle.rd_base.specs.declared.cell.Cell.TheVariants.{Blank, First, Rest}
@@ -26,8 +26,10 @@ returns-then-is_space c =
     let n = c.args.glyph.now.width in
     let blank = Some (Blank c.args.face) in
     let width : c.args.column + c.args.glyph.now.width - c.args.column ≡ c.args.glyph.now.width = omega arith in
+    let m : c.args.column + length (replicate (c.args.column + c.args.glyph.now.width - c.args.column) (Some (Blank c.args.face))) ≡ c.args.column + c.args.glyph.now.width =
+    omega (arith, length-replicate (c.args.column + c.args.glyph.now.width - c.args.column) (Some (Blank c.args.face))) in
     c.fill.ensures
-    ∙ refilled row c.cut.new.row (cells row column n) column (column + n) blank (omega (arith, c.requires.room)) c.cut.ensures (length-cells row column n c.requires.room)
+    ∙ refilled row c.cut.new.row (cells row column n) (replicate (column + n - column) blank) column (column + n) (omega (arith, c.requires.room)) c.cut.ensures (length-cells row column n c.requires.room) m
     ∙ ap (λ cells. overwritten column cells row) (ap (λ k. replicate k blank) width ∙ sym (map-replicate Some n (Blank c.args.face)))
     ∙ ap (put row column c.args.glyph.now c.args.face) (sym c.if-is_space.true ∙ c.is_space.ensures)
 
