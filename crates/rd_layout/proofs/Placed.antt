@@ -1,9 +1,9 @@
 -- The windows of a frame, in their order and by their numbers.
-use Rattle.std.proofs.Common.{◌≡◌, ℕ, ◌+◌, ◌-◌, ◌<◌, ◌≤◌, ◌==◌, Bool, true, false, if◌then◌else◌, Option, None, Some, List, [], ◌∷◌, ◌++◌, get_or, is_some, length, map, unwrap_or, sym, ap, refl, ◌∙◌, arith, nat_le}
-use Rattle.std.proofs.lemmas.Bool.{leb-true, leb-false}
+use Rattle.std.proofs.Common.{◌≡◌, inl, inr, ℕ, ◌+◌, ◌-◌, ◌<◌, ◌≤◌, ◌==◌, Bool, true, false, if◌then◌else◌, Option, None, Some, List, [], ◌∷◌, ◌++◌, get_or, length, map, unwrap_or, sym, ap, refl, ◌∙◌, arith}
+use Rattle.std.proofs.lemmas.Bool.{cases_lt}
 use Rattle.std.proofs.lemmas.List.{length-map}
 use Rattle.std.proofs.lemmas.List.Elements.{All-from_get_or, All-nil, recursion_from_All}
-use Rattle.std.proofs.lemmas.Option.{slice_get-get_or, slice_get-map}
+use Rattle.std.proofs.lemmas.Option.{none-some, slice_get-get_or, slice_get-map}
 use Rattle.std.specs.List.{All, AllByRecursion, flat_map}
 use Rattle.std.specs.Prelude.{slice_get, option_map}
 use Rattle.rd_base.proofs.Lists.{all-one}
@@ -11,15 +11,13 @@ use Rattle.rd_frame.specs.Panes.{body_height}
 use Rattle.rd_lineshift.specs.Choices.{AreWithin}
 use Rattle.rd_lineshift.specs.declared.band.Band.{Band}
 use Rattle.rd_start.proofs.Lists.{all-flat}
-use Rattle.rd_state.proofs.Leaves.{placed-window}
+use Rattle.rd_state.proofs.Leaves.{placed-window, unmade}
 use Rattle.rd_state.specs.States.{StateValue, opening_window}
 use Rattle.rd_state.specs.Valid.{IsValid}
 use Rattle.rd_state.specs.Windows.{window_of}
 use Rattle.rd_state.specs.declared.window.WindowState.{WindowState}
 use Rattle.rd_tree.specs.Calls.{frame_of}
-use Rattle.rd_tree.proofs.Keeping.{found_held}
-use Rattle.rd_tree.proofs.Standing.{held_times}
-use Rattle.rd_tree.specs.Windows.{leaves, times}
+use Rattle.rd_tree.proofs.Listing.{listed_found}
 use Rattle.rd_tree.specs.declared.placed.Placed.{Placed}
 use Rattle.rd_layout.specs.Laws.{PlaceLaws}
 use Rattle.rd_layout.specs.Redisplays.{band_of, bands_of}
@@ -29,12 +27,7 @@ use Rattle.rd_layout.specs.Windows.{of_place, of_window, of_windows, place_of, p
 
 module _ (laws : PlaceLaws) (s : StateValue) (valid : IsValid s) where
   pub placed-at : (i : ℕ) (p : Placed) → slice_get (places s) i ≡ Some p → place_of p.number s ≡ Some p
-  placed-at i p at =
-      let windows = s.tree.windows in
-      let rect = frame_of s.tree in
-      let leaf : slice_get (leaves windows) i ≡ Some p.number =
-      ap (λ (ns : List ℕ). slice_get ns i) (sym (laws.listed windows rect)) ∙ (slice_get-map (λ (window : Placed). window.number) (places s) i ∙ ap (option_map (λ (window : Placed). window.number)) at) in
-      laws.in_order windows rect i p.number valid.windows.tree.once leaf ∙ at
+  placed-at i p at = listed_found s.tree.windows (frame_of s.tree) valid.windows.tree.once i p at
 
   none : Placed
   none = record { number = 0; mode = false; margins = 0; rect = record { x = 0; y = 0; width = 0; height = 0 } }
@@ -72,13 +65,10 @@ module _ (laws : PlaceLaws) (s : StateValue) (valid : IsValid s) where
     shown-count = ap length shown-listed ∙ length-map (places s) each-one
 
   pub made-number : (number : ℕ) (p : Placed) → place_of number s ≡ Some p → number < s.tree.made
-  made-number number p at =
-      let one = held_times number s.tree.windows (sym (found_held number s.tree.windows (frame_of s.tree)) ∙ ap is_some at) in
-      by (times number s.tree.windows) refl one (nat_le s.tree.made number) refl
-    where
-      by : (n : ℕ) → times number s.tree.windows ≡ n → 1 ≤ n → (t : Bool) → nat_le s.tree.made number ≡ t → number < s.tree.made
-      by n is one true le = let no = valid.windows.tree.known number (leb-true s.tree.made number le) in absurd (omega (arith, is, no, one))
-      by n is one false le = leb-false s.tree.made number le
+  made-number number p at = elim (cases_lt number s.tree.made) as (λ _. number < s.tree.made) [
+    | inl made ↦ made
+    | inr past ↦ let w = placed-window s number p valid at in absurd (none-some w.0 (sym (unmade s number valid past) ∙ w.1))
+  ]
 
   -- ---- bands
 
