@@ -1,4 +1,5 @@
 //! The words of a command line, and the data files that they name.
+use crate::claims::assert_of;
 use rd_base::{Ch, Class};
 use rd_files::{BadFile, DataFault, DataFile, DataFiles, DataKind, read_data};
 use rd_io::MemFiles;
@@ -61,7 +62,7 @@ fn say(alloc: Global, line: &str, answer: &Result<Words, WordsFault>) -> bool {
 #[test]
 fn words_are_read(rt: HostRuntime) {
     for (line, answer) in &LINES {
-        assert!(rt; say(rt.alloc(), line, answer));
+        assert_of(&rt, line, say(rt.alloc(), line, answer));
     }
 }
 

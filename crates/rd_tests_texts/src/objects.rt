@@ -2,6 +2,7 @@
 ghost use Rattle.std.specs.Prelude.{IfOk, IsTrue};
 ghost use Rattle.rd_objects.specs.Tables.{is_slot_glyph};
 
+use crate::claims::assert_of;
 use rd_base::{Ch, Face, Glyph};
 use rd_objects::{ObjectFault, Objects, Run, RunKind, Slot, Spec, Table, Text, glyph_character};
 use std::alloc::Global;
@@ -21,14 +22,14 @@ fn narrow(c: char) -> Result<Glyph, Fail>
 }
 
 /// Scalar values, and the columns of their glyph characters, where they have one.
-const COLUMNS: [(char, Option<u8>); 7] = [
-    ('a', Some(1)),
-    ('\u{A0}', Some(1)),
-    ('\u{4E2D}', Some(2)),
-    ('\u{301}', None),
-    ('\t', None),
-    ('\u{7F}', None),
-    ('\u{9F}', None),
+const COLUMNS: [(&'static str, char, Option<u8>); 7] = [
+    ("a letter", 'a', Some(1)),
+    ("a no-break space", '\u{A0}', Some(1)),
+    ("a character of two columns", '\u{4E2D}', Some(2)),
+    ("a mark", '\u{301}', None),
+    ("a tab", '\t', None),
+    ("the control DEL", '\u{7F}', None),
+    ("a C1 control", '\u{9F}', None),
 ];
 
 /// Whether a scalar value has a glyph character of so many columns, or none.
@@ -41,8 +42,8 @@ fn has_columns(c: char, columns: Option<u8>) -> bool {
 
 #[test]
 fn glyph_characters_by_their_columns(rt: HostRuntime) {
-    for (c, columns) in COLUMNS {
-        assert!(rt; has_columns(c, columns));
+    for (name, c, columns) in &COLUMNS {
+        assert_of(&rt, name, has_columns(*c, *columns));
     }
 }
 

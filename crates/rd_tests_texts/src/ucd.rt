@@ -1,4 +1,5 @@
 //! Small data files and what they answer.
+use crate::claims::assert_of;
 use rd_base::{Ch, Class};
 use rd_ucd::{Bracket, Brackets, Classes, Mirrors, UcdFault};
 use std::alloc::Global;
@@ -28,45 +29,81 @@ fn bracket_fault(alloc: Global, bytes: &[u8]) -> Option<UcdFault> {
 }
 
 /// Class files, and their faults.
-const CLASS_FILES: [(&'static [u8], Option<UcdFault>); 11] = [
-    (b"", None),
-    (b"0041;A;Lu;0", Some(UcdFault::BadLine(1))),
-    (b"41;A;Lu;0;L", Some(UcdFault::BadCode(1))),
-    (b"0041;A;Lu;0;X", Some(UcdFault::BadClass(1))),
-    (b"0041;<A, First>;Lu;0;L", Some(UcdFault::BadRange(1))),
+const CLASS_FILES: [(&'static str, &'static [u8], Option<UcdFault>); 11] = [
+    ("no line", b"", None),
+    ("four fields", b"0041;A;Lu;0", Some(UcdFault::BadLine(1))),
     (
+        "a code of two digits",
+        b"41;A;Lu;0;L",
+        Some(UcdFault::BadCode(1)),
+    ),
+    (
+        "an unknown class",
+        b"0041;A;Lu;0;X",
+        Some(UcdFault::BadClass(1)),
+    ),
+    (
+        "a range without its last line",
+        b"0041;<A, First>;Lu;0;L",
+        Some(UcdFault::BadRange(1)),
+    ),
+    (
+        "codes that descend",
         b"0041;A;Lu;0;L\n0040;B;Lu;0;L\n",
         Some(UcdFault::NotAscending(2)),
     ),
     (
+        "two classes in one range",
         b"\r\n\n0041;<A, First>;Lu;0;L\n0042;<A, Last>;Lu;0;R",
         Some(UcdFault::BadRange(4)),
     ),
     (
+        "a plain line in the place of a range's last",
         b"0041;<A, First>;Lu;0;L\n0042;B;Lu;0;L",
         Some(UcdFault::BadRange(2)),
     ),
-    (b"0041;<A, Last>;Lu;0;L", Some(UcdFault::BadRange(1))),
-    (b"0041;<A, First>;Lu;0;L\n\nx", Some(UcdFault::BadLine(3))),
-    (b"110000;A;Lu;0;L", Some(UcdFault::BadCode(1))),
+    (
+        "a range without its first line",
+        b"0041;<A, Last>;Lu;0;L",
+        Some(UcdFault::BadRange(1)),
+    ),
+    (
+        "a bad line in the place of a range's last",
+        b"0041;<A, First>;Lu;0;L\n\nx",
+        Some(UcdFault::BadLine(3)),
+    ),
+    (
+        "a code above the last",
+        b"110000;A;Lu;0;L",
+        Some(UcdFault::BadCode(1)),
+    ),
 ];
 
 #[test]
 fn faults_of_class_files(rt: HostRuntime) {
-    for (bytes, fault) in &CLASS_FILES {
-        assert!(rt; class_fault(rt.alloc(), bytes) == *fault);
+    for (name, bytes, fault) in &CLASS_FILES {
+        assert_of(&rt, name, class_fault(rt.alloc(), bytes) == *fault);
     }
 }
 
 /// Mirror files, and their faults.
-const MIRROR_FILES: [(&'static [u8], Option<UcdFault>); 7] = [
-    (b"", None),
-    (b"# nothing\n \t\n\r\n", None),
-    (b"0028; 0029 # LEFT\n0029;0028\r\n", None),
-    (b"0028", Some(UcdFault::BadLine(1))),
-    (b"0028; 0029; 002A", Some(UcdFault::BadLine(1))),
-    (b"0028; 29", Some(UcdFault::BadCode(1))),
+const MIRROR_FILES: [(&'static str, &'static [u8], Option<UcdFault>); 7] = [
+    ("no line", b"", None),
+    ("comments and blanks", b"# nothing\n \t\n\r\n", None),
+    ("two entries", b"0028; 0029 # LEFT\n0029;0028\r\n", None),
+    ("one field", b"0028", Some(UcdFault::BadLine(1))),
     (
+        "three fields",
+        b"0028; 0029; 002A",
+        Some(UcdFault::BadLine(1)),
+    ),
+    (
+        "a code of two digits",
+        b"0028; 29",
+        Some(UcdFault::BadCode(1)),
+    ),
+    (
+        "a code that stands twice",
         b"0028; 0029\n#\n0028; 0029",
         Some(UcdFault::NotAscending(3)),
     ),
@@ -74,21 +111,38 @@ const MIRROR_FILES: [(&'static [u8], Option<UcdFault>); 7] = [
 
 #[test]
 fn faults_of_mirror_files(rt: HostRuntime) {
-    for (bytes, fault) in &MIRROR_FILES {
-        assert!(rt; mirror_fault(rt.alloc(), bytes) == *fault);
+    for (name, bytes, fault) in &MIRROR_FILES {
+        assert_of(&rt, name, mirror_fault(rt.alloc(), bytes) == *fault);
     }
 }
 
 /// Bracket files, and their faults.
-const BRACKET_FILES: [(&'static [u8], Option<UcdFault>); 8] = [
-    (b"", None),
-    (b"# nothing\n \t\n\r\n", None),
-    (b"0028; 0029; o # LEFT\n0029;0028;c\r\n", None),
-    (b"0028; 0029; x", Some(UcdFault::BadClass(1))),
-    (b"0028; 0029", Some(UcdFault::BadLine(1))),
-    (b"0028; 0029; o; c", Some(UcdFault::BadLine(1))),
-    (b"0028; 29; x", Some(UcdFault::BadCode(1))),
+const BRACKET_FILES: [(&'static str, &'static [u8], Option<UcdFault>); 8] = [
+    ("no line", b"", None),
+    ("comments and blanks", b"# nothing\n \t\n\r\n", None),
     (
+        "two entries",
+        b"0028; 0029; o # LEFT\n0029;0028;c\r\n",
+        None,
+    ),
+    (
+        "an unknown type",
+        b"0028; 0029; x",
+        Some(UcdFault::BadClass(1)),
+    ),
+    ("two fields", b"0028; 0029", Some(UcdFault::BadLine(1))),
+    (
+        "four fields",
+        b"0028; 0029; o; c",
+        Some(UcdFault::BadLine(1)),
+    ),
+    (
+        "a code of two digits",
+        b"0028; 29; x",
+        Some(UcdFault::BadCode(1)),
+    ),
+    (
+        "a code that stands twice",
         b"0028; 0029; o\n#\n0028; 0029; o",
         Some(UcdFault::NotAscending(3)),
     ),
@@ -96,8 +150,8 @@ const BRACKET_FILES: [(&'static [u8], Option<UcdFault>); 8] = [
 
 #[test]
 fn faults_of_bracket_files(rt: HostRuntime) {
-    for (bytes, fault) in &BRACKET_FILES {
-        assert!(rt; bracket_fault(rt.alloc(), bytes) == *fault);
+    for (name, bytes, fault) in &BRACKET_FILES {
+        assert_of(&rt, name, bracket_fault(rt.alloc(), bytes) == *fault);
     }
 }
 
