@@ -24,11 +24,9 @@ use Rattle.rd_objects.specs.Tables.{TableValue, IsTable, HoldsGlyph, is_glyph_ch
 use Rattle.rd_objects.specs.declared.run.Slot.{Slot}
 use Rattle.rd_objects.specs.declared.run.Slot.TheVariants.{Truncation, Continuation, Escape, Control, Border}
 use Rattle.rd_base.specs.declared.element.Look.TheVariants as look
-use Rattle.rd_glyphs.specs.declared.mark_role.MarkRole.{MarkRole}
 use Rattle.rd_glyphs.specs.declared.shown.Shown.{Shown}
 use Rattle.rd_glyphs.specs.declared.shown.Shown.TheVariants.{Caret, Octal, Space, Mark, Itself}
-use Rattle.rd_glyphs.specs.MarkRoles.{mark_role_by, mark_role_of, base_of, mark_of, IsMark, IsMeasuredRole}
-use Rattle.rd_glyphs.specs.Marks.{marked_glyph}
+use Rattle.rd_glyphs.specs.MarkRoles.{mark_role_by, IsMeasuredRole}
 use Rattle.rd_glyphs.specs.Characters.{PartValues, is_control, is_formatting, caret, shown_as, turned, mirrored, on_blank, narrow, digit, looks_of, slot_or}
 
 -- what is put for a character has the columns that Unicode gives it: a letter is printable, a mark takes none, and a character
@@ -223,10 +221,3 @@ role-measured (Octal byte) s = tt
 role-measured Space s = tt
 role-measured (Mark code) s = s
 role-measured (Itself code width) s = single-measured code width s.0 s.1 s.2 s.3
-
--- what is known of marks
-pub record MarkLaws : Type 0 where
-  pub role : (parts : PartValues) (ch : ℕ) → IsTrue (is_code ch) → IsMeasuredRole (mark_role_of parts ch)
-  pub base : (j : MarkRole) → IsMeasuredRole j → IfSome (base_of j) (λ g. IsMeasured g)
-  pub mark : (j : MarkRole) → IsMeasuredRole j → IfSome (mark_of j) (λ code. IsMark code)
-  pub joined : (base : Option Glyph) (mark : Option ℕ) → IfSome base (λ g. IsMeasured g) → IfSome mark (λ code. IsMark code) → IfSome (marked_glyph base mark) (λ g. IsMeasured g)

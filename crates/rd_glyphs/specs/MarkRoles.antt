@@ -1,7 +1,7 @@
 -- How characters stand towards marks.
-use Rattle.std.specs.Prelude.{◌≡◌, ℕ, Bool, true, false, IsTrue, List, [], ◌∷◌, Option, None, Some}
+use Rattle.std.specs.Prelude.{◌≡◌, ℕ, Bool, true, false, IsTrue, List, [], ◌∷◌, Option, None, Some, IfSome}
 use Rattle.unicode_width.specs.Width.{char_width}
-use Rattle.rd_base.specs.Chars.{is_scalar}
+use Rattle.rd_base.specs.Chars.{is_scalar, is_code}
 use Rattle.rd_base.specs.Cells.{single}
 use Rattle.rd_base.specs.Glyphs.{IsMeasured}
 use Rattle.rd_base.specs.declared.cell.Glyph.{Glyph}
@@ -11,6 +11,7 @@ use Rattle.rd_glyphs.specs.declared.mark_role.MarkRole.TheVariants as role
 use Rattle.rd_glyphs.specs.declared.shown.Shown.{Shown}
 use Rattle.rd_glyphs.specs.declared.shown.Shown.TheVariants.{Mark, Itself}
 use Rattle.rd_glyphs.specs.Characters.{PartValues, shown_as, entry_of, on_blank}
+use Rattle.rd_glyphs.specs.Marks.{marked_glyph}
 
 -- an entry that shows nothing
 abbrev pub is_empty_entry : Option (List Glyph) → Bool
@@ -49,3 +50,11 @@ abbrev pub IsMeasuredRole : MarkRole → Type 0
 IsMeasuredRole (role.Base g) = IsMeasured g
 IsMeasuredRole (role.Mark code) = IsMark code
 IsMeasuredRole j = Unit {0}
+
+-- what is known of marks: the glyphs that they join are measured before and after, and so is a mark on a blank
+pub record MarkLaws : Type 0 where
+  pub role : (parts : PartValues) (ch : ℕ) → IsTrue (is_code ch) → IsMeasuredRole (mark_role_of parts ch)
+  pub base : (j : MarkRole) → IsMeasuredRole j → IfSome (base_of j) (λ g. IsMeasured g)
+  pub mark : (j : MarkRole) → IsMeasuredRole j → IfSome (mark_of j) (λ code. IsMark code)
+  pub blank : (code : ℕ) → IsMark code → IsMeasured (on_blank code)
+  pub joined : (base : Option Glyph) (mark : Option ℕ) → IfSome base (λ g. IsMeasured g) → IfSome mark (λ code. IsMark code) → IfSome (marked_glyph base mark) (λ g. IsMeasured g)

@@ -1,19 +1,17 @@
 //! Laws of the definitions, for the layers above.
-ghost use Rattle.std.specs.Prelude.{ℕ, ◌≡◌, ◌≤◌, Bool, false, IsTrue, List, length, All, Option, IfSome};
+ghost use Rattle.std.specs.Prelude.{ℕ, ◌≡◌, ◌≤◌, Bool, false, IsTrue, List, length, All};
 ghost use Rattle.rd_base.specs.declared.limits.TheConstants.{ENTRY_GLYPHS};
 ghost use Rattle.rd_base.specs.Cells.{HasColours, IsColoured};
 ghost use Rattle.rd_base.specs.Chars.{is_code};
 ghost use Rattle.rd_base.specs.Elements.{AreSound, columns_at_most};
 ghost use Rattle.rd_base.specs.Faces.{Attributes};
-ghost use Rattle.rd_base.specs.Glyphs.{IsMeasured, AreMeasured, IsRowAfter};
+ghost use Rattle.rd_base.specs.Glyphs.{AreMeasured, IsRowAfter};
 ghost use Rattle.rd_base.specs.declared.cell.Glyph.{Glyph};
 ghost use Rattle.rd_base.specs.declared.element.Origin.{Origin};
 ghost use Rattle.rd_ucd.specs.declared.spans.Span.{Span};
 ghost use Rattle.rd_objects.specs.Tables.{is_glyph_text};
-ghost use Rattle.rd_glyphs.specs.declared.mark_role.MarkRole.{MarkRole};
-ghost use Rattle.rd_glyphs.specs.Characters.{PartValues, AreSoundParts, HasOrigin, IsShort, elements_of, entry_of, glyph_elements, on_blank};
-ghost use Rattle.rd_glyphs.specs.MarkRoles.{is_empty_entry, mark_role_of, base_of, mark_of, IsMark, IsMeasuredRole};
-ghost use Rattle.rd_glyphs.specs.Marks.{marked_glyph};
+ghost use Rattle.rd_glyphs.specs.Characters.{PartValues, AreSoundParts, HasOrigin, IsShort, elements_of, entry_of, glyph_elements};
+ghost use Rattle.rd_glyphs.specs.MarkRoles.{is_empty_entry, MarkLaws};
 ghost use Rattle.rd_glyphs.specs.Lines.{plain_cells};
 
 /// The elements of a character are sound, their glyphs are measured, and each takes 1 to 3 columns or is a tab of at most 32. They
@@ -40,11 +38,7 @@ pub fn glyph_texts_are_sound()
 
 /// The glyphs that marks join are measured before and after, and so is a mark on a blank. The call does nothing.
 pub fn marks_join_measured_glyphs()
-    ensures role { (parts : PartValues) (ch : ℕ) → IsTrue (is_code ch) → IsMeasuredRole (mark_role_of parts ch) }
-    ensures base { (role : MarkRole) → IsMeasuredRole role → IfSome (base_of role) (λ g. IsMeasured g) }
-    ensures mark { (role : MarkRole) → IsMeasuredRole role → IfSome (mark_of role) (λ code. IsMark code) }
-    ensures blank { (code : ℕ) → IsMark code → IsMeasured (on_blank code) }
-    ensures joined { (base : Option Glyph) (mark : Option ℕ) → IfSome base (λ g. IsMeasured g) → IfSome mark (λ code. IsMark code) → IfSome (marked_glyph base mark) (λ g. IsMeasured g) }
+    ensures { MarkLaws }
 {}
 
 /// A plain line has exactly its columns. In it each glyph stands whole, and its colours are in their range where those of its face

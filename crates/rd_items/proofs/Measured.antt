@@ -5,9 +5,8 @@ use Rattle.rd_base.specs.Chars.{is_code}
 use Rattle.rd_base.specs.Faces.{Attributes}
 use Rattle.rd_base.specs.Glyphs.{IsMeasured}
 use Rattle.rd_base.specs.declared.cell.Glyph.{Glyph}
-use Rattle.rd_glyphs.specs.MarkRoles.{mark_role_of, IsMark}
+use Rattle.rd_glyphs.specs.MarkRoles.{mark_role_of, IsMark, MarkLaws}
 use Rattle.rd_glyphs.proofs.Joined.{Grows}
-use Rattle.rd_glyphs.proofs.Measures.{MarkLaws}
 use Rattle.rd_props.specs.Seen.{Seen}
 use Rattle.rd_items.specs.declared.piece.Piece.{Piece}
 use Rattle.rd_items.specs.declared.item.Item.{Item}

@@ -17,10 +17,9 @@ use Rattle.rd_objects.specs.Texts.{TextValue}
 use Rattle.rd_objects.specs.Things.{ObjectLists, IsSmallSpec}
 use Rattle.rd_objects.specs.declared.run.Spec.{Spec}
 use Rattle.rd_objects.specs.declared.run.Spec.TheVariants.{Text, Width, Align}
-use Rattle.rd_glyphs.specs.MarkRoles.{base_of, mark_of, IsMeasuredRole}
+use Rattle.rd_glyphs.specs.MarkRoles.{base_of, mark_of, IsMeasuredRole, MarkLaws}
 use Rattle.rd_glyphs.specs.Marks.{marks_joined}
 use Rattle.rd_glyphs.proofs.Joined.{Grows}
-use Rattle.rd_glyphs.proofs.Measures.{MarkLaws}
 use Rattle.rd_items.specs.Pieces.{Scene, spec_in, same_spec}
 use Rattle.rd_items.specs.declared.item.ItemKind.{ItemKind}
 use Rattle.rd_items.specs.declared.item.ItemKind.TheVariants as kind

@@ -24,8 +24,8 @@ use Rattle.rd_objects.specs.Texts.{TextValue}
 use Rattle.rd_objects.specs.Things.{ObjectLists, IsSmallSpec}
 use Rattle.rd_objects.specs.declared.run.Spec.{Spec}
 use Rattle.rd_objects.specs.declared.run.Spec.TheVariants.{Text, Width, Align}
+use Rattle.rd_glyphs.specs.MarkRoles.{MarkLaws}
 use Rattle.rd_glyphs.specs.Characters.{PartValues, AreSoundParts, element_of, elements_of, glyph_elements}
-use Rattle.rd_glyphs.proofs.Measures.{MarkLaws}
 use Rattle.rd_items.specs.Pieces.{Scene, table_in, IsMeasuredKind}
 use Rattle.rd_items.specs.Items.{items_of, AreMeasuredItems}
 use Rattle.rd_items.specs.Readings.{HaveCodes}

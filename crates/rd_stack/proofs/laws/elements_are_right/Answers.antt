@@ -1,4 +1,3 @@
-use Rattle.rd_glyphs.proofs.Measures.{MarkLaws}
 use Rattle.rd_stack.proofs.Sound.{GlyphLaws, read-good, prefix-good}
 use Rattle.rd_stack.proofs.laws.elements_are_right.Goals as goal
 
@@ -12,12 +11,7 @@ returns c =
       text_measured = c.glyph_texts_are_sound.ensures.measured;
       text_columns = c.glyph_texts_are_sound.ensures.columns;
     } in
-    let marks : MarkLaws = record {
-      role = c.marks_join_measured_glyphs.ensures.role;
-      base = c.marks_join_measured_glyphs.ensures.base;
-      mark = c.marks_join_measured_glyphs.ensures.mark;
-      joined = c.marks_join_measured_glyphs.ensures.joined;
-    } in
+    let marks = c.marks_join_measured_glyphs.ensures in
     record {
       line = λ scene base es sound parts measured coded. read-good glyphs marks scene base sound parts es measured coded;
       prefix = λ scene base number sound parts. prefix-good glyphs marks scene base sound parts number;
