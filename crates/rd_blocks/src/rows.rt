@@ -39,29 +39,18 @@ pub(crate) fn rows_of<L: Ledger>(
     let state = view.state;
     let settings = &state.settings;
     let seen = appearance_at(alloc, &view, block.start)?;
-    let first = prefix_elements(
-        alloc,
-        &view,
-        seen.line_prefix,
-        settings.line_prefix,
-        block.base,
-    )?;
-    let wrap = prefix_elements(
-        alloc,
-        &view,
-        seen.wrap_prefix,
-        settings.wrap_prefix,
-        block.base,
-    )?;
-    let mut line = Walker::with_appearance(alloc, view, block.start, block.base, &seen)?;
+    let base = block.base;
+    let first = prefix_elements(alloc, &view, seen.line_prefix, settings.line_prefix, base)?;
+    let wrap = prefix_elements(alloc, &view, seen.wrap_prefix, settings.wrap_prefix, base)?;
+    let mut line = Walker::with_appearance(alloc, view, block.start, base, &seen)?;
     let maker = RowMaker::new(
         alloc,
         shape,
-        block.base,
+        base,
         first.as_slice(),
         wrap.as_slice(),
         truncation_mark(&view),
-        continuation_mark(&view, block.base),
+        continuation_mark(&view, base),
     )?;
     maker.make_all(&mut line, steps)
 }

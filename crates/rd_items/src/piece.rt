@@ -147,14 +147,10 @@ fn spec_piece(view: &View, spec: Spec, face: Face, at: u32, to: u32) -> Piece
     ensures { result ≡ spec_piece (scene_of view.now) spec face at to }
 {
     match spec {
-        Spec::Text(number) => Piece::new(
-            Class::ON,
-            Some(ItemKind::Text(number)),
-            face,
-            string_gives(&parts_of(view), view.objects, number),
-            at,
-            to,
-        ),
+        Spec::Text(number) => {
+            let gives = string_gives(&parts_of(view), view.objects, number);
+            Piece::new(Class::ON, Some(ItemKind::Text(number)), face, gives, at, to)
+        }
         Spec::Width(_) | Spec::Align(_) => {
             Piece::new(Class::S, Some(ItemKind::Space(spec)), face, true, at, to)
         }
@@ -218,13 +214,9 @@ pub fn piece_at(view: &View, showing: &Showing, ch: &Option<Ch>, at: u32, to: u3
         (Some(number), _) => spec_piece(view, spec_in(view.objects, number), face, at, to),
         (None, Hidden::No) => open_piece(view, face, ch, at),
         (None, Hidden::Plain) => Piece::new(Class::ON, None, face, false, at, to),
-        (None, Hidden::Ellipsis) => Piece::new(
-            Class::ON,
-            Some(ItemKind::Ellipsis),
-            face,
-            ellipsis_gives(&parts_of(view)),
-            at,
-            to,
-        ),
+        (None, Hidden::Ellipsis) => {
+            let gives = ellipsis_gives(&parts_of(view));
+            Piece::new(Class::ON, Some(ItemKind::Ellipsis), face, gives, at, to)
+        }
     }
 }
