@@ -17,38 +17,24 @@ moved-down : (z : ℤ) (row : ℕ) → int_lt z (pos 0) ≡ false → moved z ro
 moved-down (pos n) row e = refl
 moved-down (negsuc n) row e = absurd (false≢true (sym e))
 
-pub placed-up : (m : SourceValues) (s : Strip) (z : ℤ) (rows : ℕ) → IsStrip m s → int_lt z (pos 0) ≡ true → rows ≡ unsigned_abs z → BeginsAbove m s rows
-    → (s.home - rows < length s.strip_rows.items) × (first_row m s + (s.home - rows) ≡ moved_row m s.sweep z)
-placed-up m s z rows h low is begins =
+-- the row that a start is scrolled up to is in the strip that begins above it, and the rows between are those that the strip asks for
+pub scrolled-up : (m : SourceValues) (s : Strip) (z : ℤ) (rows : ℕ) → IsStrip m s → int_lt z (pos 0) ≡ true → rows ≡ unsigned_abs z
+    → (BeginsAbove m s rows → (s.home - rows < length s.strip_rows.items) × (first_row m s + (s.home - rows) ≡ moved_row m s.sweep z))
+    × ((kind : ℕ → Bool) → Between kind (min (home_row m s.sweep) (moved_row m s.sweep z)) (max (home_row m s.sweep) (moved_row m s.sweep z) + 1) → AsksAt Top kind m s rows)
+scrolled-up m s z rows h low is =
     let row = moved-up z (home_row m s.sweep) low in
     let inside = h.inside in
     let home = h.home in
     let all = all-inside m s h in
-    (omega arith, elim begins [ inl far ↦ omega arith | inr text ↦ omega arith ])
+    (λ begins. (omega arith, elim begins [ inl far ↦ omega arith | inr text ↦ omega arith ]), λ kind asks k from to. asks k (omega arith) (omega arith))
 
-pub placed-down : (m : SourceValues) (s : Strip) (z : ℤ) (rows place : ℕ) → IsStrip m s → int_lt z (pos 0) ≡ false → rows ≡ unsigned_abs z → place ≡ s.home + rows → Reaches m s (place + 1)
-    → (min place (length s.strip_rows.items - 1) < length s.strip_rows.items) × (first_row m s + min place (length s.strip_rows.items - 1) ≡ moved_row m s.sweep z)
-placed-down m s z rows place h low is at reached =
+-- and the row that it is scrolled down to, in the strip that reaches it
+pub scrolled-down : (m : SourceValues) (s : Strip) (z : ℤ) (rows place : ℕ) → IsStrip m s → int_lt z (pos 0) ≡ false → rows ≡ unsigned_abs z → place ≡ s.home + rows
+    → (Reaches m s (place + 1) → (min place (length s.strip_rows.items - 1) < length s.strip_rows.items) × (first_row m s + min place (length s.strip_rows.items - 1) ≡ moved_row m s.sweep z))
+    × ((kind : ℕ → Bool) → Between kind (min (home_row m s.sweep) (moved_row m s.sweep z)) (max (home_row m s.sweep) (moved_row m s.sweep z) + 1) → AsksAt Bottom kind m s (place + 1))
+scrolled-down m s z rows place h low is at =
     let row = moved-down z (home_row m s.sweep) low in
     let inside = h.inside in
     let home = h.home in
     let all = all-inside m s h in
-    (omega arith, elim reached [ inl far ↦ omega arith | inr text ↦ omega arith ])
-
-pub asks-up : (kind : ℕ → Bool) (m : SourceValues) (s : Strip) (z : ℤ) (rows : ℕ) → IsStrip m s → int_lt z (pos 0) ≡ true → rows ≡ unsigned_abs z
-    → Between kind (min (home_row m s.sweep) (moved_row m s.sweep z)) (max (home_row m s.sweep) (moved_row m s.sweep z) + 1) → AsksAt Top kind m s rows
-asks-up kind m s z rows h low is asks =
-    let row = moved-up z (home_row m s.sweep) low in
-    let inside = h.inside in
-    let home = h.home in
-    let all = all-inside m s h in
-    λ k from to. asks k (omega arith) (omega arith)
-
-pub asks-down : (kind : ℕ → Bool) (m : SourceValues) (s : Strip) (z : ℤ) (rows place : ℕ) → IsStrip m s → int_lt z (pos 0) ≡ false → rows ≡ unsigned_abs z → place ≡ s.home + rows
-    → Between kind (min (home_row m s.sweep) (moved_row m s.sweep z)) (max (home_row m s.sweep) (moved_row m s.sweep z) + 1) → AsksAt Bottom kind m s (place + 1)
-asks-down kind m s z rows place h low is at asks =
-    let row = moved-down z (home_row m s.sweep) low in
-    let inside = h.inside in
-    let home = h.home in
-    let all = all-inside m s h in
-    λ k from to. asks k (omega arith) (omega arith)
+    (λ reached. (omega arith, elim reached [ inl far ↦ omega arith | inr text ↦ omega arith ]), λ kind asks k from to. asks k (omega arith) (omega arith))
