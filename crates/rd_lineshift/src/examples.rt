@@ -1,35 +1,30 @@
 //! Shifts, choices and updates in worked cases.
 ghost use Rattle.std.specs.Prelude.{◌≡◌, ℕ, [], ◌∷◌, ◌++◌, codes, None, Some, true, false, pos, negsuc};
-ghost use Rattle.rd_term.specs.Pictures.{blank_row};
+ghost use Rattle.rd_term.specs.Pictures.{Picture, blank_row};
 ghost use Rattle.rd_update.specs.Laws.{plain_row};
 ghost use Rattle.rd_lineshift.specs.Shifts.{moved, shifted_rows, shift_bytes};
 ghost use Rattle.rd_lineshift.specs.Choices.{shifts_of, choice};
 ghost use Rattle.rd_lineshift.specs.Plans.{shifted_update};
 
-/// Five rows that scroll up by one, above a row that stays: with their band the terminal moves them and one row is sent.
+/// Five rows that scroll up by one, above a row that stays: with their band the terminal moves them and one row is sent, and without
+/// a band all five are sent.
 fn a_band_moves_up()
-    ensures { shifted_update (Some (record { rows = plain_row (codes "a           ") ∷ plain_row (codes "b           ") ∷ plain_row (codes "c           ") ∷ plain_row (codes "d           ") ∷ plain_row (codes "e           ") ∷ blank_row 12 ∷ []; row = 0; column = 0 }))
-        (record { rows = plain_row (codes "b           ") ∷ plain_row (codes "c           ") ∷ plain_row (codes "d           ") ∷ plain_row (codes "e           ") ∷ plain_row (codes "f           ") ∷ blank_row 12 ∷ []; row = 0; column = 0 })
-        ((record { top = 0; height = 5 }) ∷ []) None
+    ensures { let old : Picture = record { rows = plain_row (codes "a           ") ∷ plain_row (codes "b           ") ∷ plain_row (codes "c           ") ∷ plain_row (codes "d           ") ∷ plain_row (codes "e           ") ∷ blank_row 12 ∷ []; row = 0; column = 0 } in
+        let new : Picture = record { rows = plain_row (codes "b           ") ∷ plain_row (codes "c           ") ∷ plain_row (codes "d           ") ∷ plain_row (codes "e           ") ∷ plain_row (codes "f           ") ∷ blank_row 12 ∷ []; row = 0; column = 0 } in
+        (shifted_update (Some old) new ((record { top = 0; height = 5 }) ∷ []) None
         ≡ record {
           bytes = 27 ∷ codes "[1;5r" ++ 27 ∷ codes "[1;1H" ++ 27 ∷ codes "[1M" ++ 27 ∷ codes "[1;6r" ++ 27 ∷ codes "[5;1Hf" ++ 27 ∷ codes "[1;1H";
           rows = 1;
           done = true;
-          screen = record { rows = plain_row (codes "b           ") ∷ plain_row (codes "c           ") ∷ plain_row (codes "d           ") ∷ plain_row (codes "e           ") ∷ plain_row (codes "f           ") ∷ blank_row 12 ∷ []; row = 0; column = 0 };
-        } }
-{}
-
-/// The same rows without a band: all five are sent.
-fn without_a_band_all_rows_are_sent()
-    ensures { shifted_update (Some (record { rows = plain_row (codes "a           ") ∷ plain_row (codes "b           ") ∷ plain_row (codes "c           ") ∷ plain_row (codes "d           ") ∷ plain_row (codes "e           ") ∷ blank_row 12 ∷ []; row = 0; column = 0 }))
-        (record { rows = plain_row (codes "b           ") ∷ plain_row (codes "c           ") ∷ plain_row (codes "d           ") ∷ plain_row (codes "e           ") ∷ plain_row (codes "f           ") ∷ blank_row 12 ∷ []; row = 0; column = 0 })
-        [] None
+          screen = new;
+        })
+        × (shifted_update (Some old) new [] None
         ≡ record {
           bytes = 27 ∷ codes "[1;1Hb" ++ 27 ∷ codes "[2;1Hc" ++ 27 ∷ codes "[3;1Hd" ++ 27 ∷ codes "[4;1He" ++ 27 ∷ codes "[5;1Hf" ++ 27 ∷ codes "[1;1H";
           rows = 5;
           done = true;
-          screen = record { rows = plain_row (codes "b           ") ∷ plain_row (codes "c           ") ∷ plain_row (codes "d           ") ∷ plain_row (codes "e           ") ∷ plain_row (codes "f           ") ∷ blank_row 12 ∷ []; row = 0; column = 0 };
-        } }
+          screen = new;
+        }) }
 {}
 
 /// The bytes of the shift go out where no row may be sent, and the shifted screen is then the current one, with the old cursor.

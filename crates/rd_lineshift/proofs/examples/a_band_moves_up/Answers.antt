@@ -5,4 +5,4 @@ use Rattle.rd_lineshift.proofs.examples.a_band_moves_up.Goals as goal
 
 pub returns : goal.returns
 unfolding digits encode_utf8
-returns c = refl
+returns c = (refl, refl)

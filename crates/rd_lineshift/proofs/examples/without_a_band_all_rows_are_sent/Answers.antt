@@ -1,8 +1,0 @@
-use Rattle.std.proofs.Common.{refl}
-use Rattle.std.specs.Char.{encode_utf8}
-use Rattle.std.specs.Fmt.{digits}
-use Rattle.rd_lineshift.proofs.examples.without_a_band_all_rows_are_sent.Goals as goal
-
-pub returns : goal.returns
-unfolding digits encode_utf8
-returns c = refl
