@@ -1,6 +1,5 @@
 -- A last layout stands over a later state in which nothing changed of what its window shows.
 use Rattle.std.proofs.Common.{◌≡◌, ◌⊎◌, inl, inr, ℕ, ◌^◌, ◌<◌, ◌==◌, ◌&&◌, ◌||◌, min, max, nat_le, Bool, true, false, if◌then◌else◌, ◌+ℤ◌, ap, refl, subst, ◌∙◌, arith}
-use Rattle.std.proofs.lemmas.Bool.{leb-true}
 use Rattle.rd_base.specs.declared.settings.Anchor.{Anchor}
 use Rattle.rd_base.specs.Settings.{without_flags}
 use Rattle.rd_blocks.proofs.Listed.{among-block, among-small}
@@ -17,6 +16,7 @@ use Rattle.rd_objects.specs.Sound.{IsClosed, Extends}
 use Rattle.rd_objects.specs.Things.{ObjectLists}
 use Rattle.rd_props.specs.Buffers.{BufferValue}
 use Rattle.rd_props.specs.Made.{AreMade}
+use Rattle.rd_reuse.proofs.Changes.{all-is-change, change-by}
 use Rattle.rd_reuse.specs.Changes.{IsChange, all, change_of, edit, is_all, is_none, is_small, join, moved, none}
 use Rattle.rd_reuse.specs.declared.change.Change.{Change}
 use Rattle.rd_rows.specs.Laws.{seen_rows}
@@ -62,23 +62,17 @@ joined-none x effect number k h = elim (none-or-tail effect number k) [
   | inr some ↦ absurd (tail-told (join x (change_by effect number k)) (joined-tail x (change_by effect number k) some) h)
 ]
 
-all-is-change : IsChange all
-all-is-change = record { head = omega arith; tail = omega arith; added = refl }
-
 pub new-change : IsChange none
 new-change = record { head = omega arith; tail = omega arith; added = refl }
 
 pub joined-change : (x y : Change) → IsChange x → IsChange (join x y)
 joined-change x y is = by (is_all x || is_all y) where
-  ranged : (t u : Bool) → nat_le (max (moved y.added x.tail) y.tail) 4294967295 ≡ t → is_small (x.added +ℤ y.added) ≡ u
-      → IsChange (if t && u then record { head = min x.head y.head; tail = max (moved y.added x.tail) y.tail; added = x.added +ℤ y.added } else all)
-  ranged true true low small = let head = is.head in record { head = omega arith; tail = leb-true (max (moved y.added x.tail) y.tail) 4294967295 low; added = small }
-  ranged true false low small = all-is-change
-  ranged false u low small = all-is-change
-
   by : (t : Bool) → IsChange (if t then all else change_of (min x.head y.head) (max (moved y.added x.tail) y.tail) (x.added +ℤ y.added))
   by true = all-is-change
-  by false = ranged (nat_le (max (moved y.added x.tail) y.tail) 4294967295) (is_small (x.added +ℤ y.added)) refl refl
+  by false =
+      let tail = max (moved y.added x.tail) y.tail in
+      let added = x.added +ℤ y.added in
+      change-by (nat_le tail 4294967295 && is_small added) (min x.head y.head) tail added refl (let head = is.head in omega arith)
 
 pub first-none : OverLaws → (x y : Change) → IsChange x → y ≡ none → is_none (join x y) ≡ true → is_none x ≡ true
 first-none laws x y is same h = subst (λ (c : Change). is_none c ≡ true) (ap (join x) same ∙ laws.last_none x is) h

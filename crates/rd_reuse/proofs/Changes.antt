@@ -1,9 +1,9 @@
--- Changes that are none, and that may be of anything.
-use Rattle.std.proofs.Common.{◌≡◌, true, ◌&&◌, ◌==◌}
-use Rattle.std.proofs.lemmas.Bool.{and_parts, eqb-true}
+-- Changes that are none, and that may be of anything; and that what is made of a change's parts is one.
+use Rattle.std.proofs.Common.{◌≡◌, ℕ, ◌≤◌, nat_le, Bool, true, false, ◌&&◌, ◌==◌, if◌then◌else◌, ℤ, refl, arith}
+use Rattle.std.proofs.lemmas.Bool.{and_parts, eqb-true, leb-true}
 use Rattle.std.proofs.lemmas.Bool.Decides.{Decides-int_eq}
 use Rattle.std.specs.Ordering.{int_eq}
-use Rattle.rd_reuse.specs.Changes.{all, is_all, is_none, none}
+use Rattle.rd_reuse.specs.Changes.{IsChange, all, is_all, is_none, is_small, none}
 use Rattle.rd_reuse.specs.declared.change.Change.{Change}
 
 -- changes of the same parts are the same
@@ -18,3 +18,13 @@ none-is c e = same-parts c none e
 
 pub all-is : (c : Change) → is_all c ≡ true → c ≡ all
 all-is c e = same-parts c all e
+
+pub all-is-change : IsChange all
+all-is-change = record { head = omega arith; tail = omega arith; added = refl }
+
+-- parts of which the tail and the number are tested make a change
+pub change-by : (b : Bool) (head tail : ℕ) (added : ℤ) → (nat_le tail 4294967295 && is_small added) ≡ b → head ≤ 4294967295 → IsChange (if b then record { head = head; tail = tail; added = added } else all)
+change-by true head tail added e low =
+    let both = and_parts (nat_le tail 4294967295) (is_small added) e in
+    record { head = low; tail = leb-true tail 4294967295 both.0; added = both.1 }
+change-by false head tail added e low = all-is-change

@@ -2,7 +2,7 @@
 use Rattle.std.proofs.Common.{◌≡◌, ℕ, zero, suc, ◌+◌, ◌-◌, ◌^◌, ◌<◌, ◌≤◌, min, max, nat_le, Bool, true, false, cond, ltb, ◌&&◌, ◌||◌, if◌then◌else◌, List, ℤ, pos, negsuc, ◌+ℤ◌, ◌-ℤ◌, refl, sym, ap, ◌∙◌, arith}
 use Rattle.std.proofs.Math.Bool.{or-false}
 use Rattle.std.proofs.Math.IntN.{+ℤ_idl, +ℤ_idr}
-use Rattle.std.proofs.lemmas.Bool.{and_from, and_left, and_parts, le-leb, leb-true, lt-leb, or_from, or_right, true≢false}
+use Rattle.std.proofs.lemmas.Bool.{and_from, and_left, le-leb, lt-leb, or_from, or_right, true≢false}
 use Rattle.rd_matrix.specs.Blocks.{IsAmong, first_start}
 use Rattle.rd_matrix.specs.Sources.{SourceValues, IsSource}
 use Rattle.rd_matrix.specs.declared.block.Block.{Block}
@@ -10,7 +10,7 @@ use Rattle.rd_matrix.specs.declared.matrix.Entry.{Entry}
 use Rattle.rd_reuse.specs.Changes.{IsChange, all, change_of, edit, is_all, is_small, join, moved, none}
 use Rattle.rd_reuse.specs.Keeping.{AreRight, are_whole, is_kept, is_outside, taken}
 use Rattle.rd_reuse.specs.declared.change.Change.{Change}
-use Rattle.rd_reuse.proofs.Changes.{all-is}
+use Rattle.rd_reuse.proofs.Changes.{all-is, change-by}
 use Rattle.rd_matrix.proofs.HeldLemmas.{later-start}
 use Rattle.rd_rows.specs.Copies.{shown_rows}
 use Rattle.rd_rows.specs.Shapes.{ShapeValues}
@@ -59,12 +59,6 @@ pub edit-low : (from removed added : ℕ) → moved (edit from removed added).ad
 edit-low from removed added =
     let low = moved-minus added removed in
     low-by (nat_le (from + added + 1) 4294967295 && is_small (pos added -ℤ pos removed)) from (from + added + 1) (pos added -ℤ pos removed) (omega (arith, low))
-
-change-by : (b : Bool) (head tail : ℕ) (added : ℤ) → (nat_le tail 4294967295 && is_small added) ≡ b → head ≤ 4294967295 → IsChange (if b then record { head = head; tail = tail; added = added } else all)
-change-by true head tail added e low =
-    let both = and_parts (nat_le tail 4294967295) (is_small added) e in
-    record { head = low; tail = leb-true tail 4294967295 both.0; added = both.1 }
-change-by false head tail added e low = record { head = omega arith; tail = omega arith; added = refl }
 
 pub edit-is : (from removed added : ℕ) → from ≤ 4294967295 → IsChange (edit from removed added)
 edit-is from removed added low = change-by (nat_le (from + added + 1) 4294967295 && is_small (pos added -ℤ pos removed)) from (from + added + 1) (pos added -ℤ pos removed) refl low
