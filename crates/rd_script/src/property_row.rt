@@ -74,11 +74,12 @@ fn read_put(alloc: Global, asked: &mut Asked) -> Result<Op, OpFault>
 fn text_kind(alloc: Global, asked: &mut Asked) -> Result<Kind, OpFault>
     ensures { IsTaken result (required (codes "kind") text_kind) asked.old asked.new }
 {
-    let kind = named(alloc, asked, "kind")?;
+    let key = "kind";
+    let kind = named(alloc, asked, key)?;
     if is_text_kind(kind) {
         Ok(kind)
     } else {
-        bad(alloc, "kind")
+        bad(alloc, key)
     }
 }
 
