@@ -1,13 +1,15 @@
 -- What holds of all objects that were made, and what stays as it is where more are made.
-use Rattle.std.specs.Prelude.{◌≡◌, ℕ, ◌<◌, ◌≤◌, ◌++◌, IsTrue, List, length, All}
+use Rattle.std.specs.Prelude.{◌≡◌, ℕ, ◌<◌, ◌≤◌, ◌++◌, IsTrue, List, length, All, None}
 use Rattle.rd_base.specs.declared.limits.TheConstants.{FACES, SPECS, STRING_CHARACTERS, STRINGS, TABLES}
 use Rattle.rd_base.specs.Chars.{is_code}
 use Rattle.rd_base.specs.Cells.{HasColours}
+use Rattle.rd_base.specs.Faces.{Attributes}
+use Rattle.rd_objects.specs.declared.run.Run.{Run}
 use Rattle.rd_objects.specs.declared.run.Spec.{Spec}
 use Rattle.rd_objects.specs.declared.run.Spec.TheVariants.{Text}
 use Rattle.rd_objects.specs.Texts.{TextValue}
-use Rattle.rd_objects.specs.Tables.{IsTable}
-use Rattle.rd_objects.specs.Things.{ObjectLists, IsSmallSpec}
+use Rattle.rd_objects.specs.Tables.{TableValue, IsTable}
+use Rattle.rd_objects.specs.Things.{ObjectLists, nothing_made, string_fault, spec_fault, full_fault, string_added, spec_added, face_added, table_added, IsSmallSpec}
 
 -- each character is a scalar value or a raw byte
 abbrev pub AreCodes : List ℕ → Type 0
@@ -55,3 +57,27 @@ pub record Extends (old new : ObjectLists) : Type 0 where
   pub specs : GoesOn old.specs new.specs
   pub faces : GoesOn old.faces new.faces
   pub tables : GoesOn old.tables new.tables
+
+-- where nothing is made all objects are sound, and they stay sound where one more is made
+pub record SoundLaws : Type 0 where
+  pub nothing : AreObjects nothing_made
+  pub string : (o : ObjectLists) (chars : List ℕ) (runs : List Run) → AreCodes chars → string_fault o chars runs ≡ None → AreObjects o → AreObjects (string_added o chars runs)
+  pub spec : (o : ObjectLists) (spec : Spec) → IsSmallSpec spec → spec_fault o spec ≡ None → AreObjects o → AreObjects (spec_added o spec)
+  pub face : (o : ObjectLists) (face : Attributes) → HasColours face → full_fault FACES (length o.faces) ≡ None → AreObjects o → AreObjects (face_added o face)
+  pub table : (o : ObjectLists) (table : TableValue) → IsTable table → full_fault TABLES (length o.tables) ≡ None → AreObjects o → AreObjects (table_added o table)
+
+-- and closed
+pub record ClosedLaws : Type 0 where
+  pub nothing : IsClosed nothing_made
+  pub string : (o : ObjectLists) (chars : List ℕ) (runs : List Run) → string_fault o chars runs ≡ None → IsClosed o → IsClosed (string_added o chars runs)
+  pub spec : (o : ObjectLists) (spec : Spec) → spec_fault o spec ≡ None → IsClosed o → IsClosed (spec_added o spec)
+  pub face : (o : ObjectLists) (face : Attributes) → IsClosed o → IsClosed (face_added o face)
+  pub table : (o : ObjectLists) (table : TableValue) → IsClosed o → IsClosed (table_added o table)
+
+-- one more object extends the objects
+pub record GrowLaws : Type 0 where
+  pub itself : (o : ObjectLists) → Extends o o
+  pub string : (o : ObjectLists) (chars : List ℕ) (runs : List Run) → Extends o (string_added o chars runs)
+  pub spec : (o : ObjectLists) (spec : Spec) → Extends o (spec_added o spec)
+  pub face : (o : ObjectLists) (face : Attributes) → Extends o (face_added o face)
+  pub table : (o : ObjectLists) (table : TableValue) → Extends o (table_added o table)

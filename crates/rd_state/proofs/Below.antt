@@ -1,18 +1,12 @@
 -- The laws of the layers below that the laws of a state stand on.
-use Rattle.std.proofs.Common.{◌≡◌, ℕ, ◌+◌, ◌-◌, ◌≤◌, min, max, pos, List, [], ◌∷◌, ◌++◌, length, Option, None, Some}
+use Rattle.std.proofs.Common.{◌≡◌, ℕ, ◌+◌, ◌-◌, ◌≤◌, min, max, pos, List, [], ◌∷◌, ◌++◌, length, Option, Some}
 use Rattle.rd_text.specs.Texts.{TextValue, IsText, IsAccessible, most_characters, inserted, deleted, narrowed, widened}
 use Rattle.rd_text.specs.Answers.{IsAccessibleRange, IsRangeOfAll}
 use Rattle.rd_overlays.specs.declared.overlay.Overlay.{Overlay}
 use Rattle.rd_overlays.specs.declared.overlay.Kind.{Kind}
 use Rattle.rd_overlays.specs.Overlays.{overlay_at, moved, dropped, given}
-use Rattle.rd_base.specs.Cells.{HasColours}
-use Rattle.rd_base.specs.Faces.{Attributes}
-use Rattle.rd_base.specs.declared.limits.TheConstants.{FACES, TABLES}
-use Rattle.rd_objects.specs.Tables.{TableValue, IsTable}
-use Rattle.rd_objects.specs.Things.{ObjectLists, nothing_made, string_fault, spec_fault, full_fault, string_added, spec_added, face_added, table_added, IsSmallSpec}
-use Rattle.rd_objects.specs.Sound.{AreCodes, AreObjects, IsClosed, Extends}
-use Rattle.rd_objects.specs.declared.run.Run.{Run}
-use Rattle.rd_objects.specs.declared.run.Spec.{Spec}
+use Rattle.rd_objects.specs.Things.{ObjectLists}
+use Rattle.rd_objects.specs.Sound.{Extends, SoundLaws, ClosedLaws}
 use Rattle.rd_props.specs.Buffers.{BufferValue}
 use Rattle.rd_props.specs.Agreement.{Unchanged, IsEdited}
 use Rattle.rd_props.specs.Edits.{AreOrdered, IsInsertion, IsDeletion, IsPut, HasOverlays}
@@ -51,34 +45,7 @@ pub record LeaveLaws : Type 0 where
   pub objects : (s : BufferValue) (old new : ObjectLists) (head tail : ℕ) → Extends old new → AreMade s old → Unchanged s old s new head tail (pos 0)
   pub settings : (old new : BufferValue) (objects : ObjectLists) (head tail : ℕ) → HasOverlays old new old.overlays → Unchanged old objects new objects head tail (pos 0)
 
--- objects stay sound where one more is made
-abbrev pub SoundLaws : Type 0
-SoundLaws = record {
-  nothing : AreObjects nothing_made;
-  string : (o : ObjectLists) (chars : List ℕ) (runs : List Run) → AreCodes chars → string_fault o chars runs ≡ None → AreObjects o → AreObjects (string_added o chars runs);
-  spec : (o : ObjectLists) (spec : Spec) → IsSmallSpec spec → spec_fault o spec ≡ None → AreObjects o → AreObjects (spec_added o spec);
-  face : (o : ObjectLists) (face : Attributes) → HasColours face → full_fault FACES (length o.faces) ≡ None → AreObjects o → AreObjects (face_added o face);
-  table : (o : ObjectLists) (table : TableValue) → IsTable table → full_fault TABLES (length o.tables) ≡ None → AreObjects o → AreObjects (table_added o table);
-}
-
--- and closed
-abbrev pub ClosedLaws : Type 0
-ClosedLaws = record {
-  nothing : IsClosed nothing_made;
-  string : (o : ObjectLists) (chars : List ℕ) (runs : List Run) → string_fault o chars runs ≡ None → IsClosed o → IsClosed (string_added o chars runs);
-  spec : (o : ObjectLists) (spec : Spec) → spec_fault o spec ≡ None → IsClosed o → IsClosed (spec_added o spec);
-  face : (o : ObjectLists) (face : Attributes) → IsClosed o → IsClosed (face_added o face);
-  table : (o : ObjectLists) (table : TableValue) → IsClosed o → IsClosed (table_added o table);
-}
-
+-- objects stay sound and closed where one more is made
 pub record ObjectLaws : Type 0 where
   pub sound : SoundLaws
   pub closed : ClosedLaws
-
--- more objects were made
-pub record GrowLaws : Type 0 where
-  pub itself : (o : ObjectLists) → Extends o o
-  pub string : (o : ObjectLists) (chars : List ℕ) (runs : List Run) → Extends o (string_added o chars runs)
-  pub spec : (o : ObjectLists) (spec : Spec) → Extends o (spec_added o spec)
-  pub face : (o : ObjectLists) (face : Attributes) → Extends o (face_added o face)
-  pub table : (o : ObjectLists) (table : TableValue) → Extends o (table_added o table)

@@ -9,7 +9,7 @@ use Rattle.std.specs.Prelude.{slice_get, IfOk, option_map, ◌-ℤ◌}
 use Rattle.rd_base.proofs.Lists.{get-end}
 use Rattle.rd_overlays.specs.declared.overlay.Overlay.{Overlay}
 use Rattle.rd_overlays.specs.Overlays.{overlay_at}
-use Rattle.rd_objects.specs.Sound.{Extends}
+use Rattle.rd_objects.specs.Sound.{Extends, GrowLaws}
 use Rattle.rd_objects.specs.Things.{ObjectLists}
 use Rattle.rd_objects.specs.declared.fault.ObjectFault.{ObjectFault}
 use Rattle.rd_script.specs.Forms.{IsInForm}
@@ -33,7 +33,7 @@ use Rattle.rd_state.specs.Making.{unless_fault, run_of, spec_of, table_of}
 use Rattle.rd_state.specs.Moves.{moved_by, moved_in}
 use Rattle.rd_state.specs.Steps.{with_objects, changing, inserting, typing, on_tree, edited, edited_moving, format_fault, making, raw_text, step}
 use Rattle.rd_state.proofs.AllSteps.{moved-buffer}
-use Rattle.rd_state.proofs.Below.{LeaveLaws, GrowLaws}
+use Rattle.rd_state.proofs.Below.{LeaveLaws}
 use Rattle.rd_state.proofs.ByNumber.{Each, window-each, each-same, each-with, each-moved, each-end, each-without}
 use Rattle.rd_state.proofs.Leaving.{whole, whole-objects, stays-inserted, stays-deleted, StaysAround, stays-put, stays-made, AroundOverlay, stays-dropped, stays-given, stays-moved, stays-margin, others-whole, part-stays}
 use Rattle.rd_state.proofs.StepParts.{with_content, found, unless, tree-if, treed-if, making-if, edited-if, edited_moving-if, typing-if, setting-if, placing-if}

@@ -6,7 +6,7 @@ use Rattle.rd_blocks.proofs.changes.changes_lead_on.Goals.{After-joined_with_all
 -- what the laws below say of changes
 laws : goal.After-joined_with_all → ChangeLaws
 laws c = record {
-  itself = c.extensions_keep_objects.ensures.itself;
+  itself = c.extensions_keep_objects.ensures.more.itself;
   further = c.extensions_keep_objects.ensures.further;
   joins = c.changes_join.ensures;
   first_all = c.joined_with_all.ensures.first;
@@ -23,7 +23,7 @@ returns-clause-grown c = λ s made objects closed named extends.
 
 pub returns-clause-flagged : goal.returns-clause-flagged
 returns-clause-flagged c = λ old new objects closed named settings same.
-    leads-none old new objects objects closed named settings (c.extensions_keep_objects.ensures.itself objects) (c.settings_leave_all.ensures old new objects 4294967295 0 same)
+    leads-none old new objects objects closed named settings (c.extensions_keep_objects.ensures.more.itself objects) (c.settings_leave_all.ensures old new objects 4294967295 0 same)
 
 pub returns-clause-joined : goal.returns-clause-joined
 returns-clause-joined c = λ first second third x y z change later one two.

@@ -9,7 +9,7 @@ returns c =
       sound = c.shifted_updates_keep_screens_sound.ensures.sound;
       rows = c.kept_rows_are_fresh.ensures.rows;
       grown = c.changes_lead_on.ensures.grown;
-      itself = c.extensions_keep_objects.ensures.itself;
+      itself = c.extensions_keep_objects.ensures.more.itself;
       stand = c.new_layouts_stand.ensures;
       found = c.windows_are_leaves.ensures.found;
     } in

@@ -3,12 +3,8 @@ use Rattle.rd_objects.proofs.laws.extensions_keep_objects.Goals as goal
 
 pub returns : goal.returns
 returns c = record {
-  itself = extends_itself;
+  more = record { itself = extends_itself; string = string_extends; spec = spec_extends; face = face_extends; table = table_extends };
   further = extends_further;
-  string = string_extends;
-  spec = spec_extends;
-  face = face_extends;
-  table = table_extends;
   strings = same_strings;
   specs = same_specs;
   faces = same_faces;

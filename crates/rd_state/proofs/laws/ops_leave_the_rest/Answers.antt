@@ -6,7 +6,7 @@ use Rattle.rd_state.specs.States.{StateValue}
 use Rattle.rd_state.specs.Valid.{IsValid}
 use Rattle.rd_state.specs.Effects.{effect_of}
 use Rattle.rd_state.specs.Steps.{step}
-use Rattle.rd_state.proofs.Below.{LeaveLaws, GrowLaws}
+use Rattle.rd_state.proofs.Below.{LeaveLaws}
 use Rattle.rd_state.proofs.Outcomes.{Outcome, outcome}
 use Rattle.rd_state.proofs.laws.ops_leave_the_rest.Goals as goal
 
@@ -20,8 +20,7 @@ returns c =
       objects = c.new_objects_leave_all.ensures;
       settings = c.settings_leave_all.ensures;
     } in
-    let more = c.extensions_keep_objects.ensures in
-    let grow : GrowLaws = record { itself = more.itself; string = more.string; spec = more.spec; face = more.face; table = more.table } in
+    let grow = c.extensions_keep_objects.ensures.more in
     let leaves : (s t : StateValue) (op : Op) → IsValid s → IsInForm op → step s op ≡ Ok t → Outcome s t (effect_of s op)
     = λ s t op v form h. IfOk-at_ok (λ u. Outcome s u (effect_of s op)) h (outcome laws grow s op v form) in
     record {
