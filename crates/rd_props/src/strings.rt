@@ -96,17 +96,8 @@ pub fn strings_at(alloc: Global, view: &View, pos: Pos) -> Result<ListOf<u32>, M
         i -= 1;
         add_strings(&mut strings, StringPlace::Closing, overlays, ending[i])?;
     }
-    add_each(
-        &mut strings,
-        StringPlace::Between,
-        overlays,
-        starting.as_slice(),
-    )?;
-    add_each(
-        &mut strings,
-        StringPlace::Opening,
-        overlays,
-        starting.as_slice(),
-    )?;
+    let starting = starting.as_slice();
+    add_each(&mut strings, StringPlace::Between, overlays, starting)?;
+    add_each(&mut strings, StringPlace::Opening, overlays, starting)?;
     Ok(strings)
 }
