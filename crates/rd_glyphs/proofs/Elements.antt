@@ -7,9 +7,9 @@ use Rattle.std.proofs.lemmas.List.{length-map}
 use Rattle.std.proofs.lemmas.List.Sums.{AllPass-from_list_all}
 use Rattle.std.proofs.lemmas.List.Elements.{All-map, All-from_recursion, recursion_from_All}
 use Rattle.rd_base.specs.Chars.{is_code}
-use Rattle.rd_base.specs.Elements.{width_at_most, columns_at_most}
+use Rattle.rd_base.specs.Elements.{IsSound, width_at_most, columns_at_most}
 use Rattle.rd_base.specs.Faces.{Attributes}
-use Rattle.rd_base.specs.Glyphs.{IsMeasuredLook, AreMeasured}
+use Rattle.rd_base.specs.Glyphs.{IsMeasuredLook}
 use Rattle.rd_base.specs.declared.cell.Glyph.{Glyph}
 use Rattle.rd_base.specs.declared.class.Class.{Class}
 use Rattle.rd_base.specs.declared.element.Element.{Element}
@@ -24,17 +24,9 @@ use Rattle.rd_objects.proofs.Widths.{few-columns}
 use Rattle.rd_objects.specs.declared.run.Slot.TheVariants.{Escape, Control}
 use Rattle.rd_glyphs.specs.declared.shown.Shown.{Shown}
 use Rattle.rd_glyphs.specs.declared.shown.Shown.TheVariants.{Caret, Octal, Space, Mark, Itself}
-use Rattle.rd_glyphs.specs.Characters.{PartValues, AreSoundParts, HasOrigin, TakesColumns, ShowsColumns, IsShortElement, is_control, is_formatting, shown_as, looks_of, element_of, glyph_elements, entry_of, own_looks, elements_by, elements_of, tab_of}
+use Rattle.rd_glyphs.specs.Characters.{PartValues, AreSoundParts, HasOrigin, AreOfCharacter, TakesColumns, ShowsColumns, IsShort, IsShortElement, is_control, is_formatting, shown_as, looks_of, element_of, glyph_elements, entry_of, own_looks, elements_by, elements_of, tab_of}
 use Rattle.rd_glyphs.specs.MarkRoles.{is_empty_entry}
 use Rattle.rd_glyphs.proofs.Measures.{ShowsMeasured, character-measured, slot_or-is, shown-by, shown_as-measured, mirror-measured, mirrored-keeps, looks-measured}
-
--- what holds of the elements of a character
-pub record AreOfCharacter (face : Attributes) (origin : Origin) (es : List Element) : Type 0 where
-  pub short : All IsShortElement es
-  pub measured : AreMeasured es
-  pub own : All (HasOrigin face origin) es
-  pub count : length es ≤ 16
-  pub columns : columns_at_most es ≤ 48
 
 -- ---- how a character is shown
 
@@ -105,8 +97,10 @@ of-each {X} face origin put xs columns measured few =
     let same = length-map xs made in
     let narrow = All-map (λ (e : Element). width_at_most e.extent ≤ 3) made xs (λ k d inside. (columns k d inside).1) in
     let sum = columns-few (map made xs) (recursion_from_All (λ (e : Element). width_at_most e.extent ≤ 3) (map made xs) narrow) in
+    let short = All-map IsShortElement made xs (λ k d inside. short_element face origin (put (slice_index_or xs k d)) (columns k d inside)) in
     record {
-      short = All-map IsShortElement made xs (λ k d inside. short_element face origin (put (slice_index_or xs k d)) (columns k d inside));
+      sound = λ k d inside. (short k d inside).0;
+      short = λ k d inside. (short k d inside).1;
       measured = All-map (λ (e : Element). IsMeasuredLook e.look) made xs measured;
       own = All-map (HasOrigin face origin) made xs (λ k d inside. (refl, refl));
       count = omega arith;
@@ -134,7 +128,8 @@ of-character parts ch odd face origin is code = by-entry (entry_of parts.table c
   by-tab true =
       let tab = tab_of parts.settings.tab_width face origin in
       record {
-        short = All-from_recursion IsShortElement (tab ∷ []) ((is.tab, is.tab), tt);
+        sound = All-from_recursion IsSound (tab ∷ []) (is.tab, tt);
+        short = All-from_recursion (λ (e : Element). IsShort e.extent) (tab ∷ []) (is.tab, tt);
         measured = All-from_recursion (λ (e : Element). IsMeasuredLook e.look) (tab ∷ []) (tt, tt);
         own = All-from_recursion (HasOrigin face origin) (tab ∷ []) ((refl, refl), tt);
         count = omega arith;

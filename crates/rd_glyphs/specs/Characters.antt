@@ -1,5 +1,5 @@
 -- How a character is shown: its elements.
-use Rattle.std.specs.Prelude.{◌≡◌, ℕ, ◌+◌, ◌-◌, ◌/◌, ◌%◌, ◌≤◌, nat_le, nat_lt, ◌==◌, Bool, true, false, ◌||◌, ◌&&◌, if◌then◌else◌, List, [], ◌∷◌, map, replicate, Option, None, Some, IfSome, unwrap_or}
+use Rattle.std.specs.Prelude.{◌≡◌, ℕ, ◌+◌, ◌-◌, ◌/◌, ◌%◌, ◌≤◌, nat_le, nat_lt, ◌==◌, Bool, true, false, ◌||◌, ◌&&◌, if◌then◌else◌, List, [], ◌∷◌, length, map, replicate, All, Option, None, Some, IfSome, unwrap_or}
 use Rattle.rd_base.specs.Faces.{Attributes}
 use Rattle.rd_base.specs.Settings.{SettingValues}
 use Rattle.rd_base.specs.Classes.{is_initiator, is_removed}
@@ -10,8 +10,9 @@ use Rattle.rd_base.specs.declared.cell.Glyph.{Glyph}
 use Rattle.rd_base.specs.declared.element.Element.{Element}
 use Rattle.rd_base.specs.declared.element.Extent.{Extent}
 use Rattle.rd_base.specs.declared.element.Extent.TheVariants.{Fixed, Tab, Column}
-use Rattle.rd_base.specs.Elements.{IsSound}
-use Rattle.rd_base.specs.declared.limits.TheConstants.{TAB_COLUMNS}
+use Rattle.rd_base.specs.Elements.{IsSound, AreSound, columns_at_most}
+use Rattle.rd_base.specs.Glyphs.{AreMeasured}
+use Rattle.rd_base.specs.declared.limits.TheConstants.{ENTRY_GLYPHS, TAB_COLUMNS}
 use Rattle.rd_base.specs.declared.element.Look.{Look}
 use Rattle.rd_base.specs.declared.element.Look.TheVariants as look
 use Rattle.rd_base.specs.declared.element.Origin.{Origin}
@@ -164,3 +165,13 @@ pub record AreSoundParts (parts : PartValues) : Type 0 where
 -- an element of this face and this origin
 abbrev pub HasOrigin : Attributes → Origin → Element → Type 0
 HasOrigin face origin e = (e.face ≡ face) × (e.origin ≡ origin)
+
+-- what the elements of a character are, and those of a table's glyphs: sound and measured, of 1 to 3 columns or a tab, with this face
+-- and this origin, at most 16, and of at most 48 columns together
+pub record AreOfCharacter (face : Attributes) (origin : Origin) (es : List Element) : Type 0 where
+  pub sound : AreSound es
+  pub measured : AreMeasured es
+  pub short : All (λ e. IsShort e.extent) es
+  pub own : All (HasOrigin face origin) es
+  pub count : length es ≤ ENTRY_GLYPHS
+  pub columns : columns_at_most es ≤ 48

@@ -8,9 +8,9 @@ use Rattle.std.proofs.lemmas.List.Elements.{All-from_recursion, recursion_from_A
 use Rattle.unicode_width.specs.Width.{char_width}
 use Rattle.rd_base.specs.Cells.{single}
 use Rattle.rd_base.specs.Chars.{is_code}
-use Rattle.rd_base.specs.Elements.{AreSound, columns_at_most}
+use Rattle.rd_base.specs.Elements.{columns_at_most}
 use Rattle.rd_base.specs.Faces.{Attributes, plain}
-use Rattle.rd_base.specs.Glyphs.{IsMeasured, AreMeasured}
+use Rattle.rd_base.specs.Glyphs.{IsMeasured}
 use Rattle.rd_base.specs.declared.cell.Glyph.{Glyph}
 use Rattle.rd_base.specs.declared.element.Element.{Element}
 use Rattle.rd_base.specs.declared.element.Extent.TheVariants.{Fixed, Column}
@@ -25,7 +25,7 @@ use Rattle.rd_objects.specs.Things.{ObjectLists, IsSmallSpec}
 use Rattle.rd_objects.specs.declared.run.Spec.{Spec}
 use Rattle.rd_objects.specs.declared.run.Spec.TheVariants.{Text, Width, Align}
 use Rattle.rd_glyphs.specs.MarkRoles.{MarkLaws}
-use Rattle.rd_glyphs.specs.Characters.{PartValues, AreSoundParts, element_of, elements_of, glyph_elements}
+use Rattle.rd_glyphs.specs.Characters.{PartValues, AreSoundParts, AreOfCharacter, element_of, elements_of, glyph_elements}
 use Rattle.rd_items.specs.Pieces.{Scene, table_in, IsMeasuredKind}
 use Rattle.rd_items.specs.Items.{items_of, AreMeasuredItems}
 use Rattle.rd_items.specs.Readings.{HaveCodes}
@@ -48,12 +48,8 @@ use Rattle.rd_stack.proofs.Prefixes.{before-each}
 
 -- what is known of the elements of characters and of glyph characters
 pub record GlyphLaws : Type 0 where
-  pub sound : (parts : PartValues) (ch : ℕ) (odd : Bool) (face : Attributes) (origin : Origin) → AreSoundParts parts → IsTrue (is_code ch) → AreSound (elements_of parts ch odd face origin)
-  pub measured : (parts : PartValues) (ch : ℕ) (odd : Bool) (face : Attributes) (origin : Origin) → AreSoundParts parts → IsTrue (is_code ch) → AreMeasured (elements_of parts ch odd face origin)
-  pub columns : (parts : PartValues) (ch : ℕ) (odd : Bool) (face : Attributes) (origin : Origin) → AreSoundParts parts → IsTrue (is_code ch) → columns_at_most (elements_of parts ch odd face origin) ≤ 48
-  pub text_sound : (face : Attributes) (origin : Origin) (text : List Glyph) → IsTrue (is_glyph_text text) → AreSound (glyph_elements face origin text)
-  pub text_measured : (face : Attributes) (origin : Origin) (text : List Glyph) → IsTrue (is_glyph_text text) → AreMeasured (glyph_elements face origin text)
-  pub text_columns : (face : Attributes) (origin : Origin) (text : List Glyph) → IsTrue (is_glyph_text text) → columns_at_most (glyph_elements face origin text) ≤ 48
+  pub character : (parts : PartValues) (ch : ℕ) (odd : Bool) (face : Attributes) (origin : Origin) → AreSoundParts parts → IsTrue (is_code ch) → AreOfCharacter face origin (elements_of parts ch odd face origin)
+  pub text : (face : Attributes) (origin : Origin) (text : List Glyph) → IsTrue (is_glyph_text text) → AreOfCharacter face origin (glyph_elements face origin text)
 
 -- a space that an item shows is small
 abbrev IsSmallItem : ItemKind → Type 0
@@ -110,13 +106,8 @@ space-good (Text n) face origin small = good-nil SPACE_COLUMNS
 space-good (Width n) face origin small = good-one SPACE_COLUMNS (record { extent = Fixed n; look = look.Blank; face = face; origin = origin }) tt tt small
 space-good (Align n) face origin small = good-one SPACE_COLUMNS (record { extent = Column n; look = look.Blank; face = face; origin = origin }) tt tt small
 
-char-good : GlyphLaws → (parts : PartValues) → AreSoundParts parts → (c : ℕ) (odd : Bool) (face : Attributes) (origin : Origin) → IsTrue (is_code c) → AreRightWithin 48 (elements_of parts c odd face origin)
-char-good laws parts sound c odd face origin code =
-    record { right = both-right (elements_of parts c odd face origin) (laws.sound parts c odd face origin sound code) (laws.measured parts c odd face origin sound code); few = laws.columns parts c odd face origin sound code }
-
-text-good : GlyphLaws → (face : Attributes) (origin : Origin) (text : List Glyph) → IsTrue (is_glyph_text text) → AreRightWithin 48 (glyph_elements face origin text)
-text-good laws face origin text is =
-    record { right = both-right (glyph_elements face origin text) (laws.text_sound face origin text is) (laws.text_measured face origin text is); few = laws.text_columns face origin text is }
+character-good : (face : Attributes) (origin : Origin) (es : List Element) → AreOfCharacter face origin es → AreRightWithin 48 es
+character-good face origin es are = record { right = both-right es are.sound are.measured; few = are.columns }
 
 -- ---- columns
 
@@ -141,13 +132,13 @@ module _ (laws : GlyphLaws) (marks : MarkLaws) (s : Scene) (base : ℕ) (sound :
       → AreRightWithin most (element_of face origin end ∷ []) → ((n : ℕ) → AreRightWithin most (string (slice_get s.objects.strings n))) → IsFitKind k
       → AreRightWithin most (kind_elements end string s k odd face origin)
   kind-good end string most room (item.Char c) odd face origin ender strings fit =
-      good-more 48 most (elements_of s.parts c odd face origin) (omega (arith, room)) (char-good laws s.parts parts c odd face origin fit)
+      good-more 48 most (elements_of s.parts c odd face origin) (omega (arith, room)) (character-good face origin (elements_of s.parts c odd face origin) (laws.character s.parts c odd face origin parts fit))
   kind-good end string most room (item.Marked g) odd face origin ender strings fit = glyph-good most g face origin fit (omega (arith, room))
   kind-good end string most room (item.Text n) odd face origin ender strings fit = strings n
   kind-good end string most room (item.Space spec) odd face origin ender strings fit = good-more SPACE_COLUMNS most (space_elements spec face origin) room (space-good spec face origin fit)
   kind-good end string most room item.Ellipsis odd face origin ender strings fit =
       let glyphs = ellipsis_glyphs s.parts.table in
-      good-more 48 most (glyph_elements face origin glyphs) (omega (arith, room)) (text-good laws face origin glyphs (ellipsis-fit s.parts.table parts.table))
+      good-more 48 most (glyph_elements face origin glyphs) (omega (arith, room)) (character-good face origin (glyph_elements face origin glyphs) (laws.text face origin glyphs (ellipsis-fit s.parts.table parts.table)))
   kind-good end string most room item.Ender odd face origin ender strings fit = ender
 
   part-good : (string : Option TextValue → List Element) (most : ℕ) → SPACE_COLUMNS ≤ most → (x : Shown) (origin : Origin) → ((n : ℕ) → AreRightWithin most (string (slice_get s.objects.strings n)))

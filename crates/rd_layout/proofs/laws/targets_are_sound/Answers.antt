@@ -15,7 +15,7 @@ returns-clause-sound c = target-sound (record {
   bar = c.borders_are_whole.ensures.bar;
   slot = c.borders_are_whole.ensures.slot;
   border_coloured = c.borders_are_whole.ensures.coloured;
-  measured = c.glyph_texts_are_sound.ensures.measured;
+  measured = λ face origin text is. (c.glyph_texts_are_sound.ensures face origin text is).measured;
   whole = c.frames_are_pictures.ensures.whole;
   frame_coloured = c.frames_are_pictures.ensures.coloured;
 })

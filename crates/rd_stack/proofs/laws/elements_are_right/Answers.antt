@@ -4,12 +4,8 @@ use Rattle.rd_stack.proofs.laws.elements_are_right.Goals as goal
 pub returns : goal.returns
 returns c =
     let glyphs : GlyphLaws = record {
-      sound = c.elements_are_sound.ensures.sound;
-      measured = c.elements_are_sound.ensures.measured;
-      columns = c.elements_are_sound.ensures.columns;
-      text_sound = c.glyph_texts_are_sound.ensures.sound;
-      text_measured = c.glyph_texts_are_sound.ensures.measured;
-      text_columns = c.glyph_texts_are_sound.ensures.columns;
+      character = c.elements_are_sound.ensures.elements;
+      text = c.glyph_texts_are_sound.ensures;
     } in
     let marks = c.marks_join_measured_glyphs.ensures in
     record {
