@@ -27,7 +27,7 @@ use Rattle.rd_base.specs.declared.element.Look.TheVariants as look
 use Rattle.rd_glyphs.specs.declared.shown.Shown.{Shown}
 use Rattle.rd_glyphs.specs.declared.shown.Shown.TheVariants.{Caret, Octal, Space, Mark, Itself}
 use Rattle.rd_glyphs.specs.MarkRoles.{mark_role_by, IsMeasuredRole}
-use Rattle.rd_glyphs.specs.Characters.{PartValues, is_control, is_formatting, caret, shown_as, turned, mirrored, on_blank, narrow, digit, looks_of, slot_or}
+use Rattle.rd_glyphs.specs.Characters.{is_control, is_formatting, caret, shown_as, turned, mirrored, on_blank, narrow, digit, looks_of, slot_or}
 
 -- what is put for a character has the columns that Unicode gives it: a letter is printable, a mark takes none, and a character
 -- that is shown itself takes 1 to 3
