@@ -4,7 +4,7 @@ use Rattle.std.specs.List.{Contains}
 use Rattle.rd_overlays.specs.declared.overlay.Overlay.{Overlay}
 use Rattle.rd_overlays.specs.declared.listing.Rank.{Rank}
 use Rattle.rd_overlays.specs.declared.way.Way.{Way}
-use Rattle.rd_overlays.specs.Overlays.{overlay_at, precedes, nearest_edge}
+use Rattle.rd_overlays.specs.Overlays.{overlay_at, numbers_of, precedes, nearest_edge}
 
 abbrev pub Passes : (Overlay → Bool) → Option Overlay → Type 0
 Passes test None = ⊥
@@ -28,6 +28,12 @@ Ascends slots numbers =
     (i j : ℕ) (a b : Overlay) → i < j → j < length numbers
     → overlay_at slots (slice_index numbers i) ≡ Some a → overlay_at slots (slice_index numbers j) ≡ Some b
     → precedes (rank_of (slice_index numbers i) a) (rank_of (slice_index numbers j) b) ≡ true
+
+-- what is known of listings
+pub record AreListings : Type 0 where
+  pub exact : (test : Overlay → Bool) (slots : List (Option Overlay)) → HoldsExactly test slots (numbers_of test slots)
+  pub ascends : (test : Overlay → Bool) (slots : List (Option Overlay)) → Ascends slots (numbers_of test slots)
+  pub agree : (f g : Overlay → Bool) (a b : List (Option Overlay)) → ((number : ℕ) → listed_priority f (overlay_at a number) ≡ listed_priority g (overlay_at b number)) → numbers_of f a ≡ numbers_of g b
 
 -- an overlay that stands at a number and passes a test, alone
 abbrev pub rank_at : (Overlay → Bool) → ℕ → Option Overlay → List Rank

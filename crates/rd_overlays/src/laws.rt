@@ -1,8 +1,8 @@
 //! Laws of the definitions, for the layers above.
-ghost use Rattle.std.specs.Prelude.{ℕ, ◌≡◌, ◌≤◌, Bool, List, Option, Some, None};
+ghost use Rattle.std.specs.Prelude.{ℕ, ◌≡◌, ◌≤◌, List, Option, Some, None};
 ghost use Rattle.rd_overlays.specs.declared.overlay.Overlay.{Overlay};
-ghost use Rattle.rd_overlays.specs.Overlays.{overlay_at, grown, shrunk, numbers_of, covering};
-ghost use Rattle.rd_overlays.specs.Listings.{HoldsExactly, Ascends, listed_priority};
+ghost use Rattle.rd_overlays.specs.Overlays.{grown, shrunk, covering};
+ghost use Rattle.rd_overlays.specs.Listings.{AreListings};
 ghost use Rattle.rd_overlays.specs.Values.{Gives, IsGreatest, last_given};
 
 /// Every edit leaves a start that isn't behind its end. The call does nothing.
@@ -13,17 +13,11 @@ pub fn edits_keep_starts_before_ends()
 
 /// A listing of the overlays that pass a test, as those that cover a position, start there or end there, holds exactly the
 /// numbers of such overlays that live. Each comes before those behind it, by its priority and where these are equal by its
-/// number, so that none stands in it twice. The call does nothing.
-pub fn listings_are_exact()
-    ensures holds { (test : Overlay → Bool) (slots : List (Option Overlay)) → HoldsExactly test slots (numbers_of test slots) }
-    ensures ascends { (test : Overlay → Bool) (slots : List (Option Overlay)) → Ascends slots (numbers_of test slots) }
-{}
-
-/// A listing depends on the numbers of the overlays that pass its test and on their priorities alone: two tests of two lists have
+/// number, so that none stands in it twice. A listing depends on these numbers and priorities alone: two tests of two lists have
 /// the same listing where at each number an overlay passes the one as an overlay with its priority passes the other. The call does
 /// nothing.
-pub fn listings_agree()
-    ensures { (f g : Overlay → Bool) (a b : List (Option Overlay)) → ((number : ℕ) → listed_priority f (overlay_at a number) ≡ listed_priority g (overlay_at b number)) → numbers_of f a ≡ numbers_of g b }
+pub fn listings_are_exact()
+    ensures { AreListings }
 {}
 
 /// Of the overlays that cover a position and have a value the last of the listing is the greatest, by priority and where these are equal

@@ -20,8 +20,7 @@ mod way;
 
 pub use fault::OverlayFault;
 pub use laws::{
-    edits_keep_starts_before_ends, last_values_are_the_greatest_overlays, listings_agree,
-    listings_are_exact,
+    edits_keep_starts_before_ends, last_values_are_the_greatest_overlays, listings_are_exact,
 };
 pub use overlay::{Kind, Overlay, after_deletion};
 pub use overlays::Overlays;

@@ -10,7 +10,7 @@ use Rattle.rd_overlays.specs.declared.overlay.Overlay.{Overlay}
 use Rattle.rd_overlays.specs.declared.overlay.Kind.{Kind}
 use Rattle.rd_overlays.specs.declared.overlay.Kind.TheVariants.{Face, Display, Invisible, LinePrefix, WrapPrefix, Before, After}
 use Rattle.rd_overlays.specs.Overlays.{overlay_at, place_of, covers, starts, ends, numbers_of, covering, starting, ending}
-use Rattle.rd_overlays.specs.Listings.{Passes, HoldsExactly, listed_priority}
+use Rattle.rd_overlays.specs.Listings.{Passes, listed_priority, AreListings}
 use Rattle.rd_objects.specs.Things.{ObjectLists}
 use Rattle.rd_overlays.specs.Values.{last_given}
 use Rattle.rd_props.specs.Buffers.{BufferValue}
@@ -39,16 +39,6 @@ picked test (Some o) = if test o then Some (mark_of o) else None
 -- at each number the same is seen of the overlays of two lists that pass two tests
 abbrev pub AreAlike : (Overlay → Bool) → (Overlay → Bool) → List (Option Overlay) → List (Option Overlay) → Type 0
 AreAlike f g a b = (number : ℕ) → picked f (overlay_at a number) ≡ picked g (overlay_at b number)
-
--- what a law of overlays says of two listings
-abbrev pub ListingsAgree : Type 0
-ListingsAgree = (f g : Overlay → Bool) (a b : List (Option Overlay))
-    → ((number : ℕ) → listed_priority f (overlay_at a number) ≡ listed_priority g (overlay_at b number)) → numbers_of f a ≡ numbers_of g b
-
--- what the laws of overlays say of listings
-pub record AreListings : Type 0 where
-  pub exact : (test : Overlay → Bool) (slots : List (Option Overlay)) → HoldsExactly test slots (numbers_of test slots)
-  pub agree : ListingsAgree
 
 abbrev priority_of : Option Mark → Option ℤ
 priority_of None = None

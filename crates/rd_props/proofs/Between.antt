@@ -4,7 +4,7 @@ use Rattle.std.proofs.lemmas.Bool.Decides.{nat_tests}
 use Rattle.std.proofs.lemmas.Bool.{lt-ltb}
 use Rattle.rd_overlays.specs.declared.overlay.Overlay.{Overlay}
 use Rattle.rd_overlays.specs.Overlays.{overlay_at, covers, starts, ends, numbers_of, covering}
-use Rattle.rd_overlays.specs.Listings.{listed_priority}
+use Rattle.rd_overlays.specs.Listings.{listed_priority, AreListings}
 use Rattle.rd_overlays.specs.Values.{last_given}
 use Rattle.rd_objects.specs.Things.{ObjectLists}
 use Rattle.rd_props.specs.Buffers.{BufferValue}
@@ -13,7 +13,7 @@ use Rattle.rd_props.specs.Values.{overlay_value}
 use Rattle.rd_props.specs.Faces.{laid_over}
 use Rattle.rd_props.specs.Strings.{strings_at}
 use Rattle.rd_props.specs.Appearance.{appearance_at}
-use Rattle.rd_props.proofs.Alike.{ListingsAgree, appearance-by}
+use Rattle.rd_props.proofs.Alike.{appearance-by}
 
 slot-same : (f g : Overlay → Bool) (slot : Option Overlay) → ((o : Overlay) → slot ≡ Some o → f o ≡ g o) → listed_priority f slot ≡ listed_priority g slot
 slot-same f g None same = refl
@@ -39,7 +39,7 @@ record IsQuiet (s : BufferValue) (p stop : ℕ) : Type 0 where
   same : (q : ℕ) → p < q → q < stop → AreSame s.properties q p
   no_edge : (q : ℕ) → p < q → q < stop → HasEdge s.overlays q → ⊥
 
-module _ (agree : ListingsAgree) (s : BufferValue) (p stop q : ℕ) (next : IsQuiet s p stop) (later : p < q) (before : q < stop) where
+module _ (listings : AreListings) (s : BufferValue) (p stop q : ℕ) (next : IsQuiet s p stop) (later : p < q) (before : q < stop) where
   -- the edges of an overlay that lives don't stand between the two positions
   outside : (k : ℕ) (o : Overlay) → overlay_at s.overlays k ≡ Some o → ((o.from ≤ p) ⊎ (q < o.from)) × ((o.to ≤ p) ⊎ (q < o.to))
   outside k o lives =
@@ -49,7 +49,7 @@ module _ (agree : ListingsAgree) (s : BufferValue) (p stop q : ℕ) (next : IsQu
 
   covering-same : covering q s.overlays ≡ covering p s.overlays
   covering-same =
-      agree (covers q) (covers p) s.overlays s.overlays (λ k.
+      listings.agree (covers q) (covers p) s.overlays s.overlays (λ k.
       slot-same (covers q) (covers p) (overlay_at s.overlays k) (λ o lives.
       let parts = outside k o lives in
       covers-by p q o later parts.0 parts.1))
@@ -68,31 +68,31 @@ module _ (agree : ListingsAgree) (s : BufferValue) (p stop q : ℕ) (next : IsQu
 
   none-start : numbers_of (starts q) s.overlays ≡ []
   none-start =
-      agree (starts q) (starts q) s.overlays [] (λ k.
+      listings.agree (starts q) (starts q) s.overlays [] (λ k.
       slot-none (starts q) (overlay_at s.overlays k) (λ o lives. starts-not q o (λ e. next.no_edge q later before (k, o, lives, inl e))))
 
   none-end : numbers_of (ends q) s.overlays ≡ []
   none-end =
-      agree (ends q) (ends q) s.overlays [] (λ k.
+      listings.agree (ends q) (ends q) s.overlays [] (λ k.
       slot-none (ends q) (overlay_at s.overlays k) (λ o lives. ends-not q o (λ e. next.no_edge q later before (k, o, lives, inr e))))
 
   strings-none : strings_at s q ≡ []
   strings-none = let first = none-start in let last = none-end in rw (first, last)
 
-quiet-alike : ListingsAgree → (s : BufferValue) (objects : ObjectLists) (p stop : ℕ) → IsQuiet s p stop → LookAlike s objects p stop
-quiet-alike agree s objects p stop next = record {
-  appearance = λ q later before. appearance-same agree s p stop q next later before objects;
-  strings = λ q later before. strings-none agree s p stop q next later before;
+quiet-alike : AreListings → (s : BufferValue) (objects : ObjectLists) (p stop : ℕ) → IsQuiet s p stop → LookAlike s objects p stop
+quiet-alike listings s objects p stop next = record {
+  appearance = λ q later before. appearance-same listings s p stop q next later before objects;
+  strings = λ q later before. strings-none listings s p stop q next later before;
 }
 
-pub look-alike : ListingsAgree → (s : BufferValue) (objects : ObjectLists) (p stop : ℕ) → IsNextStop s p stop → LookAlike s objects p stop
-look-alike agree s objects p stop next =
-    quiet-alike agree s objects p stop (record { within = next.within; same = next.same; no_edge = next.no_edge })
+pub look-alike : AreListings → (s : BufferValue) (objects : ObjectLists) (p stop : ℕ) → IsNextStop s p stop → LookAlike s objects p stop
+look-alike listings s objects p stop next =
+    quiet-alike listings s objects p stop (record { within = next.within; same = next.same; no_edge = next.no_edge })
 
-pub look-alike-back : ListingsAgree → (s : BufferValue) (objects : ObjectLists) (p stop : ℕ) → p < s.text.end → IsLastStop s p stop → LookAlike s objects stop (p + 1)
-look-alike-back agree s objects p stop inside last =
+pub look-alike-back : AreListings → (s : BufferValue) (objects : ObjectLists) (p stop : ℕ) → p < s.text.end → IsLastStop s p stop → LookAlike s objects stop (p + 1)
+look-alike-back listings s objects p stop inside last =
     let before = last.before in
-    quiet-alike agree s objects stop (p + 1) (record {
+    quiet-alike listings s objects stop (p + 1) (record {
       within = omega arith;
       same = λ q later up kind. last.same q (omega arith) (omega arith) kind ∙ sym (last.same stop (omega arith) before kind);
       no_edge = λ q later up. last.no_edge q later (omega arith);

@@ -5,11 +5,12 @@ use Rattle.rd_text.specs.Texts.{TextValue, IsText, IsAccessible}
 use Rattle.rd_text.specs.Answers.{IsAccessibleRange}
 use Rattle.rd_spans.proofs.Beside.{opened-before, opened-behind, closed-before, closed-behind}
 use Rattle.rd_overlays.specs.declared.overlay.Overlay.{Overlay}
+use Rattle.rd_overlays.specs.Listings.{AreListings}
 use Rattle.rd_objects.specs.Things.{ObjectLists}
 use Rattle.rd_props.specs.Buffers.{BufferValue}
 use Rattle.rd_props.specs.Agreement.{IsInReach, IsSame, IsEdited}
 use Rattle.rd_props.specs.Edits.{AreOrdered, IsInsertion, IsDeletion}
-use Rattle.rd_props.proofs.Alike.{AreListings, SeeSame, seen-agrees}
+use Rattle.rd_props.proofs.Alike.{SeeSame, seen-agrees}
 use Rattle.rd_props.proofs.Texts.{ReadsAlike, inserted-reads-before, inserted-reads-behind, deleted-reads-before, deleted-reads-behind}
 use Rattle.rd_props.proofs.Moves.{grown-before, grown-behind, shrunk-before, shrunk-behind}
 

@@ -11,6 +11,7 @@ use Rattle.rd_overlays.specs.declared.overlay.Overlay.{Overlay}
 use Rattle.rd_overlays.specs.declared.overlay.Kind.{Kind}
 use Rattle.rd_overlays.specs.declared.overlay.Kind.TheVariants.{Face}
 use Rattle.rd_overlays.specs.Overlays.{live, overlay_at, place_of, covers, starts, ends, covering, slot_changed, moved, dropped, given}
+use Rattle.rd_overlays.specs.Listings.{AreListings}
 use Rattle.rd_objects.specs.Things.{ObjectLists}
 use Rattle.rd_objects.specs.Sound.{Extends}
 use Rattle.rd_props.specs.Buffers.{BufferValue, property}
@@ -21,7 +22,7 @@ use Rattle.rd_props.specs.Seen.{seen_at, Agree}
 use Rattle.rd_props.specs.Agreement.{IsInReach, IsSame, Unchanged, IsEdited}
 use Rattle.rd_props.specs.Edits.{IsPut, HasOverlays}
 use Rattle.rd_props.specs.Made.{AreMade}
-use Rattle.rd_props.proofs.Alike.{AreListings, AreAlike, SeeSame, mark_of, picked, laid-by}
+use Rattle.rd_props.proofs.Alike.{AreAlike, SeeSame, mark_of, picked, laid-by}
 use Rattle.rd_props.proofs.Texts.{ReadsAlike}
 use Rattle.rd_props.proofs.Editing.{StaysSame, same-by, stays-by}
 use Rattle.rd_props.proofs.Sees.{slot-made}
