@@ -1,9 +1,11 @@
 -- The runs on one side of the gap.
 use Rattle.std.proofs.Common.{◌≡◌, ℕ, zero, suc, ◌+◌, ◌-◌, ◌<◌, ◌≤◌, Bool, true, false, if◌then◌else◌, List, [], ◌∷◌, ◌++◌, length, length-append, append_assoc, append-nil, replicate, take, Option, None, Some, inl, inr, refl, sym, ap, subst, ◌∙◌, arith}
 use Rattle.std.specs.Prelude.{is_some, min, nat_lt, nat_eq, slice_get, slice_index_or, reverse}
-use Rattle.std.proofs.lemmas.Bool.Decides.{nat_tests}
-use Rattle.std.proofs.lemmas.Bool.{eqb-true, eq-eqb, lt-ltb, le-ltb, cases_lt}
-use Rattle.std.proofs.lemmas.List.{replicate-append-replicate, replicate_more, length-replicate, take_all, length-reverse, reverse-append, get_or_append_left, get_or-append_right, get_or-replicate, get_or_past, get_or-reverse, take-append-le, reverse-reverse, length_push}
+use Rattle.std.specs.Bool.{Decides}
+use Rattle.std.proofs.lemmas.Bool.Decides.{Decides-like, Decides-eqb, same_from_decides}
+use Rattle.std.proofs.lemmas.Bool.{lt-ltb, le-ltb, cases_lt}
+use Rattle.std.proofs.lemmas.List.{replicate-append-replicate, replicate_more, length-replicate, take_all, length-reverse, reverse-append, get_or_append_left, get_or-append_right, get_or-replicate, get_or_past, get_or-reverse, take-append-le, reverse-reverse, length_push, length-take, get_or-take}
+use Rattle.std.proofs.lemmas.Option.{same_Some}
 use Rattle.std.proofs.lemmas.List.Elements.{All-replicate}
 use Rattle.rd_base.proofs.Lists.{all-read, last-read}
 use Rattle.std.proofs.lemmas.List.Sums.{fold_push}
@@ -11,17 +13,15 @@ use Rattle.rd_spans.specs.declared.run.ValueRun.{ValueRun}
 use Rattle.rd_spans.specs.Values.{value_at, IsTrimmed}
 use Rattle.rd_spans.specs.Sides.{values_from, values_of, Rises, reach, size_of, value_in, top, same_value, has_value, meet, needs, values_of_both, AreMoved, IsLighter, GapMoved}
 
--- values
+-- values: whether two are one is decided
 
-pub same_value-true : (a b : Option ℕ) → same_value a b ≡ true → a ≡ b
-same_value-true None None h = refl
-same_value-true None (Some b) h = cc
-same_value-true (Some a) None h = cc
-same_value-true (Some a) (Some b) h = ap Some (eqb-true a b h)
+pub value-decides : (a b : Option ℕ) → Decides (same_value a b) (a ≡ b)
+value-decides None None = (λ e. refl, λ e. refl)
+value-decides (Some a) (Some b) = Decides-like (nat_eq a b) (ap Some) (same_Some a b) (Decides-eqb a b)
+value-decides a b = (λ e. absurd (cc), λ e. absurd (cc))
 
-pub same_value-refl : (a : Option ℕ) → same_value a a ≡ true
-same_value-refl None = refl
-same_value-refl (Some a) = eq-eqb a a refl
+same_value-swap : (a b : Option ℕ) → same_value a b ≡ same_value b a
+same_value-swap a b = same_from_decides (same_value a b) (same_value b a) (value-decides a b) (Decides-like (same_value b a) (λ e. sym e) (λ e. sym e) (value-decides b a))
 
 -- runs and a last one
 
@@ -102,7 +102,7 @@ found-run (q ∷ es) zero p d below high h = rw (lt-ltb p q.end high) refl
 found-run (q ∷ es) (suc i) p d below high h =
     rw (le-ltb p q.end (below 0 q (omega arith))) (found-run es i p d (λ k d l. below (suc k) d (omega arith)) high (omega arith))
 
--- a run's end, and the end of the one before it
+-- a run's end, where those up to a later run end
 pub end-at : (k : ℕ) (es : List ValueRun) (i : ℕ) (d : ValueRun) → Rises k es → i < length es → (slice_index_or es i d).end ≤ reach k es
 end-at k [] i d h p = absurd (omega arith)
 end-at k (r ∷ rs) zero d h p = reach-least r.end rs h.1
@@ -113,15 +113,9 @@ rises-take k rs zero h = tt
 rises-take k [] (suc i) h = tt
 rises-take k (r ∷ rs) (suc i) h = (h.0, rises-take r.end rs i h.1)
 
-pub end-before : (k : ℕ) (es : List ValueRun) (i : ℕ) (d : ValueRun) → Rises k es → i < length es → (reach k (take i es) < (slice_index_or es i d).end) × ((j : ℕ) (c : ValueRun) → j < i → (slice_index_or es j c).end ≤ reach k (take i es))
-end-before k [] i d h p = absurd (omega arith)
-end-before k (r ∷ rs) zero d h p = (h.0, λ j c q. absurd (omega arith))
-end-before k (r ∷ rs) (suc i) d h p =
-    let rest = end-before r.end rs i d h.1 (omega arith) in
-    (rest.0, below k r rs i h rest.1) where
-      below : (k : ℕ) (r : ValueRun) (rs : List ValueRun) (i : ℕ) → Rises k (r ∷ rs) → ((j : ℕ) (c : ValueRun) → j < i → (slice_index_or rs j c).end ≤ reach r.end (take i rs)) → (j : ℕ) (c : ValueRun) → j < suc i → (slice_index_or (r ∷ rs) j c).end ≤ reach r.end (take i rs)
-      below k r rs i h rest zero c q = reach-least r.end (take i rs) (rises-take r.end rs i h.1)
-      below k r rs i h rest (suc j) c q = rest j c (omega arith)
+before-run : (k : ℕ) (es : List ValueRun) (i j : ℕ) (c : ValueRun) → Rises k es → j < i → i < length es → (slice_index_or es j c).end ≤ reach k (take i es)
+before-run k es i j c h p q =
+    subst (λ (r : ValueRun). r.end ≤ reach k (take i es)) (get_or-take i es j c p) (end-at k (take i es) j c (rises-take k es i h) (omega (arith, length-take i es)))
 
 pub reach-before : (k : ℕ) (es : List ValueRun) (i p : ℕ) → k ≤ p → ((j : ℕ) (c : ValueRun) → j < i → (slice_index_or es j c).end ≤ p) → reach k (take i es) ≤ p
 reach-before k es zero p low below = low
@@ -132,15 +126,14 @@ reach-before k (r ∷ rs) (suc i) p low below = reach-before r.end rs i p (below
 pub run-value : (es : List ValueRun) (i p : ℕ) (d : ValueRun) → Rises 0 es → i < length es → size_of (take i es) ≤ p → p < (slice_index_or es i d).end
     → value_at (values_of es) p ≡ (slice_index_or es i d).value
 run-value es i p d h l low high =
-    let before = (end-before 0 es i d h l).1 in
-    value-of-place es p h ∙ found-run es i p d (λ k x m. omega (arith, before k x m)) high l
+    value-of-place es p h ∙ found-run es i p d (λ k x m. omega (arith, before-run 0 es i k x h m l)) high l
 
 -- a run is opened at its end, or a new one begins
 pub has-top : (rs : List ValueRun) (r : ValueRun) (value : Option ℕ) → has_value (top (rs ++ r ∷ [])) value ≡ same_value r.value value
 has-top rs r value = rw (top-push rs r) refl
 
 pub opened-values : (rs : List ValueRun) (r : ValueRun) (value : Option ℕ) → same_value r.value value ≡ true → values_of (rs ++ r ∷ []) ≡ values_of rs ++ replicate (size_of (rs ++ r ∷ []) - size_of rs) value
-opened-values rs r value e = rw (reach-push 0 rs r, ← same_value-true r.value value e) (values-push 0 rs r)
+opened-values rs r value e = rw (reach-push 0 rs r, ← (value-decides r.value value).0 e) (values-push 0 rs r)
 
 -- so many of one value, in two parts
 in-parts : (vs : List (Option ℕ)) (n m k : ℕ) (value : Option ℕ) → k ≡ n + m → vs ++ replicate k value ≡ (vs ++ replicate n value) ++ replicate m value
@@ -195,15 +188,6 @@ taken-values old rs r value e f = rw e (opened-values rs r value f)
 
 -- two sides
 
-same_nat-swap : (a b : ℕ) → nat_eq a b ≡ nat_eq b a
-same_nat-swap a b = grind (arith, nat_tests)
-
-same_value-swap : (a b : Option ℕ) → same_value a b ≡ same_value b a
-same_value-swap None None = refl
-same_value-swap None (Some b) = refl
-same_value-swap (Some a) None = refl
-same_value-swap (Some a) (Some b) = same_nat-swap a b
-
 meet-run : (run : ValueRun) (o : Option ValueRun) → meet (Some run) o ≡ has_value o run.value
 meet-run run None = refl
 meet-run run (Some r) = same_value-swap run.value r.value
@@ -217,7 +201,7 @@ meet-swap (Some a) (Some b) = same_value-swap a.value b.value
 -- a last run with a value meets whatever has the value
 meet-value : (a b : Option ValueRun) (value : Option ℕ) → has_value b value ≡ true → meet a b ≡ has_value a value
 meet-value a None value h = absurd (cc)
-meet-value a (Some r) value h = ap (has_value a) (same_value-true r.value value h)
+meet-value a (Some r) value h = ap (has_value a) ((value-decides r.value value).0 h)
 
 pub one-at-most : (b : Bool) → (if b then 0 else 1) ≤ 1
 one-at-most true = omega arith

@@ -1,6 +1,6 @@
 use Rattle.std.proofs.Common.{◌≡◌, ◌+◌, refl, arith}
 use Rattle.rd_spans.specs.Sides.{size_of}
-use Rattle.rd_spans.proofs.Sides.{longer-values, rises-push, reach-push, has-top, same_value-refl}
+use Rattle.rd_spans.proofs.Sides.{longer-values, rises-push, reach-push, has-top, value-decides}
 use Rattle.rd_spans.proofs.side.push.Goals as goal
 
 pub returns-clause-values : goal.returns-clause-values
@@ -21,4 +21,4 @@ returns-clause-size c =
     rw (c.push_reserved.ensures.items, reach-push 0 c.open_end.new.runs.items _, end) refl
 
 pub returns-clause-top : goal.returns-clause-top
-returns-clause-top c = λ some. rw (c.push_reserved.ensures.items, has-top c.open_end.new.runs.items _ c.args.value) (same_value-refl c.args.value)
+returns-clause-top c = λ some. rw (c.push_reserved.ensures.items, has-top c.open_end.new.runs.items _ c.args.value) ((value-decides c.args.value c.args.value).1 refl)
