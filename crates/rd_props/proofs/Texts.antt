@@ -1,5 +1,5 @@
 -- Characters before and behind an edit.
-use Rattle.std.proofs.Common.{◌≡◌, ℕ, ◌+◌, ◌-◌, ◌<◌, ◌≤◌, Bool, true, false, if◌then◌else◌, List, ◌++◌, length, take, drop, None, refl, sym, ◌∙◌, arith}
+use Rattle.std.proofs.Common.{◌≡◌, ℕ, ◌+◌, ◌-◌, ◌<◌, ◌≤◌, Bool, true, false, if◌then◌else◌, List, ◌++◌, length, append_assoc, take, drop, None, refl, sym, ap, ◌∙◌, arith}
 use Rattle.std.specs.Prelude.{nat_lt, nat_le, slice_get}
 use Rattle.std.proofs.lemmas.Bool.Decides.{nat_tests}
 use Rattle.std.proofs.lemmas.List.{length-take, length-append}
@@ -16,36 +16,19 @@ char-by xs ys x y to from same = by (nat_le 1 x) (nat_le 1 y) refl refl where
   by false true ht hu = absurd (grind (arith, nat_tests))
   by false false ht hu = refl
 
-inserted-before : (t : TextValue) (place x : ℕ) (new : List ℕ) → place ≤ length t.text + 1 → x < place → char_at t x ≡ char_at (inserted t place new) x
-inserted-before t place x new within less =
-    char-by t.text (inserted t place new).text x x (λ h. h) (λ h. h) (λ some.
+-- what stands before an edit is read in the text's front, what stands behind it from where the rest begins
+same-before : (t u : TextValue) (place x : ℕ) (rest : List ℕ) → u.text ≡ take (place - 1) t.text ++ rest → place ≤ length t.text + 1 → x < place → char_at t x ≡ char_at u x
+same-before t u place x rest is within less =
+    char-by t.text u.text x x (λ h. h) (λ h. h) (λ some.
     let front = length-take (place - 1) t.text in
-    let both = length-append (take (place - 1) t.text) new in
-    sym (get-first (take (place - 1) t.text ++ new) (drop (place - 1) t.text) (x - 1) (omega arith)
-    ∙ (get-first (take (place - 1) t.text) new (x - 1) (omega arith) ∙ get-take (place - 1) t.text (x - 1) (omega arith))))
+    sym (ap (λ (xs : List ℕ). slice_get xs (x - 1)) is
+    ∙ (get-first (take (place - 1) t.text) rest (x - 1) (omega arith) ∙ get-take (place - 1) t.text (x - 1) (omega arith))))
 
-inserted-behind : (t : TextValue) (place x y : ℕ) (new : List ℕ) → 1 ≤ place → place ≤ length t.text + 1 → place ≤ x → x + length new ≡ y
-    → char_at t x ≡ char_at (inserted t place new) y
-inserted-behind t place x y new first within less is =
-    char-by t.text (inserted t place new).text x y (λ h. omega arith) (λ h. omega arith) (λ some.
-    let front = length-take (place - 1) t.text in
-    let both = length-append (take (place - 1) t.text) new in
-    sym (get-second (take (place - 1) t.text ++ new) (drop (place - 1) t.text) (y - 1) (x - place) (omega arith)
-    ∙ get-drop (place - 1) t.text (x - 1) (x - place) (omega arith)))
-
-deleted-before : (t : TextValue) (from to x : ℕ) → from ≤ length t.text + 1 → x < from → char_at t x ≡ char_at (deleted t from to) x
-deleted-before t from to x within less =
-    char-by t.text (deleted t from to).text x x (λ h. h) (λ h. h) (λ some.
-    let front = length-take (from - 1) t.text in
-    sym (get-first (take (from - 1) t.text) (drop (to - 1) t.text) (x - 1) (omega arith) ∙ get-take (from - 1) t.text (x - 1) (omega arith)))
-
-deleted-behind : (t : TextValue) (from to x y : ℕ) → 1 ≤ from → from ≤ to → from ≤ length t.text + 1 → from ≤ y → y + (to - from) ≡ x
-    → char_at t x ≡ char_at (deleted t from to) y
-deleted-behind t from to x y first ordered within less is =
-    char-by t.text (deleted t from to).text x y (λ h. omega arith) (λ h. omega arith) (λ some.
-    let front = length-take (from - 1) t.text in
-    sym (get-second (take (from - 1) t.text) (drop (to - 1) t.text) (y - 1) (y - from) (omega arith)
-    ∙ get-drop (to - 1) t.text (x - 1) (y - from) (omega arith)))
+same-behind : (t u : TextValue) (front : List ℕ) (to x y : ℕ) → u.text ≡ front ++ drop (to - 1) t.text → 1 ≤ to → to ≤ x → y + to ≡ x + length front + 1 → char_at t x ≡ char_at u y
+same-behind t u front to x y is first less place =
+    char-by t.text u.text x y (λ h. omega arith) (λ h. omega arith) (λ some.
+    sym (ap (λ (xs : List ℕ). slice_get xs (y - 1)) is
+    ∙ (get-second front (drop (to - 1) t.text) (y - 1) (x - to) (omega arith) ∙ get-drop (to - 1) t.text (x - 1) (x - to) (omega arith))))
 
 -- what is accessible reads the same at two positions of two texts, and neither end lies between them
 pub record ReadsAlike (t : TextValue) (x : ℕ) (u : TextValue) (y : ℕ) : Type 0 where
@@ -60,18 +43,22 @@ reads-by t u x y inside same to from = record { inside = inside; character = rw 
 
 pub inserted-reads-before : (t : TextValue) (place x : ℕ) (new : List ℕ) → place ≤ length t.text + 1 → place ≤ t.end → x < place → ReadsAlike t x (inserted t place new) x
 inserted-reads-before t place x new within last less =
-    reads-by t (inserted t place new) x x (grind (arith, nat_tests)) (inserted-before t place x new within less) (λ h. omega arith) (λ h. omega arith)
+    reads-by t (inserted t place new) x x (grind (arith, nat_tests))
+    (same-before t (inserted t place new) place x _ (append_assoc (take (place - 1) t.text) new (drop (place - 1) t.text)) within less) (λ h. omega arith) (λ h. omega arith)
 
 pub inserted-reads-behind : (t : TextValue) (place x y : ℕ) (new : List ℕ) → 1 ≤ place → place ≤ length t.text + 1 → place ≤ x → x + length new ≡ y
     → ReadsAlike t x (inserted t place new) y
 inserted-reads-behind t place x y new first within less is =
-    reads-by t (inserted t place new) x y (grind (arith, nat_tests)) (inserted-behind t place x y new first within less is) (λ h. omega arith) (λ h. omega arith)
+    reads-by t (inserted t place new) x y (grind (arith, nat_tests))
+    (same-behind t (inserted t place new) (take (place - 1) t.text ++ new) place x y refl first less (omega (arith, is, length-append (take (place - 1) t.text) new, length-take (place - 1) t.text)))
+    (λ h. omega arith) (λ h. omega arith)
 
 pub deleted-reads-before : (t : TextValue) (from to x : ℕ) → from ≤ length t.text + 1 → from ≤ to → to ≤ t.end → x < from → ReadsAlike t x (deleted t from to) x
 deleted-reads-before t from to x within ordered last less =
-    reads-by t (deleted t from to) x x (grind (arith, nat_tests)) (deleted-before t from to x within less) (λ h. omega arith) (λ h. omega arith)
+    reads-by t (deleted t from to) x x (grind (arith, nat_tests)) (same-before t (deleted t from to) from x _ refl within less) (λ h. omega arith) (λ h. omega arith)
 
 pub deleted-reads-behind : (t : TextValue) (from to x y : ℕ) → 1 ≤ from → from ≤ to → from ≤ length t.text + 1 → to ≤ t.end → from ≤ y → y + (to - from) ≡ x
     → ReadsAlike t x (deleted t from to) y
 deleted-reads-behind t from to x y first ordered within last less is =
-    reads-by t (deleted t from to) x y (grind (arith, nat_tests)) (deleted-behind t from to x y first ordered within less is) (λ h. omega arith) (λ h. omega arith)
+    reads-by t (deleted t from to) x y (grind (arith, nat_tests))
+    (same-behind t (deleted t from to) (take (from - 1) t.text) to x y refl (omega arith) (omega arith) (omega (arith, is, length-take (from - 1) t.text))) (λ h. omega arith) (λ h. omega arith)
