@@ -1,28 +1,25 @@
 -- What the bytes of a shift do to the terminal that reads them, and the law of the update that begins with one.
-use Rattle.std.proofs.Common.{◌≡◌, ℕ, zero, suc, ◌+◌, ◌-◌, ◌<◌, ◌≤◌, ◌==◌, ◌&&◌, nat_lt, nat_le, Bool, true, false, List, [], ◌∷◌, ◌++◌, length, get_or, map, take, drop, replicate, Option, None, Some, IfSome, refl, sym, ap, ◌∙◌, arith, subst, All}
+use Rattle.std.proofs.Common.{◌≡◌, ℕ, zero, suc, ◌+◌, ◌-◌, ◌<◌, ◌≤◌, ◌&&◌, nat_lt, nat_le, Bool, true, false, List, [], ◌∷◌, ◌++◌, length, get_or, map, take, drop, replicate, Option, None, Some, IfSome, refl, sym, ap, ◌∙◌, arith, subst}
 use Rattle.std.specs.Prelude.{ℤ, pos, negsuc, unsigned_abs, IsSome}
 use Rattle.std.specs.List.{AllByRecursion, flat_map}
 use Rattle.std.proofs.lemmas.Bool.Decides.{nat_tests}
 use Rattle.std.proofs.lemmas.List.{length-map, length-take-le, length-drop, length-replicate}
 use Rattle.std.proofs.lemmas.List.Elements.{recursion_from_All, All-take, All-drop, All-nil}
-use Rattle.std.specs.Char.{is_ascii_digit}
+use Rattle.std.proofs.lemmas.List.Sums.{fold-append}
 use Rattle.rd_base.proofs.Choices.{either}
 use Rattle.rd_base.proofs.Lists.{each-append, all-one}
 use Rattle.rd_base.specs.Faces.{Attributes, plain}
 use Rattle.rd_base.specs.declared.cell.Cell.{Cell}
-use Rattle.rd_term.specs.Controls.{control_of}
 use Rattle.rd_term.specs.Pictures.{Picture, blank, blank_row, width_of, IsGrid, IsOfSize}
 use Rattle.rd_term.specs.Shifts.{cleared, moved_down, moved_up, changed_between}
-use Rattle.rd_term.specs.Steps.{at_end}
-use Rattle.rd_term.specs.Terminals.{Tty, feed_bytes, perform, known}
-use Rattle.rd_term.specs.declared.reading.Reading.TheVariants.{Between}
+use Rattle.rd_term.specs.Terminals.{Tty, feed_byte, feed_bytes, known}
 use Rattle.rd_term.proofs.Cutting.{map-replicate}
 use Rattle.rd_term.proofs.Encoded.{Rows, standing}
 use Rattle.rd_term.proofs.Shapes.{grid-width, length-between, length-up, length-down, grid-known}
 use Rattle.rd_update.specs.Laws.{IsReady, IsUpdated}
 use Rattle.rd_update.specs.Updates.{differing, sequence, update, Update}
 use Rattle.rd_update.proofs.Parts.{cleared-all}
-use Rattle.rd_update.proofs.Sequences.{move_fed, tty-same}
+use Rattle.rd_update.proofs.Sequences.{move_fed, sequence-read, tty-same}
 use Rattle.rd_lineshift.specs.Choices.{AreWithin, cheaper, cheapest, choice, cost, if_gains, shifts_from, shifts_of}
 use Rattle.rd_lineshift.specs.Laws.{IsShift}
 use Rattle.rd_lineshift.specs.Plans.{after_shift, opening, shifted_update}
@@ -36,23 +33,13 @@ Place = Option (ℕ × ℕ)
 
 -- ---- sequences
 
--- how a terminal reads a control sequence
-abbrev pub Reads : Type 0
-Reads = (t : Tty) (last n : ℕ) (ns : List ℕ) → t.confused ≡ false → t.reading ≡ Between → is_ascii_digit last ≡ false → (last == 59) ≡ false
-    → n ≤ 65535 → All (λ k. k ≤ 65535) ns → length ns < 16
-    → feed_bytes t (sequence n ns last) ≡ perform (at_end (control_of last) (Some (n ∷ ns))) (record t { latest = None })
-
--- bytes are read one after another
-abbrev pub Cuts : Type 0
-Cuts = (t : Tty) (xs ys : List ℕ) → feed_bytes t (xs ++ ys) ≡ feed_bytes (feed_bytes t xs) ys
-
-region-fed : Reads → (r : Place) (rows : Rows) (cursor : Place) (wait : Bool) (pen : Option Attributes) (latest : Place) (top bottom : ℕ)
+region-fed : (r : Place) (rows : Rows) (cursor : Place) (wait : Bool) (pen : Option Attributes) (latest : Place) (top bottom : ℕ)
     → top + 1 < bottom → bottom ≤ length rows → bottom ≤ 65535
     → feed_bytes (standing r rows cursor wait pen latest) (region (top + 1) bottom) ≡ standing (Some (top, bottom - 1)) rows None false pen None
-region-fed reads r rows cursor wait pen latest top bottom order within small =
+region-fed r rows cursor wait pen latest top bottom order within small =
     let test : (nat_lt 0 (top + 1) && nat_lt (top + 1) bottom && nat_le bottom (length rows)) ≡ true = grind (arith, nat_tests) in
     let e : top + 1 - 1 ≡ top = omega arith in
-    reads (standing r rows cursor wait pen latest) 114 (top + 1) (bottom ∷ []) refl refl refl refl (omega arith) (all-one (λ (k : ℕ). k ≤ 65535) bottom small) (omega arith)
+    sequence-read (standing r rows cursor wait pen latest) 114 (top + 1) (bottom ∷ []) refl refl refl refl (omega arith) (all-one (λ (k : ℕ). k ≤ 65535) bottom small) (omega arith)
     ∙ rw (test, e) refl
 
 -- the rows as the terminal moves them
@@ -60,29 +47,29 @@ abbrev pub terminal_moved : ℤ → Rows → Rows
 terminal_moved (pos n) rows = moved_up n rows
 terminal_moved (negsuc n) rows = moved_down (suc n) rows
 
-moving-fed : Reads → (rows : Rows) (latest : Place) (top bottom : ℕ) (by : ℤ) → 1 ≤ unsigned_abs by → unsigned_abs by ≤ 65535 → top ≤ bottom
+moving-fed : (rows : Rows) (latest : Place) (top bottom : ℕ) (by : ℤ) → 1 ≤ unsigned_abs by → unsigned_abs by ≤ 65535 → top ≤ bottom
     → feed_bytes (standing (Some (top, bottom)) rows (Some (top, 0)) false (Some plain) latest) (moving by)
     ≡ standing (Some (top, bottom)) (changed_between top (bottom + 1) (terminal_moved by) rows) None false (Some plain) None
-moving-fed reads rows latest top bottom (pos n) some small order =
+moving-fed rows latest top bottom (pos n) some small order =
     let first : nat_lt 0 n ≡ true = grind (arith, nat_tests) in
     let inside : (nat_le top top && nat_le top bottom) ≡ true = grind (arith, nat_tests) in
-    reads (standing (Some (top, bottom)) rows (Some (top, 0)) false (Some plain) latest) 77 n [] refl refl refl refl small (All-nil (λ (k : ℕ). k ≤ 65535)) (omega arith)
+    sequence-read (standing (Some (top, bottom)) rows (Some (top, 0)) false (Some plain) latest) 77 n [] refl refl refl refl small (All-nil (λ (k : ℕ). k ≤ 65535)) (omega arith)
     ∙ rw (first, inside) refl
-moving-fed reads rows latest top bottom (negsuc n) some small order =
+moving-fed rows latest top bottom (negsuc n) some small order =
     let first : nat_lt 0 (suc n) ≡ true = grind (arith, nat_tests) in
     let inside : (nat_le top top && nat_le top bottom) ≡ true = grind (arith, nat_tests) in
-    reads (standing (Some (top, bottom)) rows (Some (top, 0)) false (Some plain) latest) 76 (suc n) [] refl refl refl refl small (All-nil (λ (k : ℕ). k ≤ 65535)) (omega arith)
+    sequence-read (standing (Some (top, bottom)) rows (Some (top, 0)) false (Some plain) latest) 76 (suc n) [] refl refl refl refl small (All-nil (λ (k : ℕ). k ≤ 65535)) (omega arith)
     ∙ rw (first, inside) refl
 
 length-moved : (by : ℤ) (rows : Rows) → length (terminal_moved by rows) ≡ length rows
 length-moved (pos n) rows = length-up n rows
 length-moved (negsuc n) rows = length-down (suc n) rows
 
-pub shift-fed : Reads → Cuts → (r : Place) (rows : Rows) (cursor : Place) (wait : Bool) (latest : Place) (height : ℕ) (s : Shift)
+pub shift-fed : (r : Place) (rows : Rows) (cursor : Place) (wait : Bool) (latest : Place) (height : ℕ) (s : Shift)
     → length rows ≡ height → height ≤ 200 → IsShift height s → 0 < length (get_or rows s.top [])
     → feed_bytes (standing r rows cursor wait (Some plain) latest) (shift_bytes height s)
     ≡ standing (Some (0, height - 1)) (changed_between s.top (s.top + s.height) (terminal_moved s.by) rows) None false (Some plain) None
-shift-fed reads cuts r rows cursor wait latest height s n tall h some =
+shift-fed r rows cursor wait latest height s n tall h some =
     let end = s.top + s.height in
     let t0 = standing r rows cursor wait (Some plain) latest in
     let t1 = standing (Some (s.top, end - 1)) rows None false (Some plain) None in
@@ -92,17 +79,17 @@ shift-fed reads cuts r rows cursor wait latest height s n tall h some =
     let move = sequence (s.top + 1) (1 ∷ []) 72 in
     let order : s.top + 1 < s.top + s.height = omega (arith, h.some, h.left) in
     let back : s.top + s.height - 1 + 1 ≡ s.top + s.height = omega (arith, order) in
-    let one = region-fed reads r rows cursor wait (Some plain) latest s.top end order (omega (arith, n, h.within)) (omega (arith, h.within, tall)) in
+    let one = region-fed r rows cursor wait (Some plain) latest s.top end order (omega (arith, n, h.within)) (omega (arith, h.within, tall)) in
     let two = move_fed (Some (s.top, end - 1)) rows None false (Some plain) None s.top 0 (omega (arith, n, h.within, order)) some (omega (arith, h.within, tall, order)) (omega arith) in
-    let three = moving-fed reads rows None s.top (end - 1) s.by h.some (omega (arith, h.left, h.within, tall)) (omega (arith, order)) in
+    let three = moving-fed rows None s.top (end - 1) s.by h.some (omega (arith, h.left, h.within, tall)) (omega (arith, order)) in
     let long : length after ≡ height =
     length-between s.top (end - 1 + 1) (terminal_moved s.by) rows (λ part _. length-moved s.by part) (omega (arith, back)) (omega (arith, back, n, h.within)) ∙ n in
-    let four = region-fed reads (Some (s.top, end - 1)) after None false (Some plain) None 0 height (omega (arith, h.within, order)) (omega (arith, long)) (omega (arith, tall)) in
-    cuts t0 (region (s.top + 1) end) (move ++ (moving s.by ++ region 1 height))
+    let four = region-fed (Some (s.top, end - 1)) after None false (Some plain) None 0 height (omega (arith, h.within, order)) (omega (arith, long)) (omega (arith, tall)) in
+    fold-append feed_byte t0 (region (s.top + 1) end) (move ++ (moving s.by ++ region 1 height))
     ∙ ap (λ t. feed_bytes t (move ++ (moving s.by ++ region 1 height))) one
-    ∙ cuts t1 move (moving s.by ++ region 1 height)
+    ∙ fold-append feed_byte t1 move (moving s.by ++ region 1 height)
     ∙ ap (λ t. feed_bytes t (moving s.by ++ region 1 height)) two
-    ∙ cuts t2 (moving s.by) (region 1 height)
+    ∙ fold-append feed_byte t2 (moving s.by) (region 1 height)
     ∙ ap (λ t. feed_bytes t (region 1 height)) three
     ∙ four
     ∙ ap (λ e. standing (Some (0, height - 1)) (changed_between s.top e (terminal_moved s.by) rows) None false (Some plain) None) back
@@ -186,9 +173,9 @@ shifted-size w h s screen size fits =
       column = size.column;
     }
 
-pub ready-shifted : Reads → Cuts → (w h : ℕ) (screen target : Picture) (t : Tty) (s : Shift) → IsReady w h (Some screen) target t → IsShift h s
+pub ready-shifted : (w h : ℕ) (screen target : Picture) (t : Tty) (s : Shift) → IsReady w h (Some screen) target t → IsShift h s
     → IsReady w h (Some (shifted s screen)) target (feed_bytes t (shift_bytes h s))
-ready-shifted reads cuts w h screen target t s r fits =
+ready-shifted w h screen target t s r fits =
     let size = r.there.now.0 in
     let v = width_of screen.rows in
     let e : width_of screen.rows ≡ w = grid-width w screen.rows (omega (arith, size.rows, size.row)) size.each in
@@ -201,7 +188,7 @@ ready-shifted reads cuts w h screen target t s r fits =
     let some : 0 < length (get_or (known screen.rows) s.top []) = omega (arith, grid-known w screen.rows size.each s.top [] top, size.column) in
     let is : feed_bytes t (shift_bytes h s) ≡ standing (Some (0, h - 1)) (known (shifted s screen).rows) None false (Some plain) None =
     ap (λ x. feed_bytes x (shift_bytes h s)) before
-    ∙ shift-fed reads cuts t.region (known screen.rows) t.cursor t.wait t.latest h s n r.tall fits some
+    ∙ shift-fed t.region (known screen.rows) t.cursor t.wait t.latest h s n r.tall fits some
     ∙ ap (λ rows. standing (Some (0, h - 1)) rows None false (Some plain) None) (shifted-known v s screen.rows grid fits_rows) in
     let rows = length-map (shifted s screen).rows (map Some) ∙ after.rows in
     let each = grid-known w (shifted s screen).rows after.each in
@@ -223,19 +210,19 @@ Updates = (width height : ℕ) (current : Option Picture) (target : Picture) (li
 other-bytes : (w h : ℕ) (u : Update) (bytes : List ℕ) (target : Picture) (t : Tty) → IsUpdated w h u target t → IsUpdated w h (record u { bytes = bytes }) target t
 other-bytes w h u bytes target t x = record { sure = x.sure; between = x.between; size = x.size; cells = x.cells; pen = x.pen; cursor = x.cursor }
 
-taken-updated : Reads → Cuts → Updates → (w h : ℕ) (current : Option Picture) (target : Picture) (limit : Option ℕ) (t : Tty) (taken : Option Shift)
+taken-updated : Updates → (w h : ℕ) (current : Option Picture) (target : Picture) (limit : Option ℕ) (t : Tty) (taken : Option Shift)
     → IsReady w h current target t → IfSome taken (λ s. IsSome current × IsShift h s)
     → let rest = update (after_shift taken current) target limit in
     IsUpdated w h (record rest { bytes = opening h taken ++ rest.bytes }) target (feed_bytes t (opening h taken ++ rest.bytes))
-taken-updated reads cuts updates w h current target limit t None r fits =
+taken-updated updates w h current target limit t None r fits =
     let u = update current target limit in
     other-bytes w h u u.bytes target (feed_bytes t u.bytes) (updates w h current target limit t r)
-taken-updated reads cuts updates w h None target limit t (Some s) r fits = absurd (let none : false ≡ true = fits.0 in cc)
-taken-updated reads cuts updates w h (Some screen) target limit t (Some s) r fits =
+taken-updated updates w h None target limit t (Some s) r fits = absurd (let none : false ≡ true = fits.0 in cc)
+taken-updated updates w h (Some screen) target limit t (Some s) r fits =
     let u = update (Some (shifted s screen)) target limit in
-    let ready = ready-shifted reads cuts w h screen target t s r fits.1 in
+    let ready = ready-shifted w h screen target t s r fits.1 in
     let bytes = shift_bytes h s ++ u.bytes in
-    rw (cuts t (shift_bytes h s) u.bytes)
+    rw (fold-append feed_byte t (shift_bytes h s) u.bytes)
     (other-bytes w h u bytes target (feed_bytes (feed_bytes t (shift_bytes h s)) u.bytes) (updates w h (Some (shifted s screen)) target limit (feed_bytes t (shift_bytes h s)) ready))
 
 both : (current : Picture) (height : ℕ) (s : Option Shift) → IfSome s (IsShift height) → IfSome s (λ s. IsSome (Some current) × IsShift height s)
@@ -246,8 +233,8 @@ known-taken : (height : ℕ) (current : Option Picture) (target : Picture) (band
 known-taken height None target bands h = tt
 known-taken height (Some current) target bands h = both current height (choice (Some current) target bands) (taken-fits height (Some current) target bands h)
 
-pub shifted-updated : Reads → Cuts → Updates → (w h : ℕ) (current : Option Picture) (target : Picture) (bands : List Band) (limit : Option ℕ) (t : Tty)
+pub shifted-updated : Updates → (w h : ℕ) (current : Option Picture) (target : Picture) (bands : List Band) (limit : Option ℕ) (t : Tty)
     → IsReady w h current target t → AreWithin h bands
     → IsUpdated w h (shifted_update current target bands limit) target (feed_bytes t (shifted_update current target bands limit).bytes)
-shifted-updated reads cuts updates w h current target bands limit t r within =
-    rw r.size.rows (taken-updated reads cuts updates w h current target limit t (choice current target bands) r (known-taken h current target bands within))
+shifted-updated updates w h current target bands limit t r within =
+    rw r.size.rows (taken-updated updates w h current target limit t (choice current target bands) r (known-taken h current target bands within))

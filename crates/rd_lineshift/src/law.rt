@@ -13,10 +13,7 @@ ghost use Rattle.rd_lineshift.specs.Plans.{shifted_update};
 ghost use Rattle.rd_lineshift.specs.declared.band.Band.{Band};
 ghost use Rattle.rd_lineshift.specs.declared.band.Shift.{Shift};
 
-use rd_term::a_cut_makes_no_difference;
-use rd_update::{
-    sequences_are_read, update_law, updates_keep_screens_sound, updates_reach_their_targets,
-};
+use rd_update::{update_law, updates_keep_screens_sound, updates_reach_their_targets};
 
 /// The update law, with shifts. Take a terminal that is not confused and stands between two sequences, a well-formed target of
 /// its size, any bands on it and any limit of rows; nothing is asked of its region. Either the current screen is unknown, or
@@ -28,8 +25,6 @@ pub fn shift_law()
         → IsReady width height current target t → AreWithin height bands
         → IsUpdated width height (shifted_update current target bands limit) target (feed_bytes t (shifted_update current target bands limit).bytes) }
 {
-    a_cut_makes_no_difference();
-    sequences_are_read();
     update_law();
 }
 

@@ -2,4 +2,4 @@ use Rattle.rd_lineshift.proofs.Reaching.{shifted-updated}
 use Rattle.rd_lineshift.proofs.law.shift_law.Goals as goal
 
 pub returns : goal.returns
-returns c = shifted-updated c.sequences_are_read.ensures c.a_cut_makes_no_difference.ensures c.update_law.ensures
+returns c = shifted-updated c.update_law.ensures
