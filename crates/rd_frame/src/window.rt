@@ -97,11 +97,8 @@ fn paint_row(
 {
     let _width = screen.width();
     screen.set_cells(window.rect.y + row, window.rect.x, margin);
-    screen.set_cells(
-        window.rect.y + row,
-        window.rect.x + margin.len() as u32,
-        text,
-    );
+    let column = window.rect.x + margin.len() as u32;
+    screen.set_cells(window.rect.y + row, column, text);
     paint_border(screen, window, border, row);
 }
 
@@ -114,11 +111,8 @@ fn paint_border(screen: &mut Screen, window: Placed, border: &Cell, row: u32)
     ensures rows { length screen.new.rows ≡ length screen.old.rows }
 {
     if has_border(screen.width(), window) {
-        screen.set_cells(
-            window.rect.y + row,
-            window.rect.x + window.rect.width - 1,
-            &[*border],
-        );
+        let column = window.rect.x + window.rect.width - 1;
+        screen.set_cells(window.rect.y + row, column, &[*border]);
     }
 }
 
