@@ -1,7 +1,7 @@
 -- A window that rests on its last layout, and a new layout that stands.
-use Rattle.std.proofs.Common.{◌≡◌, ℕ, suc, ◌+◌, ◌-◌, ◌<◌, ◌≤◌, inl, inr, Bool, true, false, not, if◌then◌else◌, ◌==◌, ◌&&◌, leb, ltb, min, List, [], ◌∷◌, ◌++◌, length, take, drop, slice_get, Option, Some, pos, refl, sym, ap, ap₂, ◌∙◌, subst, arith}
+use Rattle.std.proofs.Common.{◌≡◌, ℕ, suc, ◌+◌, ◌-◌, ◌<◌, ◌≤◌, inl, inr, Bool, true, false, if◌then◌else◌, ◌==◌, ◌&&◌, leb, ltb, min, List, [], ◌∷◌, ◌++◌, length, take, drop, slice_get, Option, Some, pos, refl, sym, ap, ap₂, ◌∙◌, subst, arith}
 use Rattle.std.specs.Option.{unwrap_or}
-use Rattle.std.proofs.lemmas.Bool.{and_parts, cases_Bool, eq-eqb, eqb-true, leb-true, lt-ltb, ltb-true}
+use Rattle.std.proofs.lemmas.Bool.{and_parts, cases_lt, eq-eqb, eqb-true, lt-ltb, ltb-true}
 use Rattle.std.proofs.lemmas.Bool.Decides.{nat_tests}
 use Rattle.rd_base.proofs.Lists.{at-seam}
 use Rattle.rd_base.proofs.Choices.{opposite}
@@ -41,17 +41,11 @@ pub record IsCurrent (l : Layout) (shape : ShapeValues) (w : Wanted) : Type 0 wh
 
 pub current : (l : Layout) (shape : ShapeValues) (w : Wanted) → is_current l shape w ≡ true → IsCurrent l shape w
 current l shape w e =
-    let unchanged = is_none l.change in
-    let free = not w.forced in
-    let shapes = is_same_shape l.shape shape in
-    let height = l.height == w.height in
-    let margin = l.margin == w.margin in
-    let far = l.conservatively == w.conservatively in
-    let five = and_parts (unchanged && free && shapes && height && margin) far e in
-    let four = and_parts (unchanged && free && shapes && height) margin five.0 in
-    let three = and_parts (unchanged && free && shapes) height four.0 in
-    let two = and_parts (unchanged && free) shapes three.0 in
-    let one = and_parts unchanged free two.0 in
+    let five = and_parts _ _ e in
+    let four = and_parts _ _ five.0 in
+    let three = and_parts _ _ four.0 in
+    let two = and_parts _ _ three.0 in
+    let one = and_parts _ _ two.0 in
     record {
       unchanged = one.0;
       free = opposite true w.forced (sym one.1);
@@ -73,17 +67,13 @@ suits-shown w at row above below place low up down =
 
 pub suits-hidden : (w : Wanted) (at : Places) → (at.old ≤ at.point → at.point < at.old + w.height → false ≡ true) → suits w at at.old ≡ false
 suits-hidden w at out =
-    let above = wanted_above w at.old in
-    let below = wanted_below w at.count at.old in
-    elim (cases_Bool (suits w at at.old)) [
-      | inl fits ↦
-          let both = and_parts (ltb at.old at.count) (is_inside w.height above below at.old at.point) fits in
-          let inside = and_parts (leb (at.old + above) at.point) (leb (at.point + below + 1) (at.old + w.height)) both.1 in
-          let low = leb-true (at.old + above) at.point inside.0 in
-          let high = leb-true (at.point + below + 1) (at.old + w.height) inside.1 in
-          let never : false ≡ true = out (omega (arith, low)) (omega (arith, high)) in
-          absurd cc
-      | inr not_there ↦ not_there
+    elim (cases_lt at.point at.old) [
+      | inl above ↦ grind (arith, nat_tests)
+      | inr low ↦
+          elim (cases_lt at.point (at.old + w.height)) [
+            | inl high ↦ absurd (let never = out low high in cc)
+            | inr below ↦ grind (arith, nat_tests)
+          ]
     ]
 
 -- how many rows are wanted above and below point's, as a layout knows it
