@@ -16,35 +16,18 @@ pub fn generated(alloc: Global, number: u32) -> Result<ListOf<ListOf<u8>>, Memor
     ensures { IfOk result (λ lines. lines ≡ script number) }
 {
     let mut lines = ListOf::new(alloc);
-    push(
-        alloc,
-        &mut lines,
-        "{\"op\":\"frame\",\"width\":80,\"height\":24}",
-    )?;
-    push(
-        alloc,
-        &mut lines,
-        "{\"op\":\"mode_line\",\"window\":0,\"format\":\"%* %b %l %p\"}",
-    )?;
-    push(
-        alloc,
-        &mut lines,
-        "{\"op\":\"wrap\",\"window\":0,\"mode\":\"continue\"}",
-    )?;
+    let frame = "{\"op\":\"frame\",\"width\":80,\"height\":24}";
+    push(alloc, &mut lines, frame)?;
+    let format = "{\"op\":\"mode_line\",\"window\":0,\"format\":\"%* %b %l %p\"}";
+    push(alloc, &mut lines, format)?;
+    let wrap = "{\"op\":\"wrap\",\"window\":0,\"mode\":\"continue\"}";
+    push(alloc, &mut lines, wrap)?;
     push_insertions(alloc, &mut lines, number)?;
     push_shown(alloc, &mut lines, 200, "{\"op\":\"type\",\"text\":\"x\"}")?;
-    push_shown(
-        alloc,
-        &mut lines,
-        50,
-        "{\"op\":\"scroll\",\"window\":0,\"rows\":22}",
-    )?;
-    push_shown(
-        alloc,
-        &mut lines,
-        1,
-        "{\"op\":\"split\",\"window\":0,\"side\":\"below\",\"size\":11}",
-    )?;
+    let scroll = "{\"op\":\"scroll\",\"window\":0,\"rows\":22}";
+    push_shown(alloc, &mut lines, 50, scroll)?;
+    let split = "{\"op\":\"split\",\"window\":0,\"side\":\"below\",\"size\":11}";
+    push_shown(alloc, &mut lines, 1, split)?;
     push_shown(alloc, &mut lines, 20, "{\"op\":\"type\",\"text\":\"y\"}")?;
     Ok(lines)
 }
