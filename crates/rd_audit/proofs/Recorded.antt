@@ -14,7 +14,6 @@ use Rattle.rd_layout.specs.Redisplays.{update_of}
 use Rattle.rd_layout.specs.Screens.{laid_out}
 use Rattle.rd_layout.specs.Sessions.{SessionValue}
 use Rattle.rd_layout.specs.Since.{FitsFrame, IsSession}
-use Rattle.rd_layout.specs.Windows.{places}
 use Rattle.rd_layout.proofs.Placed.{shown-count}
 use Rattle.rd_run.proofs.Effects.{effect-is, shown-done}
 use Rattle.rd_update.proofs.Sizes.{is-screen, width-is}
@@ -23,7 +22,7 @@ use Rattle.rd_run.specs.Alike.{End}
 use Rattle.rd_run.specs.Ends.{Comes, Drawn, Ended, IsWhole, Ran, Sunk, Took, done_of, last_in, told_in}
 use Rattle.rd_run.specs.Given.{Given}
 use Rattle.rd_run.specs.Reports.{last_line, shown_line, stopped_line}
-use Rattle.rd_run.specs.Runs.{Effect, Input, LeadsOn, Mode, Standing, World, after, dump_lines, effect, is_shown, opened, outcome_at, run, run_line, told_of}
+use Rattle.rd_run.specs.Runs.{Effect, Input, Mode, StandLaws, Standing, World, after, dump_lines, effect, is_shown, opened, outcome_at, run, run_line, told_of}
 use Rattle.rd_run.specs.declared.status.Status.{Status}
 use Rattle.rd_run.specs.declared.status.Status.TheVariants.{Done, WriteFault}
 use Rattle.rd_state.specs.States.{StateValue}
@@ -43,13 +42,6 @@ use Rattle.rd_audit.specs.Printed.{HasDump, HasNoCursor}
 use Rattle.rd_audit.specs.Recorded.{IsRecording, LeaveScreen, recorded, since}
 use Rattle.rd_audit.specs.Rows.{is_cursor}
 use Rattle.rd_audit.specs.Verdicts as verdicts
-
--- what the layers below promise of runs, and of the windows of a frame
-pub record RunLaws : Type 0 where
-  pub session : (mode : Mode) (inputs : List Input) → IsSession (run (opened mode) inputs).now.session
-  pub in_mode : (mode : Mode) (inputs : List Input) → (run (opened mode) inputs).now.mode ≡ mode
-  pub leads : (mode : Mode) (inputs : List Input) (t : Input) → LeadsOn (run (opened mode) inputs) t
-  pub places : PlaceLaws
 
 -- ---- the dump of a screen
 
@@ -151,9 +143,9 @@ terminals-same : (w n x m : ℕ) (bs cs : List ℕ) → w ≡ x → n ≡ m → 
 terminals-same w n x m bs cs p q r =
     ap (λ k. feed_bytes (unknown k n) bs) p ∙ ap (λ k. feed_bytes (unknown x k) bs) q ∙ ap (feed_bytes (unknown x m)) r
 
-shown-run : (laws : RunLaws) (mode : Mode) (before : List Input) (t : Input) (behind : List Input) → mode.dumps ≡ true → mode.generated ≡ None → Ran mode (before ++ t ∷ behind)
-    → is_shown (outcome_at (run (opened mode) before) t) ≡ true → LeaveScreen (run_line (run (opened mode) before) t) behind → IsLeft mode (before ++ t ∷ behind)
-shown-run laws mode before t behind dumps read ran shown leave =
+shown-run : (laws : StandLaws) (places : PlaceLaws) (mode : Mode) (before : List Input) (t : Input) (behind : List Input) → mode.dumps ≡ true → mode.generated ≡ None
+    → Ran mode (before ++ t ∷ behind) → is_shown (outcome_at (run (opened mode) before) t) ≡ true → LeaveScreen (run_line (run (opened mode) before) t) behind → IsLeft mode (before ++ t ∷ behind)
+shown-run laws places mode before t behind dumps read ran shown leave =
     let w = run (opened mode) before in
     let next = run_line w t in
     let inputs = before ++ t ∷ behind in
@@ -182,7 +174,7 @@ shown-run laws mode before t behind dumps read ran shown leave =
       picture = screen;
       has = has-dump next.now.session.state screen session.state fits;
       windows = facts_of next.now.session;
-      some = windows-told laws.places next.now.session session.state;
+      some = windows-told places next.now.session session.state;
       front = w.told ++ line;
       tail = leaves.tail;
       told = ap (λ (x : World). x.told) whole ∙ leaves.told ∙ ap (λ l. l ++ leaves.tail) told ∙ joined w.told line dump leaves.tail;
@@ -242,15 +234,15 @@ left-agrees mode inputs file old read e left =
       shows = left.shows;
     }
 
-pub recording-agrees : (laws : RunLaws) (e : End) (mode : Mode) (stream file : List ℕ) → IsRecording e mode stream file
+pub recording-agrees : (laws : StandLaws) (places : PlaceLaws) (e : End) (mode : Mode) (stream file : List ℕ) → IsRecording e mode stream file
     → Agree stream file
-recording-agrees laws e mode stream file h =
+recording-agrees laws places e mode stream file h =
     let whole = whole-of e.given e.mode mode e.status e.inputs e.bytes e.source e.screen e.report h.begun h.status h.ended in
     let ran = ran-of e.given mode e.inputs e.bytes e.source whole.comes in
     let last = h.ends in
     let inputs = last.before ++ last.redisplay ∷ last.behind in
     let left : IsLeft mode inputs =
-    shown-run laws mode last.before last.redisplay last.behind h.dumps h.read (subst (Ran mode) last.split ran) last.shown last.leave in
+    shown-run laws places mode last.before last.redisplay last.behind h.dumps h.read (subst (Ran mode) last.split ran) last.shown last.leave in
     let all : IsLeft mode e.inputs = subst (IsLeft mode) (sym last.split) left in
     let told = wrote e.report.before e.report.after (told_in (Some mode) e.inputs ++ last_in (Some mode) Done e.inputs) file h.told h.contents whole.told in
     subst (λ s. Agree s file) (sym h.sent) (left-agrees mode e.inputs file told.0 h.read told.1 all)

@@ -18,6 +18,7 @@ use Rattle.rd_layout.specs.Facts.{facts_of}
 use Rattle.rd_layout.specs.Redisplays.{allowed, update_of, outcome_of}
 use Rattle.rd_layout.specs.Screens.{laid_out}
 use Rattle.rd_layout.specs.Sessions.{SessionValue, behind, is_frame, opened as opened_session, session_step}
+use Rattle.rd_layout.specs.Since.{IsSession}
 use Rattle.rd_layout.specs.declared.outcome.Outcome.{Outcome}
 use Rattle.rd_layout.specs.declared.outcome.Outcome.TheVariants.{Shown, Stopped, NoMemory}
 use Rattle.rd_run.specs.Reports.{shown_line, stopped_line, no_memory_line}
@@ -220,3 +221,9 @@ pub record LeadsOn (w : World) (t : Input) : Type 0 where
   pub knows : is_sent (outcome_at w t) ≡ true → IsOn (run_line w t).now.session.current (run_line w t).terminal
   pub reaches : is_shown (outcome_at w t) ≡ true → (run_line w t).now.session.current ≡ Some (laid_out w.now.session.files w.now.session.state).picture
   pub shows : is_shown (outcome_at w t) ≡ true → Shows (run_line w t).terminal (laid_out w.now.session.files w.now.session.state).picture
+
+-- what stands behind any lines of a run
+pub record StandLaws : Type 0 where
+  pub session : (mode : Mode) (inputs : List Input) → IsSession (run (opened mode) inputs).now.session
+  pub in_mode : (mode : Mode) (inputs : List Input) → (run (opened mode) inputs).now.mode ≡ mode
+  pub leads : (mode : Mode) (inputs : List Input) (t : Input) → LeadsOn (run (opened mode) inputs) t

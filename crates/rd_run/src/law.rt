@@ -1,11 +1,10 @@
 //! The laws of a run: what stands behind its lines, what the terminal shows behind each redisplay, when two ends are alike, and how runs
 //! over valid scripts end.
-ghost use Rattle.std.specs.Prelude.{◌≡◌, ℕ, List, Option};
-ghost use Rattle.rd_layout.specs.Since.{IsSession};
+ghost use Rattle.std.specs.Prelude.{ℕ, List, Option};
 ghost use Rattle.rd_run.specs.Alike.{AreAlike, AreGivenAlike, AreStarvedAlikeIn, End, IsFaultless, IsUndisturbed};
 ghost use Rattle.rd_run.specs.Ends.{Comes, Drawn};
 ghost use Rattle.rd_run.specs.Given.{Given, IsMode};
-ghost use Rattle.rd_run.specs.Runs.{Input, KnowsEach, LeadsOn, Mode, ShowsEach, opened, run};
+ghost use Rattle.rd_run.specs.Runs.{Input, KnowsEach, Mode, ShowsEach, StandLaws, opened};
 ghost use Rattle.rd_run.specs.Statuses.{TellsNoMemory};
 ghost use Rattle.rd_run.specs.Validity.{EndsWell, IsValidScript};
 ghost use Rattle.rd_run.specs.declared.status.Status.{Status};
@@ -21,9 +20,7 @@ use rd_script::no_line_says_want_of_memory;
 /// the mode in which it began (`in_mode`). The next line leads on from there: the frame keeps its size unless a new terminal begins, and
 /// the screen behind a redisplay that is shown or stopped is known and on the terminal (`leads`). The call does nothing.
 pub fn a_session_stands_behind_each_line()
-    ensures session { (mode : Mode) (inputs : List Input) → IsSession (run (opened mode) inputs).now.session }
-    ensures in_mode { (mode : Mode) (inputs : List Input) → (run (opened mode) inputs).now.mode ≡ mode }
-    ensures leads { (mode : Mode) (inputs : List Input) (t : Input) → LeadsOn (run (opened mode) inputs) t }
+    ensures { StandLaws }
 {
     redisplays_keep_states();
     redisplays_lead_on();

@@ -3,24 +3,14 @@ use Rattle.std.specs.Prelude.{IfSome}
 use Rattle.rd_run.specs.Alike.{End}
 use Rattle.rd_run.specs.Runs.{Mode}
 use Rattle.rd_audit.proofs.Judging.{only-yes}
-use Rattle.rd_audit.proofs.Recorded.{Agree, RunLaws, recording-agrees, recording-sent}
+use Rattle.rd_audit.proofs.Recorded.{Agree, recording-agrees, recording-sent}
 use Rattle.rd_audit.proofs.Since.{recorded-read}
 use Rattle.rd_audit.specs.Recorded.{IsRecording}
 use Rattle.rd_audit.specs.Verdicts.{IsSound}
 use Rattle.rd_audit.proofs.law.recorded_runs_get_yes.Goals as goal
 
-laws : goal.After-windows_are_placed → RunLaws
-laws c =
-    let runs = c.a_session_stands_behind_each_line.ensures in
-    record {
-      session = runs.session;
-      in_mode = runs.in_mode;
-      leads = runs.leads;
-      places = c.windows_are_placed.ensures;
-    }
-
 agree : goal.After-windows_are_placed → (e : End) (mode : Mode) (stream file : List ℕ) → IsRecording e mode stream file → Agree stream file
-agree c e mode stream file h = recording-agrees (laws c) e mode stream file h
+agree c e mode stream file h = recording-agrees c.a_session_stands_behind_each_line.ensures c.windows_are_placed.ensures e mode stream file h
 
 sound : (stream file name : List ℕ) (told : List ℕ → Option (List ℕ)) (e : End) (mode : Mode) → IsRecording e mode stream file → told name ≡ Some file → Agree stream file
     → IsSound (name ∷ []) told (Some stream)

@@ -14,11 +14,9 @@ laws c =
       reached = c.shifted_updates_reach_their_targets.ensures.reached;
     }
 
-pub returns-clause-session : goal.returns-clause-session
-returns-clause-session c mode inputs = let here = stands (laws c) mode inputs in here.at.session
-
-pub returns-clause-in_mode : goal.returns-clause-in_mode
-returns-clause-in_mode c mode inputs = let here = stands (laws c) mode inputs in here.under
-
-pub returns-clause-leads : goal.returns-clause-leads
-returns-clause-leads c = leads (laws c)
+pub returns : goal.returns
+returns c = record {
+  session = λ mode inputs. let here = stands (laws c) mode inputs in here.at.session;
+  in_mode = λ mode inputs. let here = stands (laws c) mode inputs in here.under;
+  leads = leads (laws c);
+}
