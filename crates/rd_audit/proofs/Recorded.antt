@@ -133,8 +133,9 @@ shown-line number rows =
     ap (λ l. decimal number ++ (codes ": shown " ++ l)) (sym (append_assoc (decimal rows) (codes " rows") (10 ∷ [])))
     ∙ sym (append_assoc (decimal number) (codes ": shown " ++ (decimal rows ++ codes " rows")) (10 ∷ []))
 
-joined : (front line dump tail : List ℕ) → (front ++ ((line ++ 10 ∷ []) ++ dump)) ++ tail ≡ (front ++ line) ++ 10 ∷ (dump ++ tail)
-joined front line dump tail =
+-- the dump stands behind the newline of its line, and the lines after it follow
+dump-behind-newline : (front line dump tail : List ℕ) → (front ++ ((line ++ 10 ∷ []) ++ dump)) ++ tail ≡ (front ++ line) ++ 10 ∷ (dump ++ tail)
+dump-behind-newline front line dump tail =
     append_assoc front ((line ++ 10 ∷ []) ++ dump) tail
     ∙ ap (λ l. front ++ l) (append_assoc (line ++ 10 ∷ []) dump tail ∙ append_assoc line (10 ∷ []) (dump ++ tail))
     ∙ sym (append_assoc front line (10 ∷ (dump ++ tail)))
@@ -177,7 +178,7 @@ shown-run laws places mode before t behind dumps read ran shown leave =
       some = windows-told places next.now.session session.state;
       front = w.told ++ line;
       tail = leaves.tail;
-      told = ap (λ (x : World). x.told) whole ∙ leaves.told ∙ ap (λ l. l ++ leaves.tail) told ∙ joined w.told line dump leaves.tail;
+      told = ap (λ (x : World). x.told) whole ∙ leaves.told ∙ ap (λ l. l ++ leaves.tail) told ∙ dump-behind-newline w.told line dump leaves.tail;
       passed = leaves.passed;
       shows = subst (λ x. Shows x screen) terminal (leads.shows shown);
     }
