@@ -2,7 +2,7 @@
 use std::alloc::{AllocError, AllocFailed};
 use thiserror::Error;
 
-/// A call may answer this at any time. It is the error of the calls that have no other.
+/// The allocator has no room: a call that has this error may answer it at any time. It is the error of the calls that have no other.
 #[derive(Clone, Copy, Debug, PartialEq, Eq, Error)]
 #[error("no memory")]
 pub struct Memory;

@@ -66,7 +66,7 @@ pub record SoundLaws : Type 0 where
   pub face : (o : ObjectLists) (face : Attributes) → HasColours face → full_fault FACES (length o.faces) ≡ None → AreObjects o → AreObjects (face_added o face)
   pub table : (o : ObjectLists) (table : TableValue) → IsTable table → full_fault TABLES (length o.tables) ≡ None → AreObjects o → AreObjects (table_added o table)
 
--- and closed
+-- where nothing is made each object that is named was made, and so it stays where one more is made
 pub record ClosedLaws : Type 0 where
   pub nothing : IsClosed nothing_made
   pub string : (o : ObjectLists) (chars : List ℕ) (runs : List Run) → string_fault o chars runs ≡ None → IsClosed o → IsClosed (string_added o chars runs)
@@ -74,7 +74,7 @@ pub record ClosedLaws : Type 0 where
   pub face : (o : ObjectLists) (face : Attributes) → IsClosed o → IsClosed (face_added o face)
   pub table : (o : ObjectLists) (table : TableValue) → IsClosed o → IsClosed (table_added o table)
 
--- one more object extends the objects
+-- objects extend themselves, and one more object extends them
 pub record GrowLaws : Type 0 where
   pub itself : (o : ObjectLists) → Extends o o
   pub string : (o : ObjectLists) (chars : List ℕ) (runs : List Run) → Extends o (string_added o chars runs)

@@ -68,7 +68,7 @@ impl Form for InvisibleText {
     ghost kind = { λ _. invisible };
 
     fn read(&self, alloc: Global, value: &Value) -> Result<Option<Invisible>, Memory> {
-        // each pair is of an atom and whether an ellipsis stands for its text
+        // a pair is an atom and whether an ellipsis stands for its text
         let pairs = AtMost {
             most: INVISIBLE_ATOMS,
             of: Two {

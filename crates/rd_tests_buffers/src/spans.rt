@@ -38,7 +38,7 @@ fn positions_are_taken_away(rt: HostRuntime) -> Result<(), Fail> {
     Ok(())
 }
 
-/// Positions behind edits at many places, and their values.
+/// Positions after edits at many places, and their values.
 const VALUES: [(&'static str, u32, Option<u32>); 13] = [
     ("before all values", 4, None),
     ("what is left of the first value", 5, Some(3)),

@@ -149,11 +149,11 @@ module _ (old new : List ℕ) (olds news : List Stretch) (at back first last : �
       let b = length-append (take at old) text in
       omega arith
 
-  joined : new ≡ (take at old ++ text) ++ drop (at + length text) old
-  joined = is ∙ sym (append_assoc (take at old) text (drop (at + length text) old))
+  split_behind_text : new ≡ (take at old ++ text) ++ drop (at + length text) old
+  split_behind_text = is ∙ sym (append_assoc (take at old) text (drop (at + length text) old))
 
   behind_is : drop (at + length text) new ≡ drop (at + length text) old
-  behind_is = ap (drop (at + length text)) joined ∙ drop_at (take at old ++ text) (drop (at + length text) old) (at + length text) front_size
+  behind_is = ap (drop (at + length text)) split_behind_text ∙ drop_at (take at old ++ text) (drop (at + length text) old) (at + length text) front_size
 
   pub written_size : length new ≡ length old
   written_size =
@@ -168,7 +168,7 @@ module _ (old new : List ℕ) (olds news : List Stretch) (at back first last : �
 
   written_from : (k : ℕ) → at + length text ≤ k → get_or new k 0 ≡ get_or old k 0
   written_from k more =
-      ap (λ (xs : List ℕ). get_or xs k 0) joined
+      ap (λ (xs : List ℕ). get_or xs k 0) split_behind_text
       ∙ get_or-append_right (take at old ++ text) (drop (at + length text) old) (at + length text) k 0 front_size more
       ∙ get_or-drop (at + length text) old (k - (at + length text)) 0
       ∙ (let e : at + length text + (k - (at + length text)) ≡ k = omega arith in ap (λ (n : ℕ). get_or old n 0) e)
@@ -183,7 +183,7 @@ module _ (old new : List ℕ) (olds news : List Stretch) (at back first last : �
   put_text whole e =
       let past : at + length text + (back - (at + length text)) ≡ back = omega arith in
       let front : take (at + length text) new ≡ take at old ++ text
-      = ap (take (at + length text)) joined ∙ take_at (take at old ++ text) (drop (at + length text) old) (at + length text) front_size in
+      = ap (take (at + length text)) split_behind_text ∙ take_at (take at old ++ text) (drop (at + length text) old) (at + length text) front_size in
       let rest : drop back new ≡ drop back old
       = ap (λ (n : ℕ). drop n new) (sym past) ∙ sym (drop-drop (back - (at + length text)) (at + length text) new)
       ∙ ap (drop (back - (at + length text))) behind_is ∙ drop-drop (back - (at + length text)) (at + length text) old ∙ ap (λ (n : ℕ). drop n old) past in

@@ -78,7 +78,7 @@ impl Buffer {
 
     /// Puts characters in before `pos`; the accessible end moves by their number. The first of these faults counts, and
     /// each leaves the text as it was: OutOfRange exactly unless `begin <= pos <= end`; TooLarge exactly where the text
-    /// would have more than 4,194,304 characters; Memory may be answered at any time.
+    /// would have more than 4,194,304 characters; where neither is so, Memory may be answered.
     pub fn insert(&mut self, pos: Pos, text: &[Ch]) -> Result<(), TextFault>
         ensures { Inserts result self.old pos text.now self.new }
     {

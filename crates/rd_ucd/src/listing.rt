@@ -81,7 +81,7 @@ impl<E: Covers + Copy> Listing<E> {
     ghost use Rattle.std.specs.Prelude.{◌≡◌};
     ghost use Rattle.rd_ucd.specs.Lookup.{IsAscending, entry_in};
 
-    /// Entries that ascend.
+    /// The listing of entries that ascend.
     pub(crate) fn of(entries: ListOf<E>) -> Listing<E>
         requires { IsAscending E.first E.last entries }
         ensures { result ≡ entries }
