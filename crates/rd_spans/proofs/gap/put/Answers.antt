@@ -23,17 +23,8 @@ returns-then-ends_there-clause-values c =
     ∙ (ap (λ (v : Option ℕ). values_put (value_at (values_of_both a b)) c.args.from c.args.to v p) (sym there.0)
     ∙ ap (λ (xs : List (Option ℕ)). values_put (value_at xs) c.args.from c.args.to c.args.value p) m.same)))
 
-pub returns-else-ends_there-clause-values : goal.returns-else-ends_there-clause-values
-returns-else-ends_there-clause-values c =
-    let m = c.move_to.ensures.moved in
-    let a = c.move_to.new.front.items in
-    let b = c.move_to.new.back.items in
-    λ p.
-    put-filled a b c.fill.new.front.items c.cut.new.runs.items c.args.from c.args.to c.args.value m.at c.requires.some c.fill.ensures.order c.fill.ensures.size c.fill.ensures.values c.cut.ensures.cut p
-    ∙ ap (λ (xs : List (Option ℕ)). values_put (value_at xs) c.args.from c.args.to c.args.value p) m.same
-
-pub returns-else-ends_there-clause-sides : goal.returns-else-ends_there-clause-sides
-returns-else-ends_there-clause-sides c =
+pub returns-else-ends_there : goal.returns-else-ends_there
+returns-else-ends_there c =
     let m = c.move_to.ensures.moved in
     let a = c.move_to.new.front.items in
     let b = c.move_to.new.back.items in
@@ -44,10 +35,13 @@ returns-else-ends_there-clause-sides c =
     let ends = rw c.deref.ensures.value at c.ends_there.ensures.no in
     let values = put-filled a b new d c.args.from c.args.to c.args.value m.at c.requires.some c.fill.ensures.order c.fill.ensures.size c.fill.ensures.values c.cut.ensures.cut in
     record {
-      rooms = still-room c.args.front.now.items c.args.back.now.items a b new d (vec_capacity c.fill.new.front) (vec_capacity c.cut.new.runs)
-          (record { front_rises = c.fill.ensures.order; back_rises = c.cut.ensures.cut.rises; few = omega (arith, m.at.gap, m.size, s.rooms.runs.few, c.cut.ensures.cut.size, c.fill.ensures.size, c.requires.bound, c.requires.some) })
-          m.needs (omega (arith, c.fill.ensures.count, c.cut.ensures.lighter.count))
-          (omega (arith, c.fill.ensures.room, c.move_to.ensures.front_room, c.requires.front_more)) (omega (arith, c.cut.ensures.room, c.move_to.ensures.back_room, c.requires.back_more));
-      trimmed = put-trimmed a b new d c.args.from c.args.to c.args.value m.at c.requires.some c.fill.ensures.order c.fill.ensures.size c.cut.ensures.cut values
-          (λ none v. ends c.if-ends_there.false (length-none d c.cut.ensures.cut.rises none) v) t;
+      sides = record {
+        rooms = still-room c.args.front.now.items c.args.back.now.items a b new d (vec_capacity c.fill.new.front) (vec_capacity c.cut.new.runs)
+            (record { front_rises = c.fill.ensures.order; back_rises = c.cut.ensures.cut.rises; few = omega (arith, m.at.gap, m.size, s.rooms.runs.few, c.cut.ensures.cut.size, c.fill.ensures.size, c.requires.bound, c.requires.some) })
+            m.needs (omega (arith, c.fill.ensures.count, c.cut.ensures.lighter.count))
+            (omega (arith, c.fill.ensures.room, c.move_to.ensures.front_room, c.requires.front_more)) (omega (arith, c.cut.ensures.room, c.move_to.ensures.back_room, c.requires.back_more));
+        trimmed = put-trimmed a b new d c.args.from c.args.to c.args.value m.at c.requires.some c.fill.ensures.order c.fill.ensures.size c.cut.ensures.cut values
+            (λ none v. ends c.if-ends_there.false (length-none d c.cut.ensures.cut.rises none) v) t;
+      };
+      values = λ p. values p ∙ ap (λ (xs : List (Option ℕ)). values_put (value_at xs) c.args.from c.args.to c.args.value p) m.same;
     }
