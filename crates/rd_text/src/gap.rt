@@ -77,12 +77,9 @@ impl GapText {
         self.move_gap(at);
         let stop = at + text.len();
         write(self.codes.as_mut_slice(), at, text);
-        recount(
-            self.codes.as_slice(),
-            self.stretches.as_mut_slice(),
-            at / STRETCH,
-            stop / STRETCH,
-        );
+        let codes = self.codes.as_slice();
+        let stretches = self.stretches.as_mut_slice();
+        recount(codes, stretches, at / STRETCH, stop / STRETCH);
         self.front = stop;
         Ok(())
     }
@@ -145,12 +142,8 @@ impl GapText {
         ensures recounted { IsRecounted self.new.codes.items self.old.stretches.items self.new.stretches.items first last }
     {
         self.codes.as_mut_slice().copy_within(from..to, place);
-        recount(
-            self.codes.as_slice(),
-            self.stretches.as_mut_slice(),
-            first,
-            last,
-        );
+        let codes = self.codes.as_slice();
+        recount(codes, self.stretches.as_mut_slice(), first, last);
     }
 
     /// Moves the gap to an index before it: the characters between go behind it.
@@ -174,13 +167,8 @@ impl GapText {
         ensures { IsGapMoved self.old self.new at }
     {
         let back = self.back + (at - self.front);
-        self.copy(
-            self.back,
-            back,
-            self.front,
-            self.front / STRETCH,
-            at / STRETCH,
-        );
+        let first = self.front / STRETCH;
+        self.copy(self.back, back, self.front, first, at / STRETCH);
         self.front = at;
         self.back = back;
     }

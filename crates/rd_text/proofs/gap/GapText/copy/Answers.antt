@@ -21,7 +21,7 @@ pub returns-clause-recounted : goal.returns-clause-recounted
 returns-clause-recounted c =
     let g = c.args.self.now in
     let news = c.recount.new.stretches in
-    let codes = c.as_slice.ensures.value in
+    let codes = c.as_slice-codes.ensures.value in
     subst (λ (xs : List Stretch). IsRecounted (with_items g.codes c.copy_within.new.self).items g.stretches.items xs c.args.first c.args.last) (sym (with_items_is g.stretches news (c.recount.ensures.size ∙ c.as_mut_slice-2.ensures.len)))
     (subst (λ (xs : List ℕ). IsRecounted xs g.stretches.items news c.args.first c.args.last) codes
-    (subst (λ (xs : List Stretch). IsRecounted c.as_slice.result.now xs news c.args.first c.args.last) c.as_mut_slice-2.ensures.value c.recount.ensures))
+    (subst (λ (xs : List Stretch). IsRecounted c.as_slice-codes.result.now xs news c.args.first c.args.last) c.as_mut_slice-2.ensures.value c.recount.ensures))

@@ -52,11 +52,11 @@ returns-clause-right c =
     let new = c.write.new.codes in
     let news = c.recount.new.stretches in
     let w = written (goal.at.returns-clause-right c).After-write in
-    let ss = with_items_is m.stretches news (c.recount.ensures.size ∙ c.as_mut_slice-2.ensures.len) in
+    let ss = with_items_is m.stretches news (c.recount.ensures.size ∙ c.as_mut_slice-stretches.ensures.len) in
     let first : ℕ = at / 1024 in
     let last : ℕ = (at + length text) / 1024 in
-    let again = subst (λ (xs : List ℕ). IsRecounted xs m.stretches.items news first last) (c.as_slice.ensures.value ∙ w.held)
-    (subst (λ (xs : List Stretch). IsRecounted c.as_slice.result.now xs news first last) c.as_mut_slice-2.ensures.value c.recount.ensures) in
+    let again = subst (λ (xs : List ℕ). IsRecounted xs m.stretches.items news first last) (c.as_slice-codes.ensures.value ∙ w.held)
+    (subst (λ (xs : List Stretch). IsRecounted c.as_slice-codes.result.now xs news first last) c.as_mut_slice-stretches.ensures.value c.recount.ensures) in
     subst (λ (xs : List ℕ). IsGapped xs (with_items m.stretches news).items (at + length text) m.back) (sym w.held)
     (subst (λ (xs : List Stretch). IsGapped new xs (at + length text) m.back) (sym ss)
     (put_right m.codes.items new m.stretches.items news at m.back first last text w.right w.room w.is c.write.ensures.right again (omega arith) (omega arith) (omega arith) (omega arith)))
