@@ -1,7 +1,8 @@
 -- What follows from a test, from an option, from a result, and of the one of two that is chosen.
-use Rattle.std.proofs.Common.{◌≡◌, ◌≢◌, ◌≤◌, ◌⊎◌, inl, inr, Bool, true, false, not, ◌||◌, if◌then◌else◌, Option, None, Some, Result, Ok, Err, IfSome, is_some, refl, sym, ap, ◌∙◌, arith, IsSome}
+use Rattle.std.proofs.Common.{◌≡◌, ◌≢◌, ℕ, ◌<◌, ◌≤◌, ◌⊎◌, inl, inr, Bool, true, false, not, ◌||◌, if◌then◌else◌, Option, None, Some, Result, Ok, Err, IfSome, is_some, refl, sym, ap, ◌∙◌, arith, IsSome}
 use Rattle.std.specs.Option.{option_map, option_or, unwrap_or}
 use Rattle.std.proofs.Math.Bool.{not-not}
+use Rattle.std.proofs.lemmas.Bool.{cases_lt}
 use Rattle.std.proofs.lemmas.Option.{none-some}
 
 -- ---- tests
@@ -29,6 +30,13 @@ either P false x y h k = k
 pub none-chosen : {X : Type 0} (b : Bool) (x : X) (rest : Option X) → (if b then Some x else rest) ≡ None → (b ≡ false) × (rest ≡ None)
 none-chosen true x rest none = absurd (none-some x (sym none))
 none-chosen false x rest none = (refl, none)
+
+-- a number stands before a range, in it or behind it
+pub by-range : {P : Type 0} (from to p : ℕ) → (p < from → P) → (from ≤ p → p < to → P) → (from ≤ p → to ≤ p → P) → P
+by-range from to p low here high = elim (cases_lt p from) [
+  | inl l ↦ low l
+  | inr l ↦ elim (cases_lt p to) [ inl m ↦ here l m | inr m ↦ high l m ]
+]
 
 -- ---- options
 

@@ -4,6 +4,7 @@ use Rattle.std.specs.Prelude.{nat_lt, nat_le, ◌==◌}
 use Rattle.std.proofs.lemmas.Bool.Decides.{nat_tests}
 use Rattle.std.proofs.lemmas.Bool.{cases_lt}
 use Rattle.std.proofs.lemmas.List.{length-replicate, get_or_append_left, get_or-append_right, get_or-replicate, get_or_past, get_or-take, nil_from_length}
+use Rattle.rd_base.proofs.Choices.{by-range}
 use Rattle.rd_spans.specs.declared.run.ValueRun.{ValueRun}
 use Rattle.rd_spans.specs.Values.{value_at, values_put, values_opened, values_closed, CanMove, IsTrimmed}
 use Rattle.rd_spans.specs.Sides.{values_of, Rises, size_of, top, meet, needs, values_of_both, AtGap, IsCut, AreRuns, HaveRoom}
@@ -57,16 +58,12 @@ filled : (c d : List ValueRun) (front : List (Option ℕ)) (from n : ℕ) (value
     → values_of c ≡ front ++ replicate n value → (p < from → value_at front p ≡ new p) → (from ≤ p → p < from + n → value ≡ new p)
     → (from + n ≤ p → value_at (values_of_both c d) p ≡ new p) → value_at (values_of_both c d) p ≡ new p
 filled c d front from n value new p h size long e before here behind =
-    elim (cases_lt p (from + n)) [
-      | inl less ↦
-          values_of_both-front c d p h (omega arith)
-          ∙ (ap (λ (vs : List (Option ℕ)). value_at vs p) e
-          ∙ (elim (cases_lt p from) [
-            | inl l ↦ get_or_append_left front (replicate n value) None p (omega arith) ∙ before l
-            | inr l ↦ get_or-append_right front (replicate n value) from p None long l ∙ (get_or-replicate n (p - from) value None (omega arith) ∙ here l less)
-          ]))
-      | inr past ↦ behind past
-    ]
+    let there : p < from + n → value_at (values_of_both c d) p ≡ value_at (front ++ replicate n value) p
+    = λ m. values_of_both-front c d p h (omega arith) ∙ ap (λ (vs : List (Option ℕ)). value_at vs p) e in
+    by-range from (from + n) p
+    (λ l. there (omega arith) ∙ (get_or_append_left front (replicate n value) None p (omega arith) ∙ before l))
+    (λ l m. there m ∙ (get_or-append_right front (replicate n value) from p None long l ∙ (get_or-replicate n (p - from) value None (omega arith) ∙ here l m)))
+    (λ l m. behind m)
 
 -- a value is put: the front is filled up to the end of its range
 pub put-filled : (a b c d : List ValueRun) (from to : ℕ) (value : Option ℕ) → AtGap a b from → from < to → Rises 0 c → size_of c ≡ to
@@ -85,15 +82,11 @@ put-filled a b c d from to value g some h long e k p =
 
 pub put-nothing : (a b d : List ValueRun) (from to : ℕ) → AtGap a b from → from < to → IsCut b d (to - from) → size_of d ≡ 0 → (p : ℕ) → value_at (values_of a) p ≡ values_put (value_at (values_of_both a b)) from to None p
 put-nothing a b d from to g some k none p =
-    elim (cases_lt p from) [
-      | inl l ↦ sym (before-gap a b from p g l) ∙ sym (put-low (values_of_both a b) from to None p l)
-      | inr l ↦
-          get_or_past (values_of a) p None (omega (arith, g.gap, size-values a g.front_rises))
-          ∙ (elim (cases_lt p to) [
-            | inl m ↦ sym (put-here (values_of_both a b) from to None p l m)
-            | inr m ↦ sym (values_of_both-past a b p g.front_rises g.back_rises (omega (arith, g.gap, k.size))) ∙ sym (put-high (values_of_both a b) from to None p l m)
-          ])
-    ]
+    let past : from ≤ p → value_at (values_of a) p ≡ None = λ l. get_or_past (values_of a) p None (omega (arith, g.gap, size-values a g.front_rises)) in
+    by-range from to p
+    (λ l. sym (before-gap a b from p g l) ∙ sym (put-low (values_of_both a b) from to None p l))
+    (λ l m. past l ∙ sym (put-here (values_of_both a b) from to None p l m))
+    (λ l m. past l ∙ (sym (values_of_both-past a b p g.front_rises g.back_rises (omega (arith, g.gap, k.size))) ∙ sym (put-high (values_of_both a b) from to None p l m)))
 
 -- positions are taken away
 pub close-values : (a b d : List ValueRun) (from to : ℕ) → AtGap a b from → from ≤ to → IsCut b d (to - from) → (p : ℕ) → value_at (values_of_both a d) p ≡ values_closed (value_at (values_of_both a b)) from to p
@@ -121,17 +114,11 @@ open-values a b c pos n g some h long e p =
 
 pub open-nothing : (a b : List ValueRun) (pos n : ℕ) → AtGap a b pos → size_of b ≡ 0 → (p : ℕ) → value_at (values_of_both a b) p ≡ values_opened (value_at (values_of_both a b)) pos n p
 open-nothing a b pos n g none p =
-    let ha = g.front_rises in
-    let hb = g.back_rises in
-    elim (cases_lt p pos) [
-      | inl l ↦ opened-before (value_at (values_of_both a b)) pos n p l
-      | inr l ↦
-          values_of_both-past a b p ha hb (omega (arith, g.gap))
-          ∙ (elim (cases_lt p (pos + n)) [
-            | inl m ↦ sym (open-here (values_of_both a b) pos n p l m)
-            | inr m ↦ sym (values_of_both-past a b (p - n) ha hb (omega (arith, g.gap))) ∙ opened-behind (value_at (values_of_both a b)) pos n (p - n) p (omega arith) (omega arith)
-          ])
-    ]
+    let past : (q : ℕ) → pos ≤ q → value_at (values_of_both a b) q ≡ None = λ q l. values_of_both-past a b q g.front_rises g.back_rises (omega (arith, g.gap)) in
+    by-range pos (pos + n) p
+    (λ l. opened-before (value_at (values_of_both a b)) pos n p l)
+    (λ l m. past p l ∙ sym (open-here (values_of_both a b) pos n p l m))
+    (λ l m. past p l ∙ (sym (past (p - n) (omega arith)) ∙ opened-behind (value_at (values_of_both a b)) pos n (p - n) p (omega arith) (omega arith)))
 
 pub length-none : (b : List ValueRun) → Rises 0 b → size_of b ≡ 0 → length b ≡ 0
 length-none b h e = omega (arith, few-runs 0 b h)

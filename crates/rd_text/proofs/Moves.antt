@@ -5,6 +5,7 @@ use Rattle.std.proofs.lemmas.Bool.{cases_lt}
 use Rattle.std.proofs.Common.{inl, inr}
 use Rattle.std.proofs.lemmas.List.{ext_get_or, take_at, drop_at, drop-drop, length-take-le, length-append, append_assoc, get_or_append_left, get_or-append_right, get_or-take, get_or-drop}
 use Rattle.rd_base.specs.Chars.{is_code}
+use Rattle.rd_base.proofs.Choices.{by-range}
 use Rattle.rd_base.proofs.Lists.{length-replaced}
 use Rattle.rd_text.specs.Stretches.{summary}
 use Rattle.rd_text.specs.Gaps.{IsGapped, IsCopied, IsRecounted}
@@ -23,13 +24,10 @@ copied_codes : (old new : List ℕ) (src dest n : ℕ) → IsCopied old new src 
     → ((k : ℕ) → IsTrue (is_code (get_or old k 0))) → (k : ℕ) → IsTrue (is_code (get_or new k 0))
 copied_codes old new src dest n is codes k =
     let C : ℕ → Type 0 = λ x. IsTrue (is_code x) in
-    elim (cases_lt k dest) [
-      | inl less ↦ subst C (sym (is.below k 0 less)) (codes k)
-      | inr more ↦ elim (cases_lt k (dest + n)) [
-        | inl inside ↦ subst C (sym (is.copied k 0 more inside)) (codes (src + (k - dest)))
-        | inr past ↦ subst C (sym (is.from k 0 past)) (codes k)
-      ]
-    ]
+    by-range dest (dest + n) k
+    (λ less. subst C (sym (is.below k 0 less)) (codes k))
+    (λ more inside. subst C (sym (is.copied k 0 more inside)) (codes (src + (k - dest))))
+    (λ more past. subst C (sym (is.from k 0 past)) (codes k))
 
 -- to the left: what stood between goes behind the gap
 module _ (old new : List ℕ) (olds news : List Stretch) (front back at first last : ℕ) (right : IsGapped old olds front back) (place : at < front)
