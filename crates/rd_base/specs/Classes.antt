@@ -32,7 +32,7 @@ strong_level zero R = Some 1
 strong_level zero AL = Some 1
 strong_level depth c = None
 
--- inside how many isolates the next character stands: a PDI ends one, where there is one
+-- inside how many isolates the next character stands, by rule P2: a PDI ends one, where there is one
 abbrev pub depth_after : ℕ → Class → ℕ
 depth_after depth LRI = suc depth
 depth_after depth RLI = suc depth

@@ -74,7 +74,8 @@ impl Class {
         }
     }
 
-    /// Inside how many isolates the next character stands, where this one stands inside so many.
+    /// Inside how many isolates the next character stands, where this one stands inside so many, by rule P2, which passes over what is
+    /// inside isolates.
     pub fn depth_after(self, depth: u32) -> u32
         requires { depth < 4294967295 }
         ensures value { result ≡ depth_after depth self }

@@ -32,9 +32,9 @@ impl Visual {
         }
     }
 
-    /// The next index by L2, counted from 0, and None exactly after all. It asks for the levels that the walk was started with. It looks at the
-    /// neighbour where the level stays, and where it changes at the run that is entered or left, once for each level that
-    /// occurs in between: a whole line costs at most about twice its length times the number of its levels.
+    /// The next index by L2, counted from 0, and None exactly after all. It asks for the levels that the walk was started with.
+    /// It looks at the neighbour where the level stays, and where it changes at the run that is entered or left, once for each
+    /// level that occurs in between: a whole line costs at most about twice its length times the number of its levels.
     pub fn next(&mut self, levels: &[u8]) -> Option<usize>
         requires { IsWalkOf self.old levels.now }
         ensures walk { IsWalkOf self.new levels.now }
