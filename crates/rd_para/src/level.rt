@@ -41,7 +41,7 @@ pub fn paragraph_at(text: &Buffer, classes: &Classes, pos: Pos) -> Paragraph
     let to = text.next_newline(pos);
     let place = begin.max(text.prev_ink(to) - 1);
     let from = text.paragraph_start(place);
-    let base = paragraph_level(text, classes, from);
+    let base = p2_p3_level_of_paragraph(text, classes, from);
     Paragraph { from, to, base }
 }
 
@@ -67,12 +67,12 @@ pub fn next_line(text: &Buffer, classes: &Classes, known: &Paragraph) -> Paragra
             base: known.base,
         };
     }
-    let base = paragraph_level(text, classes, from);
+    let base = p2_p3_level_of_paragraph(text, classes, from);
     Paragraph { from, to, base }
 }
 
 /// The level of a paragraph that begins at a position (P2, P3).
-fn paragraph_level(text: &Buffer, classes: &Classes, from: Pos) -> u8
+fn p2_p3_level_of_paragraph(text: &Buffer, classes: &Classes, from: Pos) -> u8
     requires { IsAccessible text.now from }
     ensures { result ≡ unwrap_or (decided classes.now (slice_split is_newline (between text.now from text.now.end))) 0 }
 {

@@ -91,5 +91,5 @@ returns-clause-known c =
     let none = c.if-prev_newline-prev_ink.false in
     let a = c.prev_newline.ensures in
     let b = c.prev_ink-else-prev_ink-from.ensures in
-    fresh c.args.classes.now t c.begin-begin.ensures.right c.args.known.now c.next_newline-to.result c.paragraph_level-base.result c.requires.known c.requires.more c.next_newline-to.ensures
-    (omega arith) (omega arith) c.paragraph_level-base.ensures
+    fresh c.args.classes.now t c.begin-begin.ensures.right c.args.known.now c.next_newline-to.result c.p2_p3_level_of_paragraph-base.result c.requires.known c.requires.more c.next_newline-to.ensures
+    (omega arith) (omega arith) c.p2_p3_level_of_paragraph-base.ensures

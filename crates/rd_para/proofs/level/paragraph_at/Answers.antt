@@ -47,9 +47,9 @@ overflow_sub-prev_ink c = omega (arith, (within (goal.at.overflow_sub-prev_ink c
 pub paragraph_start-from-requires : goal.paragraph_start-from-requires
 paragraph_start-from-requires c = let at = goal.at.paragraph_start-from-requires c in placed at.After-max-place (within at.After-next_newline-to)
 
-pub paragraph_level-base-requires : goal.paragraph_level-base-requires
-paragraph_level-base-requires c =
-    let at = goal.at.paragraph_level-base-requires c in
+pub p2_p3_level_of_paragraph-base-requires : goal.p2_p3_level_of_paragraph-base-requires
+p2_p3_level_of_paragraph-base-requires c =
+    let at = goal.at.p2_p3_level_of_paragraph-base-requires c in
     let (low, high) = placed at.After-max-place (within at.After-next_newline-to) in
     let start = c.paragraph_start-from.ensures in
     (start.first, omega (arith, start.order, high))
@@ -79,7 +79,7 @@ returns c =
         order = omega arith;
         last = omega arith;
         ends = is ∙ ends_itself t right c.args.pos c.requires.0 c.requires.1 ∙ ap (next_newline t) (sym is);
-        same = λ p low high. level p low (omega arith) ∙ sym c.paragraph_level-base.ensures;
+        same = λ p low high. level p low (omega arith) ∙ sym c.p2_p3_level_of_paragraph-base.ensures;
       };
       start = subst (λ (n : ℕ). IsParagraphStart t n from) whole start;
       low = before;

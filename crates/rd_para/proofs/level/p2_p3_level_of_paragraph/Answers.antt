@@ -5,8 +5,8 @@ use Rattle.rd_text.specs.Texts.{between, is_separator}
 use Rattle.rd_para.specs.Paragraphs.{line_level, decided}
 use Rattle.rd_para.proofs.Cuts.{IsCut, line_cut, some_line, decided_from}
 use Rattle.rd_para.proofs.Walks.{rows}
-use Rattle.rd_para.proofs.level.paragraph_level.Goals as goal
-use Rattle.rd_para.proofs.level.paragraph_level.Goals.{After-next_newline-to}
+use Rattle.rd_para.proofs.level.p2_p3_level_of_paragraph.Goals as goal
+use Rattle.rd_para.proofs.level.p2_p3_level_of_paragraph.Goals.{After-next_newline-to}
 
 abbrev line : goal.After-next_newline-to → List ℕ
 line c = between c.args.text.now c.lines.from c.next_newline-to.result

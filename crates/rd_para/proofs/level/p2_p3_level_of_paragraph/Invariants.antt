@@ -3,7 +3,7 @@ use Rattle.std.specs.Prelude.{unwrap_or}
 use Rattle.std.specs.List.{slice_split}
 use Rattle.rd_text.specs.Texts.{IsText, between, is_newline}
 use Rattle.rd_para.specs.Paragraphs.{decided}
-use Rattle.rd_para.proofs.level.paragraph_level.Given as goal
+use Rattle.rd_para.proofs.level.p2_p3_level_of_paragraph.Given as goal
 
 abbrev pub invariant-lines : goal.invariant-lines
 invariant-lines l = record {
