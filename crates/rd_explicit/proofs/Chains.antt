@@ -35,36 +35,28 @@ abbrev pub rest_end : Class → Option ℕ → List Seq → Class
 rest_end e p [] = e
 rest_end e p (s ∷ ss) = if begins_seq p s then s.eos else rest_end e p ss
 
-begins-same : (p : Option ℕ) (g : List Item) → begins_seq p (sequence g) ≡ begins p g
-begins-same None g = refl
-begins-same (Some p) [] = refl
-begins-same (Some p) (y ∷ ys) = refl
+-- what is chosen by whether items begin at an index is chosen so by their sequence
+by-begins : {X Y : Type 0} (h : X → Y) (p : Option ℕ) (g : List Item) (x y : X) (u v : Y) → h x ≡ u → h y ≡ v
+    → h (if begins p g then x else y) ≡ (if begins_seq p (sequence g) then u else v)
+by-begins h None g x y u v chosen left = left
+by-begins h (Some p) [] x y u v chosen left = left
+by-begins h (Some p) (z ∷ zs) x y u v chosen left =
+    elim (p == z.index) as (λ b. h (if b then x else y) ≡ (if b then u else v)) [ true ↦ chosen | false ↦ left ]
 
 others-map : (p : Option ℕ) (gs : List (List Item)) → map sequence (others p gs) ≡ others_seq p (map sequence gs)
 others-map p [] = refl
-others-map p (g ∷ gs) = rw (begins-same p g)
-    (elim (begins p g) as (λ b. map sequence (if b then gs else g ∷ others p gs) ≡ (if b then map sequence gs else sequence g ∷ others_seq p (map sequence gs))) [
-      | true ↦ refl
-      | false ↦ ap (λ ss. sequence g ∷ ss) (others-map p gs)
-    ])
+others-map p (g ∷ gs) = by-begins (map sequence) p g gs (g ∷ others p gs) _ _ refl (ap (λ ss. sequence g ∷ ss) (others-map p gs))
 
 continued-indexes : (p : Option ℕ) (gs : List (List Item)) → map (λ (x : Item). x.index) (continued p gs) ≡ rest_indexes p (map sequence gs)
 continued-indexes p [] = refl
-continued-indexes p (g ∷ gs) = rw (begins-same p g)
-    (elim (begins p g) as (λ b. map (λ (x : Item). x.index) (if b then g else continued p gs) ≡ (if b then map (λ (x : Item). x.index) g else rest_indexes p (map sequence gs))) [
-      | true ↦ refl
-      | false ↦ continued-indexes p gs
-    ])
+continued-indexes p (g ∷ gs) = by-begins (map (λ (x : Item). x.index)) p g g (continued p gs) _ _ refl (continued-indexes p gs)
 
 continued-end : (x : Item) (p : Option ℕ) (gs : List (List Item)) → x10_eos (x ∷ continued p gs) ≡ rest_end (x10_eos (x ∷ [])) p (map sequence gs)
 continued-end x p [] = refl
 continued-end x None (g ∷ gs) = continued-end x None gs
 continued-end x (Some p) ([] ∷ gs) = continued-end x (Some p) gs
 continued-end x (Some p) ((y ∷ ys) ∷ gs) =
-    elim (p == y.index) as (λ b. x10_eos (x ∷ (if b then y ∷ ys else continued (Some p) gs)) ≡ (if b then x10_eos (y ∷ ys) else rest_end (x10_eos (x ∷ [])) (Some p) (map sequence gs))) [
-      | true ↦ refl
-      | false ↦ continued-end x (Some p) gs
-    ]
+    by-begins (λ zs. x10_eos (x ∷ zs)) (Some p) (y ∷ ys) (y ∷ ys) (continued (Some p) gs) _ _ refl (continued-end x (Some p) gs)
 
 -- no sequence begins at an index
 record Absent (p : Option ℕ) (ss : List Seq) : Type 0 where
