@@ -1,7 +1,8 @@
-use Rattle.std.proofs.Common.{◌≡◌, ◌-◌, ◌∙◌, take, reverse, ap, sym, arith}
-use Rattle.rd_brackets.specs.Pairs.{opener}
+use Rattle.std.proofs.Common.{◌≡◌, ◌-◌, ◌∙◌, Some, take, reverse, refl, ap, sym, arith}
+use Rattle.std.proofs.lemmas.List.{get_or_default}
+use Rattle.rd_brackets.specs.Pairs.{opener, below}
 use Rattle.rd_brackets.specs.declared.matching.Opened.{Opened}
-use Rattle.rd_brackets.proofs.Stacks.{opener-fits, below-fits, opener-unlike, below-unlike}
+use Rattle.rd_brackets.proofs.Stacks.{fits, unlike}
 use Rattle.rd_brackets.proofs.matching.last_closed.Goals as goal
 
 abbrev nothing : Opened
@@ -15,8 +16,11 @@ returns-then-opened-count c =
     let os = c.args.opened.now in
     let n = c.loop-count.count in (
       omega arith,
-      λ d. sym inv.opener ∙ opener-fits c.args.code os n (n - 1) nothing (omega arith) (omega arith) c.if-opened-count.true d,
-      sym inv.below ∙ below-fits c.args.code os n (n - 1) nothing (omega arith) (omega arith) c.if-opened-count.true,
+      λ d. sym inv.opener ∙ fits (opener c.args.code) (λ o _. Some o.place) c.args.code (λ _ _. refl)
+          os n (n - 1) nothing (omega arith) (omega arith) c.if-opened-count.true
+          ∙ ap (λ (o : Opened). Some o.place) (get_or_default os (n - 1) nothing d (omega arith)),
+      sym inv.below ∙ fits (below c.args.code) (λ _ rest. rest) c.args.code (λ _ _. refl)
+          os n (n - 1) nothing (omega arith) (omega arith) c.if-opened-count.true,
     )
 
 pub loop-count-preserved : goal.loop-count-preserved
@@ -28,8 +32,10 @@ loop-count-preserved c =
     let n = c.loop-count.count in
     record {
       within = omega arith;
-      opener = opener-unlike c.args.code os n (n - 1) nothing (omega arith) (omega arith) c.if-opened-count.false ∙ inv.opener;
-      below = below-unlike c.args.code os n (n - 1) nothing (omega arith) (omega arith) c.if-opened-count.false ∙ inv.below;
+      opener = unlike (opener c.args.code) (λ o _. Some o.place) c.args.code (λ _ _. refl)
+          os n (n - 1) nothing (omega arith) (omega arith) c.if-opened-count.false ∙ inv.opener;
+      below = unlike (below c.args.code) (λ _ rest. rest) c.args.code (λ _ _. refl)
+          os n (n - 1) nothing (omega arith) (omega arith) c.if-opened-count.false ∙ inv.below;
     }
 
 pub returns : goal.returns
