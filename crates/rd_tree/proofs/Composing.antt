@@ -1,5 +1,5 @@
 -- The rows of a frame, from those of its windows.
-use Rattle.std.proofs.Common.{◌≡◌, ℕ, zero, suc, ◌+◌, ◌-◌, ◌≤◌, ◌<◌, true, List, [], ◌∷◌, ◌++◌, length, length-append, Some, inl, inr, refl, sym, ap, ◌∙◌, arith}
+use Rattle.std.proofs.Common.{◌≡◌, ℕ, zero, suc, ◌+◌, ◌-◌, ◌≤◌, ◌<◌, true, List, [], ◌∷◌, ◌++◌, length, length-append, Some, inl, inr, refl, sym, ap, ap₂, ◌∙◌, arith}
 use Rattle.std.specs.Prelude.{slice_get}
 use Rattle.std.specs.List.{All, AllByRecursion}
 use Rattle.std.proofs.lemmas.Bool.{cases_Bool}
@@ -62,14 +62,21 @@ pub filled_second : {C : Type 0} (rows_of : Placed → List (List C)) (side : Si
 filled_second rows_of side size first second rect f =
     all-back (λ window. HasSize window.rect.width window.rect.height (rows_of window)) (placed first (first_part side size rect)) (placed second (second_part side size rect)) f
 
+-- what holds of a window alone by what holds of each window that stands, and of a split by both of its parts, holds of all windows
+by_windows : (P : Placed → Type 0) (Goal : Windows → Rect → Type 0)
+    → ((window : Placed) → P window → Goal (Window window.number window.mode window.margins) window.rect)
+    → ((side : Side) (size : ℕ) (first second : Windows) (rect : Rect) → Goal first (first_part side size rect) → Goal second (second_part side size rect) → Goal (Split side size first second) rect)
+    → (windows : Windows) (rect : Rect) → All P (placed windows rect) → Goal windows rect
+by_windows P Goal one both (Window number mode margins) rect h = one _ (recursion_from_All P (placed (Window number mode margins) rect) h).0
+by_windows P Goal one both (Split side size first second) rect h =
+    both side size first second rect (by_windows P Goal one both first _ (all-front P _ _ h)) (by_windows P Goal one both second _ (all-back P _ _ h))
+
 -- the rows fill the rectangle
 pub composed-size : {C : Type 0} (rows_of : Placed → List (List C)) (windows : Windows) (rect : Rect) → HasRoom windows rect → FillTheirRectangles rows_of (placed windows rect) → HasSize rect.width rect.height (composed rows_of windows rect)
-composed-size rows_of (Window number mode margins) rect h f =
-    (recursion_from_All (λ window. HasSize window.rect.width window.rect.height (rows_of window)) (placed (Window number mode margins) rect) f).0
-composed-size rows_of (Split side size first second) rect h f =
-    both-size side size rect (composed rows_of first (first_part side size rect)) (composed rows_of second (second_part side size rect)) (room_within side size first second rect h).0
-    (composed-size rows_of first (first_part side size rect) h.0 (filled_first rows_of side size first second rect f))
-    (composed-size rows_of second (second_part side size rect) h.1 (filled_second rows_of side size first second rect f))
+composed-size rows_of windows rect h f =
+    by_windows (λ window. HasSize window.rect.width window.rect.height (rows_of window))
+    (λ ws r. HasRoom ws r → HasSize r.width r.height (composed rows_of ws r)) (λ _ filled _. filled)
+    (λ side size first second r a b room. both-size side size r _ _ (room_within side size first second r room).0 (a room.0) (b room.1)) windows rect f h
 
 -- where a cell that lies in a rectangle is
 lies_where : (column row : ℕ) (rect : Rect) → lies_in column row rect ≡ true → (rect.x ≤ column) × (column < rect.x + rect.width) × (rect.y ≤ row) × (row < rect.y + rect.height)
@@ -137,23 +144,15 @@ composed-held windows rect column row h l =
     let once : bit_of (lies_in column row rect) ≡ 1 = rw l refl in
     some_holds column row (placed windows rect) (omega (arith, one_window windows rect h column row))
 
+both-each : {C : Type 0} (P : List C → Type 0) → ((left right : List C) → P left → P right → P (left ++ right)) → (side : Side) (firsts seconds : List (List C)) → All P firsts → All P seconds → All P (both_parts side firsts seconds)
+both-each P both Right lefts rights p q =
+    All-from_recursion P (beside lefts rights) (beside-all P P P both lefts rights (recursion_from_All P lefts p) (recursion_from_All P rights q))
+both-each P both Below tops rests p q = All-append P tops rests p q
+
 -- what holds of rows that stand beside each other where it holds of both holds of the frame's rows where it holds of the windows'
 composed-each : {C : Type 0} (P : List C → Type 0) → ((left right : List C) → P left → P right → P (left ++ right)) → (rows_of : Placed → List (List C)) (windows : Windows) (rect : Rect) → All (λ window. All P (rows_of window)) (placed windows rect) → All P (composed rows_of windows rect)
-composed-each P both rows_of (Window number mode margins) rect h =
-    (recursion_from_All (λ window. All P (rows_of window)) (placed (Window number mode margins) rect) h).0
-composed-each P both rows_of (Split Right size first second) rect h =
-    let a = first_part Right size rect in
-    let b = second_part Right size rect in
-    let lefts = composed-each P both rows_of first a (all-front (λ window. All P (rows_of window)) (placed first a) (placed second b) h) in
-    let rights = composed-each P both rows_of second b (all-back (λ window. All P (rows_of window)) (placed first a) (placed second b) h) in
-    All-from_recursion P (beside (composed rows_of first a) (composed rows_of second b))
-    (beside-all P P P both (composed rows_of first a) (composed rows_of second b) (recursion_from_All P (composed rows_of first a) lefts) (recursion_from_All P (composed rows_of second b) rights))
-composed-each P both rows_of (Split Below size first second) rect h =
-    let a = first_part Below size rect in
-    let b = second_part Below size rect in
-    All-append P (composed rows_of first a) (composed rows_of second b)
-    (composed-each P both rows_of first a (all-front (λ window. All P (rows_of window)) (placed first a) (placed second b) h))
-    (composed-each P both rows_of second b (all-back (λ window. All P (rows_of window)) (placed first a) (placed second b) h))
+composed-each P both rows_of =
+    by_windows (λ window. All P (rows_of window)) (λ ws r. All P (composed rows_of ws r)) (λ _ h. h) (λ side _ _ _ _. both-each P both side _ _)
 
 pub composed-whole : (rows_of : Placed → List (List Cell)) (windows : Windows) (rect : Rect) → All (λ window. All (IsRowAfter 0) (rows_of window)) (placed windows rect) → All (IsRowAfter 0) (composed rows_of windows rect)
 composed-whole rows_of windows rect h = composed-each (IsRowAfter 0) (behind-whole 0) rows_of windows rect h
@@ -163,11 +162,6 @@ composed-coloured rows_of windows rect h = composed-each (λ row. All IsColoured
 
 -- nothing but the rows of the windows counts
 pub composed-same : {C : Type 0} (rows_of others : Placed → List (List C)) (windows : Windows) (rect : Rect) → All (λ window. rows_of window ≡ others window) (placed windows rect) → composed rows_of windows rect ≡ composed others windows rect
-composed-same rows_of others (Window number mode margins) rect h =
-    (recursion_from_All (λ window. rows_of window ≡ others window) (placed (Window number mode margins) rect) h).0
-composed-same rows_of others (Split side size first second) rect h =
-    let a = first_part side size rect in
-    let b = second_part side size rect in
-    let p = composed-same rows_of others first a (all-front (λ window. rows_of window ≡ others window) (placed first a) (placed second b) h) in
-    let q = composed-same rows_of others second b (all-back (λ window. rows_of window ≡ others window) (placed first a) (placed second b) h) in
-    rw (p, q) refl
+composed-same rows_of others =
+    by_windows (λ window. rows_of window ≡ others window) (λ ws r. composed rows_of ws r ≡ composed others ws r) (λ _ h. h)
+    (λ side _ _ _ _. ap₂ (both_parts side))
