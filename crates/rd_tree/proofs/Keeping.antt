@@ -1,9 +1,10 @@
 -- What changes of the windows keep.
 use Rattle.std.proofs.Common.{◌≡◌, ℕ, ◌+◌, Bool, true, false, if◌then◌else◌, ◌==◌, ◌||◌, Option, None, Some, ◌⊎◌, inl, inr, refl, sym, ap, ap₂, ◌∙◌, arith}
 use Rattle.std.specs.Prelude.{is_some}
-use Rattle.std.proofs.lemmas.Bool.{and_parts, and_from, cases_Bool, false≢true}
+use Rattle.std.specs.Bool.{Decides}
+use Rattle.std.proofs.lemmas.Bool.{cases_Bool, false≢true}
 use Rattle.std.proofs.Math.Bool.{and-true, or-false}
-use Rattle.std.proofs.lemmas.Bool.Decides.{nat_tests}
+use Rattle.std.proofs.lemmas.Bool.Decides.{nat_tests, Decides-and}
 use Rattle.std.specs.Option.{option_or}
 use Rattle.std.specs.List.{list_any}
 use Rattle.std.proofs.lemmas.List.Folds.{list_any-append}
@@ -17,17 +18,11 @@ use Rattle.rd_tree.specs.Windows.{Windows, Window, Split, first_part, second_par
 use Rattle.rd_tree.specs.Places.{shared_place}
 use Rattle.rd_tree.proofs.Rooms.{of_number-append, parts_fill, resized_room}
 
--- the test of room is true where each window has room
-pub fits-room : (windows : Windows) (rect : Rect) → HasRoom windows rect → fits windows rect ≡ true
-fits-room (Window number mode margins) rect h = let p = h.0 in let q = h.1 in grind (arith, nat_tests)
-fits-room (Split side size first second) rect h =
-    and_from (fits first (first_part side size rect)) (fits second (second_part side size rect)) (fits-room first (first_part side size rect) h.0) (fits-room second (second_part side size rect) h.1)
-
-pub room-fits : (windows : Windows) (rect : Rect) → fits windows rect ≡ true → HasRoom windows rect
-room-fits (Window number mode margins) rect e = (grind (arith, nat_tests), grind (arith, nat_tests))
-room-fits (Split side size first second) rect e =
-    let both = and_parts (fits first (first_part side size rect)) (fits second (second_part side size rect)) e in
-    (room-fits first (first_part side size rect) both.0, room-fits second (second_part side size rect) both.1)
+-- the test of room is true exactly where each window has room
+pub room-decides : (windows : Windows) (rect : Rect) → Decides (fits windows rect) (HasRoom windows rect)
+room-decides (Window number mode margins) rect =
+    (λ e. (grind (arith, nat_tests), grind (arith, nat_tests)), λ h. let p = h.0 in let q = h.1 in grind (arith, nat_tests))
+room-decides (Split side size first second) rect = Decides-and _ _ (room-decides first (first_part side size rect)) (room-decides second (second_part side size rect))
 
 pub is_some-if : {X : Type 0} (t : Bool) (x : X) → is_some (if t then Some x else None) ≡ t
 is_some-if true x = refl
@@ -70,8 +65,8 @@ replaced_fits w other (Window n mode margins) rect window h e =
     rw leaf.0 (ap (λ (p : Placed). fits (other p.mode p.margins) p.rect) leaf.1)
 replaced_fits w other (Split side size first second) rect window h e =
     elim (found_where w side size first second rect window e) [
-      | inl p ↦ rw (p.0, fits-room second (second_part side size rect) h.1, and-true) (replaced_fits w other first (first_part side size rect) window h.0 p.1)
-      | inr q ↦ rw (q.0, fits-room first (first_part side size rect) h.0) (replaced_fits w other second (second_part side size rect) window h.1 q.1)
+      | inl p ↦ rw (p.0, (room-decides second (second_part side size rect)).1 h.1, and-true) (replaced_fits w other first (first_part side size rect) window h.0 p.1)
+      | inr q ↦ rw (q.0, (room-decides first (first_part side size rect)).1 h.0) (replaced_fits w other second (second_part side size rect) window h.1 q.1)
     ]
 
 -- what stands for a window is that by its own mode line and margins

@@ -7,7 +7,7 @@ use Rattle.rd_tree.specs.declared.side.Side.{Side}
 use Rattle.rd_tree.specs.Windows.{Windows, Window, fits, HasRoom, NeedsMet, resized, leaves, holds, halves, replaced, split_at, with_mode, with_margins, is_single, removed, times}
 use Rattle.rd_tree.specs.Calls.{Configuration, IsValid, frame, frame_of, opening, is_full}
 use Rattle.rd_tree.proofs.Rooms.{room_first_parts, resized_room}
-use Rattle.rd_tree.proofs.Keeping.{room-fits, IsSum, replaced_more, resized_same, removed_less, removed_room}
+use Rattle.rd_tree.proofs.Keeping.{room-decides, IsSum, replaced_more, resized_same, removed_less, removed_room}
 
 count : Windows → ℕ
 count windows = length (leaves windows)
@@ -52,7 +52,7 @@ split_valid c window side size valid held fit full =
     replaced_more count window 1 (halves window side size c.made) count-sum (λ n mode _ e. refl) c.windows held in
     let left = room_left c full in
     record {
-      room = room-fits (split_at window side size c.made c.windows) (frame_of c) fit;
+      room = (room-decides (split_at window side size c.made c.windows) (frame_of c)).0 fit;
       wide = valid.wide;
       high = valid.high;
       few = omega (arith, left.0);
@@ -87,7 +87,7 @@ changed_valid c window mode_of columns_of valid held fit =
     λ v. replaced_more (times v) window 0 other (times-sum v) (λ n mode _ e. rw (eqb-true n window e) (omega arith)) c.windows held in
     let kept : count (replaced window other c.windows) ≡ count c.windows + 0 =
     replaced_more count window 0 other count-sum (λ n mode _ e. refl) c.windows held in
-    with_windows c (replaced window other c.windows) c.width c.height valid valid.wide valid.high (room-fits (replaced window other c.windows) (frame_of c) fit) (omega (arith, kept)) (λ v. omega (arith, same v))
+    with_windows c (replaced window other c.windows) c.width c.height valid valid.wide valid.high ((room-decides (replaced window other c.windows) (frame_of c)).0 fit) (omega (arith, kept)) (λ v. omega (arith, same v))
 
 pub mode_valid : (c : Configuration) (window : ℕ) (shown : Bool) → IsValid c → holds window c.windows ≡ true → fits (with_mode window shown c.windows) (frame_of c) ≡ true → IsValid (record c { windows = with_mode window shown c.windows })
 mode_valid c window shown = changed_valid c window (λ _ _. shown) (λ _ margins. margins)
