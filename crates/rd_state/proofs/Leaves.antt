@@ -1,13 +1,13 @@
 -- What a window tree says of its windows, and how it changes.
 use Rattle.std.proofs.Common.{◌≡◌, ◌≢◌, ℕ, ◌≤◌, ◌==◌, ◌||◌, Bool, true, false, is_some, if◌then◌else◌, Option, None, Some, sym, ap, refl, ◌∙◌, inl, inr, arith}
-use Rattle.std.proofs.lemmas.Bool.{cases_eq, eqb-true, false_from_ne_true, cond-false, cond_both, cond-true, eq-eqb, ne_eqb, or_left, or_right}
+use Rattle.std.proofs.lemmas.Bool.{cases_eq, eqb-true, false_from_ne_true, cond-false, cond_both, cond-true, eq-eqb, ne_eqb, or_left}
 use Rattle.std.proofs.lemmas.Iterator.Adapters.{option_map_id}
 use Rattle.rd_base.proofs.Choices.{is_some-map, none-both, or-first, map-or, map-some, none-of}
 use Rattle.std.specs.Prelude.{option_map}
 use Rattle.std.specs.Option.{option_or}
 use Rattle.rd_tree.proofs.Keeping.{is_some-if, is_some-or, by_way, removed_less, resized_same}
 use Rattle.rd_tree.proofs.Rooms.{of_number-append}
-use Rattle.rd_tree.proofs.Standing.{held_times, resized_held}
+use Rattle.rd_tree.proofs.Standing.{held_times, sibling_held}
 use Rattle.rd_tree.specs.declared.placed.Placed.{Placed}
 use Rattle.rd_tree.specs.declared.rect.Rect.{Rect}
 use Rattle.rd_tree.specs.declared.side.Side.{Side}
@@ -160,17 +160,7 @@ first-held (Split side size first second) = or_left (holds (first_leaf first) fi
 
 -- the first window of the sibling is among those that are left
 pub heir-held : (n : ℕ) (ws : Windows) (rect : Rect) → holds (first_leaf (sibling n ws)) (removed n ws rect) ≡ true
-heir-held n (Window m mode margins) rect = eq-eqb m m refl
-heir-held n (Split side size first second) rect =
-    let a = first_part side size rect in
-    let b = second_part side size rect in
-    let in_first = first_leaf (sibling n first) in
-    let in_second = first_leaf (sibling n second) in
-    by_way (λ left beside _. holds (first_leaf beside) left ≡ true) n side size first second rect
-    (λ _. resized_held (first_leaf second) second rect ∙ first-held second)
-    (λ _. resized_held (first_leaf first) first rect ∙ first-held first)
-    (λ _ _. or_left (holds in_first (removed n first a)) (holds in_first second) (heir-held n first a))
-    (λ _ _. or_right (holds in_second first) (holds in_second (removed n second b)) (heir-held n second b))
+heir-held n ws rect = (sibling_held (first_leaf (sibling n ws)) n ws rect (first-held (sibling n ws))).0
 
 -- ---- the windows of a valid state
 

@@ -1,8 +1,8 @@
 -- Where windows stand.
-use Rattle.std.proofs.Common.{◌≡◌, ℕ, zero, suc, ◌+◌, ◌-◌, ◌≤◌, Bool, true, false, if◌then◌else◌, ◌==◌, ◌&&◌, List, [], ◌∷◌, ◌++◌, append_assoc, append-nil, map, Option, None, Some, ◌⊎◌, inl, inr, refl, sym, ap, ◌∙◌, arith}
+use Rattle.std.proofs.Common.{◌≡◌, ℕ, zero, suc, ◌+◌, ◌-◌, ◌≤◌, Bool, true, false, if◌then◌else◌, ◌==◌, ◌&&◌, ◌||◌, List, [], ◌∷◌, ◌++◌, append_assoc, append-nil, map, Option, None, Some, ◌⊎◌, inl, inr, refl, sym, ap, ◌∙◌, arith}
 use Rattle.std.specs.Prelude.{IfSome, slice_get}
 use Rattle.std.specs.List.{list_any}
-use Rattle.std.proofs.lemmas.Bool.{cases_Bool, or_parts}
+use Rattle.std.proofs.lemmas.Bool.{cases_Bool, or_left, or_right, or_parts}
 use Rattle.std.proofs.Math.Bool.{or-false, and-true, and-false}
 use Rattle.std.proofs.lemmas.Bool.Decides.{nat_tests}
 use Rattle.std.proofs.lemmas.List.{map-append}
@@ -112,6 +112,16 @@ held_among n (Split side size first second) = rw (held_among n first, held_among
 
 pub resized_held : (n : ℕ) (windows : Windows) (rect : Rect) → holds n (resized windows rect) ≡ holds n windows
 resized_held n windows rect = held_among n (resized windows rect) ∙ (ap (is_among n) (resized_leaves windows rect) ∙ sym (held_among n windows))
+
+-- the sibling is a part of the windows, and of those that are left
+pub sibling_held : (v n : ℕ) (windows : Windows) (rect : Rect) → holds v (sibling n windows) ≡ true → (holds v (removed n windows rect) ≡ true) × (holds v windows ≡ true)
+sibling_held v n (Window number mode margins) rect = λ e. (e, e)
+sibling_held v n (Split side size first second) rect =
+    by_way (λ left beside _. holds v beside ≡ true → (holds v left ≡ true) × (holds v first || holds v second ≡ true)) n side size first second rect
+    (λ _ e. (resized_held v second rect ∙ e, or_right (holds v first) (holds v second) e))
+    (λ _ e. (resized_held v first rect ∙ e, or_left (holds v first) (holds v second) e))
+    (λ _ _ e. let both = sibling_held v n first (first_part side size rect) e in (or_left _ _ both.0, or_left _ _ both.1))
+    (λ _ _ e. let both = sibling_held v n second (second_part side size rect) e in (or_right _ _ both.0, or_right _ _ both.1))
 
 window_without : (n : ℕ) (windows : Windows) (numbers : List ℕ) → is_leaf_of n windows ≡ true → without n (leaves windows ++ numbers) ≡ numbers
 window_without n (Window number mode margins) numbers e = rw e refl
