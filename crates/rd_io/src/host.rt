@@ -5,21 +5,30 @@ use std::fs::File;
 use std::io::{Read, Seek, SeekFrom, Write};
 use std::{env, io, rt};
 
-/// A source over a reader, as standard input.
+/// A device of the system with a count of its faults.
 #[derive(Drop)]
-pub struct StdSource<R> {
-    stream: R,
+pub struct Device<D> {
+    device: D,
     faults: u64,
 }
 
-impl<R: Read> StdSource<R> {
-    /// A source that has not failed.
-    pub fn new(stream: R) -> StdSource<R> {
-        StdSource { stream, faults: 0 }
+/// A source over a reader, as standard input.
+pub type StdSource<R> = Device<R>;
+
+/// A sink over a writer, as standard output. A writer that takes none of a piece that is not empty has failed.
+pub type StdSink<W> = Device<W>;
+
+/// The files of a runtime by their paths, with one count for all names.
+pub type HostFiles<'a, R> = Device<&'a R>;
+
+impl<D> Device<D> {
+    /// A device that has not failed.
+    pub fn new(device: D) -> Device<D> {
+        Device { device, faults: 0 }
     }
 }
 
-impl<R: Read> Source for StdSource<R> {
+impl<R: Read> Source for Device<R> {
     ghost use Rattle.std.specs.Prelude.{None};
 
     ghost left = { λ _. None };
@@ -27,28 +36,14 @@ impl<R: Read> Source for StdSource<R> {
     ghost faults = { λ s. s.faults };
 
     fn read(&mut self, buf: &mut [u8]) -> Result<usize, Failed> {
-        if let Ok(n) = self.stream.read(buf) {
+        if let Ok(n) = self.device.read(buf) {
             return Ok(n);
         }
         Err(failure(&mut self.faults))
     }
 }
 
-/// A sink over a writer, as standard output. A writer that takes none of a piece that is not empty has failed.
-#[derive(Drop)]
-pub struct StdSink<W> {
-    stream: W,
-    faults: u64,
-}
-
-impl<W: Write> StdSink<W> {
-    /// A sink that has not failed.
-    pub fn new(stream: W) -> StdSink<W> {
-        StdSink { stream, faults: 0 }
-    }
-}
-
-impl<W: Write> Sink for StdSink<W> {
+impl<W: Write> Sink for Device<W> {
     ghost use Rattle.std.specs.Prelude.{None};
 
     ghost written = { λ _. None };
@@ -56,7 +51,7 @@ impl<W: Write> Sink for StdSink<W> {
     ghost faults = { λ s. s.faults };
 
     fn write(&mut self, piece: &[u8]) -> Result<usize, Failed> {
-        if let Ok(n) = self.stream.write(piece) {
+        if let Ok(n) = self.device.write(piece) {
             if n > 0 || piece.is_empty() {
                 return Ok(n);
             }
@@ -65,21 +60,7 @@ impl<W: Write> Sink for StdSink<W> {
     }
 }
 
-/// The files of the system by their paths, with one count for all names.
-#[derive(Drop)]
-pub struct HostFiles<'a, R> {
-    files: &'a R,
-    faults: u64,
-}
-
-impl<'a, R: rt::Files> HostFiles<'a, R> {
-    /// The files of this runtime, of which none has failed.
-    pub fn new(files: &'a R) -> HostFiles<'a, R> {
-        HostFiles { files, faults: 0 }
-    }
-}
-
-impl<'a, R: rt::Files> Files for HostFiles<'a, R> {
+impl<R: rt::Files> Files for Device<&R> {
     ghost use Rattle.std.specs.Prelude.{None};
 
     ghost contents = { λ _ _. None };
@@ -87,7 +68,7 @@ impl<'a, R: rt::Files> Files for HostFiles<'a, R> {
     ghost faults = { λ s _. s.faults };
 
     fn fetch(&mut self, name: &str, from: u64, buf: &mut [u8]) -> Result<usize, Failed> {
-        if let Ok(mut file) = File::open(self.files, name) {
+        if let Ok(mut file) = File::open(self.device, name) {
             if let Ok(_) = file.seek(SeekFrom::Start(from)) {
                 if let Ok(n) = file.read(buf) {
                     return Ok(n);
