@@ -1,7 +1,7 @@
 //! Rule N0 of UAX 9 over an isolating run sequence.
 ghost use Rattle.std.specs.Prelude.{◌≡◌, ◌<◌, length, All, AllPairs, IfSome, IfOk, OnOk, OnErr, None};
 ghost use Rattle.rd_base.specs.Lines.{KeepsClasses};
-ghost use Rattle.rd_resolve.specs.Places.{types_at, put_at};
+ghost use Rattle.rd_resolve.specs.Places.{types_at, TakesTypes};
 ghost use Rattle.rd_brackets.specs.Pairs.{closings};
 ghost use Rattle.rd_brackets.specs.Sides.{n0_brackets_in, embedding_of, n0_with_marks};
 ghost use Rattle.rd_brackets.specs.Matchings.{ArePairsBefore};
@@ -89,10 +89,8 @@ fn n0_put_types(line: &mut Line, seq: &Seq, types: &[Class])
     requires within { All (λ i. i < length line.old.classes) seq.now.indexes }
     requires ascend { AllPairs (λ i j. i < j) seq.now.indexes }
     requires count { length types.now ≡ length seq.now.indexes }
-    ensures types { line.new.types ≡ put_at seq.now.indexes
-        (n0_with_marks None (types_at seq.now.indexes line.old.classes) (types_at seq.now.indexes line.old.types) types.now) line.old.types }
-    ensures levels { line.new.levels ≡ line.old.levels }
-    ensures rest { KeepsClasses line.old line.new }
+    ensures { TakesTypes line.old line.new seq.now.indexes
+        (n0_with_marks None (types_at seq.now.indexes line.old.classes) (types_at seq.now.indexes line.old.types) types.now) }
 {
     let mut side = None;
     for place in 0..seq.indexes.len() {

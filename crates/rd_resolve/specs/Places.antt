@@ -1,7 +1,9 @@
 -- The types of a sequence in a line.
-use Rattle.std.specs.Prelude.{ℕ, List, [], ◌∷◌, map, slice_index, slice_index_or, slice_set}
+use Rattle.std.specs.Prelude.{◌≡◌, ℕ, List, [], ◌∷◌, map, slice_index, slice_index_or, slice_set}
 use Rattle.rd_base.specs.declared.class.Class.{Class}
 use Rattle.rd_base.specs.declared.class.Class.TheVariants.{L}
+use Rattle.rd_base.specs.declared.line.Line.{Line}
+use Rattle.rd_base.specs.Lines.{KeepsClasses}
 
 -- the types, and the levels, at these indexes
 abbrev pub types_at : List ℕ → List Class → List Class
@@ -15,3 +17,9 @@ abbrev pub put_at : List ℕ → List Class → List Class → List Class
 put_at [] cs ts = ts
 put_at (i ∷ is) [] ts = ts
 put_at (i ∷ is) (c ∷ cs) ts = put_at is cs (slice_set ts i c)
+
+-- the types of a line at these indexes became these, and all else of it is as it was
+pub record TakesTypes (old new : Line) (is : List ℕ) (cs : List Class) : Type 0 where
+  pub types : new.types ≡ put_at is cs old.types
+  pub levels : new.levels ≡ old.levels
+  pub rest : KeepsClasses old new

@@ -1,8 +1,7 @@
 //! Rules N1 and N2 of UAX 9 in one walk over an isolating run sequence. Each rule is a function here.
 ghost use Rattle.std.specs.Prelude.{◌≡◌, ◌<◌, length, All, AllPairs};
-ghost use Rattle.rd_base.specs.Lines.{KeepsClasses};
 ghost use Rattle.rd_resolve.specs.Neutral.{is_neutral, n1_side, n1_following, n1_surrounding_direction, n2_embedding_direction, neutral_types};
-ghost use Rattle.rd_resolve.specs.Places.{types_at, levels_at, put_at};
+ghost use Rattle.rd_resolve.specs.Places.{types_at, levels_at, TakesTypes};
 ghost use Rattle.rd_resolve.specs.Walks.{SideIs};
 
 use crate::walk::{WalkRules, walk};
@@ -24,10 +23,8 @@ pub struct Sides {
 pub fn neutral(line: &mut Line, seq: &Seq)
     requires within { All (λ i. i < length line.old.classes) seq.now.indexes }
     requires ascend { AllPairs (λ i j. i < j) seq.now.indexes }
-    ensures types { line.new.types ≡ put_at seq.now.indexes
-        (neutral_types seq.now.sos seq.now.eos (types_at seq.now.indexes line.old.types) (levels_at seq.now.indexes line.old.levels)) line.old.types }
-    ensures levels { line.new.levels ≡ line.old.levels }
-    ensures rest { KeepsClasses line.old line.new }
+    ensures { TakesTypes line.old line.new seq.now.indexes
+        (neutral_types seq.now.sos seq.now.eos (types_at seq.now.indexes line.old.types) (levels_at seq.now.indexes line.old.levels)) }
 {
     let sides = Sides {
         before: seq.sos,

@@ -1,7 +1,6 @@
 //! One walk over an isolating run sequence of a line, for rules that give each character a type by what came before it.
 ghost use Rattle.std.specs.Prelude.{◌≡◌, ◌+◌, ◌<◌, ◌∷◌, Some, length, All, AllPairs, drop, slice_get};
-ghost use Rattle.rd_base.specs.Lines.{KeepsClasses};
-ghost use Rattle.rd_resolve.specs.Places.{types_at, levels_at, put_at};
+ghost use Rattle.rd_resolve.specs.Places.{types_at, levels_at, TakesTypes};
 
 use rd_base::{Class, Line, Seq};
 
@@ -32,10 +31,8 @@ pub(crate) fn walk<R: WalkRules>(line: &mut Line, seq: &Seq, mut rules: R)
     requires within { All (λ i. i < length line.old.classes) seq.now.indexes }
     requires ascend { AllPairs (λ i j. i < j) seq.now.indexes }
     requires known { R.is_known rules (types_at seq.now.indexes line.old.types) }
-    ensures types { line.new.types ≡ put_at seq.now.indexes
-        (R.left rules (types_at seq.now.indexes line.old.types) (levels_at seq.now.indexes line.old.levels)) line.old.types }
-    ensures levels { line.new.levels ≡ line.old.levels }
-    ensures rest { KeepsClasses line.old line.new }
+    ensures { TakesTypes line.old line.new seq.now.indexes
+        (R.left rules (types_at seq.now.indexes line.old.types) (levels_at seq.now.indexes line.old.levels)) }
 {
     for k in 0..seq.indexes.len() {
         let walked = walked_character(line, seq, k);

@@ -1,8 +1,7 @@
 //! Rules W1 to W7 of UAX 9 in one walk over an isolating run sequence. Each rule is a function here, and each of its passes in the
 //! definitions a whole walk; `Before` has the state in which each pass stands.
 ghost use Rattle.std.specs.Prelude.{◌≡◌, ◌<◌, length, ◌||◌, false, unwrap_or, All, AllPairs, IfSome};
-ghost use Rattle.rd_base.specs.Lines.{KeepsClasses};
-ghost use Rattle.rd_resolve.specs.Places.{types_at, put_at};
+ghost use Rattle.rd_resolve.specs.Places.{types_at, TakesTypes};
 ghost use Rattle.rd_resolve.specs.Weak.{w1_nonspacing_marks, strong_after, w2_european_numbers_after_arabic, w3_arabic_letters, w4_separators, first_type, is_en, w5_terminators, w6_remaining_separators, w7_latin_numbers, weak_types, w1, w2, w3};
 ghost use Rattle.rd_resolve.specs.Walks.{w5_run_ends, w5_run_of};
 
@@ -33,9 +32,7 @@ pub struct Before {
 pub fn weak(line: &mut Line, seq: &Seq)
     requires within { All (λ i. i < length line.old.classes) seq.now.indexes }
     requires ascend { AllPairs (λ i j. i < j) seq.now.indexes }
-    ensures types { line.new.types ≡ put_at seq.now.indexes (weak_types seq.now.sos (types_at seq.now.indexes line.old.types)) line.old.types }
-    ensures levels { line.new.levels ≡ line.old.levels }
-    ensures rest { KeepsClasses line.old line.new }
+    ensures { TakesTypes line.old line.new seq.now.indexes (weak_types seq.now.sos (types_at seq.now.indexes line.old.types)) }
 {
     let before = Before {
         w1_before: seq.sos,
