@@ -1,16 +1,16 @@
 -- The cells of a plain line stand whole, and there are as many as it has columns.
-use Rattle.std.proofs.Common.{◌≡◌, ℕ, ◌-◌, ◌≤◌, Bool, true, false, IsTrue, List, [], ◌∷◌, ◌++◌, length, length-append, map, Option, Some, None, IfSome, All, refl, subst, arith}
+use Rattle.std.proofs.Common.{◌≡◌, ℕ, ◌-◌, ◌≤◌, ◌<◌, Bool, true, false, IsTrue, List, [], ◌∷◌, ◌++◌, length, length-append, map, Option, Some, None, IfSome, All, refl, subst, arith}
 use Rattle.std.specs.Prelude.{nat_lt, nat_le, if◌then◌else◌}
 use Rattle.std.specs.List.{AllByRecursion}
 use Rattle.std.proofs.lemmas.Bool.Decides.{nat_tests}
 use Rattle.std.proofs.lemmas.List.{length-replicate}
 use Rattle.std.proofs.lemmas.List.Elements.{All-append, All-nil, All-from_recursion, recursion_from_All}
 use Rattle.rd_base.specs.Chars.{is_code}
-use Rattle.rd_base.specs.Cells.{single, HasColours, IsColoured, with_mark, joined_glyph}
+use Rattle.rd_base.specs.Cells.{single, HasColours, IsColoured, with_mark}
 use Rattle.rd_base.specs.Faces.{Attributes}
 use Rattle.rd_base.specs.Glyphs.{blanks, IsMeasured, IsMeasuredLook, IsRowAfter}
+use Rattle.rd_base.proofs.Choices.{if-value}
 use Rattle.rd_base.proofs.Colours.{blanks-coloured, look-coloured}
-use Rattle.rd_base.proofs.Lists.{each-weaker}
 use Rattle.rd_base.proofs.Rows.{behind-whole, blanks-whole, glyph-whole, look_length, printable-measured}
 use Rattle.rd_base.specs.declared.cell.Glyph.{Glyph}
 use Rattle.rd_base.specs.declared.cell.Cell.{Cell}
@@ -25,7 +25,7 @@ use Rattle.rd_glyphs.specs.declared.shown.Shown.{Shown}
 use Rattle.rd_glyphs.specs.declared.shown.Shown.TheVariants.{Caret, Octal, Space, Mark, Itself}
 use Rattle.rd_glyphs.specs.Characters.{PartValues, TakesColumns, ShowsColumns, shown_as, look_columns, entry_of}
 use Rattle.rd_glyphs.specs.MarkRoles.{mark_role_by, mark_role_of, base_of, mark_of, IsMark, IsMeasuredRole}
-use Rattle.rd_glyphs.specs.Marks.{marked_glyph, marks_joined}
+use Rattle.rd_glyphs.specs.Marks.{marked_glyph}
 use Rattle.rd_glyphs.specs.Lines.{PlainPart, part_of, plain_part, plain_joins, looks_of_parts, plain_looks, cells_of, fitted, plain_cells}
 use Rattle.rd_glyphs.proofs.Elements.{shown_as-columns, looks-columns}
 use Rattle.rd_glyphs.proofs.Joined.{Grows, marks_joined-all}
@@ -50,17 +50,18 @@ fitted-has P Q face join none room (l ∷ ls) each = by-room (nat_le (look_colum
 
 -- ---- looks
 
--- a measured glyph that a mark joins
-pub joined_glyph-measured : (g : Glyph) (code : ℕ) → IsMeasured g → IsMark code → IfSome (joined_glyph g code) (λ glyph. IsMeasured glyph)
-joined_glyph-measured g code is mark = by-room (nat_lt g.count 6) refl where
-  by-room : (room : Bool) → nat_lt g.count 6 ≡ room → IfSome (if room then Some (with_mark g code) else None) (λ glyph. IsMeasured glyph)
-  by-room true e = marked-measured g code is (grind (arith, nat_tests)) mark.0 mark.1
+-- what holds of a base, and still where a mark joins it, holds of what the two make
+marked_glyph-has : (P : Glyph → Type 0) (M : ℕ → Type 0) → ((g : Glyph) (code : ℕ) → P g → M code → g.count < 6 → P (with_mark g code))
+    → (base : Option Glyph) (mark : Option ℕ) → IfSome base P → IfSome mark M → IfSome (marked_glyph base mark) P
+marked_glyph-has P M joins None mark b m = tt
+marked_glyph-has P M joins (Some g) None b m = tt
+marked_glyph-has P M joins (Some g) (Some code) b m = by-room (nat_lt g.count 6) refl where
+  by-room : (room : Bool) → nat_lt g.count 6 ≡ room → IfSome (if room then Some (with_mark g code) else None) P
+  by-room true e = joins g code b m (grind (arith, nat_tests))
   by-room false e = tt
 
 pub marked_glyph-measured : (base : Option Glyph) (mark : Option ℕ) → IfSome base (λ g. IsMeasured g) → IfSome mark (λ code. IsMark code) → IfSome (marked_glyph base mark) (λ glyph. IsMeasured glyph)
-marked_glyph-measured None mark b m = tt
-marked_glyph-measured (Some g) None b m = tt
-marked_glyph-measured (Some g) (Some code) b m = joined_glyph-measured g code b m
+marked_glyph-measured = marked_glyph-has IsMeasured IsMark (λ g code is mark room. marked-measured g code is room mark.0 mark.1)
 
 pub base-measured : (j : MarkRole) → IsMeasuredRole j → IfSome (base_of j) (λ g. IsMeasured g)
 base-measured role.Empty is = tt
@@ -84,84 +85,77 @@ mark_role_of-measured parts ch code = by-entry (entry_of parts.table ch) where
 
 -- ---- the parts of a plain line
 
-looks-all : (P : Look → Type 0) (parts : List PlainPart) → AllByRecursion (λ part. AllByRecursion P part.looks) parts → All P (looks_of_parts parts)
-looks-all P [] each = All-nil P
-looks-all P (part ∷ parts) each =
-    All-append P part.looks (looks_of_parts parts) (All-from_recursion P part.looks each.0) (looks-all P parts each.1)
+-- what is put for a part is of one kind, and how it stands towards marks of another
+record Has (P : Look → Type 0) (M : MarkRole → Type 0) (part : PlainPart) : Type 0 where
+  looks : AllByRecursion P part.looks
+  role : M part.role
 
--- what holds of each part with marks joined holds of the looks of a plain line
-plain_looks-all : (P : Look → Type 0) (Q : PlainPart → Type 0) → ((part : PlainPart) → Q part → AllByRecursion P part.looks) → Grows plain_joins Q → (classes : List Span) (text : List ℕ)
-    → AllByRecursion Q (map (plain_part classes) text) → All P (plain_looks classes text)
-plain_looks-all P Q own grows classes text each =
-    let parts = marks_joined plain_joins (map (plain_part classes) text) in
-    looks-all P parts (each-weaker Q (λ part. AllByRecursion P part.looks) own parts (marks_joined-all plain_joins Q grows (map (plain_part classes) text) each))
+-- the parts of characters are of these kinds, and so is a part that a mark joins
+module _ (P : Look → Type 0) (M : MarkRole → Type 0) (classes : List Span) (C : ℕ → Type 0)
+    (own : (c : ℕ) → C c → Has P M (plain_part classes c)) (base : (g : Glyph) → P (look.Glyph g) → M (role.Base g))
+    (joins : (held next : MarkRole) → M held → M next → IfSome (marked_glyph (base_of held) (mark_of next)) (λ g. P (look.Glyph g))) where
+  looks-all : (parts : List PlainPart) → AllByRecursion (Has P M) parts → All P (looks_of_parts parts)
+  looks-all [] each = All-nil P
+  looks-all (part ∷ parts) each =
+      All-append P part.looks (looks_of_parts parts) (All-from_recursion P part.looks each.0.looks) (looks-all parts each.1)
 
-record IsMeasuredPart (part : PlainPart) : Type 0 where
-  looks : AllByRecursion IsMeasuredLook part.looks
-  role : IsMeasuredRole part.role
+  parts-have : (text : List ℕ) → AllByRecursion C text → AllByRecursion (Has P M) (map (plain_part classes) text)
+  parts-have [] each = tt
+  parts-have (c ∷ cs) each = (own c each.0, parts-have cs each.1)
 
-part-measured : (shown : Shown) → ShowsMeasured shown → IsMeasuredPart (part_of shown)
+  grows : Grows plain_joins (Has P M)
+  grows held next glyph h n e =
+      let found = subst (λ (m : Option Glyph). IfSome m (λ g. P (look.Glyph g))) e (joins held.role next.role h.role n.role) in
+      record { looks = (found, tt); role = base glyph found }
+
+  -- what is put for a plain line is of the one kind
+  plain_looks-all : (text : List ℕ) → AllByRecursion C text → AllByRecursion P (plain_looks classes text)
+  plain_looks-all text each =
+      recursion_from_All P (plain_looks classes text)
+      (looks-all _ (marks_joined-all plain_joins (Has P M) grows (map (plain_part classes) text) (parts-have text each)))
+
+part-measured : (shown : Shown) → ShowsMeasured shown → Has IsMeasuredLook IsMeasuredRole (part_of shown)
 part-measured shown is = record {
   looks = recursion_from_All IsMeasuredLook (part_of shown).looks
       (looks-measured (single 92 1) (single 94 1) shown (printable-measured 92 (omega arith) (omega arith)) (printable-measured 94 (omega arith) (omega arith)) is);
   role = role-measured shown is;
 }
 
-parts-measured : (classes : List Span) (text : List ℕ) → AllByRecursion (λ c. IsTrue (is_code c)) text → AllByRecursion IsMeasuredPart (map (plain_part classes) text)
-parts-measured classes [] codes = tt
-parts-measured classes (c ∷ cs) codes =
-    (part-measured (shown_as true (class_of classes c) c) (shown_as-measured true (class_of classes c) c codes.0), parts-measured classes cs codes.1)
-
-measured-grows : Grows plain_joins IsMeasuredPart
-measured-grows held next glyph h n e =
-    let found : IfSome (Some glyph) (λ (g : Glyph). IsMeasured g) = subst (λ (m : Option Glyph). IfSome m (λ (g : Glyph). IsMeasured g)) e (marked_glyph-measured (base_of held.role) (mark_of next.role) (base-measured held.role h.role) (mark-measured next.role n.role)) in
-    record { looks = (found, tt); role = found }
-
-plain_looks-measured : (classes : List Span) (text : List ℕ) → AllByRecursion (λ c. IsTrue (is_code c)) text → All IsMeasuredLook (plain_looks classes text)
-plain_looks-measured classes text codes =
-    plain_looks-all IsMeasuredLook IsMeasuredPart (λ part is. is.looks) measured-grows classes text (parts-measured classes text codes)
+plain_looks-measured : (classes : List Span) (text : List ℕ) → AllByRecursion (λ c. IsTrue (is_code c)) text
+    → AllByRecursion IsMeasuredLook (plain_looks classes text)
+plain_looks-measured classes =
+    plain_looks-all IsMeasuredLook IsMeasuredRole classes (λ c. IsTrue (is_code c))
+    (λ c code. part-measured (shown_as true (class_of classes c) c) (shown_as-measured true (class_of classes c) c code)) (λ g is. is)
+    (λ held next h n. marked_glyph-measured (base_of held) (mark_of next) (base-measured held h) (mark-measured next n))
 
 -- each glyph of a plain line stands whole
 pub plain-whole : (classes : List Span) (face : Attributes) (width : ℕ) (text : List ℕ) → All (λ c. IsTrue (is_code c)) text → IsRowAfter 0 (plain_cells classes face width text)
 plain-whole classes face width text codes =
     fitted-has (λ room. IsRowAfter 0) IsMeasuredLook face (λ room l cells measured fits row. behind-whole 0 (cells_of face l) cells (look-whole face l measured) row)
     (λ room. blanks-whole room face) width (plain_looks classes text)
-    (recursion_from_All IsMeasuredLook (plain_looks classes text) (plain_looks-measured classes text (recursion_from_All (λ (c : ℕ). IsTrue (is_code c)) text codes)))
+    (plain_looks-measured classes text (recursion_from_All (λ (c : ℕ). IsTrue (is_code c)) text codes))
 
 -- ---- columns
 
-record IsNarrowPart (part : PlainPart) : Type 0 where
-  looks : AllByRecursion TakesColumns part.looks
-  base : IfSome (base_of part.role) (λ g. TakesColumns (look.Glyph g))
+abbrev HasNarrowBase : MarkRole → Type 0
+HasNarrowBase j = IfSome (base_of j) (λ g. TakesColumns (look.Glyph g))
 
-part-narrow : (shown : Shown) → ShowsColumns shown → IsNarrowPart (part_of shown)
-part-narrow shown is = record { looks = looks-columns (single 92 1) (single 94 1) shown refl refl is; base = base shown is } where
-  base : (shown : Shown) → ShowsColumns shown → IfSome (base_of (part_of shown).role) (λ g. TakesColumns (look.Glyph g))
+part-narrow : (shown : Shown) → ShowsColumns shown → Has TakesColumns HasNarrowBase (part_of shown)
+part-narrow shown is = record { looks = looks-columns (single 92 1) (single 94 1) shown refl refl is; role = base shown is } where
+  base : (shown : Shown) → ShowsColumns shown → HasNarrowBase (part_of shown).role
   base (Caret letter) is = tt
   base (Octal byte) is = tt
   base Space is = tt
   base (Mark code) is = (omega arith, omega arith)
   base (Itself code width) is = is
 
-parts-narrow : (classes : List Span) (text : List ℕ) → AllByRecursion IsNarrowPart (map (plain_part classes) text)
-parts-narrow classes [] = tt
-parts-narrow classes (c ∷ cs) = (part-narrow (shown_as true (class_of classes c) c) (shown_as-columns true (class_of classes c) c), parts-narrow classes cs)
-
-marked-narrow : (base : Option Glyph) (mark : Option ℕ) → IfSome base (λ g. TakesColumns (look.Glyph g)) → IfSome (marked_glyph base mark) (λ g. TakesColumns (look.Glyph g))
-marked-narrow None mark b = tt
-marked-narrow (Some g) None b = tt
-marked-narrow (Some g) (Some code) b = by-room (nat_lt g.count 6) where
-  by-room : (room : Bool) → IfSome (if room then Some (with_mark g code) else None) (λ glyph. TakesColumns (look.Glyph glyph))
-  by-room true = b
-  by-room false = tt
-
-narrow-grows : Grows plain_joins IsNarrowPart
-narrow-grows held next glyph h n e =
-    let found : IfSome (Some glyph) (λ (g : Glyph). TakesColumns (look.Glyph g)) = subst (λ (m : Option Glyph). IfSome m (λ (g : Glyph). TakesColumns (look.Glyph g))) e (marked-narrow (base_of held.role) (mark_of next.role) h.base) in
-    record { looks = (found, tt); base = found }
-
-plain_looks-narrow : (classes : List Span) (text : List ℕ) → All TakesColumns (plain_looks classes text)
-plain_looks-narrow classes text = plain_looks-all TakesColumns IsNarrowPart (λ part is. is.looks) narrow-grows classes text (parts-narrow classes text)
+plain_looks-narrow : (classes : List Span) (text : List ℕ) → AllByRecursion TakesColumns (plain_looks classes text)
+plain_looks-narrow classes text =
+    plain_looks-all TakesColumns HasNarrowBase classes (λ c. Unit {0})
+    (λ c any. part-narrow (shown_as true (class_of classes c) c) (shown_as-columns true (class_of classes c) c)) (λ g takes. takes)
+    (λ held next h n. marked_glyph-has (λ g. TakesColumns (look.Glyph g)) (λ code. Unit {0}) (λ g code takes any room. takes)
+    (base_of held) (mark_of next) h (if-value (λ code. Unit {0}) (mark_of next) (λ code e. tt)))
+    text (recursion_from_All (λ c. Unit {0}) text (λ k d inside. tt))
 
 -- a plain line has exactly its columns
 pub plain-length : (classes : List Span) (face : Attributes) (width : ℕ) (text : List ℕ) → length (plain_cells classes face width text) ≡ width
@@ -170,7 +164,7 @@ plain-length classes face width text =
     let sum = length-append (cells_of face l) cells in
     let first = look_length (look_columns l) l face takes.0 in
     omega arith)
-    (λ room. length-replicate room (Blank face)) width (plain_looks classes text) (recursion_from_All TakesColumns (plain_looks classes text) (plain_looks-narrow classes text))
+    (λ room. length-replicate room (Blank face)) width (plain_looks classes text) (plain_looks-narrow classes text)
 
 -- ---- colours
 
