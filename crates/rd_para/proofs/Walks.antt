@@ -9,7 +9,9 @@ use Rattle.rd_text.specs.Texts.{TextValue, IsText, between, is_newline, is_ink, 
 use Rattle.rd_text.proofs.Characters.{clash, blank_else, blank_not_ink, newline_not_ink}
 use Rattle.rd_text.proofs.Searches.{next_bound, next_before, next_at, ink_after, ink_at, prev_ink_bound, between_at, between_size, all_blank, some_ink, blank_at}
 use Rattle.rd_ucd.specs.declared.spans.Span.{Span}
+use Rattle.rd_para.specs.Known.{IsKnown}
 use Rattle.rd_para.specs.Paragraphs.{line_level, decided, level_by, levels_of, text_level}
+use Rattle.rd_para.specs.declared.paragraph.Paragraph.{Paragraph}
 use Rattle.rd_para.proofs.Cuts.{line_cut, some_line, levels_here, levels_next}
 
 -- the lines from a position on
@@ -277,7 +279,7 @@ module _ (classes : List Span) (t : TextValue) (right : IsText t) where
         (λ more next next_kind. stays t.end (to + 1) p whole (not (is_separator text)) (omega arith) (omega arith) next (omega arith) p_high next_kind)
 
 -- the end of a line is its own
-pub ends_itself : (t : TextValue) (right : IsText t) (pos : ℕ) → t.begin ≤ pos → pos ≤ t.end → next_newline t pos ≡ next_newline t (next_newline t pos)
+ends_itself : (t : TextValue) (right : IsText t) (pos : ℕ) → t.begin ≤ pos → pos ≤ t.end → next_newline t pos ≡ next_newline t (next_newline t pos)
 ends_itself t right pos low high =
     let (order, last) = next_bound t right pos low high in
     omega (arith, (next_bound t right (next_newline t pos) (omega arith) last).0, ends_within t right pos (next_newline t pos) low high (omega arith) (omega arith))
@@ -289,6 +291,15 @@ line_bounds t right pos to low high is =
     let (order, last) = next_bound t right pos low high in
     let ink = prev_ink_bound t right to (omega arith) (omega arith) in
     (omega arith, omega arith, ink.0, ink.1)
+
+-- a paragraph is known up to the end of a position's line, where it begins at the position or before it
+pub known_to : (classes : List Span) (t : TextValue) (right : IsText t) (p : Paragraph) (pos : ℕ) → t.begin ≤ pos → pos ≤ t.end
+    → p.to ≡ next_newline t pos → t.begin ≤ p.from → p.from ≤ pos
+    → ((place : ℕ) → p.from ≤ place → place ≤ p.to → text_level classes t place ≡ p.base) → IsKnown classes t p
+known_to classes t right p pos low high is first before same =
+    let (order, last) = next_bound t right pos low high in
+    let ends = is ∙ ends_itself t right pos low high ∙ ap (next_newline t) (sym is) in
+    record { first = first; order = omega arith; last = omega arith; ends = ends; same = same }
 
 -- the start of a paragraph, by the places that the code finds, stands before the position
 pub start_before : (t : TextValue) (right : IsText t) (pos ink place start : ℕ) → t.begin ≤ pos → pos ≤ t.end → ink ≡ prev_ink t (next_newline t pos) → place ≡ max t.begin (ink - 1)

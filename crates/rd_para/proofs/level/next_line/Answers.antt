@@ -7,65 +7,47 @@ use Rattle.rd_para.specs.Paragraphs.{decided}
 use Rattle.rd_para.specs.Known.{IsKnown}
 use Rattle.rd_para.specs.declared.paragraph.Paragraph.{Paragraph}
 use Rattle.rd_text.proofs.Searches.{next_bound, next_at}
-use Rattle.rd_para.proofs.Walks.{NextLine, next_line_is, ends_itself, rows}
+use Rattle.rd_para.proofs.Walks.{NextLine, next_line_is, known_to, rows}
 use Rattle.rd_para.proofs.level.next_line.Goals as goal
 use Rattle.rd_para.proofs.level.next_line.Goals.{then-prev_ink-from-via-then-prev_ink-from, then-prev_ink-from-via-else-prev_ink-from+then-prev_newline-prev_ink}
 
--- what is known of the line behind, up to its end
-record Behind (classes : List Span) (t : TextValue) (p : Paragraph) (to : ℕ) : Type 0 where
-  begin : t.begin ≤ p.to
-  order : p.to + 1 ≤ to
-  last : to ≤ t.end
-  ends : to ≡ next_newline t to
-  next : NextLine classes t p.to
-
-behind : (classes : List Span) (t : TextValue) (right : IsText t) (p : Paragraph) (to : ℕ) → IsKnown classes t p → p.to < t.end → to ≡ next_newline t (p.to + 1) → Behind classes t p to
-behind classes t right p to known more is =
+-- a line that ends before the text's end has a line behind it
+behind : (classes : List Span) (t : TextValue) (right : IsText t) (p : Paragraph) → IsKnown classes t p → p.to < t.end
+    → NextLine classes t p.to
+behind classes t right p known more =
     let first = known.first in
     let order = known.order in
-    let (to_order, within) = next_bound t right (p.to + 1) (omega arith) (omega arith) in
-    record {
-      begin = omega arith;
-      order = omega arith;
-      last = omega arith;
-      ends = is ∙ ends_itself t right (p.to + 1) (omega arith) (omega arith) ∙ ap (next_newline t) (sym is);
-      next = next_line_is classes t right p.to (omega arith) more
-          (ap (λ (n : ℕ). is_newline (get_or t.text (n - 1) 0)) known.ends ∙ next_at t right p.to (omega arith) (omega arith) (let ends = known.ends in omega arith));
-    }
+    let ends = known.ends in
+    next_line_is classes t right p.to (omega arith) more
+    (ap (λ (n : ℕ). is_newline (get_or t.text (n - 1) 0)) ends ∙ next_at t right p.to (omega arith) (omega arith) (omega arith))
 
 further : (classes : List Span) (t : TextValue) (right : IsText t) (p : Paragraph) (to : ℕ) → IsKnown classes t p → p.to < t.end → to ≡ next_newline t (p.to + 1)
     → (prev_ink t (next_newline t (p.to + 1)) ≤ p.to + 1) ⊎ (prev_newline t p.to < prev_ink t p.to) → IsKnown classes t (record { from = p.from; to = to; base = p.base })
 further classes t right p to known more is kind =
-    let b = behind classes t right p to known more is in
+    let first = known.first in
     let order = known.order in
-    record {
-      first = known.first;
-      order = omega (arith, b.order);
-      last = b.last;
-      ends = b.ends;
-      same = λ pos low high. elim (cases_lt p.to pos) [
-        | inl past ↦ b.next.kept pos (omega arith) (omega arith) kind ∙ known.same p.to order (omega arith)
-        | inr here ↦ known.same pos low here
-      ];
-    }
+    known_to classes t right _ (p.to + 1) (omega arith) (omega arith) is first (omega arith) (λ pos low high. elim (cases_lt p.to pos) [
+      | inl past ↦ (behind classes t right p known more).kept pos (omega arith) (omega arith) kind ∙ known.same p.to order (omega arith)
+      | inr here ↦ known.same pos low here
+    ])
 
 fresh : (classes : List Span) (t : TextValue) (right : IsText t) (p : Paragraph) (to base : ℕ) → IsKnown classes t p → p.to < t.end → to ≡ next_newline t (p.to + 1)
     → p.to + 1 < prev_ink t (next_newline t (p.to + 1)) → prev_ink t p.to ≤ prev_newline t p.to → base ≡ unwrap_or (decided classes (rows t (p.to + 1))) 0
     → IsKnown classes t (record { from = p.to + 1; to = to; base = base })
 fresh classes t right p to base known more is ink blank level =
-    let b = behind classes t right p to known more is in
-    record {
-      first = omega (arith, b.begin);
-      order = b.order;
-      last = b.last;
-      ends = b.ends;
-      same = λ pos low high. b.next.fresh pos low (omega arith) ink blank ∙ sym level;
-    }
+    let first = known.first in
+    let order = known.order in
+    known_to classes t right _ (p.to + 1) (omega arith) (omega arith) is (omega arith) (omega arith)
+    (λ pos low high. (behind classes t right p known more).fresh pos low (omega arith) ink blank ∙ sym level)
 
 pub prev_ink-requires : goal.prev_ink-requires
 prev_ink-requires c =
-    let b = behind c.args.classes.now c.args.text.now c.begin-begin.ensures.right c.args.known.now c.next_newline-to.result c.requires.known c.requires.more c.next_newline-to.ensures in
-    (omega (arith, b.begin, b.order), b.last)
+    let first = c.requires.known.first in
+    let order = c.requires.known.order in
+    let more = c.requires.more in
+    let is = c.next_newline-to.ensures in
+    let (to_order, last) = next_bound c.args.text.now c.begin-begin.ensures.right (c.args.known.now.to + 1) (omega arith) (omega arith) in
+    (omega arith, omega arith)
 
 pub returns-then-prev_ink-from-clause-known : goal.returns-then-prev_ink-from-clause-known
 returns-then-prev_ink-from-clause-known c =
