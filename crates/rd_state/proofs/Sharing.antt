@@ -1,19 +1,20 @@
 -- What the ops leave that change how the windows share the frame.
-use Rattle.std.proofs.Common.{◌≡◌, ℕ, ◌+◌, ◌-◌, ◌<◌, ◌≤◌, ◌==◌, Bool, true, false, inl, inr, is_some, if◌then◌else◌, nat_le, min, pos, Option, None, Some, Result, Ok, Err, List, [], ◌∷◌, ◌++◌, length, set, get_or, ap, subst, sym, refl, ◌∙◌, arith}
+use Rattle.std.proofs.Common.{◌≡◌, ℕ, ◌+◌, ◌-◌, ◌<◌, ◌≤◌, ◌==◌, Bool, true, false, inl, inr, is_some, if◌then◌else◌, nat_le, min, pos, Option, None, Result, Ok, Err, List, [], ◌∷◌, ◌++◌, length, set, get_or, ap, subst, sym, refl, ◌∙◌, arith}
 use Rattle.std.proofs.lemmas.Bool.{cases_lt, and_left, and_right}
 use Rattle.std.proofs.lemmas.Bool.Decides.{nat_tests}
 use Rattle.std.specs.List.{remove}
-use Rattle.std.specs.Prelude.{IsErr, IfErr, option_map}
+use Rattle.std.specs.Prelude.{IsErr, IfErr}
 use Rattle.std.specs.Result.{IsErrAnd}
+use Rattle.rd_base.proofs.Choices.{some-of}
 use Rattle.rd_script.specs.declared.op.Op.{Op}
 use Rattle.rd_script.specs.declared.op.Op.TheVariants.{Split as SplitWindow}
+use Rattle.rd_tree.proofs.Keeping.{found_held, replaced_fits}
+use Rattle.rd_tree.proofs.Standing.{stands_in}
 use Rattle.rd_tree.specs.Calls.{Configuration, frame_of, is_full, split_tree, remove_tree, mode_tree, Splits}
 use Rattle.rd_tree.specs.Calls as tree
-use Rattle.rd_tree.specs.Places.{StandsIn}
-use Rattle.rd_tree.specs.Windows.{Windows, HasRoom, fits, first_leaf, halves, holds, sibling, split_at, window_at}
+use Rattle.rd_tree.specs.Windows.{Windows, fits, first_leaf, halves, holds, sibling, split_at, window_at}
 use Rattle.rd_tree.specs.declared.fault.TreeFault.{TreeFault}
 use Rattle.rd_tree.specs.declared.fault.TreeFault.TheVariants as tree_faults
-use Rattle.rd_tree.specs.declared.placed.Placed.{Placed}
 use Rattle.rd_tree.specs.declared.rect.Rect.{Rect}
 use Rattle.rd_tree.specs.declared.side.Side.{Side}
 use Rattle.rd_tree.specs.declared.side.Side.TheVariants.{Below, Right}
@@ -28,7 +29,6 @@ use Rattle.rd_state.specs.Valid.{IsValid}
 use Rattle.rd_state.specs.Windows.{place_in, NumberedWindow}
 use Rattle.rd_state.proofs.ByNumber.{IsFound}
 use Rattle.rd_state.proofs.Finding.{at-window, found-in}
-use Rattle.rd_state.proofs.Leaves.{facts, is_some-leaf, leaf-placed}
 
 -- ---- refusals
 
@@ -96,29 +96,17 @@ too-small : (n size new margins : ℕ) (side : Side) (mode : Bool) (rect : Rect)
 too-small n size new margins Right mode rect wide high = and_right _ _ (and_left _ _ (no-columns margins rect.width size wide))
 too-small n size new margins Below mode rect wide high = and_right _ _ (and_right _ _ (no-rows mode rect.height size high))
 
-abbrev pub SplitLaw : Type 0
-SplitLaw = (number : ℕ) (side : Side) (size new : ℕ) (windows : Windows) (rect : Rect) (window : Placed) → HasRoom windows rect → window_at number windows rect ≡ Some window
-    → fits (split_at number side size new windows) rect ≡ fits (halves number side size new window.mode window.margins) window.rect
-
-abbrev pub InsideLaw : Type 0
-InsideLaw = (number : ℕ) (windows : Windows) (rect : Rect) (window : Placed) → HasRoom windows rect → window_at number windows rect ≡ Some window → StandsIn window rect
-
-placed-held : (o : Option Placed) (held : Bool) → is_some (option_map facts o) ≡ held → held ≡ true → (p : Placed) × (o ≡ Some p)
-placed-held None held is h = absurd (cc)
-placed-held (Some p) held is h = (p, refl)
-
 -- so it does with any size that no frame has
-never-fits : (split : SplitLaw) (inside : InsideLaw) (c : Configuration) (n size new : ℕ) (side : Side) → tree.IsValid c → 400 ≤ size → holds n c.windows ≡ true
+never-fits : (c : Configuration) (n size new : ℕ) (side : Side) → tree.IsValid c → 400 ≤ size → holds n c.windows ≡ true
     → fits (split_at n side size new c.windows) (frame_of c) ≡ false
-never-fits split inside c n size new side valid large held =
-    let at = placed-held (window_at n c.windows (frame_of c)) (holds n c.windows) (ap is_some (leaf-placed n c.windows (frame_of c)) ∙ is_some-leaf n c.windows) held in
-    let stands = inside n c.windows (frame_of c) at.0 valid.room at.1 in
-    let within = stands.0 in
+never-fits c n size new side valid large held =
+    let at = some-of (window_at n c.windows (frame_of c)) (found_held n c.windows (frame_of c) ∙ held) in
+    let within = (stands_in n c.windows (frame_of c) at.0 valid.room at.1).0 in
     let wide = within.1 in
     let high = within.3 in
     let columns = valid.wide in
     let rows = valid.high in
-    split n side size new c.windows (frame_of c) at.0 valid.room at.1
+    replaced_fits n (halves n side size new) c.windows (frame_of c) at.0 valid.room at.1
     ∙ too-small n size new at.0.margins side at.0.mode at.0.rect (omega (arith, wide, columns, large)) (omega (arith, high, rows, large))
 
 both-refuse : (held a b full : Bool) (x y : Configuration) → (held ≡ true → a ≡ false) → (held ≡ true → b ≡ false)
@@ -131,25 +119,25 @@ both-refuse true false true full x y f g = absurd (let no : true ≡ false = g r
 both-refuse true false false full x y f g = refl
 
 -- a size of 64 bits is asked for in 32
-pub split-clamped : (split : SplitLaw) (inside : InsideLaw) (c : Configuration) (n size short : ℕ) (side : Side) → tree.IsValid c → short ≡ min size 4294967295
+pub split-clamped : (c : Configuration) (n size short : ℕ) (side : Side) → tree.IsValid c → short ≡ min size 4294967295
     → split_tree c n side size ≡ split_tree c n side short
 unfolding split_tree
-split-clamped split inside c n size short side valid is = elim (cases_lt size 4294967296) [
+split-clamped c n size short side valid is = elim (cases_lt size 4294967296) [
   | inl less ↦ ap (λ k. split_tree c n side k) (omega (arith, is, less))
   | inr more ↦
       both-refuse (holds n c.windows) (fits (split_at n side size c.made c.windows) (frame_of c)) (fits (split_at n side short c.made c.windows) (frame_of c)) (is_full c) _ _
-      (never-fits split inside c n size c.made side valid (omega (arith, more)))
-      (never-fits split inside c n short c.made side valid (omega (arith, is, more)))
+      (never-fits c n size c.made side valid (omega (arith, more)))
+      (never-fits c n short c.made side valid (omega (arith, is, more)))
 ]
 
 -- the window that is split, found again after room was made for one more, and what the tree is asked by the number that stands beside it
-pub split-found : (split : SplitLaw) (inside : InsideLaw) (s t : StateValue) (ws roomy : List NumberedWindow) (n i size short : ℕ) (side : Side) (e : NumberedWindow) → t ≡ s → IsValid s
+pub split-found : (s t : StateValue) (ws roomy : List NumberedWindow) (n i size short : ℕ) (side : Side) (e : NumberedWindow) → t ≡ s → IsValid s
     → ws ≡ t.windows → i ≡ place_in n ws → i < length ws → roomy ≡ t.windows → e ≡ get_or roomy i e → short ≡ min size 4294967295
     → IsFound n i t.windows e × (split_tree t.tree n side size ≡ split_tree t.tree e.0 side short)
-split-found split inside s t ws roomy n i size short side e same valid shown is less made at clamped =
+split-found s t ws roomy n i size short side e same valid shown is less made at clamped =
     let there = found-in t ws n i e shown is less (at ∙ ap (λ xs. get_or xs i e) made) in
     let right : IsValid t = subst IsValid (sym same) valid in
-    (there, split-clamped split inside t.tree n size short side right.windows.tree clamped ∙ ap (λ k. split_tree t.tree k side short) (sym there.number))
+    (there, split-clamped t.tree n size short side right.windows.tree clamped ∙ ap (λ k. split_tree t.tree k side short) (sym there.number))
 
 pub splits-window : (s t : StateValue) (n i : ℕ) (e : NumberedWindow) (side : Side) (size : ℕ) (d : Configuration) (w : WindowState) (made : ℕ) (ws : List NumberedWindow) → t ≡ s → IsFound n i t.windows e
     → split_tree t.tree n side size ≡ Ok d → made ≡ t.tree.made → w ≡ record e.1 { forced = false; pending = pos 0 } → ws ≡ t.windows ++ (made, w) ∷ []

@@ -13,7 +13,7 @@ use crate::refused::Refused;
 use crate::windows::{add, copy, find, make_room};
 use rd_base::{Ch, ListOf};
 use rd_modeline::check;
-use rd_tree::{Side, needs_are_exact, windows_tile_their_rectangle};
+use rd_tree::Side;
 
 impl StateParts {
     /// Splits a window, which keeps so many rows or columns. The new window has all of the old one but what waits to be scrolled.
@@ -22,8 +22,6 @@ impl StateParts {
         requires valid { IsValid self.old }
         ensures { Applies result (Split window side size) self.old self.new }
     {
-        needs_are_exact();
-        windows_tile_their_rectangle();
         let i = find(self.windows.as_slice(), window)?;
         let mut twin = copy(*self.windows.allocator(), &self.windows[i].1)?;
         twin.forced = false;

@@ -15,7 +15,7 @@ returns-in_err-number c =
     let n = c.args.window in
     let e = c.index-2.result.now in
     let same = c.in_ok-make_room.ensures.same in
-    let found = split-found c.needs_are_exact.ensures.split c.windows_tile_their_rectangle.ensures.inside c.args.self.now t c.as_slice.result.now _ n c.in_ok-i.i c.args.size c.min-size.result c.args.side e
+    let found = split-found c.args.self.now t c.as_slice.result.now _ n c.in_ok-i.i c.args.size c.min-size.result c.args.side e
     c.self.view_is c.requires.valid c.as_slice.ensures.value c.in_ok-i.ensures.0 c.in_ok-i.ensures.1 same c.index-2.ensures c.min-size.ensures in
     split-refused c.from_residual-in_err-number.result c.in_err-number.field-0.0 (split_tree t.tree e.0 c.args.side c.min-size.result) c.args.self.now t
     (record t { tree = c.split.new.self; windows = c.make_room.new.windows.items }) n c.in_ok-i.i e c.args.side c.args.size c.split.new.self
@@ -28,7 +28,7 @@ returns c =
     let t = the_view c.self.inside in
     let n = c.args.window in
     let same = c.in_ok-make_room.ensures.same in
-    let found = split-found c.needs_are_exact.ensures.split c.windows_tile_their_rectangle.ensures.inside c.args.self.now t c.as_slice.result.now _ n c.in_ok-i.i c.args.size c.min-size.result c.args.side c.index-2.result.now
+    let found = split-found c.args.self.now t c.as_slice.result.now _ n c.in_ok-i.i c.args.size c.min-size.result c.args.side c.index-2.result.now
     c.self.view_is c.requires.valid c.as_slice.ensures.value c.in_ok-i.ensures.0 c.in_ok-i.ensures.1 same c.index-2.ensures c.min-size.ensures in
     let first = found-in t c.as_slice.result.now n c.in_ok-i.i c.index.result.now c.as_slice.ensures.value c.in_ok-i.ensures.0 c.in_ok-i.ensures.1 c.index.ensures in
     let twin = record c.in_ok-twin.twin { forced = false; pending = pos 0 } in (
