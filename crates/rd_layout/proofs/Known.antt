@@ -6,7 +6,6 @@ use Rattle.rd_base.proofs.Choices.{map-some}
 use Rattle.std.proofs.lemmas.Result.{IfOk-at_ok}
 use Rattle.rd_base.proofs.Lists.{element-at}
 use Rattle.rd_blocks.specs.Leads.{LeadsTo}
-use Rattle.rd_objects.specs.Sound.{Extends}
 use Rattle.rd_objects.specs.Things.{ObjectLists}
 use Rattle.rd_base.specs.declared.settings.Anchor.{Anchor}
 use Rattle.rd_blocks.specs.Sources.{text_source}
@@ -20,7 +19,7 @@ use Rattle.rd_matrix.specs.Entries.{shown_entries}
 use Rattle.rd_script.specs.Forms.{IsInForm}
 use Rattle.rd_script.specs.declared.op.Op.{Op}
 use Rattle.rd_script.specs.declared.op.Op.TheVariants as ops
-use Rattle.rd_state.specs.Changes.{Leaves}
+use Rattle.rd_state.specs.Changes.{Outcome}
 use Rattle.rd_state.specs.Effects.{effect_of}
 use Rattle.rd_state.specs.States.{BufferValue, ContentValue, StateValue, opening, seen}
 use Rattle.rd_state.specs.Steps.{in_window, step}
@@ -55,9 +54,7 @@ use Rattle.rd_layout.proofs.Standing.{Moves, moved}
 pub record StepLaws : Type 0 where
   pub valid : (s t : StateValue) (op : Op) → IsValid s → IsInForm op → step s op ≡ Ok t → IsValid t
   pub found : (s : StateValue) (number : ℕ) (w : WindowState) → IsValid s → window_of number s.windows ≡ Some w → IsWindow s.buffers w
-  pub contents : (s t : StateValue) (op : Op) (k : ℕ) (b c : BufferValue) → IsValid s → IsInForm op → step s op ≡ Ok t → slice_get s.buffers k ≡ Some b → slice_get t.buffers k ≡ Some c → Leaves (effect_of s op) k b.content s.objects c.content t.objects
-  pub objects : (s t : StateValue) (op : Op) → IsValid s → IsInForm op → step s op ≡ Ok t → Extends s.objects t.objects
-  pub windows : (s t : StateValue) (op : Op) (number : ℕ) (w v : WindowState) → IsValid s → IsInForm op → step s op ≡ Ok t → window_of number s.windows ≡ Some w → window_of number t.windows ≡ Some v → (effect_of s op ≡ Window number → ⊥) → v.buffer ≡ w.buffer
+  pub left : (s t : StateValue) (op : Op) → IsValid s → IsInForm op → step s op ≡ Ok t → Outcome s t (effect_of s op)
   pub joined : (first second third : props.BufferValue) (a b c : ObjectLists) (change later : Change) → LeadsTo first a second b change → LeadsTo second b third c later → LeadsTo first a third c (join change later)
   pub last_all : (c : Change) → join c all ≡ all
   pub over : OverLaws
@@ -103,11 +100,11 @@ module _ (laws : StepLaws) (s t : StateValue) (op : Op) (valid : IsValid s) (for
   window-leads number w v hw hv = elim (tells (effect_of s op) number) [
     | inl p ↦ inl (ap (λ (e : Effect). change_by e number v.buffer) p ∙ cond-true (number == number) all none (eq-eqb number number refl))
     | inr q ↦
-        let both = shown-both number w v hw hv (laws.windows s t op number w v valid form is hw hv q) in
+        let both = shown-both number w v hw hv ((laws.left s t op valid form is).windows number w v hw hv q) in
         let names = (valid.buffers.contents v.buffer both.0 both.2).names in
         subst₂ (λ (x : ContentValue) (y : ContentValue). LeadsTo (seen x) s.objects (seen y) t.objects (change_by (effect_of s op) number v.buffer)) both.4 both.5
-        (effect-leads laws.last_all both.0.content both.1.content s.objects t.objects valid.closed names (laws.objects s t op valid form is) (effect_of s op) number v.buffer
-        (has-place s t valid op is v.buffer both.0 both.2) (laws.contents s t op v.buffer both.0 both.1 valid form is both.2 both.3))
+        (effect-leads laws.last_all both.0.content both.1.content s.objects t.objects valid.closed names (laws.left s t op valid form is).objects (effect_of s op) number v.buffer
+        (has-place s t valid op is v.buffer both.0 both.2) ((laws.left s t op valid form is).contents v.buffer both.0 both.1 both.2 both.3))
   ]
 
   -- an effect that tells of a window itself tells more than none
@@ -129,7 +126,7 @@ module _ (laws : StepLaws) (s t : StateValue) (op : Op) (valid : IsValid s) (for
       let seen-same : seen both.1.content ≡ seen both.0.content = moves.contents number v.buffer both.0 both.1 both.2 both.3 quiet in
       let text = subst (λ (x : ContentValue). IsText x.text) both.4 content.text in
       let named = subst (λ (x : ContentValue). AreMade (seen x) s.objects) both.4 content.names in
-      let over = objects-over laws.over (seen (shown_content s w)) s.objects t.objects valid.closed named (laws.objects s t op valid form is) text laws.views files w.anchor l (known.stands before rest.0) in
+      let over = objects-over laws.over (seen (shown_content s w)) s.objects t.objects valid.closed named (laws.left s t op valid form is).objects text laws.views files w.anchor l (known.stands before rest.0) in
       let one-seen : seen (shown_content s w) ≡ seen (shown_content t v) = ap seen (sym both.4) ∙ (sym seen-same ∙ ap seen both.5) in
       subst₂ (λ (x : props.BufferValue) (a : Anchor). Stands (text_source x t.objects files) a l) one-seen (sym rest.1) over
 
@@ -140,7 +137,7 @@ module _ (laws : StepLaws) (s t : StateValue) (op : Op) (valid : IsValid s) (for
       let before = first-none laws.over l.change (change_by (effect_of s op) number v.buffer) known.change nothing unchanged in
       let stands : Stands (window_source files t v) v.anchor l = elim (tells (effect_of s op) number) [
         | inl p ↦ absurd (not-itself number v.buffer p nothing)
-        | inr q ↦ stands-by files number w v l hw hv known (laws.windows s t op number w v valid form is hw hv q) nothing before forced
+        | inr q ↦ stands-by files number w v l hw hv known ((laws.left s t op valid form is).windows number w v hw hv q) nothing before forced
       ] in
       record { rows = stands.rows; top = stands.top; bottom = stands.bottom }
 

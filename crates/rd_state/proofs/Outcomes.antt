@@ -1,5 +1,5 @@
 -- What each op leaves: of buffers what its effect tells, objects that go on, and windows that show what they showed.
-use Rattle.std.proofs.Common.{◌≡◌, ℕ, ◌+◌, ◌-◌, ◌≤◌, inl, inr, false, is_some, min, max, pos, Option, None, Some, Result, Ok, List, [], ◌∷◌, length, map, subst, sym, ap, refl, ◌∙◌, arith, length-append, unwrap_or}
+use Rattle.std.proofs.Common.{◌≡◌, ℕ, ◌+◌, ◌-◌, inl, inr, false, is_some, min, max, pos, Option, None, Some, Result, Ok, List, [], ◌∷◌, length, map, subst, sym, ap, refl, ◌∙◌, arith, length-append, unwrap_or}
 use Rattle.std.proofs.lemmas.Bool.{cases_eq}
 use Rattle.std.proofs.lemmas.List.{length-set}
 use Rattle.std.proofs.lemmas.Option.{slice_get_within}
@@ -26,7 +26,7 @@ use Rattle.rd_state.specs.declared.window.WindowState.{WindowState}
 use Rattle.rd_state.specs.States.{BufferValue, ContentValue, StateValue, opening_window, new_buffer, number_of}
 use Rattle.rd_state.specs.Valid.{IsValid}
 use Rattle.rd_state.specs.Windows.{window_of, with_entry, selected_window, NumberedWindow}
-use Rattle.rd_state.specs.Changes.{Stays, StaysWhole, Leaves}
+use Rattle.rd_state.specs.Changes.{Stays, StaysWhole, Leaves, Outcome}
 use Rattle.rd_state.specs.Edits.{insertion, deletion, narrowing, widening, property_putting, overlay_making, overlay_moving, overlay_dropping, overlay_putting, margin_putting, setting_putting}
 use Rattle.rd_state.specs.Effects.{overlay_in, inserted_effect, covered_effect, moved_effect, effect_of}
 use Rattle.rd_state.specs.Making.{unless_fault, run_of, spec_of, table_of}
@@ -46,12 +46,6 @@ Shows effect number w v = (effect ≡ Window number → ⊥) → v.buffer ≡ w.
 
 abbrev pub Show : StateValue → StateValue → Effect → Type 0
 Show s t effect = Each (Shows effect) s.windows t.windows
-
-pub record Outcome (s t : StateValue) (effect : Effect) : Type 0 where
-  pub contents : (k : ℕ) (b c : BufferValue) → slice_get s.buffers k ≡ Some b → slice_get t.buffers k ≡ Some c → Leaves effect k b.content s.objects c.content t.objects
-  pub objects : Extends s.objects t.objects
-  pub buffers : length s.buffers ≤ length t.buffers
-  pub windows : Show s t effect
 
 -- ---- windows
 

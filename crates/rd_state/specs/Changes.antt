@@ -1,11 +1,14 @@
 -- What an op leaves of what is shown, by its effect.
-use Rattle.std.specs.Prelude.{◌≡◌, ◌≢◌, ℕ, ◌+◌, ℤ, pos, ◌-ℤ◌, min, max}
+use Rattle.std.specs.Prelude.{◌≡◌, ◌≢◌, ℕ, ◌+◌, ◌≤◌, ℤ, pos, ◌-ℤ◌, min, max, length, slice_get, Some}
 use Rattle.rd_base.specs.Settings.{without_flags}
+use Rattle.rd_objects.specs.Sound.{Extends}
 use Rattle.rd_objects.specs.Things.{ObjectLists}
 use Rattle.rd_props.specs.Agreement.{Unchanged}
 use Rattle.rd_state.specs.declared.effect.Effect.{Effect}
 use Rattle.rd_state.specs.declared.effect.Effect.TheVariants.{Nothing, Edit, Moved, All, Window}
-use Rattle.rd_state.specs.States.{ContentValue, seen}
+use Rattle.rd_state.specs.declared.window.WindowState.{WindowState}
+use Rattle.rd_state.specs.States.{BufferValue, ContentValue, StateValue, seen}
+use Rattle.rd_state.specs.Windows.{window_of}
 
 -- a buffer before and behind an op: the same is seen before `head`, and from `tail` on where it stood before so many positions were
 -- added, and the settings are the same but for the two flags
@@ -29,3 +32,10 @@ Leaves (Moved i before after) k old old_objects new new_objects =
     × (k ≢ i → StaysWhole old old_objects new new_objects)
 Leaves (All i) k old old_objects new new_objects = k ≢ i → StaysWhole old old_objects new new_objects
 Leaves (Window window) k old old_objects new new_objects = StaysWhole old old_objects new new_objects
+
+-- what an op that led from one state to another left, by its effect
+pub record Outcome (s t : StateValue) (effect : Effect) : Type 0 where
+  pub contents : (k : ℕ) (b c : BufferValue) → slice_get s.buffers k ≡ Some b → slice_get t.buffers k ≡ Some c → Leaves effect k b.content s.objects c.content t.objects
+  pub objects : Extends s.objects t.objects
+  pub buffers : length s.buffers ≤ length t.buffers
+  pub windows : (number : ℕ) (w v : WindowState) → window_of number s.windows ≡ Some w → window_of number t.windows ≡ Some v → (effect ≡ Window number → ⊥) → v.buffer ≡ w.buffer

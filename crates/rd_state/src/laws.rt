@@ -1,21 +1,19 @@
 //! Laws of the definitions, for the layers above.
-ghost use Rattle.std.specs.Prelude.{◌≡◌, ◌≤◌, ℕ, Some, Ok, length, slice_get};
+ghost use Rattle.std.specs.Prelude.{◌≡◌, ℕ, Some, Ok, slice_get};
 ghost use Rattle.rd_base.specs.declared.settings.Anchor.{Anchor};
-ghost use Rattle.rd_objects.specs.Sound.{Extends};
 ghost use Rattle.rd_script.specs.declared.op.Op.{Op};
 ghost use Rattle.rd_script.specs.Forms.{IsInForm};
 ghost use Rattle.rd_text.specs.Texts.{IsAccessible};
 ghost use Rattle.rd_tree.specs.Windows.{Windows, window_at};
 ghost use Rattle.rd_tree.specs.declared.placed.Placed.{Placed};
 ghost use Rattle.rd_tree.specs.declared.rect.Rect.{Rect};
-ghost use Rattle.rd_state.specs.declared.effect.Effect.TheVariants.{Window};
 ghost use Rattle.rd_state.specs.declared.window.WindowState.{WindowState};
 ghost use Rattle.rd_state.specs.States.{BufferValue, StateValue, opening};
 ghost use Rattle.rd_state.specs.Windows.{window_of, leaf_at};
 ghost use Rattle.rd_state.specs.Valid.{IsValid, IsWindow};
 ghost use Rattle.rd_state.specs.Steps.{step, settled};
 ghost use Rattle.rd_state.specs.Effects.{effect_of};
-ghost use Rattle.rd_state.specs.Changes.{Leaves};
+ghost use Rattle.rd_state.specs.Changes.{Outcome};
 
 use rd_objects::{extensions_keep_objects, objects_stay_closed, objects_stay_sound};
 use rd_props::{
@@ -47,10 +45,7 @@ pub fn settling_keeps_states()
 /// for `modified` and `read_only`; objects were only made, and no buffer was taken away. A window that lives before and behind the op
 /// shows the same buffer, unless the effect names it. The call does nothing.
 pub fn ops_leave_the_rest()
-    ensures contents { (s t : StateValue) (op : Op) (k : ℕ) (b c : BufferValue) → IsValid s → IsInForm op → step s op ≡ Ok t → slice_get s.buffers k ≡ Some b → slice_get t.buffers k ≡ Some c → Leaves (effect_of s op) k b.content s.objects c.content t.objects }
-    ensures objects { (s t : StateValue) (op : Op) → IsValid s → IsInForm op → step s op ≡ Ok t → Extends s.objects t.objects }
-    ensures buffers { (s t : StateValue) (op : Op) → IsValid s → IsInForm op → step s op ≡ Ok t → length s.buffers ≤ length t.buffers }
-    ensures windows { (s t : StateValue) (op : Op) (number : ℕ) (w v : WindowState) → IsValid s → IsInForm op → step s op ≡ Ok t → window_of number s.windows ≡ Some w → window_of number t.windows ≡ Some v → (effect_of s op ≡ Window number → ⊥) → v.buffer ≡ w.buffer }
+    ensures { (s t : StateValue) (op : Op) → IsValid s → IsInForm op → step s op ≡ Ok t → Outcome s t (effect_of s op) }
 {
     deletions_leave_the_rest();
     extensions_keep_objects();
