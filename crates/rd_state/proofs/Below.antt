@@ -1,25 +1,16 @@
 -- The laws of the layers below that the laws of a state stand on.
 use Rattle.std.proofs.Common.{◌≡◌, ℕ, ◌+◌, ◌-◌, ◌≤◌, min, max, pos, List, [], ◌∷◌, ◌++◌, length, Option, Some}
-use Rattle.rd_text.specs.Texts.{TextValue, IsText, IsAccessible, most_characters, inserted, deleted, narrowed, widened}
-use Rattle.rd_text.specs.Answers.{IsAccessibleRange, IsRangeOfAll}
+use Rattle.rd_text.specs.Texts.{IsText, IsAccessible}
+use Rattle.rd_text.specs.Answers.{IsAccessibleRange}
 use Rattle.rd_overlays.specs.declared.overlay.Overlay.{Overlay}
 use Rattle.rd_overlays.specs.declared.overlay.Kind.{Kind}
 use Rattle.rd_overlays.specs.Overlays.{overlay_at, moved, dropped, given}
 use Rattle.rd_objects.specs.Things.{ObjectLists}
-use Rattle.rd_objects.specs.Sound.{Extends, SoundLaws, ClosedLaws}
+use Rattle.rd_objects.specs.Sound.{Extends}
 use Rattle.rd_props.specs.Buffers.{BufferValue}
 use Rattle.rd_props.specs.Agreement.{Unchanged, IsEdited}
 use Rattle.rd_props.specs.Edits.{AreOrdered, IsInsertion, IsDeletion, IsPut, HasOverlays}
 use Rattle.rd_props.specs.Made.{AreMade}
-
--- edits leave texts in which the accessible range lies
-abbrev pub TextLaws : Type 0
-TextLaws = record {
-  inserted : (t : TextValue) (pos : ℕ) (new : List ℕ) → IsText t → IsAccessible t pos → length t.text + length new ≤ most_characters → IsText (inserted t pos new);
-  deleted : (t : TextValue) (from to : ℕ) → IsText t → IsAccessibleRange t from to → IsText (deleted t from to);
-  narrowed : (t : TextValue) (from to : ℕ) → IsText t → IsRangeOfAll t from to → IsText (narrowed t from to);
-  widened : (t : TextValue) → IsText t → IsText (widened t);
-}
 
 -- what is done to overlays leaves what is seen elsewhere
 abbrev pub OverlayLaws : Type 0
@@ -44,8 +35,3 @@ pub record LeaveLaws : Type 0 where
   pub overlays : OverlayLaws
   pub objects : (s : BufferValue) (old new : ObjectLists) (head tail : ℕ) → Extends old new → AreMade s old → Unchanged s old s new head tail (pos 0)
   pub settings : (old new : BufferValue) (objects : ObjectLists) (head tail : ℕ) → HasOverlays old new old.overlays → Unchanged old objects new objects head tail (pos 0)
-
--- objects stay sound and closed where one more is made
-pub record ObjectLaws : Type 0 where
-  pub sound : SoundLaws
-  pub closed : ClosedLaws

@@ -8,6 +8,7 @@ use Rattle.rd_base.specs.Chars.{is_code}
 use Rattle.rd_base.specs.Settings.{SettingValues}
 use Rattle.rd_text.specs.Texts.{TextValue, IsText, IsAccessible, most_characters, narrowed, widened}
 use Rattle.rd_text.specs.Answers.{IsAccessibleRange, IsRangeOfAll}
+use Rattle.rd_text.proofs.Keeping.{inserted-is_text, deleted-is_text, narrowed-is_text, widened-is_text}
 use Rattle.rd_overlays.specs.declared.overlay.Overlay.{Overlay}
 use Rattle.rd_overlays.specs.declared.overlay.Kind.{Kind}
 use Rattle.rd_overlays.specs.declared.overlay.Kind.TheVariants as kinds
@@ -22,7 +23,6 @@ use Rattle.rd_script.specs.Forms.{is_text_kind}
 use Rattle.rd_state.specs.States.{ContentValue, seen, values_on, value_in}
 use Rattle.rd_state.specs.Valid.{IsWithin, IsContent}
 use Rattle.rd_state.specs.Edits.{is_range_of_all, is_made, is_value_made, marked_modified, grown, shrunk, seen_grown, seen_shrunk, with_seen}
-use Rattle.rd_state.proofs.Below.{TextLaws}
 use Rattle.rd_state.proofs.Tables.{AreAlike, value-in-table}
 use Rattle.rd_state.proofs.Within.{grown-within, shrunk-within, same-within, made-within, put-within, moved-within, given-within}
 
@@ -75,13 +75,13 @@ still-valid o c tab text characters within names marks = record {
   marks = marks;
 }
 
-pub grown-valid : (texts : TextLaws) (made : MadeLaws) (o : ObjectLists) (c : ContentValue) (pos : ℕ) (new : List ℕ) → IsContent o c → AreCodes new → IsAccessible c.text pos
+pub grown-valid : (made : MadeLaws) (o : ObjectLists) (c : ContentValue) (pos : ℕ) (new : List ℕ) → IsContent o c → AreCodes new → IsAccessible c.text pos
     → length c.text.text + length new ≤ most_characters → IsContent o (grown c pos new)
-grown-valid texts made o c pos new v codes at room =
+grown-valid made o c pos new v codes at room =
     let code = λ (x : ℕ). IsTrue (is_code x) in
     let first = All-append code (take (pos - 1) c.text.text) new (All-take code (pos - 1) c.text.text v.characters) codes in
     let settings = settings-kept o c.settings (marked_modified (nat_lt 0 (length new)) c.settings) refl refl refl v.names.settings in
-    still-valid o (grown c pos new) (v.least_tab, v.most_tab) (texts.inserted c.text pos new v.text at room)
+    still-valid o (grown c pos new) (v.least_tab, v.most_tab) (inserted-is_text c.text pos new v.text at room)
     (All-append code (take (pos - 1) c.text.text ++ new) (drop (pos - 1) c.text.text) first (All-drop code (pos - 1) c.text.text v.characters))
     (listed-within (seen_grown c pos new) (opened-within c pos new v.text v.within at))
     (made.inserted (seen c) (seen (grown c pos new)) o pos new v.names settings (grown-is c pos new v.text v.within at)) v.marks
@@ -94,11 +94,11 @@ closed-within c from to text within at = shrunk-within (seen c) (seen_shrunk c f
 pub shrunk-is : (c : ContentValue) (from to : ℕ) → IsText c.text → IsWithin (seen c) → IsAccessibleRange c.text from to → IsDeletion (seen c) (seen (shrunk c from to)) from to
 shrunk-is c from to text within at = seen-parts c (seen_shrunk c from to) c.settings (closed-within c from to text within at)
 
-pub shrunk-valid : (texts : TextLaws) (made : MadeLaws) (o : ObjectLists) (c : ContentValue) (from to : ℕ) → IsContent o c → IsAccessibleRange c.text from to → IsContent o (shrunk c from to)
-shrunk-valid texts made o c from to v at =
+pub shrunk-valid : (made : MadeLaws) (o : ObjectLists) (c : ContentValue) (from to : ℕ) → IsContent o c → IsAccessibleRange c.text from to → IsContent o (shrunk c from to)
+shrunk-valid made o c from to v at =
     let code = λ (x : ℕ). IsTrue (is_code x) in
     let settings = settings-kept o c.settings (marked_modified (nat_lt from to) c.settings) refl refl refl v.names.settings in
-    still-valid o (shrunk c from to) (v.least_tab, v.most_tab) (texts.deleted c.text from to v.text at)
+    still-valid o (shrunk c from to) (v.least_tab, v.most_tab) (deleted-is_text c.text from to v.text at)
     (All-append code (take (from - 1) c.text.text) (drop (to - 1) c.text.text) (All-take code (from - 1) c.text.text v.characters) (All-drop code (to - 1) c.text.text v.characters))
     (listed-within (seen_shrunk c from to) (closed-within c from to v.text v.within at))
     (made.deleted (seen c) (seen (shrunk c from to)) o from to v.names settings (shrunk-is c from to v.text v.within at)) v.marks
@@ -111,11 +111,11 @@ range-valid o c t v text same =
     (same-within (seen c) (seen (record c { text = t })) v.within same (λ kind p. refl) refl)
     (record { properties = v.names.properties; overlays = v.names.overlays; settings = v.names.settings }) v.marks
 
-pub narrowed-valid : (texts : TextLaws) (o : ObjectLists) (c : ContentValue) (from to : ℕ) → IsContent o c → IsRangeOfAll c.text from to → IsContent o (record c { text = narrowed c.text from to })
-narrowed-valid texts o c from to v at = range-valid o c (narrowed c.text from to) v (texts.narrowed c.text from to v.text at) refl
+pub narrowed-valid : (o : ObjectLists) (c : ContentValue) (from to : ℕ) → IsContent o c → IsRangeOfAll c.text from to → IsContent o (record c { text = narrowed c.text from to })
+narrowed-valid o c from to v at = range-valid o c (narrowed c.text from to) v (narrowed-is_text c.text from to v.text at) refl
 
-pub widened-valid : (texts : TextLaws) (o : ObjectLists) (c : ContentValue) → IsContent o c → IsContent o (record c { text = widened c.text })
-widened-valid texts o c v = range-valid o c (widened c.text) v (texts.widened c.text v.text) refl
+pub widened-valid : (o : ObjectLists) (c : ContentValue) → IsContent o c → IsContent o (record c { text = widened c.text })
+widened-valid o c v = range-valid o c (widened c.text) v (widened-is_text c.text v.text) refl
 
 -- ---- properties
 

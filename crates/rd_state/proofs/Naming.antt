@@ -93,7 +93,7 @@ content-extended made o p c more v =
 
 -- other objects, that go on from those that there were
 pub objects-valid : (made : MadeLaws) (s : StateValue) (fault : Option ObjectFault) (added : ObjectLists) → IsValid s → (fault ≡ None → AreObjects added) → (fault ≡ None → IsClosed added)
-    → IfOk (with_objects s (unless_fault fault added)) (λ t. Extends s.objects t.objects) → IfOk (with_objects s (unless_fault fault added)) IsValid
+    → Extends s.objects added → IfOk (with_objects s (unless_fault fault added)) IsValid
 objects-valid made s (Some e) added v sound closed more = tt
 objects-valid made s None added v sound closed more =
     with_parts s s.buffers added s.tree s.windows s.selected s.width s.height v (record {

@@ -27,7 +27,6 @@ use Rattle.rd_state.specs.Edits.{is_accessible, is_accessible_range, is_range_of
 use Rattle.rd_state.specs.Moves.{point_after_insertion, brought_into, place_after, moved_in}
 use Rattle.rd_state.specs.Steps.{edited, edited_moving, raw_text}
 use Rattle.rd_state.specs.Windows.{NumberedWindow}
-use Rattle.rd_state.proofs.Below.{TextLaws}
 use Rattle.rd_state.proofs.Contents.{grown-valid, shrunk-valid, narrowed-valid, widened-valid, put-valid, made-valid, moved-valid, dropped-valid, given-valid, with_property, with_overlays}
 use Rattle.rd_state.proofs.Keeping.{holding, buffers-replaced, windows-replaced, windows-moved}
 use Rattle.rd_state.proofs.StepParts.{with_content, edited-if, edited_moving-if}
@@ -100,10 +99,10 @@ made-keeps : (o : ObjectLists) (f : ℕ → ℕ) (c made d : ContentValue) → m
     → IsContent o d × ((p : ℕ) → IsAccessible c.text p → IsAccessible d.text (f p))
 made-keeps o f c made d same v at = subst (λ (x : ContentValue). IsContent o x × ((p : ℕ) → IsAccessible c.text p → IsAccessible x.text (f p))) same (v, at)
 
-pub insertion-keeps : (texts : TextLaws) (made : MadeLaws) (o : ObjectLists) (pos : ℕ) (new : List ℕ) → AreCodes new → Keeps o (place_after (Inserted pos (length new))) (insertion pos new)
-insertion-keeps texts made o pos new codes c d v h =
+pub insertion-keeps : (made : MadeLaws) (o : ObjectLists) (pos : ℕ) (new : List ℕ) → AreCodes new → Keeps o (place_after (Inserted pos (length new))) (insertion pos new)
+insertion-keeps made o pos new codes c d v h =
     let m = insertion-means pos new c d h in
-    made-keeps o (point_after_insertion pos (length new)) c (grown c pos new) d m.2 (grown-valid texts made o c pos new v codes m.0 m.1)
+    made-keeps o (point_after_insertion pos (length new)) c (grown c pos new) d m.2 (grown-valid made o c pos new v codes m.0 m.1)
     (λ p a. let moves = place-moves (nat_lt pos p) p (length new) in (omega (arith, moves.0, a.0), omega (arith, moves.1, a.1)))
 
 pub deletion-means : (from to : ℕ) (c d : ContentValue) → deletion from to c ≡ Ok d → IsAccessibleRange c.text from to × (shrunk c from to ≡ d)
@@ -111,11 +110,11 @@ deletion-means from to c d h =
     let m = made-ok (is_accessible_range c.text from to) (shrunk c from to) OutOfRange d h in
     (is_accessible_range-means c.text from to m.0, m.1)
 
-pub deletion-keeps : (texts : TextLaws) (made : MadeLaws) (o : ObjectLists) (from to : ℕ) → Keeps o (place_after (Deleted from to)) (deletion from to)
-deletion-keeps texts made o from to c d v h =
+pub deletion-keeps : (made : MadeLaws) (o : ObjectLists) (from to : ℕ) → Keeps o (place_after (Deleted from to)) (deletion from to)
+deletion-keeps made o from to c d v h =
     let m = deletion-means from to c d h in
     let at = m.0 in
-    made-keeps o (after_deletion from to) c (shrunk c from to) d m.1 (shrunk-valid texts made o c from to v at)
+    made-keeps o (after_deletion from to) c (shrunk c from to) d m.1 (shrunk-valid made o c from to v at)
     (λ p a. deletion-within c.text.begin c.text.end from to p at.first at.ordered at.last a.0 a.1)
 
 brought : (from to p : ℕ) → from ≤ to → (from ≤ max from (min p to)) × (max from (min p to) ≤ to)
@@ -126,18 +125,18 @@ narrowing-means from to c d h =
     let m = made-ok (is_range_of_all c.text from to) (record c { text = record { text = c.text.text; begin = from; end = to } }) OutOfRange d h in
     (is_range_of_all-means c.text from to m.0, m.1)
 
-pub narrowing-keeps : (texts : TextLaws) (o : ObjectLists) (from to : ℕ) → Keeps o (place_after (Narrowed from to)) (narrowing from to)
-narrowing-keeps texts o from to c d v h =
+pub narrowing-keeps : (o : ObjectLists) (from to : ℕ) → Keeps o (place_after (Narrowed from to)) (narrowing from to)
+narrowing-keeps o from to c d v h =
     let m = narrowing-means from to c d h in
-    made-keeps o (brought_into from to) c _ d m.1 (narrowed-valid texts o c from to v m.0) (λ p a. brought from to p m.0.ordered)
+    made-keeps o (brought_into from to) c _ d m.1 (narrowed-valid o c from to v m.0) (λ p a. brought from to p m.0.ordered)
 
-pub widening-keeps : (texts : TextLaws) (o : ObjectLists) → Keeps o (λ p. p) widening
-widening-keeps texts o c d v h =
+pub widening-keeps : (o : ObjectLists) → Keeps o (λ p. p) widening
+widening-keeps o c d v h =
     let made : ContentValue = record c { text = record { text = c.text.text; begin = 1; end = length c.text.text + 1 } } in
     let same : made ≡ d = cc (h) in
     let first = v.text.first in
     let last = v.text.last in
-    made-keeps o (λ p. p) c made d same (widened-valid texts o c v) (λ p a. let low = a.0 in let high = a.1 in (omega arith, omega arith))
+    made-keeps o (λ p. p) c made d same (widened-valid o c v) (λ p a. let low = a.0 in let high = a.1 in (omega arith, omega arith))
 
 -- an edit that leaves the text
 pub text-kept : (o : ObjectLists) (c made d : ContentValue) → made ≡ d → made.text ≡ c.text → IsContent o made

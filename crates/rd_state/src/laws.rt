@@ -15,12 +15,10 @@ ghost use Rattle.rd_state.specs.Steps.{step, settled};
 ghost use Rattle.rd_state.specs.Effects.{effect_of};
 ghost use Rattle.rd_state.specs.Changes.{Outcome};
 
-use rd_objects::{extensions_keep_objects, objects_stay_closed, objects_stay_sound};
 use rd_props::{
     deletions_leave_the_rest, edits_keep_what_is_made, insertions_leave_the_rest,
     new_objects_leave_all, overlays_leave_the_rest, puts_leave_the_rest, settings_leave_all,
 };
-use rd_text::edits_keep_texts;
 use rd_tree::calls_keep_trees;
 
 /// The opening is a valid state, and an op in form leads from a valid state to a valid one. The call does nothing.
@@ -29,11 +27,7 @@ pub fn steps_keep_states()
     ensures step { (s t : StateValue) (op : Op) → IsValid s → IsInForm op → step s op ≡ Ok t → IsValid t }
 {
     calls_keep_trees();
-    edits_keep_texts();
     edits_keep_what_is_made();
-    objects_stay_closed();
-    objects_stay_sound();
-    ops_leave_the_rest();
 }
 
 /// Where a layout settles a window's view and its point at accessible positions, a valid state stays valid. The call does nothing.
@@ -48,7 +42,6 @@ pub fn ops_leave_the_rest()
     ensures { (s t : StateValue) (op : Op) → IsValid s → IsInForm op → step s op ≡ Ok t → Outcome s t (effect_of s op) }
 {
     deletions_leave_the_rest();
-    extensions_keep_objects();
     insertions_leave_the_rest();
     new_objects_leave_all();
     overlays_leave_the_rest();

@@ -15,4 +15,4 @@ returns c =
       objects = c.new_objects_leave_all.ensures;
       settings = c.settings_leave_all.ensures;
     } in
-    λ s t op v form h. IfOk-at_ok (λ u. Outcome s u (effect_of s op)) h (outcome laws c.extensions_keep_objects.ensures.more s op v form)
+    λ s t op v form h. IfOk-at_ok (λ u. Outcome s u (effect_of s op)) h (outcome laws s op v form)
