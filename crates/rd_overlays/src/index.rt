@@ -77,10 +77,7 @@ impl Index {
         }
         let block = (place - 1) / BLOCK;
         let bounds = self.bounds.at(block);
-        if pos < bounds.low {
-            return block * BLOCK;
-        }
-        if bounds.high < pos {
+        if pos < bounds.low || bounds.high < pos {
             return block * BLOCK;
         }
         place
