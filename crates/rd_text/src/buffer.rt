@@ -195,10 +195,7 @@ impl Buffer {
         let to = pos as usize - 1;
         let at = self.chars.opening(from, to);
         let end = at + self.chars.before_newline(at, to);
-        if end == to {
-            return at as u32 + 1;
-        }
-        if self.chars.after_last(Sought::Ink, at, end) < end - at {
+        if end == to || self.chars.after_last(Sought::Ink, at, end) < end - at {
             return at as u32 + 1;
         }
         end as u32 + 2
