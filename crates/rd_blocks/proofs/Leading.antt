@@ -1,7 +1,9 @@
 -- Changes of edits, and changes that are joined, lead from one state to a later one.
-use Rattle.std.proofs.Common.{◌≡◌, inl, inr, ℕ, ◌+◌, ◌≤◌, min, max, nat_le, Bool, true, false, ◌&&◌, ◌||◌, if◌then◌else◌, refl, ap, ◌∙◌, arith}
+use Rattle.std.proofs.Common.{◌≡◌, inl, inr, ℕ, ◌+◌, ◌≤◌, min, max, nat_le, ◌&&◌, ◌||◌, refl, ap, ◌∙◌, arith}
 use Rattle.std.specs.Prelude.{ℤ, pos, negsuc, ◌+ℤ◌, ◌-ℤ◌, ◌≤ℤ◌}
 use Rattle.std.proofs.lemmas.Int.{ints}
+use Rattle.rd_base.proofs.Choices.{either}
+use Rattle.rd_objects.proofs.Soundness.{extends_further, extends_itself}
 use Rattle.rd_objects.specs.Sound.{IsClosed, Extends}
 use Rattle.rd_objects.specs.Things.{ObjectLists}
 use Rattle.rd_props.specs.Agreement.{Unchanged, IsEdited}
@@ -14,23 +16,20 @@ use Rattle.rd_blocks.specs.Leads.{Leads, LeadsTo}
 
 -- what is known of changes
 pub record ChangeLaws : Type 0 where
-  pub itself : (o : ObjectLists) → Extends o o
-  pub further : (old middle new : ObjectLists) → Extends old middle → Extends middle new → Extends old new
   pub joins : (old middle new : BufferValue) (a b c : ObjectLists) (head later_head tail later_tail joined : ℕ) (added later_added : ℤ) → Unchanged old a middle b head tail added → Unchanged middle b new c later_head later_tail later_added
       → (pos middle.text.begin +ℤ later_added) ≤ℤ pos (max middle.text.begin later_tail) → (pos tail +ℤ later_added) ≤ℤ pos joined → later_tail ≤ joined → Unchanged old a new c (min head later_head) joined (added +ℤ later_added)
-  pub first_all : (c : Change) → join all c ≡ all
   pub last_all : (c : Change) → join c all ≡ all
 
 -- a change of a range, or of all where it is none
 pub leads-ranged : (old new : BufferValue) (made objects : ObjectLists) (head tail : ℕ) (added : ℤ) → IsClosed made → AreMade old made → without_flags new.settings ≡ without_flags old.settings → Extends made objects
     → Unchanged old made new objects head tail added → (pos old.text.begin +ℤ added) ≤ℤ pos (max old.text.begin tail) → LeadsTo old made new objects (change_of head tail added)
-leads-ranged old new made objects head tail added closed named settings extends same inside = by (nat_le tail 4294967295 && is_small added) where
-  by : (t : Bool) → LeadsTo old made new objects (if t then record { head = head; tail = tail; added = added } else all)
-  by true = inr (record {
-    follows = record { settings = settings; closed = closed; named = named; extends = extends; unchanged = same };
-    inside = inside;
-  })
-  by false = inl refl
+leads-ranged old new made objects head tail added closed named settings extends same inside =
+    either (LeadsTo old made new objects) (nat_le tail 4294967295 && is_small added) _ _
+    (inr (record {
+      follows = record { settings = settings; closed = closed; named = named; extends = extends; unchanged = same };
+      inside = inside;
+    }))
+    (inl refl)
 
 -- where nothing changed
 pub leads-none : (old new : BufferValue) (made objects : ObjectLists) → IsClosed made → AreMade old made → without_flags new.settings ≡ without_flags old.settings → Extends made objects
@@ -38,10 +37,10 @@ pub leads-none : (old new : BufferValue) (made objects : ObjectLists) → IsClos
 leads-none old new made objects closed named settings extends same =
     leads-ranged old new made objects 4294967295 0 (pos 0) closed named settings extends same (omega (arith, ints))
 
-pub leads-edited : ChangeLaws → (old new : BufferValue) (objects : ObjectLists) (from removed added : ℕ) → old.text.begin ≤ from → IsClosed objects → AreMade old objects → without_flags new.settings ≡ without_flags old.settings
+pub leads-edited : (old new : BufferValue) (objects : ObjectLists) (from removed added : ℕ) → old.text.begin ≤ from → IsClosed objects → AreMade old objects → without_flags new.settings ≡ without_flags old.settings
     → IsEdited old objects new objects from removed added → LeadsTo old objects new objects (edit from removed added)
-leads-edited laws old new objects from removed added low closed named settings edited =
-    leads-ranged old new objects objects from (from + added + 1) (pos added -ℤ pos removed) closed named settings (laws.itself objects) edited (omega (arith, ints))
+leads-edited old new objects from removed added low closed named settings edited =
+    leads-ranged old new objects objects from (from + added + 1) (pos added -ℤ pos removed) closed named settings (extends_itself objects) edited (omega (arith, ints))
 
 moved-least : (d : ℤ) (tail : ℕ) → (pos tail +ℤ d) ≤ℤ pos (moved d tail)
 moved-least (pos n) tail = omega (arith, ints)
@@ -53,19 +52,17 @@ both-inside begin next tail later_tail moved_tail d e same first last least = om
 
 module _ (laws : ChangeLaws) (first second third : BufferValue) (a b c : ObjectLists) (change later : Change) where
   both-lead : Leads first a second b change → Leads second b third c later → LeadsTo first a third c (join change later)
-  both-lead one two = by-all (is_all change || is_all later) where
-    by-all : (t : Bool) → LeadsTo first a third c (if t then all else change_of (min change.head later.head) (max (moved later.added change.tail) later.tail) (change.added +ℤ later.added))
-    by-all true = inl refl
-    by-all false =
-        let least = moved-least later.added change.tail in
-        let last = two.inside in
-        leads-ranged first third a c (min change.head later.head) (max (moved later.added change.tail) later.tail) (change.added +ℤ later.added) one.follows.closed one.follows.named
-        (two.follows.settings ∙ one.follows.settings) (laws.further a b c one.follows.extends two.follows.extends)
-        (laws.joins first second third a b c change.head later.head change.tail later.tail (max (moved later.added change.tail) later.tail) change.added later.added one.follows.unchanged two.follows.unchanged last
-        (omega (arith, ints, least)) (omega arith))
-        (both-inside first.text.begin second.text.begin change.tail later.tail (moved later.added change.tail) change.added later.added one.follows.unchanged.begin one.inside last least)
+  both-lead one two =
+      let least = moved-least later.added change.tail in
+      let last = two.inside in
+      either (LeadsTo first a third c) (is_all change || is_all later) _ _ (inl refl)
+      (leads-ranged first third a c (min change.head later.head) (max (moved later.added change.tail) later.tail) (change.added +ℤ later.added) one.follows.closed one.follows.named
+      (two.follows.settings ∙ one.follows.settings) (extends_further a b c one.follows.extends two.follows.extends)
+      (laws.joins first second third a b c change.head later.head change.tail later.tail (max (moved later.added change.tail) later.tail) change.added later.added one.follows.unchanged two.follows.unchanged last
+      (omega (arith, ints, least)) (omega arith))
+      (both-inside first.text.begin second.text.begin change.tail later.tail (moved later.added change.tail) change.added later.added one.follows.unchanged.begin one.inside last least))
 
   pub leads-joined : LeadsTo first a second b change → LeadsTo second b third c later → LeadsTo first a third c (join change later)
-  leads-joined (inl any) two = inl (ap (λ (x : Change). join x later) any ∙ laws.first_all later)
+  leads-joined (inl any) two = inl (ap (λ (x : Change). join x later) any)
   leads-joined (inr one) (inl any) = inl (ap (λ (x : Change). join change x) any ∙ laws.last_all change)
   leads-joined (inr one) (inr two) = both-lead one two

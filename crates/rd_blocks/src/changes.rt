@@ -11,7 +11,6 @@ ghost use Rattle.rd_reuse.specs.Changes.{edit, join, none};
 ghost use Rattle.rd_reuse.specs.declared.change.Change.{Change};
 ghost use Rattle.rd_blocks.specs.Leads.{LeadsTo};
 
-use rd_objects::extensions_keep_objects;
 use rd_props::{changes_join, new_objects_leave_all, settings_leave_all};
 use rd_reuse::joined_with_all;
 
@@ -27,7 +26,6 @@ pub fn changes_lead_on()
     ensures joined { (first second third : BufferValue) (a b c : ObjectLists) (change later : Change)
         → LeadsTo first a second b change → LeadsTo second b third c later → LeadsTo first a third c (join change later) }
 {
-    extensions_keep_objects();
     changes_join();
     new_objects_leave_all();
     settings_leave_all();
