@@ -20,12 +20,12 @@ use Rattle.rd_objects.specs.declared.run.Spec.TheVariants.{Text, Width, Align}
 use Rattle.rd_glyphs.specs.MarkRoles.{base_of, mark_of, IsMeasuredRole, MarkLaws}
 use Rattle.rd_glyphs.specs.Marks.{marks_joined}
 use Rattle.rd_glyphs.proofs.Joined.{Grows}
-use Rattle.rd_items.specs.Pieces.{Scene, spec_in, same_spec}
+use Rattle.rd_items.specs.Pieces.{Scene, spec_in, same_spec, IsMeasuredKind}
 use Rattle.rd_items.specs.declared.item.ItemKind.{ItemKind}
-use Rattle.rd_items.specs.declared.item.ItemKind.TheVariants as kind
 use Rattle.rd_levels.specs.Turns.{turns_of}
 use Rattle.rd_levels.specs.declared.turn.Turn.{Turn}
 use Rattle.rd_levels.proofs.Turns.{turns-count}
+use Rattle.rd_stack.specs.Lines.{IsKind, IsCodedKind}
 use Rattle.rd_stack.specs.Strings.{place_of, places_from, run_heads, ends_row, spec_kind, part_by, part_of, part_joins, shown_by, shown_at, part_class, part_code, row, row_end, rows_from, string_parts}
 use Rattle.rd_stack.specs.declared.part.Place.{Place}
 use Rattle.rd_stack.specs.declared.part.Part.{Part}
@@ -36,10 +36,7 @@ use Rattle.rd_stack.proofs.Joined.{marks_joined-few}
 
 -- what an item of a line of sound objects shows, or a part of a sound string
 abbrev pub IsFitKind : ItemKind → Type 0
-IsFitKind (kind.Char c) = IsTrue (is_code c)
-IsFitKind (kind.Marked g) = IsMeasured g
-IsFitKind (kind.Space spec) = IsSmallSpec spec
-IsFitKind k = Unit {0}
+IsFitKind k = IsMeasuredKind k × IsCodedKind k × IsKind (λ c. Unit {0}) IsSmallSpec k
 
 abbrev pub IsFitShown : Shown → Type 0
 IsFitShown x = IsFitKind x.kind
@@ -61,14 +58,14 @@ string-at o sound number = found (λ (t : TextValue). IsString t) o.strings numb
 -- ---- what the parts are
 
 spec-fit : (spec : Spec) → IsSmallSpec spec → IsFitKind (spec_kind spec)
-spec-fit (Text n) small = tt
-spec-fit (Width n) small = small
-spec-fit (Align n) small = small
+spec-fit (Text n) small = (tt, tt, tt)
+spec-fit (Width n) small = (tt, tt, small)
+spec-fit (Align n) small = (tt, tt, small)
 
 module _ (laws : MarkLaws) (s : Scene) (base : ℕ) (sound : AreObjects s.objects) where
   part-by-fit : (spec : Option Spec) (p : Place) → IfSome spec IsSmallSpec → IsFitPlace p → IsFitPart (part_by s spec p)
   part-by-fit (Some spec) p small code = (spec-fit spec small, tt)
-  part-by-fit None p small code = (code, laws.role s.parts p.ch code)
+  part-by-fit None p small code = ((tt, code, tt), laws.role s.parts p.ch code)
 
   named-small : (number : Option ℕ) → IfSome (option_map (spec_in s.objects) number) IsSmallSpec
   named-small None = tt
@@ -78,12 +75,12 @@ module _ (laws : MarkLaws) (s : Scene) (base : ℕ) (sound : AreObjects s.object
   grows held next glyph these those e =
       let joins = laws.joined (base_of held.role) (mark_of next.role) (laws.base held.role these.1) (laws.mark next.role those.1) in
       let measured : IsMeasured glyph = subst (λ (m : Option Glyph). IfSome m (λ (g : Glyph). IsMeasured g)) e joins in
-      (measured, measured)
+      ((measured, tt, tt), measured)
 
   -- the parts of a sound string are fit
   pub string-fit : (replaced : Bool) (text : TextValue) (under : Attributes) → IsString text → AllByRecursion IsFitShown (string_parts s base replaced text under)
   string-fit replaced text under is =
-      string-each s base IsFitPlace IsFitPart IsFitShown (λ p code. part-by-fit (option_map (spec_in s.objects) p.spec) p (named-small p.spec) code) grows (λ odd x fit. fit.0) (λ p code. tt)
+      string-each s base IsFitPlace IsFitPart IsFitShown (λ p code. part-by-fit (option_map (spec_in s.objects) p.spec) p (named-small p.spec) code) grows (λ odd x fit. fit.0) (λ p code. (tt, tt, tt))
       replaced text under (λ i. all-read (λ c. IsTrue (is_code c)) text.chars i 0 is.chars refl)
 
 -- ---- how many there are

@@ -1,6 +1,6 @@
 -- The elements of strings and of items of sound objects are sound and measured, and take few columns.
 use Rattle.std.proofs.Common.{◌≡◌, ℕ, ◌*◌, ◌≤◌, ◌^◌, ◌<◌, Bool, true, false, IsTrue, List, [], ◌∷◌, length, map, Option, None, Some, All, IfSome, refl, ◌∙◌, arith}
-use Rattle.std.specs.Prelude.{slice_get, slice_index_or, replicate, if◌then◌else◌, unwrap_or}
+use Rattle.std.specs.Prelude.{slice_get, replicate, if◌then◌else◌, unwrap_or}
 use Rattle.std.specs.List.{flat_map}
 use Rattle.std.proofs.Math.Nat.{mul-le-mul_right}
 use Rattle.std.proofs.lemmas.List.{length-map}
@@ -26,7 +26,7 @@ use Rattle.rd_objects.specs.declared.run.Spec.{Spec}
 use Rattle.rd_objects.specs.declared.run.Spec.TheVariants.{Text, Width, Align}
 use Rattle.rd_glyphs.specs.MarkRoles.{MarkLaws}
 use Rattle.rd_glyphs.specs.Characters.{PartValues, AreSoundParts, AreOfCharacter, element_of, elements_of, glyph_elements}
-use Rattle.rd_items.specs.Pieces.{Scene, table_in, IsMeasuredKind}
+use Rattle.rd_items.specs.Pieces.{Scene, table_in}
 use Rattle.rd_items.specs.Items.{items_of, AreMeasuredItems}
 use Rattle.rd_items.specs.Readings.{HaveCodes}
 use Rattle.rd_items.specs.declared.item.Item.{Item}
@@ -74,14 +74,6 @@ table-sound o sound None = tt
 table-sound o sound (Some n) = found (λ (t : TableValue). IsTable t) o.tables n sound.tables
 
 -- ---- items
-
-item-fit : (k : ItemKind) → IsMeasuredKind k → IsCodedKind k → IsSmallItem k → IsFitKind k
-item-fit (item.Char c) measured coded small = coded
-item-fit (item.Marked g) measured coded small = measured
-item-fit (item.Text n) measured coded small = tt
-item-fit (item.Space spec) measured coded small = small
-item-fit item.Ellipsis measured coded small = tt
-item-fit item.Ender measured coded small = tt
 
 items-small : (s : Scene) → AreObjects s.objects → (es : List Seen) → All (λ (i : Item). IsSmallItem i.kind) (items_of s es)
 items-small s sound es =
@@ -132,10 +124,10 @@ module _ (laws : GlyphLaws) (marks : MarkLaws) (s : Scene) (base : ℕ) (sound :
       → AreRightWithin most (element_of face origin end ∷ []) → ((n : ℕ) → AreRightWithin most (string (slice_get s.objects.strings n))) → IsFitKind k
       → AreRightWithin most (kind_elements end string s k odd face origin)
   kind-good end string most room (item.Char c) odd face origin ender strings fit =
-      good-more 48 most (elements_of s.parts c odd face origin) (omega (arith, room)) (character-good face origin (elements_of s.parts c odd face origin) (laws.character s.parts c odd face origin parts fit))
-  kind-good end string most room (item.Marked g) odd face origin ender strings fit = glyph-good most g face origin fit (omega (arith, room))
+      good-more 48 most (elements_of s.parts c odd face origin) (omega (arith, room)) (character-good face origin (elements_of s.parts c odd face origin) (laws.character s.parts c odd face origin parts fit.1))
+  kind-good end string most room (item.Marked g) odd face origin ender strings fit = glyph-good most g face origin fit.0 (omega (arith, room))
   kind-good end string most room (item.Text n) odd face origin ender strings fit = strings n
-  kind-good end string most room (item.Space spec) odd face origin ender strings fit = good-more SPACE_COLUMNS most (space_elements spec face origin) room (space-good spec face origin fit)
+  kind-good end string most room (item.Space spec) odd face origin ender strings fit = good-more SPACE_COLUMNS most (space_elements spec face origin) room (space-good spec face origin fit.2)
   kind-good end string most room item.Ellipsis odd face origin ender strings fit =
       let glyphs = ellipsis_glyphs s.parts.table in
       good-more 48 most (glyph_elements face origin glyphs) (omega (arith, room)) (character-good face origin (glyph_elements face origin glyphs) (laws.text face origin glyphs (ellipsis-fit s.parts.table parts.table)))
@@ -198,7 +190,7 @@ module _ (laws : GlyphLaws) (marks : MarkLaws) (s : Scene) (base : ℕ) (sound :
   pub read-good : (es : List Seen) → AreMeasuredItems (items_of s es) → AreCodedItems (items_of s es) → AreRightWithin (length (items_of s es) * most_overlay_columns) (line_elements s base es)
   read-good es measured coded =
       let small = items-small s sound es in
-      line-good (items_of s es) (λ k d inside. item-fit (slice_index_or (items_of s es) k d).kind (measured k d inside) (coded k d inside) (small k d inside))
+      line-good (items_of s es) (λ k d inside. (measured k d inside, coded k d inside, small k d inside))
 
   -- ---- prefixes
 
