@@ -6,6 +6,7 @@ use Rattle.std.proofs.lemmas.Bool.Decides.{nat_tests}
 use Rattle.std.proofs.lemmas.List.{length-map}
 use Rattle.std.proofs.lemmas.List.Sums.{AllPass-from_list_all}
 use Rattle.std.proofs.lemmas.List.Elements.{All-map, All-from_recursion, recursion_from_All}
+use Rattle.rd_base.proofs.Choices.{either}
 use Rattle.rd_base.specs.Chars.{is_code}
 use Rattle.rd_base.specs.Elements.{IsSound, width_at_most, columns_at_most}
 use Rattle.rd_base.specs.Faces.{Attributes}
@@ -146,11 +147,8 @@ of-character parts ch odd face origin is code = by-entry (entry_of parts.table c
 -- a character that the table does not show as nothing has an element
 pub some-element : (parts : PartValues) (ch : ℕ) (odd : Bool) (face : Attributes) (origin : Origin) → is_empty_entry (entry_of parts.table ch) ≡ false → 1 ≤ length (elements_of parts ch odd face origin)
 some-element parts ch odd face origin some = by-entry (entry_of parts.table ch) some where
-  by-tab : (tab : Bool) → 1 ≤ length (if tab then tab_of parts.settings.tab_width face origin ∷ [] else map (element_of face origin) (own_looks parts ch odd))
-  by-tab true = omega arith
-  by-tab false = rw (length-map (own_looks parts ch odd) (element_of face origin)) (looks-count _ _ _).0
-
   by-entry : (entry : Option (List Glyph)) → is_empty_entry entry ≡ false → 1 ≤ length (elements_by entry parts ch odd face origin)
-  by-entry None some = by-tab (ch == 9)
+  by-entry None some =
+      either (λ (es : List Element). 1 ≤ length es) (ch == 9) _ _ (omega arith) (rw (length-map (own_looks parts ch odd) (element_of face origin)) (looks-count _ _ _).0)
   by-entry (Some []) some = grind arith
   by-entry (Some (g ∷ gs)) some = omega arith

@@ -1,9 +1,10 @@
 -- What it means that an effect tells no change: the same is seen of a buffer, and a window keeps its buffer and its start.
-use Rattle.std.proofs.Common.{◌≡◌, ◌⊎◌, inl, inr, ℕ, ◌+◌, ◌-◌, ◌<◌, ◌==◌, ◌&&◌, ◌||◌, Bool, true, false, if◌then◌else◌, nat_le, min, max, pos, ◌+ℤ◌, is_some, Option, None, Some, List, [], ◌∷◌, ◌++◌, map, set, sym, ap, refl, subst, ◌∙◌, arith}
+use Rattle.std.proofs.Common.{◌≡◌, ◌⊎◌, inl, inr, ℕ, ◌+◌, ◌-◌, ◌<◌, ◌==◌, ◌&&◌, ◌||◌, true, false, nat_le, min, max, pos, ◌+ℤ◌, is_some, Option, None, Some, List, [], ◌∷◌, ◌++◌, map, set, sym, ap, refl, subst, ◌∙◌, arith}
 use Rattle.std.proofs.lemmas.Bool.{cases_eq, eqb-true, cond-false, cond-true, eq-eqb, ne_eqb, and_parts}
 use Rattle.std.proofs.lemmas.Option.{slice_get_within}
 use Rattle.std.specs.Ordering.{int_eq}
 use Rattle.std.specs.Prelude.{ℤ, ◌-ℤ◌, slice_get}
+use Rattle.rd_base.proofs.Choices.{either}
 use Rattle.rd_base.proofs.Lists.{get-first, get-set}
 use Rattle.rd_overlays.specs.declared.overlay.Overlay.{Overlay}
 use Rattle.rd_reuse.specs.Changes.{all, change_of, edit, is_all, is_none, is_small, join, moved, none}
@@ -35,19 +36,16 @@ tail-told c some h =
     absurd (omega (arith, is, some))
 
 -- a change that was given a tail has one: its own, or that of `all` where its fields have no room
-change-tail : (t : Bool) (head tail : ℕ) (added : ℤ) → 0 < tail → 0 < (if t then record { head = head; tail = tail; added = added } else all).tail
-change-tail true head tail added some = some
-change-tail false head tail added some = omega arith
+change-tail : (head tail : ℕ) (added : ℤ) → 0 < tail → 0 < (change_of head tail added).tail
+change-tail head tail added some = either (λ (c : Change). 0 < c.tail) (nat_le tail 4294967295 && is_small added) _ _ some (omega arith)
 
 pub edit-tail : (from removed added : ℕ) → 0 < (edit from removed added).tail
-edit-tail from removed added = change-tail (nat_le (from + added + 1) 4294967295 && is_small (pos added -ℤ pos removed)) from (from + added + 1) (pos added -ℤ pos removed) (omega arith)
+edit-tail from removed added = change-tail from (from + added + 1) (pos added -ℤ pos removed) (omega arith)
 
 -- what is joined with a change that has a tail has one
 pub joined-tail : (x y : Change) → 0 < y.tail → 0 < (join x y).tail
-joined-tail x y some = by (is_all x || is_all y) where
-  by : (t : Bool) → 0 < (if t then all else change_of (min x.head y.head) (max (moved y.added x.tail) y.tail) (x.added +ℤ y.added)).tail
-  by true = omega arith
-  by false = change-tail (nat_le (max (moved y.added x.tail) y.tail) 4294967295 && is_small (x.added +ℤ y.added)) (min x.head y.head) (max (moved y.added x.tail) y.tail) (x.added +ℤ y.added) (omega arith)
+joined-tail x y some =
+    either (λ (c : Change). 0 < c.tail) (is_all x || is_all y) _ _ (omega arith) (change-tail (min x.head y.head) (max (moved y.added x.tail) y.tail) (x.added +ℤ y.added) (omega arith))
 
 pub moved-tail : (before after : ℕ × ℕ) → 0 < (join (restyled before) (restyled after)).tail
 moved-tail before after = joined-tail (restyled before) (restyled after) (edit-tail after.0 (after.1 - after.0) (after.1 - after.0))

@@ -7,7 +7,7 @@ use Rattle.std.specs.List.{All, find}
 use Rattle.std.specs.Option.{option_and_then}
 use Rattle.std.proofs.lemmas.Option.{option_and_then_some, slice_get_within}
 use Rattle.std.specs.Prelude.{IfSome, IsTrue, option_map, slice_get, slice_index_or}
-use Rattle.rd_base.proofs.Choices.{if-value, some-of}
+use Rattle.rd_base.proofs.Choices.{either, if-value, some-of}
 use Rattle.rd_base.specs.Chars.{is_code}
 use Rattle.rd_base.specs.declared.cell.Cell.{Cell}
 use Rattle.rd_base.specs.declared.element.Element.{Element}
@@ -78,10 +78,7 @@ columns-hold law s objects files shape is =
 
 column-hold : (o : Option Begin) (row : RowMeaning) (width : ℕ) → length row.cells ≡ width → IfSome o (λ b. b.column < width) → IfSome (option_map (shown_column row) (option_map (λ (b : Begin). b.column) o)) (λ c. c < width)
 column-hold None row width wide h = tt
-column-hold (Some b) row width wide h = by row.reversed where
-  by : (t : Bool) → (if t then length row.cells - 1 - b.column else b.column) < width
-  by true = omega (arith, h, wide)
-  by false = h
+column-hold (Some b) row width wide h = either (λ (c : ℕ). c < width) row.reversed _ _ (omega (arith, h, wide)) h
 
 pub cursor-hold : (width point : ℕ) (es : List EntryMeaning) → All (λ (e : EntryMeaning). length e.row.cells ≡ width) es → All (λ (e : EntryMeaning). All (λ (b : Begin). b.column < width) e.row.begins) es
     → (place : ℕ × ℕ) → cursor_in point es ≡ Some place → (place.0 < length es) × (place.1 < width)

@@ -3,6 +3,7 @@ use Rattle.std.proofs.Common.{◌≡◌, ◌≢◌, ◌⊎◌, inl, inr, ℕ, �
 use Rattle.std.proofs.lemmas.Bool.{cases_eq, cond-false, cond-true, eq-eqb, ne_eqb}
 use Rattle.std.proofs.lemmas.Int.{ints}
 use Rattle.std.specs.Prelude.{ℤ, pos, ◌+ℤ◌, ◌-ℤ◌, ◌≤ℤ◌}
+use Rattle.rd_base.proofs.Choices.{either}
 use Rattle.rd_blocks.specs.Leads.{LeadsTo}
 use Rattle.rd_blocks.proofs.Leading.{leads-none, leads-ranged}
 use Rattle.rd_objects.specs.Sound.{IsClosed, Extends}
@@ -72,15 +73,13 @@ module _ (last_all : (c : Change) → join c all ≡ all) (old new : ContentValu
       tails : max before.1 after.1 + 1 ≡ max (before.0 + n + 1) (after.0 + m + 1)
       tails = omega arith
 
-      either : (t : Bool) → Goal (if t then all else change_of (min x.head y.head) (max (moved y.added x.tail) y.tail) (x.added +ℤ y.added))
-      either true = inl refl
-      either false = joined-lead before.0 after.0 (before.0 + n + 1) (after.0 + m + 1) x.added y.added (nothing-added n) (nothing-added m)
-          (subst (λ tail. Stays old a new b (min before.0 after.0) tail (pos 0)) tails s)
-
       by : (t u : Bool) → Goal (join (if t then x else all) (if u then y else all))
       by false u = inl refl
       by true false = inl (last_all x)
-      by true true = either (is_all x || is_all y)
+      by true true =
+          either Goal (is_all x || is_all y) _ _ (inl refl)
+          (joined-lead before.0 after.0 (before.0 + n + 1) (after.0 + m + 1) x.added y.added (nothing-added n) (nothing-added m)
+          (subst (λ tail. Stays old a new b (min before.0 after.0) tail (pos 0)) tails s))
 
   shown-leads : (i k : ℕ) (change : Change) → (k ≡ i → Goal change) → (k ≢ i → Goal none) → Goal (if_shown i k change)
   shown-leads i k change same other = elim (cases_eq i k) [
@@ -95,7 +94,4 @@ module _ (last_all : (c : Change) → join c all ≡ all) (old new : ContentValu
   effect-leads (Moved i before after) number k at leaves =
       shown-leads i k (join (restyled before) (restyled after)) (λ p. both-lead before after (at p).0 (at p).1 (leaves.0 p)) (λ q. whole-leads (leaves.1 q))
   effect-leads (All i) number k at leaves = shown-leads i k all (λ p. inl refl) (λ q. whole-leads (leaves q))
-  effect-leads (Window n) number k at leaves = by (n == number) where
-    by : (t : Bool) → Goal (if t then all else none)
-    by true = inl refl
-    by false = whole-leads leaves
+  effect-leads (Window n) number k at leaves = either Goal (n == number) _ _ (inl refl) (whole-leads leaves)

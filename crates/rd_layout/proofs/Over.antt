@@ -1,5 +1,6 @@
 -- A last layout stands over a later state in which nothing changed of what its window shows.
-use Rattle.std.proofs.Common.{◌≡◌, ◌⊎◌, inl, inr, ℕ, ◌^◌, ◌<◌, ◌==◌, ◌&&◌, ◌||◌, min, max, nat_le, Bool, true, false, if◌then◌else◌, ◌+ℤ◌, ap, refl, subst, ◌∙◌, arith}
+use Rattle.std.proofs.Common.{◌≡◌, ◌⊎◌, inl, inr, ℕ, ◌^◌, ◌<◌, ◌==◌, ◌&&◌, ◌||◌, min, max, nat_le, true, ◌+ℤ◌, ap, refl, subst, ◌∙◌, arith}
+use Rattle.rd_base.proofs.Choices.{either}
 use Rattle.rd_base.specs.declared.settings.Anchor.{Anchor}
 use Rattle.rd_base.specs.Settings.{without_flags}
 use Rattle.rd_blocks.proofs.Listed.{among-block, among-small}
@@ -17,7 +18,7 @@ use Rattle.rd_objects.specs.Things.{ObjectLists}
 use Rattle.rd_props.specs.Buffers.{BufferValue}
 use Rattle.rd_props.specs.Made.{AreMade}
 use Rattle.rd_reuse.proofs.Changes.{all-is-change, change-by}
-use Rattle.rd_reuse.specs.Changes.{IsChange, all, change_of, edit, is_all, is_none, is_small, join, moved, none}
+use Rattle.rd_reuse.specs.Changes.{IsChange, all, edit, is_all, is_none, is_small, join, moved, none}
 use Rattle.rd_reuse.specs.declared.change.Change.{Change}
 use Rattle.rd_rows.specs.Laws.{seen_rows}
 use Rattle.rd_rows.specs.Shapes.{ShapeValues}
@@ -42,10 +43,7 @@ pub record OverLaws : Type 0 where
 -- ---- changes
 
 shown-tail : (i k : ℕ) (change : Change) → 0 < change.tail → (if_shown i k change ≡ none) ⊎ (0 < (if_shown i k change).tail)
-shown-tail i k change some = by (i == k) where
-  by : (t : Bool) → ((if t then change else none) ≡ none) ⊎ (0 < (if t then change else none).tail)
-  by true = inr some
-  by false = inl refl
+shown-tail i k change some = either (λ (c : Change). (c ≡ none) ⊎ (0 < c.tail)) (i == k) _ _ (inr some) (inl refl)
 
 -- what an effect is for a window is none, or has a tail
 none-or-tail : (effect : Effect) (number k : ℕ) → (change_by effect number k ≡ none) ⊎ (0 < (change_by effect number k).tail)
@@ -66,13 +64,11 @@ pub new-change : IsChange none
 new-change = record { head = omega arith; tail = omega arith; added = refl }
 
 pub joined-change : (x y : Change) → IsChange x → IsChange (join x y)
-joined-change x y is = by (is_all x || is_all y) where
-  by : (t : Bool) → IsChange (if t then all else change_of (min x.head y.head) (max (moved y.added x.tail) y.tail) (x.added +ℤ y.added))
-  by true = all-is-change
-  by false =
-      let tail = max (moved y.added x.tail) y.tail in
-      let added = x.added +ℤ y.added in
-      change-by (nat_le tail 4294967295 && is_small added) (min x.head y.head) tail added refl (let head = is.head in omega arith)
+joined-change x y is =
+    let tail = max (moved y.added x.tail) y.tail in
+    let added = x.added +ℤ y.added in
+    let head = is.head in
+    either IsChange (is_all x || is_all y) _ _ all-is-change (change-by (nat_le tail 4294967295 && is_small added) (min x.head y.head) tail added refl (omega (arith, head)))
 
 pub first-none : OverLaws → (x y : Change) → IsChange x → y ≡ none → is_none (join x y) ≡ true → is_none x ≡ true
 first-none laws x y is same h = subst (λ (c : Change). is_none c ≡ true) (ap (join x) same ∙ laws.last_none x is) h

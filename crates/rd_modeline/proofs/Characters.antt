@@ -1,5 +1,5 @@
 -- The text of a mode line has characters alone.
-use Rattle.std.proofs.Common.{rules, tests, arith, ◌≡◌, ℕ, ◌+◌, ◌*◌, ◌-◌, ◌/◌, ◌<◌, ◌≤◌, ◌^◌, min, Bool, true, false, IsTrue, List, [], ◌∷◌, ◌++◌, Option, Some, None, IfSome, Result, Ok, Err, IfOk, All, replicate, codes, decimal, get_or, refl, subst}
+use Rattle.std.proofs.Common.{rules, tests, arith, ◌≡◌, ℕ, ◌+◌, ◌*◌, ◌-◌, ◌<◌, ◌≤◌, ◌^◌, Bool, true, false, IsTrue, List, [], ◌∷◌, ◌++◌, Option, Some, None, IfSome, Result, Ok, Err, IfOk, All, replicate, codes, decimal, get_or, refl, subst}
 use Rattle.std.specs.Prelude.{◌==◌, ◌&&◌, nat_lt, if◌then◌else◌}
 use Rattle.std.specs.List.{AllByRecursion}
 use Rattle.std.proofs.lemmas.Bool.Decides.{nat_tests}
@@ -35,10 +35,7 @@ numbers n fits =
     All-from_get_or IsCharacter (decimal n) 0 (λ i within. ascii (get_or (decimal n) i 0) (IsAscii-decimal n fits i))
 
 share-small : (above total : ℕ) → share above total ≤ 99
-share-small above total = by-total (total == 0) where
-  by-total : (none : Bool) → (if none then 0 else min 99 ((100 * above + (total - 1)) / total)) ≤ 99
-  by-total true = omega arith
-  by-total false = grind arith
+share-small above total = either (λ (n : ℕ). n ≤ 99) (total == 0) _ _ (omega arith) (grind arith)
 
 places : (f : FactValues) → All IsCharacter (place_text f)
 places f = by-ends f.top f.bottom where

@@ -3,6 +3,7 @@ use Rattle.std.proofs.Common.{◌≡◌, ℕ, zero, suc, ◌+◌, ◌*◌, ◌�
 use Rattle.std.specs.Option.{option_to_list}
 use Rattle.std.proofs.lemmas.Bool.Decides.{nat_tests}
 use Rattle.std.proofs.lemmas.List.{reverse-append}
+use Rattle.rd_base.proofs.Choices.{either}
 use Rattle.rd_base.proofs.Lists.{total-append}
 use Rattle.rd_base.specs.Lists.{total}
 use Rattle.rd_overlays.specs.declared.overlay.Overlay.{Overlay}
@@ -87,10 +88,7 @@ all-step edge w p n (slot ∷ slots) = omega (arith, slot-step edge w p n slot, 
 -- an overlay has two strings at most
 slot-least : (test : Overlay → Bool) (w : ℕ → ℕ) (n : ℕ) (slot : Option Overlay) → slot_weighs test w n slot ≤ w n
 slot-least test w n None = omega arith
-slot-least test w n (Some o) = by-test (test o) where
-  by-test : (b : Bool) → (if b then w n else 0) ≤ w n
-  by-test true = omega arith
-  by-test false = omega arith
+slot-least test w n (Some o) = either (λ (k : ℕ). k ≤ w n) (test o) _ _ (omega arith) (omega arith)
 
 from-few : (to from : Overlay → ℕ) (a b c : ℕ → ℕ) → ((n : ℕ) → a n + b n + c n ≤ 2) → (p n : ℕ) (slots : List (Option Overlay))
     → all_from to a p n slots + all_from from b p n slots + all_from from c p n slots ≤ 2 * length slots

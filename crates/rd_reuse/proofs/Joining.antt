@@ -3,6 +3,7 @@ use Rattle.std.proofs.Common.{◌≡◌, ℕ, zero, suc, ◌+◌, ◌-◌, ◌^�
 use Rattle.std.proofs.Math.Bool.{or-false}
 use Rattle.std.proofs.Math.IntN.{+ℤ_idl, +ℤ_idr}
 use Rattle.std.proofs.lemmas.Bool.{and_from, and_left, le-leb, lt-leb, or_from, or_right, true≢false}
+use Rattle.rd_base.proofs.Choices.{either}
 use Rattle.rd_matrix.specs.Blocks.{IsAmong, first_start}
 use Rattle.rd_matrix.specs.Sources.{SourceValues, IsSource}
 use Rattle.rd_matrix.specs.declared.block.Block.{Block}
@@ -50,15 +51,10 @@ moved-minus : (a r : ℕ) → moved (pos a -ℤ pos r) 0 ≤ a
 moved-minus a zero = omega arith
 moved-minus a (suc r) = either-low (ltb a (suc r)) (suc r - suc a) (a - suc r) a (omega arith)
 
-low-by : (b : Bool) (head tail : ℕ) (added : ℤ) → moved added 0 ≤ tail
-    → moved (if b then record { head = head; tail = tail; added = added } else all).added 0 ≤ (if b then record { head = head; tail = tail; added = added } else all).tail
-low-by true head tail added low = low
-low-by false head tail added low = omega arith
-
 pub edit-low : (from removed added : ℕ) → moved (edit from removed added).added 0 ≤ (edit from removed added).tail
 edit-low from removed added =
     let low = moved-minus added removed in
-    low-by (nat_le (from + added + 1) 4294967295 && is_small (pos added -ℤ pos removed)) from (from + added + 1) (pos added -ℤ pos removed) (omega (arith, low))
+    either (λ (c : Change). moved c.added 0 ≤ c.tail) (nat_le (from + added + 1) 4294967295 && is_small (pos added -ℤ pos removed)) _ _ (omega (arith, low)) (omega arith)
 
 pub edit-is : (from removed added : ℕ) → from ≤ 4294967295 → IsChange (edit from removed added)
 edit-is from removed added low = change-by (nat_le (from + added + 1) 4294967295 && is_small (pos added -ℤ pos removed)) from (from + added + 1) (pos added -ℤ pos removed) refl low
