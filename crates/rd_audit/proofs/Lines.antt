@@ -7,7 +7,7 @@ use Rattle.rd_base.specs.Glyphs.{IsRowAfter}
 use Rattle.rd_base.specs.declared.cell.Cell.{Cell}
 use Rattle.rd_io.specs.Lines.{lines_of}
 use Rattle.rd_term.specs.Pictures.{Picture}
-use Rattle.rd_dump.specs.Dumps.{place_text, window_line, windows_text, cells_text, runs_of_row, row_line, rows_text, cursor_line}
+use Rattle.rd_dump.specs.Dumps.{place_text, labelled, window_numbers, window_line, windows_text, cells_text, runs_of_row, row_line, rows_text, cursor_line}
 use Rattle.rd_dump.specs.declared.dump.WindowFacts.{WindowFacts}
 use Rattle.rd_audit.proofs.Covering.{runs-lack}
 use Rattle.rd_audit.proofs.Faces.{piece-lacks}
@@ -49,26 +49,12 @@ pieces-unbroken : (texts : List (List ℕ)) → AllLack 10 texts → lacks 10 (c
 pieces-unbroken [] h = refl
 pieces-unbroken (text ∷ texts) h = lacks-append 10 text (concat texts) h.0 (pieces-unbroken texts h.1)
 
--- numbers, each behind a label, before other pieces
-abbrev labelled : List (List ℕ × ℕ) → List (List ℕ) → List (List ℕ)
-labelled [] texts = texts
-labelled (number ∷ numbers) texts = number.0 ∷ decimal number.1 ∷ labelled numbers texts
-
 labelled-unbroken : (numbers : List (List ℕ × ℕ)) (texts : List (List ℕ)) → AllByRecursion (λ (number : List ℕ × ℕ). lacks 10 number.0 ≡ true) numbers → AllLack 10 texts
     → AllLack 10 (labelled numbers texts)
 labelled-unbroken [] texts labels h = h
 labelled-unbroken (number ∷ numbers) texts labels h = (labels.0, (lacks-decimal 10 number.1 refl, labelled-unbroken numbers texts labels.1 h))
 
 -- a window's line up to its cursor
-abbrev window_numbers : WindowFacts → List (List ℕ × ℕ)
-window_numbers w =
-    (codes "window ", w.window)
-    ∷ (codes " at ", w.rect.y) ∷ (codes ",", w.rect.x)
-    ∷ (codes " size ", w.rect.width) ∷ (codes "x", w.rect.height)
-    ∷ (codes " start ", w.start.pos) ∷ (codes ".", w.start.row)
-    ∷ (codes " point ", w.point)
-    ∷ []
-
 abbrev window_head : WindowFacts → List (List ℕ)
 window_head w = labelled (window_numbers w) (codes " cursor " ∷ [])
 

@@ -35,15 +35,24 @@ abbrev pub place_text : Option (ℕ × ℕ) → List ℕ
 place_text None = codes "none\n"
 place_text (Some place) = concat (decimal place.0 ∷ codes "," ∷ decimal place.1 ∷ newline ∷ [])
 
--- a window: its number, its place and size, its start, its point and its cursor
+-- numbers, each behind a label, before other pieces
+abbrev pub labelled : List (List ℕ × ℕ) → List (List ℕ) → List (List ℕ)
+labelled [] texts = texts
+labelled (number ∷ numbers) texts = number.0 ∷ decimal number.1 ∷ labelled numbers texts
+
+-- a window's number, its place and size, its start and its point
+abbrev pub window_numbers : WindowFacts → List (List ℕ × ℕ)
+window_numbers w =
+    (codes "window ", w.window)
+    ∷ (codes " at ", w.rect.y) ∷ (codes ",", w.rect.x)
+    ∷ (codes " size ", w.rect.width) ∷ (codes "x", w.rect.height)
+    ∷ (codes " start ", w.start.pos) ∷ (codes ".", w.start.row)
+    ∷ (codes " point ", w.point)
+    ∷ []
+
+-- a window: these numbers and its cursor
 abbrev pub window_line : WindowFacts → List ℕ
-window_line w = concat (
-    codes "window " ∷ decimal w.window
-    ∷ codes " at " ∷ decimal w.rect.y ∷ codes "," ∷ decimal w.rect.x
-    ∷ codes " size " ∷ decimal w.rect.width ∷ codes "x" ∷ decimal w.rect.height
-    ∷ codes " start " ∷ decimal w.start.pos ∷ codes "." ∷ decimal w.start.row
-    ∷ codes " point " ∷ decimal w.point
-    ∷ codes " cursor " ∷ []) ++ place_text w.cursor
+window_line w = concat (labelled (window_numbers w) (codes " cursor " ∷ [])) ++ place_text w.cursor
 
 abbrev pub windows_text : List WindowFacts → List ℕ
 windows_text windows = flat_map window_line windows
