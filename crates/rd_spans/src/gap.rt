@@ -76,7 +76,6 @@ pub(crate) fn first_alike(front: &[ValueRun], back: &[ValueRun], pos: u64) -> u3
 
 /// Makes room for an edit, which adds at most three runs.
 pub(crate) fn make_room(front: &mut Vec<ValueRun>, back: &mut Vec<ValueRun>) -> Result<(), Memory>
-    requires few { length front.old.items + length back.old.items ≤ 4294967296 }
     ensures front { front.new.items ≡ front.old.items }
     ensures back { back.new.items ≡ back.old.items }
     ensures front_room { vec_capacity front.old ≤ vec_capacity front.new }
