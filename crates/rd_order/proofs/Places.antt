@@ -1,5 +1,5 @@
 -- Maximal runs, and which index comes to which place.
-use Rattle.std.proofs.Common.{◌≡◌, ℕ, zero, suc, ◌+◌, ◌-◌, ◌<◌, ◌≤◌, inl, inr, refl, subst, arith}
+use Rattle.std.proofs.Common.{◌≡◌, ◌≢◌, ℕ, zero, suc, ◌+◌, ◌-◌, ◌<◌, ◌≤◌, inl, inr, refl, ap, subst, arith}
 use Rattle.std.proofs.lemmas.Bool.{cases_lt, cases_eq}
 use Rattle.rd_order.specs.Places.{AreHigh, BeginsLow, IsRun, Turns, Moves, Comes}
 
@@ -48,23 +48,24 @@ run_of f n k q within h =
     let run : IsRun f n k s.0 e.0 = record { order = omega arith; within = e.2; high = high; before = s.3; after = e.4 } in
     (s.0, e.0, run, from, to)
 
+-- a high place stands neither just before a maximal run nor just behind it
+pub edges : (f : ℕ → ℕ) (n k a b q : ℕ) → IsRun f n k a b → q < n → k ≤ f q → (suc q ≢ a) × (q ≢ b)
+edges f n k a b q run within high = (
+  λ e. let low = run.before q e in absurd (omega arith),
+  λ e. let low = run.after (omega arith) in let same = ap f e in absurd (omega arith),
+)
+
 -- a maximal run around a place goes no further than another
 run_within : (f : ℕ → ℕ) (n k a b c d q : ℕ) → IsRun f n k a b → IsRun f n k c d → a ≤ q → q < b → c ≤ q → q < d → (c ≤ a) × (b ≤ d)
 run_within f n k a b c d q r s aq qb cq qd =
+    let within = r.within in
+    let ends_within = s.within in
     let starts : c ≤ a = elim (cases_lt a c) [
-      | inl less ↦
-          let e : suc (c - 1) ≡ c = omega arith in
-          let low = s.before (c - 1) e in
-          let high = r.high (c - 1) (omega arith) (omega arith) in
-          absurd (omega arith)
+      | inl less ↦ absurd ((edges f n k c d (c - 1) s (omega arith) (r.high (c - 1) (omega arith) (omega arith))).0 (omega arith))
       | inr fine ↦ fine
     ] in
     let ends : b ≤ d = elim (cases_lt d b) [
-      | inl less ↦
-          let within = r.within in
-          let low = s.after (omega arith) in
-          let high = r.high d (omega arith) less in
-          absurd (omega arith)
+      | inl less ↦ absurd ((edges f n k c d d s (omega arith) (r.high d (omega arith) less)).1 refl)
       | inr fine ↦ fine
     ] in
     (starts, ends)

@@ -6,7 +6,7 @@ use Rattle.std.proofs.lemmas.Bool.Decides.{nat_tests}
 use Rattle.std.proofs.lemmas.Option.{slice_get_within, slice_get-get_or, slice_get_past}
 use Rattle.rd_order.specs.Order.{highest, l2_visual_order}
 use Rattle.rd_order.specs.Places.{AreHigh, BeginsLow, IsRun, Comes, IsNextTo, IsBeside}
-use Rattle.rd_order.proofs.Places.{same_run, comes_of, Comes-within}
+use Rattle.rd_order.proofs.Places.{edges, same_run, comes_of, Comes-within}
 use Rattle.rd_order.proofs.Reversals.{l2_visual_order-length, l2_visual_order-comes, highest-bounds}
 
 -- what `Comes` says holds of equal numbers too
@@ -99,16 +99,9 @@ beside f n base (suc m) p q r next q_in r_in q_high r_high (s, c, inr t) =
       | inr other ↦ let e = backwards (omega arith) in (omega arith, omega arith)
     ] in
     let near_low = near.0 in let near_high = near.1 in
-    let r_from : t.a ≤ r = elim (cases_lt r t.a) [
-      | inl less ↦ let low = t.run.before r (omega arith) in absurd (omega arith)
-      | inr more ↦ more
-    ] in
-    let r_to : r < t.b = elim (cases_lt r t.b) [
-      | inl less ↦ less
-      | inr more ↦
-          let e : t.b ≡ r = omega arith in
-          let low = subst (λ (x : ℕ). f x < k) e (t.run.after (omega arith)) in absurd (omega arith)
-    ] in
+    let off = edges f n k t.a t.b r t.run r_in high_r in
+    let r_from : t.a ≤ r = elim (cases_lt r t.a) [ inl less ↦ absurd (off.0 (omega arith)) | inr more ↦ more ] in
+    let r_to : r < t.b = elim (cases_lt r t.b) [ inl less ↦ less | inr more ↦ absurd (off.1 (omega arith)) ] in
     let s' = t.a + t.b - suc r in
     let turned_next : IsNextTo m s s' = record { forwards = λ even. omega arith; backwards = λ odd. omega arith } in
     let s_high = t.run.high s from to in
