@@ -1,6 +1,6 @@
-mod Alike
+pub mod Alike
 pub mod Bounding
-mod Exact
+pub mod Exact
 mod Greatest
 mod Lasts
 pub mod Listed

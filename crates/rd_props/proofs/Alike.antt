@@ -6,11 +6,13 @@ use Rattle.std.specs.Option.{option_or, option_to_list}
 use Rattle.std.proofs.lemmas.List.{length-reverse, get_or-reverse}
 use Rattle.std.proofs.lemmas.Option.{same_Some}
 use Rattle.rd_base.specs.Faces.{Attributes, over}
+use Rattle.rd_overlays.proofs.Alike as listings
+use Rattle.rd_overlays.proofs.Exact.{exact}
 use Rattle.rd_overlays.specs.declared.overlay.Overlay.{Overlay}
 use Rattle.rd_overlays.specs.declared.overlay.Kind.{Kind}
 use Rattle.rd_overlays.specs.declared.overlay.Kind.TheVariants.{Face, Display, Invisible, LinePrefix, WrapPrefix, Before, After}
 use Rattle.rd_overlays.specs.Overlays.{overlay_at, place_of, covers, starts, ends, numbers_of, covering, starting, ending}
-use Rattle.rd_overlays.specs.Listings.{Passes, listed_priority, AreListings}
+use Rattle.rd_overlays.specs.Listings.{Passes, listed_priority}
 use Rattle.rd_objects.specs.Things.{ObjectLists}
 use Rattle.rd_overlays.specs.Values.{last_given}
 use Rattle.rd_props.specs.Buffers.{BufferValue}
@@ -52,9 +54,9 @@ priority-picked : (test : Overlay → Bool) (slot : Option Overlay) → listed_p
 priority-picked test None = refl
 priority-picked test (Some o) = priority-by o (test o)
 
-listing-same : AreListings → (f g : Overlay → Bool) (a b : List (Option Overlay)) → AreAlike f g a b → numbers_of f a ≡ numbers_of g b
-listing-same listings f g a b alike =
-    listings.agree f g a b (λ n.
+listing-same : (f g : Overlay → Bool) (a b : List (Option Overlay)) → AreAlike f g a b → numbers_of f a ≡ numbers_of g b
+listing-same f g a b alike =
+    listings.listing-same f g a b (λ n.
     priority-picked f (overlay_at a n) ∙ (ap priority_of (alike n) ∙ sym (priority-picked g (overlay_at b n))))
 
 -- ---- what the overlays of a listing give
@@ -100,8 +102,8 @@ slots-give f g (Some o) (Some p) pass same =
 abbrev GiveSame : List (Option Overlay) → List (Option Overlay) → List ℕ → Type 0
 GiveSame a b numbers = (n : ℕ) → Contains numbers n → GivesSame (overlay_at a n) (overlay_at b n)
 
-listing-gives : AreListings → (f g : Overlay → Bool) (a b : List (Option Overlay)) → AreAlike f g a b → GiveSame a b (numbers_of f a)
-listing-gives listings f g a b alike n member = slots-give f g (overlay_at a n) (overlay_at b n) ((listings.exact f a n).0 member) (alike n)
+listing-gives : (f g : Overlay → Bool) (a b : List (Option Overlay)) → AreAlike f g a b → GiveSame a b (numbers_of f a)
+listing-gives f g a b alike n member = slots-give f g (overlay_at a n) (overlay_at b n) ((exact f a n).0 member) (alike n)
 
 first-contained : (n : ℕ) (ns : List ℕ) → Contains (n ∷ ns) n
 first-contained n ns = (0, omega arith, refl)
@@ -147,12 +149,12 @@ pub record SeeSame (x y : ℕ) (a b : List (Option Overlay)) : Type 0 where
   pub starts : AreAlike (starts x) (starts y) a b
   pub ends : AreAlike (ends x) (ends y) a b
 
-module _ (listings : AreListings) (x y : ℕ) (a b : List (Option Overlay)) (see : SeeSame x y a b) where
+module _ (x y : ℕ) (a b : List (Option Overlay)) (see : SeeSame x y a b) where
   covering-same : covering x a ≡ covering y b
-  covering-same = listing-same listings (covers x) (covers y) a b see.covers
+  covering-same = listing-same (covers x) (covers y) a b see.covers
 
   covering-gives : GiveSame a b (covering x a)
-  covering-gives = listing-gives listings (covers x) (covers y) a b see.covers
+  covering-gives = listing-gives (covers x) (covers y) a b see.covers
 
   pub lasts-agree : (kind : Kind) → last_given (overlay_value a kind) (covering x a) ≡ last_given (overlay_value b kind) (covering y b)
   lasts-agree kind = last-same a b kind (covering x a) covering-gives ∙ ap (last_given (overlay_value b kind)) covering-same
@@ -163,14 +165,14 @@ module _ (listings : AreListings) (x y : ℕ) (a b : List (Option Overlay)) (see
 
   starts-agree : (part : StringPlace) → strings_of part a (starting x a) ≡ strings_of part b (starting y b)
   starts-agree part =
-      strings-same a b part (starting x a) (listing-gives listings (starts x) (starts y) a b see.starts)
-      ∙ ap (strings_of part b) (listing-same listings (starts x) (starts y) a b see.starts)
+      strings-same a b part (starting x a) (listing-gives (starts x) (starts y) a b see.starts)
+      ∙ ap (strings_of part b) (listing-same (starts x) (starts y) a b see.starts)
 
   ends-agree : (part : StringPlace) → strings_of part a (reverse (ending x a)) ≡ strings_of part b (reverse (ending y b))
   ends-agree part =
-      let gives = listing-gives listings (ends x) (ends y) a b see.ends in
+      let gives = listing-gives (ends x) (ends y) a b see.ends in
       strings-same a b part (reverse (ending x a)) (λ n h. gives n (turned-contained n (ending x a) h))
-      ∙ ap (λ (ns : List ℕ). strings_of part b (reverse ns)) (listing-same listings (ends x) (ends y) a b see.ends)
+      ∙ ap (λ (ns : List ℕ). strings_of part b (reverse ns)) (listing-same (ends x) (ends y) a b see.ends)
 
   pub strings-agree : (closing between opening : List ℕ)
       → closing ≡ strings_of Closing a (reverse (ending x a)) → between ≡ strings_of Between a (starting x a) → opening ≡ strings_of Opening a (starting x a)
@@ -210,11 +212,11 @@ appearance-by s t x y objects inside own last laid =
       face = face i;
     }
 
-module _ (listings : AreListings) (s t : BufferValue) (x y : ℕ) (read : ReadSame s x t y) (see : SeeSame x y s.overlays t.overlays) where
+module _ (s t : BufferValue) (x y : ℕ) (read : ReadSame s x t y) (see : SeeSame x y s.overlays t.overlays) where
   pub seen-agrees : (objects : ObjectLists) → Agree s objects x t objects y
   seen-agrees objects =
-      let strings = strings-agree listings x y s.overlays t.overlays see (strings_of Closing s.overlays (reverse (ending x s.overlays)))
+      let strings = strings-agree x y s.overlays t.overlays see (strings_of Closing s.overlays (reverse (ending x s.overlays)))
       (strings_of Between s.overlays (starting x s.overlays)) (strings_of Opening s.overlays (starting x s.overlays)) refl refl refl in
-      let appearance = appearance-by s t x y objects read.inside read.properties (lasts-agree listings x y s.overlays t.overlays see)
-      (faces-agree listings x y s.overlays t.overlays see objects) in
+      let appearance = appearance-by s t x y objects read.inside read.properties (lasts-agree x y s.overlays t.overlays see)
+      (faces-agree x y s.overlays t.overlays see objects) in
       λ i. record { character = read.character i; appearance = appearance i; strings = strings i }

@@ -4,7 +4,8 @@ use Rattle.std.proofs.lemmas.Bool.Decides.{nat_tests}
 use Rattle.std.proofs.lemmas.Bool.{lt-ltb}
 use Rattle.rd_overlays.specs.declared.overlay.Overlay.{Overlay}
 use Rattle.rd_overlays.specs.Overlays.{overlay_at, covers, starts, ends, numbers_of, covering}
-use Rattle.rd_overlays.specs.Listings.{listed_priority, AreListings}
+use Rattle.rd_overlays.proofs.Alike.{listing-same}
+use Rattle.rd_overlays.specs.Listings.{listed_priority}
 use Rattle.rd_overlays.specs.Values.{last_given}
 use Rattle.rd_objects.specs.Things.{ObjectLists}
 use Rattle.rd_props.specs.Buffers.{BufferValue}
@@ -39,7 +40,7 @@ record IsQuiet (s : BufferValue) (p stop : ℕ) : Type 0 where
   same : (q : ℕ) → p < q → q < stop → AreSame s.properties q p
   no_edge : (q : ℕ) → p < q → q < stop → HasEdge s.overlays q → ⊥
 
-module _ (listings : AreListings) (s : BufferValue) (p stop q : ℕ) (next : IsQuiet s p stop) (later : p < q) (before : q < stop) where
+module _ (s : BufferValue) (p stop q : ℕ) (next : IsQuiet s p stop) (later : p < q) (before : q < stop) where
   -- the edges of an overlay that lives don't stand between the two positions
   outside : (k : ℕ) (o : Overlay) → overlay_at s.overlays k ≡ Some o → ((o.from ≤ p) ⊎ (q < o.from)) × ((o.to ≤ p) ⊎ (q < o.to))
   outside k o lives =
@@ -49,7 +50,7 @@ module _ (listings : AreListings) (s : BufferValue) (p stop q : ℕ) (next : IsQ
 
   covering-same : covering q s.overlays ≡ covering p s.overlays
   covering-same =
-      listings.agree (covers q) (covers p) s.overlays s.overlays (λ k.
+      listing-same (covers q) (covers p) s.overlays s.overlays (λ k.
       slot-same (covers q) (covers p) (overlay_at s.overlays k) (λ o lives.
       let parts = outside k o lives in
       covers-by p q o later parts.0 parts.1))
@@ -68,31 +69,31 @@ module _ (listings : AreListings) (s : BufferValue) (p stop q : ℕ) (next : IsQ
 
   none-start : numbers_of (starts q) s.overlays ≡ []
   none-start =
-      listings.agree (starts q) (starts q) s.overlays [] (λ k.
+      listing-same (starts q) (starts q) s.overlays [] (λ k.
       slot-none (starts q) (overlay_at s.overlays k) (λ o lives. starts-not q o (λ e. next.no_edge q later before (k, o, lives, inl e))))
 
   none-end : numbers_of (ends q) s.overlays ≡ []
   none-end =
-      listings.agree (ends q) (ends q) s.overlays [] (λ k.
+      listing-same (ends q) (ends q) s.overlays [] (λ k.
       slot-none (ends q) (overlay_at s.overlays k) (λ o lives. ends-not q o (λ e. next.no_edge q later before (k, o, lives, inr e))))
 
   strings-none : strings_at s q ≡ []
   strings-none = let first = none-start in let last = none-end in rw (first, last)
 
-quiet-alike : AreListings → (s : BufferValue) (objects : ObjectLists) (p stop : ℕ) → IsQuiet s p stop → LookAlike s objects p stop
-quiet-alike listings s objects p stop next = record {
-  appearance = λ q later before. appearance-same listings s p stop q next later before objects;
-  strings = λ q later before. strings-none listings s p stop q next later before;
+quiet-alike : (s : BufferValue) (objects : ObjectLists) (p stop : ℕ) → IsQuiet s p stop → LookAlike s objects p stop
+quiet-alike s objects p stop next = record {
+  appearance = λ q later before. appearance-same s p stop q next later before objects;
+  strings = λ q later before. strings-none s p stop q next later before;
 }
 
-pub look-alike : AreListings → (s : BufferValue) (objects : ObjectLists) (p stop : ℕ) → IsNextStop s p stop → LookAlike s objects p stop
-look-alike listings s objects p stop next =
-    quiet-alike listings s objects p stop (record { within = next.within; same = next.same; no_edge = next.no_edge })
+pub look-alike : (s : BufferValue) (objects : ObjectLists) (p stop : ℕ) → IsNextStop s p stop → LookAlike s objects p stop
+look-alike s objects p stop next =
+    quiet-alike s objects p stop (record { within = next.within; same = next.same; no_edge = next.no_edge })
 
-pub look-alike-back : AreListings → (s : BufferValue) (objects : ObjectLists) (p stop : ℕ) → p < s.text.end → IsLastStop s p stop → LookAlike s objects stop (p + 1)
-look-alike-back listings s objects p stop inside last =
+pub look-alike-back : (s : BufferValue) (objects : ObjectLists) (p stop : ℕ) → p < s.text.end → IsLastStop s p stop → LookAlike s objects stop (p + 1)
+look-alike-back s objects p stop inside last =
     let before = last.before in
-    quiet-alike listings s objects stop (p + 1) (record {
+    quiet-alike s objects stop (p + 1) (record {
       within = omega arith;
       same = λ q later up kind. last.same q (omega arith) (omega arith) kind ∙ sym (last.same stop (omega arith) before kind);
       no_edge = λ q later up. last.no_edge q later (omega arith);

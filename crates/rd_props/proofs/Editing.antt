@@ -5,7 +5,6 @@ use Rattle.rd_text.specs.Texts.{TextValue, IsText, IsAccessible}
 use Rattle.rd_text.specs.Answers.{IsAccessibleRange}
 use Rattle.rd_spans.proofs.Beside.{opened-before, opened-behind, closed-before, closed-behind}
 use Rattle.rd_overlays.specs.declared.overlay.Overlay.{Overlay}
-use Rattle.rd_overlays.specs.Listings.{AreListings}
 use Rattle.rd_objects.specs.Things.{ObjectLists}
 use Rattle.rd_props.specs.Buffers.{BufferValue}
 use Rattle.rd_props.specs.Agreement.{IsInReach, IsSame, IsEdited}
@@ -20,10 +19,10 @@ pub record StaysSame (s : BufferValue) (x : ℕ) (t : BufferValue) (y : ℕ) : T
   pub properties : (kind : ℕ) → s.properties kind x ≡ t.properties kind y
   pub overlays : SeeSame x y s.overlays t.overlays
 
-pub same-by : AreListings → (s t : BufferValue) (objects : ObjectLists) (x y : ℕ) → StaysSame s x t y → IsInReach s x t y → IsSame s objects x t objects y
-same-by listings s t objects x y stays reach =
+pub same-by : (s t : BufferValue) (objects : ObjectLists) (x y : ℕ) → StaysSame s x t y → IsInReach s x t y → IsSame s objects x t objects y
+same-by s t objects x y stays reach =
     let text = stays.text in
-    let agree = seen-agrees listings s t x y (record { character = text.character; inside = text.inside; properties = stays.properties }) stays.overlays objects in
+    let agree = seen-agrees s t x y (record { character = text.character; inside = text.inside; properties = stays.properties }) stays.overlays objects in
     elim reach [
       | inl within ↦ record { old_within = within; new_within = text.to within; agree = agree }
       | inr within ↦ record { old_within = text.from within; new_within = within; agree = agree }
@@ -38,7 +37,7 @@ stays-by s t x y text slots is are reads properties sees = record {
   overlays = subst (λ (os : List (Option Overlay)). SeeSame x y s.overlays os) (sym are) sees;
 }
 
-module _ (listings : AreListings) (old new : BufferValue) (objects : ObjectLists) (text : IsText old.text) (ordered : AreOrdered old.overlays) where
+module _ (old new : BufferValue) (objects : ObjectLists) (text : IsText old.text) (ordered : AreOrdered old.overlays) where
   module _ (place : ℕ) (chars : List ℕ) (at : IsAccessible old.text place) (edit : IsInsertion old new place chars) where
     first : 1 ≤ place
     first = let begin = text.first in let low = at.0 in omega arith
@@ -61,10 +60,10 @@ module _ (listings : AreListings) (old new : BufferValue) (objects : ObjectLists
     pub insertion-edits : IsEdited old objects new objects place 0 (length chars)
     insertion-edits = record {
       begin = ap (λ (t : TextValue). t.begin) edit.text;
-      before = λ x low less reach. same-by listings old new objects x x (insertion-before x less) reach;
+      before = λ x low less reach. same-by old new objects x x (insertion-before x less) reach;
       behind = λ x y low more is reach.
           let moved : x + length chars ≡ y = omega (arith, ints, is) in
-          same-by listings old new objects x y (insertion-behind x y (omega arith) moved) reach;
+          same-by old new objects x y (insertion-behind x y (omega arith) moved) reach;
     }
 
   module _ (from to : ℕ) (at : IsAccessibleRange old.text from to) (edit : IsDeletion old new from to) where
@@ -89,8 +88,8 @@ module _ (listings : AreListings) (old new : BufferValue) (objects : ObjectLists
     pub deletion-edits : IsEdited old objects new objects from (to - from) 0
     deletion-edits = record {
       begin = ap (λ (t : TextValue). t.begin) edit.text;
-      before = λ x low less reach. same-by listings old new objects x x (deletion-before x less) reach;
+      before = λ x low less reach. same-by old new objects x x (deletion-before x less) reach;
       behind = λ x y low more is reach.
           let moved : y + (to - from) ≡ x = omega (arith, ints, is) in
-          same-by listings old new objects x y (deletion-behind x y (omega arith) moved) reach;
+          same-by old new objects x y (deletion-behind x y (omega arith) moved) reach;
     }

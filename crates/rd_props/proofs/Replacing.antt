@@ -11,7 +11,6 @@ use Rattle.rd_overlays.specs.declared.overlay.Overlay.{Overlay}
 use Rattle.rd_overlays.specs.declared.overlay.Kind.{Kind}
 use Rattle.rd_overlays.specs.declared.overlay.Kind.TheVariants.{Face}
 use Rattle.rd_overlays.specs.Overlays.{live, overlay_at, place_of, covers, starts, ends, covering, slot_changed, moved, dropped, given}
-use Rattle.rd_overlays.specs.Listings.{AreListings}
 use Rattle.rd_objects.specs.Things.{ObjectLists}
 use Rattle.rd_objects.specs.Sound.{Extends}
 use Rattle.rd_props.specs.Buffers.{BufferValue, property}
@@ -45,20 +44,20 @@ kept old new made objects begin head tail added none same = record {
       subst P here (same x (inr (omega arith))) reach;
 }
 
-unmoved : AreListings → (old new : BufferValue) (objects : ObjectLists) → new.text.begin ≡ old.text.begin → (head last : ℕ) (added : ℤ) → added ≡ pos 0
+unmoved : (old new : BufferValue) (objects : ObjectLists) → new.text.begin ≡ old.text.begin → (head last : ℕ) (added : ℤ) → added ≡ pos 0
     → ((x : ℕ) → (x < head) ⊎ (last < x) → StaysSame old x new x) → Unchanged old objects new objects head (last + 1) added
-unmoved listings old new objects begin head last added none stays =
+unmoved old new objects begin head last added none stays =
     kept old new objects objects begin head (last + 1) added none
-    (λ x away. same-by listings old new objects x x (stays x (elim away [ inl low ↦ inl low | inr high ↦ inr (omega (arith, high)) ])))
+    (λ x away. same-by old new objects x x (stays x (elim away [ inl low ↦ inl low | inr high ↦ inr (omega (arith, high)) ])))
 
 no-more : (n : ℕ) → pos n -ℤ pos n ≡ pos 0
 no-more n = omega (arith, ints)
 
 -- ---- the settings alone
 
-pub settings-edit : AreListings → (old new : BufferValue) (objects : ObjectLists) (head tail : ℕ) → HasOverlays old new old.overlays → Unchanged old objects new objects head tail (pos 0)
-settings-edit listings old new objects head tail edit =
-    kept old new objects objects (ap (λ (t : TextValue). t.begin) edit.text) head tail (pos 0) refl (λ x away. same-by listings old new objects x x
+pub settings-edit : (old new : BufferValue) (objects : ObjectLists) (head tail : ℕ) → HasOverlays old new old.overlays → Unchanged old objects new objects head tail (pos 0)
+settings-edit old new objects head tail edit =
+    kept old new objects objects (ap (λ (t : TextValue). t.begin) edit.text) head tail (pos 0) refl (λ x away. same-by old new objects x x
     (stays-by old new x x _ _ edit.text edit.overlays (itself old.text x) (λ kind. sym (edit.properties kind x)) (see-itself x old.overlays)))
 
 -- ---- a property that is put
@@ -74,10 +73,10 @@ put-stays old new kind from to x value edit away =
     stays-by old new x x _ _ edit.text edit.overlays (itself old.text x)
     (λ k. put-outside (k == place_of kind) (nat_le from x && nat_lt x to) value (old.properties k x) out ∙ sym (edit.properties k x)) (see-itself x old.overlays)
 
-pub put-edits : AreListings → (old new : BufferValue) (objects : ObjectLists) (kind : Kind) (from to : ℕ) (value : Option ℕ) → IsPut old new kind from to value
+pub put-edits : (old new : BufferValue) (objects : ObjectLists) (kind : Kind) (from to : ℕ) (value : Option ℕ) → IsPut old new kind from to value
     → IsEdited old objects new objects from (to - from) (to - from)
-put-edits listings old new objects kind from to value edit =
-    unmoved listings old new objects (ap (λ (t : TextValue). t.begin) edit.text) from (from + (to - from)) (pos (to - from) -ℤ pos (to - from)) (no-more (to - from))
+put-edits old new objects kind from to value edit =
+    unmoved old new objects (ap (λ (t : TextValue). t.begin) edit.text) from (from + (to - from)) (pos (to - from) -ℤ pos (to - from)) (no-more (to - from))
     (λ x away. put-stays old new kind from to x value edit away)
 
 -- ---- one overlay that becomes another
@@ -142,11 +141,11 @@ set-differs slots number low high o slot is lies next = λ f none n.
 end-differs : (slots : List (Option Overlay)) (low high : ℕ) (o : Overlay) → (low ≤ o.from) × (o.from ≤ o.to) × (o.to ≤ high) → DifferIn low high slots (slots ++ Some o ∷ [])
 end-differs slots low high o lies = λ f none n. found-end f slots n (Some o) (unmet f (Some o) (λ p h. none p (same-lies low high (Some o) o p refl lies h)))
 
-module _ (listings : AreListings) (old new : BufferValue) (objects : ObjectLists) where
+module _ (old new : BufferValue) (objects : ObjectLists) where
   one-edits : (slots : List (Option Overlay)) (from to : ℕ) → HasOverlays old new slots → DifferIn from (from + (to - from)) old.overlays slots
       → IsEdited old objects new objects from (to - from) (to - from)
   one-edits slots from to edit differ =
-      unmoved listings old new objects (ap (λ (t : TextValue). t.begin) edit.text) from (from + (to - from)) (pos (to - from) -ℤ pos (to - from)) (no-more (to - from))
+      unmoved old new objects (ap (λ (t : TextValue). t.begin) edit.text) from (from + (to - from)) (pos (to - from) -ℤ pos (to - from)) (no-more (to - from))
       (λ x away. overlays-stay old new slots from (from + (to - from)) x edit differ away)
 
   pub making-edits : (o : Overlay) → o.from ≤ o.to → HasOverlays old new (old.overlays ++ Some o ∷ []) → IsEdited old objects new objects o.from (o.to - o.from) (o.to - o.from)
@@ -173,7 +172,7 @@ module _ (listings : AreListings) (old new : BufferValue) (objects : ObjectLists
         let change : Overlay → Overlay = λ overlay. record overlay { from = from; to = to } in
         let differ = set-differs old.overlays number (min o.from from) (max o.to to) o (slot_changed change (overlay_at old.overlays number)) is (omega arith, ordered, omega arith)
         (λ p h. same-lies (min o.from from) (max o.to to) _ (change o) p (ap (slot_changed change) is) (omega arith, less, omega arith) h) in
-        unmoved listings old new objects (ap (λ (t : TextValue). t.begin) edit.text) (min o.from from) (max o.to to) (pos 0) refl
+        unmoved old new objects (ap (λ (t : TextValue). t.begin) edit.text) (min o.from from) (max o.to to) (pos 0) refl
         (λ x away. overlays-stay old new (moved old.overlays number from to) (min o.from from) (max o.to to) x edit differ away)
 
 -- ---- objects that are made

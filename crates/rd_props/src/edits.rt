@@ -12,8 +12,6 @@ ghost use Rattle.rd_props.specs.Agreement.{Unchanged, IsEdited};
 ghost use Rattle.rd_props.specs.Edits.{AreOrdered, IsInsertion, IsDeletion, IsPut, HasOverlays};
 ghost use Rattle.rd_props.specs.Made.{AreMade};
 
-use rd_overlays::listings_are_exact;
-
 /// What two changes leave as it was, one after the other: what stands before the lesser head, and what stands from the greater of
 /// both tails on, where the earlier tail moves by what the later change added. What the later change added stands between the
 /// accessible beginning and its tail, as an insertion's characters do. The call does nothing.
@@ -26,24 +24,18 @@ pub fn changes_join()
 /// call does nothing.
 pub fn insertions_leave_the_rest()
     ensures { (old new : BufferValue) (objects : ObjectLists) (place : ℕ) (chars : List ℕ) → IsText old.text → AreOrdered old.overlays → IsAccessible old.text place → IsInsertion old new place chars → IsEdited old objects new objects place 0 (length chars) }
-{
-    listings_are_exact();
-}
+{}
 
 /// A deletion leaves what stood before it, and what stood behind the first position after it, moved back. The call does nothing.
 pub fn deletions_leave_the_rest()
     ensures { (old new : BufferValue) (objects : ObjectLists) (from to : ℕ) → IsText old.text → AreOrdered old.overlays → IsAccessibleRange old.text from to → IsDeletion old new from to → IsEdited old objects new objects from (to - from) 0 }
-{
-    listings_are_exact();
-}
+{}
 
 /// A text property that is put on a range leaves what stands before the range and behind the first position after it. The call does
 /// nothing.
 pub fn puts_leave_the_rest()
     ensures { (old new : BufferValue) (objects : ObjectLists) (kind : Kind) (from to : ℕ) (value : Option ℕ) → IsPut old new kind from to value → IsEdited old objects new objects from (to - from) (to - from) }
-{
-    listings_are_exact();
-}
+{}
 
 /// An overlay that is made, that is dropped, or that is given a value leaves what stands before it and behind the first position after
 /// it. One that is moved leaves what stands before and behind both its ranges. The call does nothing.
@@ -52,9 +44,7 @@ pub fn overlays_leave_the_rest()
     ensures dropped { (old new : BufferValue) (objects : ObjectLists) (number : ℕ) (overlay : Overlay) → overlay_at old.overlays number ≡ Some overlay → overlay.from ≤ overlay.to → HasOverlays old new (dropped old.overlays number) → IsEdited old objects new objects overlay.from (overlay.to - overlay.from) (overlay.to - overlay.from) }
     ensures given { (old new : BufferValue) (objects : ObjectLists) (number : ℕ) (overlay : Overlay) (kind : Kind) (value : Option ℕ) → overlay_at old.overlays number ≡ Some overlay → overlay.from ≤ overlay.to → HasOverlays old new (given old.overlays number kind value) → IsEdited old objects new objects overlay.from (overlay.to - overlay.from) (overlay.to - overlay.from) }
     ensures moved { (old new : BufferValue) (objects : ObjectLists) (number from to : ℕ) (overlay : Overlay) → overlay_at old.overlays number ≡ Some overlay → overlay.from ≤ overlay.to → from ≤ to → HasOverlays old new (moved old.overlays number from to) → Unchanged old objects new objects (min overlay.from from) (max overlay.to to + 1) (pos 0) }
-{
-    listings_are_exact();
-}
+{}
 
 /// Objects that are made change nothing that is seen of a buffer whose properties and overlays name none that was not made. The call
 /// does nothing.
@@ -65,9 +55,7 @@ pub fn new_objects_leave_all()
 /// A change of the settings alone changes nothing that is seen at a position. The call does nothing.
 pub fn settings_leave_all()
     ensures { (old new : BufferValue) (objects : ObjectLists) (head tail : ℕ) → HasOverlays old new old.overlays → Unchanged old objects new objects head tail (pos 0) }
-{
-    listings_are_exact();
-}
+{}
 
 /// What is the same before a head and from a tail on is so before a lesser head and from a greater tail on. The call does nothing.
 pub fn changes_widen()

@@ -15,7 +15,7 @@ ghost use Rattle.rd_props.specs.Appearance.{hidden_by};
 ghost use Rattle.rd_props.specs.Seen.{seen_at};
 ghost use Rattle.rd_props.specs.Stops.{IsNextStop, IsLastStop, LookAlike};
 
-use rd_overlays::{last_values_are_the_greatest_overlays, listings_are_exact};
+use rd_overlays::last_values_are_the_greatest_overlays;
 
 /// The effective value before the end of the accessible text is that of the overlay which covers the position, has a value of
 /// the kind, and which no other such overlay has a greater priority than, nor the same with a greater number; where no overlay
@@ -47,14 +47,10 @@ pub fn overlays_have_two_strings()
 /// does nothing.
 pub fn nothing_changes_before_the_next_stop()
     ensures { (s : BufferValue) (objects : ObjectLists) (pos stop : ℕ) → IsNextStop s pos stop → LookAlike s objects pos stop }
-{
-    listings_are_exact();
-}
+{}
 
 /// From the last stop up to a position before the end no value changes, nor the face, and no string of an overlay stands there but at
 /// the stop. The call does nothing.
 pub fn nothing_changes_behind_the_last_stop()
     ensures { (s : BufferValue) (objects : ObjectLists) (pos stop : ℕ) → pos < s.text.end → IsLastStop s pos stop → LookAlike s objects stop (pos + 1) }
-{
-    listings_are_exact();
-}
+{}

@@ -2,4 +2,4 @@ use Rattle.rd_props.proofs.Between.{look-alike}
 use Rattle.rd_props.proofs.laws.nothing_changes_before_the_next_stop.Goals as goal
 
 pub returns : goal.returns
-returns c = look-alike c.listings_are_exact.ensures
+returns c = look-alike

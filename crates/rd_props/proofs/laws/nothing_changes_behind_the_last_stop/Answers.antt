@@ -2,4 +2,4 @@ use Rattle.rd_props.proofs.Between.{look-alike-back}
 use Rattle.rd_props.proofs.laws.nothing_changes_behind_the_last_stop.Goals as goal
 
 pub returns : goal.returns
-returns c = look-alike-back c.listings_are_exact.ensures
+returns c = look-alike-back
