@@ -7,8 +7,8 @@ mod Newness
 mod Joining
 mod Moves
 mod Texts
-mod Editing
+pub mod Editing
 mod Between
-mod Replacing
+pub mod Replacing
 mod Names
 mod Sees

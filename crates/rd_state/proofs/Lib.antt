@@ -1,5 +1,4 @@
 mod AllSteps
-mod Below
 mod ByName
 pub mod ByNumber
 mod Contents

@@ -34,7 +34,6 @@ use Rattle.rd_state.specs.Making.{unless_fault, run_of, spec_of, table_of}
 use Rattle.rd_state.specs.Moves.{moved_by, moved_in}
 use Rattle.rd_state.specs.Steps.{with_objects, changing, inserting, typing, on_tree, edited, edited_moving, format_fault, making, raw_text, step}
 use Rattle.rd_state.proofs.AllSteps.{moved-buffer}
-use Rattle.rd_state.proofs.Below.{LeaveLaws}
 use Rattle.rd_state.proofs.ByNumber.{Each, window-each, each-same, each-with, each-moved, each-end, each-without}
 use Rattle.rd_state.proofs.Leaving.{whole, whole-objects, stays-inserted, stays-deleted, StaysAround, stays-put, stays-made, AroundOverlay, stays-dropped, stays-given, stays-moved, stays-margin, others-whole, part-stays}
 use Rattle.rd_state.proofs.StepParts.{with_content, found, unless, tree-if, treed-if, making-if, edited-if, edited_moving-if, typing-if, setting-if, placing-if}
@@ -73,19 +72,19 @@ show-typed effect i how n f ws keep number w v hw hv ne =
 
 -- ---- ops that leave buffers and objects
 
-same-whole : (laws : LeaveLaws) (s : StateValue) (k : ℕ) (b c : BufferValue) → slice_get s.buffers k ≡ Some b → slice_get s.buffers k ≡ Some c → StaysWhole b.content s.objects c.content s.objects
-same-whole laws s k b c hb hc = subst (λ (x : BufferValue). StaysWhole b.content s.objects x.content s.objects) (one-value (slice_get s.buffers k) b c hb hc) (whole laws s.objects b.content)
+same-whole : (s : StateValue) (k : ℕ) (b c : BufferValue) → slice_get s.buffers k ≡ Some b → slice_get s.buffers k ≡ Some c → StaysWhole b.content s.objects c.content s.objects
+same-whole s k b c hb hc = subst (λ (x : BufferValue). StaysWhole b.content s.objects x.content s.objects) (one-value (slice_get s.buffers k) b c hb hc) (whole s.objects b.content)
 
 extends-kept : (s t : StateValue) → t.objects ≡ s.objects → Extends s.objects t.objects
 extends-kept s t is = subst (Extends s.objects) (sym is) (extends_itself s.objects)
 
 -- the same buffers and objects, by an effect that leaves all that is seen
-kept : (laws : LeaveLaws) (s t : StateValue) (effect : Effect)
+kept : (s t : StateValue) (effect : Effect)
     → ((k : ℕ) (b c : BufferValue) → StaysWhole b.content s.objects c.content t.objects → Leaves effect k b.content s.objects c.content t.objects)
     → t.buffers ≡ s.buffers → t.objects ≡ s.objects → Show s t effect → Outcome s t effect
-kept laws s t effect leaves buffers objects show = record {
+kept s t effect leaves buffers objects show = record {
   contents = λ k b c hb hc. leaves k b c
-      (subst (StaysWhole b.content s.objects c.content) (sym objects) (same-whole laws s k b c hb (ap (λ (bs : List BufferValue). slice_get bs k) (sym buffers) ∙ hc)));
+      (subst (StaysWhole b.content s.objects c.content) (sym objects) (same-whole s k b c hb (ap (λ (bs : List BufferValue). slice_get bs k) (sym buffers) ∙ hc)));
   objects = extends-kept s t objects;
   buffers = let size = ap length buffers in omega arith;
   windows = show;
@@ -95,12 +94,12 @@ kept laws s t effect leaves buffers objects show = record {
 abbrev Quiet : StateValue → StateValue → Type 0
 Quiet s t = Outcome s t Nothing
 
-quiet : (laws : LeaveLaws) (s t : StateValue) → t.buffers ≡ s.buffers → t.objects ≡ s.objects → Show s t Nothing → Quiet s t
-quiet laws s t = kept laws s t Nothing (λ k b c h. h)
+quiet : (s t : StateValue) → t.buffers ≡ s.buffers → t.objects ≡ s.objects → Show s t Nothing → Quiet s t
+quiet s t = kept s t Nothing (λ k b c h. h)
 
 -- the windows are the same, too
-unseen : (laws : LeaveLaws) (s t : StateValue) → t.buffers ≡ s.buffers → t.objects ≡ s.objects → t.windows ≡ s.windows → Quiet s t
-unseen laws s t buffers objects windows = quiet laws s t buffers objects (show-same s t Nothing windows)
+unseen : (s t : StateValue) → t.buffers ≡ s.buffers → t.objects ≡ s.objects → t.windows ≡ s.windows → Quiet s t
+unseen s t buffers objects windows = quiet s t buffers objects (show-same s t Nothing windows)
 
 -- ---- edits
 
@@ -122,9 +121,9 @@ edited_moving-is s name how edit =
     let ws = map (moved_in i how) s.windows in
     edited_moving-if (Edited s i edit ws) s name how edit (λ b c at is. edit-of s i edit b c ws at is)
 
-edit-outcome : (laws : LeaveLaws) (s t : StateValue) (i : ℕ) (edit : ContentValue → Result ContentValue Refused) (effect : Effect) → IsEditOf s t i edit
+edit-outcome : (s t : StateValue) (i : ℕ) (edit : ContentValue → Result ContentValue Refused) (effect : Effect) → IsEditOf s t i edit
     → ((k : ℕ) (b c : BufferValue) → slice_get s.buffers k ≡ Some b → slice_get t.buffers k ≡ Some c → Leaves effect k b.content s.objects c.content t.objects) → Show s t effect → Outcome s t effect
-edit-outcome laws s t i edit effect e contents show = record {
+edit-outcome s t i edit effect e contents show = record {
   contents = contents;
   objects = extends-kept s t (sym (ap (λ (x : StateValue). x.objects) e.is));
   buffers = let size = sym (ap (λ (x : StateValue). length x.buffers) e.is) ∙ length-set s.buffers i _ in omega (arith, size);
@@ -132,15 +131,15 @@ edit-outcome laws s t i edit effect e contents show = record {
 }
 
 -- an edit of a range
-range-outcome : (laws : LeaveLaws) (s t : StateValue) (i from removed added : ℕ) (edit : ContentValue → Result ContentValue Refused) → IsEditOf s t i edit
+range-outcome : (s t : StateValue) (i from removed added : ℕ) (edit : ContentValue → Result ContentValue Refused) → IsEditOf s t i edit
     → ((b : BufferValue) (d : ContentValue) → slice_get s.buffers i ≡ Some b → edit b.content ≡ Ok d → Stays b.content s.objects d s.objects from (from + added + 1) (pos added -ℤ pos removed))
     → Show s t (Edit i from removed added) → Outcome s t (Edit i from removed added)
-range-outcome laws s t i from removed added edit e stays show =
-    edit-outcome laws s t i edit (Edit i from removed added) e (part-stays laws s t i from (from + added + 1) (pos added -ℤ pos removed) edit e stays) show
+range-outcome s t i from removed added edit e stays show =
+    edit-outcome s t i edit (Edit i from removed added) e (part-stays s t i from (from + added + 1) (pos added -ℤ pos removed) edit e stays) show
 
 -- an edit of all that shows a buffer
-all-outcome : (laws : LeaveLaws) (s t : StateValue) (i : ℕ) (edit : ContentValue → Result ContentValue Refused) → IsEditOf s t i edit → Show s t (All i) → Outcome s t (All i)
-all-outcome laws s t i edit e show = edit-outcome laws s t i edit (All i) e (λ k b c hb hc ne. others-whole laws s t i k edit b c e hb hc ne) show
+all-outcome : (s t : StateValue) (i : ℕ) (edit : ContentValue → Result ContentValue Refused) → IsEditOf s t i edit → Show s t (All i) → Outcome s t (All i)
+all-outcome s t i edit e show = edit-outcome s t i edit (All i) e (λ k b c hb hc ne. others-whole s t i k edit b c e hb hc ne) show
 
 -- an overlay in a buffer that is there
 found-overlay : (s : StateValue) (name : List ℕ) (number : ℕ) (b : BufferValue) (o : Overlay) → slice_get s.buffers (number_of name s.buffers) ≡ Some b → overlay_at b.content.overlays number ≡ Some o
@@ -164,55 +163,55 @@ around-outcome s t name number edit effect P e stays done =
     subst (λ (o : Overlay). P o b.content d) same here.2))
 
 -- an edit of what an overlay covers
-overlay-outcome : (laws : LeaveLaws) (s t : StateValue) (name : List ℕ) (number : ℕ) (edit : ContentValue → Result ContentValue Refused)
+overlay-outcome : (s t : StateValue) (name : List ℕ) (number : ℕ) (edit : ContentValue → Result ContentValue Refused)
     → IsEditOf s t (number_of name s.buffers) edit × (t.windows ≡ s.windows)
     → ((b : BufferValue) (d : ContentValue) → slice_get s.buffers (number_of name s.buffers) ≡ Some b → edit b.content ≡ Ok d → AroundOverlay s.objects number b.content d)
     → Outcome s t (covered_effect (number_of name s.buffers) (overlay_in s name number))
-overlay-outcome laws s t name number edit e stays =
+overlay-outcome s t name number edit e stays =
     let i = number_of name s.buffers in
     around-outcome s t name number edit (covered_effect i) (λ o. StaysAround s.objects o.from o.to) e.0 stays
-    (λ o all. let n = o.to - o.from in range-outcome laws s t i o.from n n edit e.0 all (show-same s t (Edit i o.from n n) e.1))
+    (λ o all. let n = o.to - o.from in range-outcome s t i o.from n n edit e.0 all (show-same s t (Edit i o.from n n) e.1))
 
 -- both ranges of an overlay that is moved
-moved-outcome : (laws : LeaveLaws) (s t : StateValue) (name : List ℕ) (number from to : ℕ) → IsValid s
+moved-outcome : (s t : StateValue) (name : List ℕ) (number from to : ℕ) → IsValid s
     → IsEditOf s t (number_of name s.buffers) (overlay_moving number from to) × (t.windows ≡ s.windows)
     → Outcome s t (moved_effect (number_of name s.buffers) from to (overlay_in s name number))
-moved-outcome laws s t name number from to v e =
+moved-outcome s t name number from to v e =
     let i = number_of name s.buffers in
     let edit = overlay_moving number from to in
     around-outcome s t name number edit (moved_effect i from to) (λ o c d. Stays c s.objects d s.objects (min o.from from) (max o.to to + 1) (pos 0)) e.0
-    (λ b d at gives. stays-moved laws s.objects number from to b.content d (v.buffers.contents i b at) gives)
+    (λ b d at gives. stays-moved s.objects number from to b.content d (v.buffers.contents i b at) gives)
     (λ o all. let effect = Moved i (o.from, o.to) (from, to) in
-    edit-outcome laws s t i edit effect e.0 (part-stays laws s t i (min o.from from) (max o.to to + 1) (pos 0) edit e.0 all) (show-same s t effect e.1))
+    edit-outcome s t i edit effect e.0 (part-stays s t i (min o.from from) (max o.to to + 1) (pos 0) edit e.0 all) (show-same s t effect e.1))
 
 -- a margin string changes nothing that is seen
-margin-outcome : (laws : LeaveLaws) (s t : StateValue) (i number : ℕ) (string : Option ℕ) → IsEditOf s t i (margin_putting s.objects number string) × (t.windows ≡ s.windows) → Outcome s t Nothing
-margin-outcome laws s t i number string e =
+margin-outcome : (s t : StateValue) (i number : ℕ) (string : Option ℕ) → IsEditOf s t i (margin_putting s.objects number string) × (t.windows ≡ s.windows) → Outcome s t Nothing
+margin-outcome s t i number string e =
     let edit = margin_putting s.objects number string in
-    edit-outcome laws s t i edit Nothing e.0
+    edit-outcome s t i edit Nothing e.0
     (λ k b c hb hc head tail.
-    let parts = part-stays laws s t i head tail (pos 0) edit e.0 (λ x y at gives. stays-margin laws s.objects number string x.content y gives head tail) k b c hb hc in
+    let parts = part-stays s t i head tail (pos 0) edit e.0 (λ x y at gives. stays-margin s.objects number string x.content y gives head tail) k b c hb hc in
     elim (cases_eq k i) [ inl p ↦ parts.0 p | inr q ↦ parts.1 q head tail ])
     (show-same s t Nothing e.1)
 
 -- ---- objects and new buffers
 
-objects-outcome : (laws : LeaveLaws) (s : StateValue) (fault : Option ObjectFault) (p : ObjectLists) → IsValid s → Extends s.objects p → IfOk (with_objects s (unless_fault fault p)) (Quiet s)
-objects-outcome laws s (Some e) p v more = tt
-objects-outcome laws s None p v more = record {
+objects-outcome : (s : StateValue) (fault : Option ObjectFault) (p : ObjectLists) → IsValid s → Extends s.objects p → IfOk (with_objects s (unless_fault fault p)) (Quiet s)
+objects-outcome s (Some e) p v more = tt
+objects-outcome s None p v more = record {
   contents = λ k b c hb hc.
       subst (λ (x : BufferValue). StaysWhole b.content s.objects x.content p) (one-value (slice_get s.buffers k) b c hb hc)
-      (whole-objects laws s.objects p b.content (v.buffers.contents k b hb) more);
+      (whole-objects s.objects p b.content (v.buffers.contents k b hb) more);
   objects = more;
   buffers = omega arith;
   windows = show-same s s Nothing refl;
 }
 
-making-outcome : (laws : LeaveLaws) (s : StateValue) (name : List ℕ) → IfOk (making s name) (Quiet s)
-making-outcome laws s name =
+making-outcome : (s : StateValue) (name : List ℕ) → IfOk (making s name) (Quiet s)
+making-outcome s name =
     making-if (Quiet s) s name (λ free room. record {
       contents = λ k b c hb hc. elim (get-end s.buffers (new_buffer name) k c hc) [
-        | inl p ↦ same-whole laws s k b c hb p
+        | inl p ↦ same-whole s k b c hb p
         | inr p ↦ absurd (omega (arith, p.0, slice_get_within s.buffers k b hb))
       ];
       objects = extends_itself s.objects;
@@ -222,17 +221,17 @@ making-outcome laws s name =
 
 -- ---- windows that become others
 
-changed-outcome : (laws : LeaveLaws) (s : StateValue) (n : ℕ) (f : WindowState → WindowState) → ((w : WindowState) → (f w).buffer ≡ w.buffer) → IfOk (changing n f (Ok s)) (Quiet s)
-changed-outcome laws s n f keep = quiet laws s _ refl refl (show-with Nothing n f s.windows keep)
+changed-outcome : (s : StateValue) (n : ℕ) (f : WindowState → WindowState) → ((w : WindowState) → (f w).buffer ≡ w.buffer) → IfOk (changing n f (Ok s)) (Quiet s)
+changed-outcome s n f keep = quiet s _ refl refl (show-with Nothing n f s.windows keep)
 
 -- another tree and another window
-tree-outcome : (laws : LeaveLaws) (s : StateValue) (n : ℕ) (f : WindowState → WindowState) (r : Result Configuration TreeFault) → ((w : WindowState) → (f w).buffer ≡ w.buffer)
+tree-outcome : (s : StateValue) (n : ℕ) (f : WindowState → WindowState) (r : Result Configuration TreeFault) → ((w : WindowState) → (f w).buffer ≡ w.buffer)
     → IfOk (changing n f (on_tree r (λ tree. record s { tree = tree }))) (Quiet s)
-tree-outcome laws s n f r keep = treed-if (Quiet s) s r n f (λ d is. quiet laws s _ refl refl (show-with Nothing n f s.windows keep))
+tree-outcome s n f r keep = treed-if (Quiet s) s r n f (λ d is. quiet s _ refl refl (show-with Nothing n f s.windows keep))
 
-typing-outcome : (laws : LeaveLaws) (s : StateValue) (new : List ℕ) → IsValid s
+typing-outcome : (s : StateValue) (new : List ℕ) → IsValid s
     → IfOk (typing s new) (λ t. Outcome s t (inserted_effect (selected_window s).buffer (selected_window s).point new))
-typing-outcome laws s new v =
+typing-outcome s new v =
     typing-if (λ t. Outcome s t (inserted_effect (selected_window s).buffer (selected_window s).point new)) s new
     (λ w b c lives at is.
     let i = w.buffer in
@@ -241,103 +240,103 @@ typing-outcome laws s new v =
     let edit = insertion w.point new in
     let t : StateValue = record (with_content s i b c) { windows = ws } in
     subst (λ (o : Option WindowState). Outcome s t (inserted_effect (unwrap_or o opening_window).buffer (unwrap_or o opening_window).point new)) (sym lives)
-    (range-outcome laws s t i w.point 0 (length new) edit (edit-of s i edit b c ws at is).0
-    (λ x d there gives. stays-inserted laws s.objects w.point new x.content d (v.buffers.contents i x there) gives)
+    (range-outcome s t i w.point 0 (length new) edit (edit-of s i edit b c ws at is).0
+    (λ x d there gives. stays-inserted s.objects w.point new x.content d (v.buffers.contents i x there) gives)
     (show-typed (Edit i w.point 0 (length new)) i (Inserted w.point (length new)) s.selected f s.windows (λ x. refl))))
 
-inserted-outcome : (laws : LeaveLaws) (s : StateValue) (name : List ℕ) (place : ℕ) (text : List ℕ) → IsValid s
+inserted-outcome : (s : StateValue) (name : List ℕ) (place : ℕ) (text : List ℕ) → IsValid s
     → IfOk (inserting s name place text) (λ t. Outcome s t (inserted_effect (number_of name s.buffers) place text))
-inserted-outcome laws s name place text v =
+inserted-outcome s name place text v =
     let i = number_of name s.buffers in
     let n = length text in
     IfOk-weaker _ _ _
-    (λ t e. range-outcome laws s t i place 0 n (insertion place text) e.0 (λ b d at gives. stays-inserted laws s.objects place text b.content d (v.buffers.contents i b at) gives)
+    (λ t e. range-outcome s t i place 0 n (insertion place text) e.0 (λ b d at gives. stays-inserted s.objects place text b.content d (v.buffers.contents i b at) gives)
     (show-each s t (Edit i place 0 n) i (Inserted place n) e.1))
     (edited_moving-is s name (Inserted place n) (insertion place text))
 
 -- ---- all ops
 
-pub outcome : (laws : LeaveLaws) (s : StateValue) (op : Op) → IsValid s → IsInForm op → IfOk (step s op) (λ t. Outcome s t (effect_of s op))
+pub outcome : (s : StateValue) (op : Op) → IsValid s → IsInForm op → IfOk (step s op) (λ t. Outcome s t (effect_of s op))
 unfolding step effect_of
-outcome laws s (ops.Frame width height) v form = tree-if (Quiet s) (resize_tree s.tree width (height - 1)) _ (λ d is. unseen laws s _ refl refl refl)
-outcome laws s (ops.Buffer name) v form = making-outcome laws s name
-outcome laws s (ops.Insert name place text) v form = inserted-outcome laws s name place text v
-outcome laws s (ops.InsertRaw name place bytes) v form = inserted-outcome laws s name place (raw_text bytes) v
-outcome laws s (ops.TypeText text) v form = typing-outcome laws s text v
-outcome laws s (ops.Delete name from to) v form =
+outcome s (ops.Frame width height) v form = tree-if (Quiet s) (resize_tree s.tree width (height - 1)) _ (λ d is. unseen s _ refl refl refl)
+outcome s (ops.Buffer name) v form = making-outcome s name
+outcome s (ops.Insert name place text) v form = inserted-outcome s name place text v
+outcome s (ops.InsertRaw name place bytes) v form = inserted-outcome s name place (raw_text bytes) v
+outcome s (ops.TypeText text) v form = typing-outcome s text v
+outcome s (ops.Delete name from to) v form =
     let i = number_of name s.buffers in
     IfOk-weaker _ _ _
-    (λ t e. range-outcome laws s t i from (to - from) 0 (deletion from to) e.0 (λ b d at gives. stays-deleted laws s.objects from to b.content d (v.buffers.contents i b at) gives)
+    (λ t e. range-outcome s t i from (to - from) 0 (deletion from to) e.0 (λ b d at gives. stays-deleted s.objects from to b.content d (v.buffers.contents i b at) gives)
     (show-each s t (Edit i from (to - from) 0) i (Deleted from to) e.1))
     (edited_moving-is s name (Deleted from to) (deletion from to))
-outcome laws s (ops.Narrow name from to) v form =
+outcome s (ops.Narrow name from to) v form =
     let i = number_of name s.buffers in
-    IfOk-weaker _ _ _ (λ t e. all-outcome laws s t i (narrowing from to) e.0 (show-each s t (All i) i (Narrowed from to) e.1)) (edited_moving-is s name (Narrowed from to) (narrowing from to))
-outcome laws s (ops.Widen name) v form =
+    IfOk-weaker _ _ _ (λ t e. all-outcome s t i (narrowing from to) e.0 (show-each s t (All i) i (Narrowed from to) e.1)) (edited_moving-is s name (Narrowed from to) (narrowing from to))
+outcome s (ops.Widen name) v form =
     let i = number_of name s.buffers in
-    IfOk-weaker _ _ _ (λ t e. all-outcome laws s t i widening e.0 (show-same s t (All i) e.1)) (edited-is s name widening)
-outcome laws s (ops.Put name from to kind value) v form =
+    IfOk-weaker _ _ _ (λ t e. all-outcome s t i widening e.0 (show-same s t (All i) e.1)) (edited-is s name widening)
+outcome s (ops.Put name from to kind value) v form =
     let i = number_of name s.buffers in
     let edit = property_putting s.objects from to kind value in
     IfOk-weaker _ _ _
-    (λ t e. range-outcome laws s t i from (to - from) (to - from) edit e.0 (λ b d at gives. stays-put laws s.objects from to kind value b.content d form.3 (v.buffers.contents i b at) gives)
+    (λ t e. range-outcome s t i from (to - from) (to - from) edit e.0 (λ b d at gives. stays-put s.objects from to kind value b.content d form.3 (v.buffers.contents i b at) gives)
     (show-same s t (Edit i from (to - from) (to - from)) e.1))
     (edited-is s name edit)
-outcome laws s (ops.Overlay name from to priority front rear) v form =
+outcome s (ops.Overlay name from to priority front rear) v form =
     let i = number_of name s.buffers in
     let edit = overlay_making from to priority front rear in
     IfOk-weaker _ _ _
-    (λ t e. range-outcome laws s t i from (to - from) (to - from) edit e.0
-    (λ b d at gives. stays-made laws s.objects from to priority front rear b.content d (v.buffers.contents i b at) gives) (show-same s t (Edit i from (to - from) (to - from)) e.1))
+    (λ t e. range-outcome s t i from (to - from) (to - from) edit e.0
+    (λ b d at gives. stays-made s.objects from to priority front rear b.content d (v.buffers.contents i b at) gives) (show-same s t (Edit i from (to - from) (to - from)) e.1))
     (edited-is s name edit)
-outcome laws s (ops.OverlayMove name overlay from to) v form =
-    IfOk-weaker _ _ _ (λ t e. moved-outcome laws s t name overlay from to v e) (edited-is s name (overlay_moving overlay from to))
-outcome laws s (ops.OverlayDrop name overlay) v form =
+outcome s (ops.OverlayMove name overlay from to) v form =
+    IfOk-weaker _ _ _ (λ t e. moved-outcome s t name overlay from to v e) (edited-is s name (overlay_moving overlay from to))
+outcome s (ops.OverlayDrop name overlay) v form =
     IfOk-weaker _ _ _
-    (λ t e. overlay-outcome laws s t name overlay (overlay_dropping overlay) e
-    (λ b d at gives. stays-dropped laws s.objects overlay b.content d (v.buffers.contents (number_of name s.buffers) b at) gives))
+    (λ t e. overlay-outcome s t name overlay (overlay_dropping overlay) e
+    (λ b d at gives. stays-dropped s.objects overlay b.content d (v.buffers.contents (number_of name s.buffers) b at) gives))
     (edited-is s name (overlay_dropping overlay))
-outcome laws s (ops.OverlayPut name overlay kind value) v form =
+outcome s (ops.OverlayPut name overlay kind value) v form =
     let edit = overlay_putting s.objects overlay kind value in
     IfOk-weaker _ _ _
-    (λ t e. overlay-outcome laws s t name overlay edit e
-    (λ b d at gives. stays-given laws s.objects overlay kind value b.content d (v.buffers.contents (number_of name s.buffers) b at) gives))
+    (λ t e. overlay-outcome s t name overlay edit e
+    (λ b d at gives. stays-given s.objects overlay kind value b.content d (v.buffers.contents (number_of name s.buffers) b at) gives))
     (edited-is s name edit)
-outcome laws s (ops.Setting name value) v form =
+outcome s (ops.Setting name value) v form =
     let i = number_of name s.buffers in
     let edit = setting_putting s.objects value in
-    IfOk-weaker _ _ _ (λ t e. all-outcome laws s t i edit e.0 (show-same s t (All i) e.1)) (edited-is s name edit)
-outcome laws s (ops.AddString text runs) v form = objects-outcome laws s _ _ v (string_extends s.objects text (map run_of runs))
-outcome laws s (ops.AddSpec spec) v form = objects-outcome laws s _ _ v (spec_extends s.objects (spec_of spec))
-outcome laws s (ops.AddFace face) v form = objects-outcome laws s _ _ v (face_extends s.objects face)
-outcome laws s (ops.AddTable entries truncation continuation escape control ellipsis border) v form =
-    objects-outcome laws s _ _ v (table_extends s.objects (table_of entries truncation continuation escape control ellipsis border))
-outcome laws s (ops.Split window side size) v form =
+    IfOk-weaker _ _ _ (λ t e. all-outcome s t i edit e.0 (show-same s t (All i) e.1)) (edited-is s name edit)
+outcome s (ops.AddString text runs) v form = objects-outcome s _ _ v (string_extends s.objects text (map run_of runs))
+outcome s (ops.AddSpec spec) v form = objects-outcome s _ _ v (spec_extends s.objects (spec_of spec))
+outcome s (ops.AddFace face) v form = objects-outcome s _ _ v (face_extends s.objects face)
+outcome s (ops.AddTable entries truncation continuation escape control ellipsis border) v form =
+    objects-outcome s _ _ v (table_extends s.objects (table_of entries truncation continuation escape control ellipsis border))
+outcome s (ops.Split window side size) v form =
     found (Quiet s) _ (window_of window s.windows) _
     (λ w lives. tree-if (Quiet s) (split_tree s.tree window side size) _
-    (λ d is. quiet laws s _ refl refl (each-end (Shows Nothing) (λ number x ne. refl) s.windows (s.tree.made, record w { forced = false; pending = pos 0 }))))
-outcome laws s (ops.Remove window) v form =
+    (λ d is. quiet s _ refl refl (each-end (Shows Nothing) (λ number x ne. refl) s.windows (s.tree.made, record w { forced = false; pending = pos 0 }))))
+outcome s (ops.Remove window) v form =
     found (Quiet s) _ (window_of window s.windows) _
     (λ w lives. tree-if (Quiet s) (remove_tree s.tree window) _
-    (λ d is. quiet laws s _ refl refl (each-without (Shows Nothing) (λ number x ne. refl) window s.windows v.windows.apart)))
-outcome laws s (ops.Select window) v form = found (Quiet s) _ (window_of window s.windows) _ (λ w lives. unseen laws s (record s { selected = window }) refl refl refl)
-outcome laws s (ops.Show window name) v form =
+    (λ d is. quiet s _ refl refl (each-without (Shows Nothing) (λ number x ne. refl) window s.windows v.windows.apart)))
+outcome s (ops.Select window) v form = found (Quiet s) _ (window_of window s.windows) _ (λ w lives. unseen s (record s { selected = window }) refl refl refl)
+outcome s (ops.Show window name) v form =
     found (λ t. Outcome s t (Window window)) _ (window_of window s.windows) _
     (λ w lives. found (λ t. Outcome s t (Window window)) _ (slice_get s.buffers (number_of name s.buffers)) _
-    (λ b at. kept laws s _ (Window window) (λ k x c h. h) refl refl
+    (λ b at. kept s _ (Window window) (λ k x c h. h) refl refl
     (each-with (Shows (Window window)) (λ number x ne. refl) window _ s.windows (λ x ne. absurd (ne refl)))))
-outcome laws s (ops.Point window place) v form = placing-if (Quiet s) s window place _ (λ w b lives at yes. changed-outcome laws s window _ (λ x. refl))
-outcome laws s (ops.Start window place row) v form = placing-if (Quiet s) s window place _ (λ w b lives at yes. changed-outcome laws s window _ (λ x. refl))
-outcome laws s (ops.Scroll window rows) v form = setting-if (Quiet s) s window _ (changed-outcome laws s window _ (λ w. refl))
-outcome laws s (ops.Hscroll window columns) v form = setting-if (Quiet s) s window _ (changed-outcome laws s window _ (λ w. refl))
-outcome laws s (ops.Wrap window mode) v form = setting-if (Quiet s) s window _ (changed-outcome laws s window _ (λ w. refl))
-outcome laws s (ops.ModeLine window format) v form =
+outcome s (ops.Point window place) v form = placing-if (Quiet s) s window place _ (λ w b lives at yes. changed-outcome s window _ (λ x. refl))
+outcome s (ops.Start window place row) v form = placing-if (Quiet s) s window place _ (λ w b lives at yes. changed-outcome s window _ (λ x. refl))
+outcome s (ops.Scroll window rows) v form = setting-if (Quiet s) s window _ (changed-outcome s window _ (λ w. refl))
+outcome s (ops.Hscroll window columns) v form = setting-if (Quiet s) s window _ (changed-outcome s window _ (λ w. refl))
+outcome s (ops.Wrap window mode) v form = setting-if (Quiet s) s window _ (changed-outcome s window _ (λ w. refl))
+outcome s (ops.ModeLine window format) v form =
     found (Quiet s) _ (window_of window s.windows) _
     (λ w lives. unless (Quiet s) (format_fault format) _
-    (λ good. tree-outcome laws s window (λ old. record old { format = format }) (mode_tree s.tree window (is_some format)) (λ x. refl)))
-outcome laws s (ops.Margin window numbers strings) v form =
+    (λ good. tree-outcome s window (λ old. record old { format = format }) (mode_tree s.tree window (is_some format)) (λ x. refl)))
+outcome s (ops.Margin window numbers strings) v form =
     found (Quiet s) _ (window_of window s.windows) _
-    (λ w lives. tree-outcome laws s window (λ old. record old { numbers = numbers; strings = strings }) (margins_tree s.tree window (numbers + strings)) (λ x. refl))
-outcome laws s (ops.MarginPut name overlay string) v form =
-    IfOk-weaker _ _ _ (λ t e. margin-outcome laws s t (number_of name s.buffers) overlay string e) (edited-is s name (margin_putting s.objects overlay string))
-outcome laws s op v form = unseen laws s _ refl refl refl
+    (λ w lives. tree-outcome s window (λ old. record old { numbers = numbers; strings = strings }) (margins_tree s.tree window (numbers + strings)) (λ x. refl))
+outcome s (ops.MarginPut name overlay string) v form =
+    IfOk-weaker _ _ _ (λ t e. margin-outcome s t (number_of name s.buffers) overlay string e) (edited-is s name (margin_putting s.objects overlay string))
+outcome s op v form = unseen s _ refl refl refl

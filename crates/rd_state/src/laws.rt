@@ -15,10 +15,7 @@ ghost use Rattle.rd_state.specs.Steps.{step, settled};
 ghost use Rattle.rd_state.specs.Effects.{effect_of};
 ghost use Rattle.rd_state.specs.Changes.{Outcome};
 
-use rd_props::{
-    deletions_leave_the_rest, edits_keep_what_is_made, insertions_leave_the_rest,
-    new_objects_leave_all, overlays_leave_the_rest, puts_leave_the_rest, settings_leave_all,
-};
+use rd_props::edits_keep_what_is_made;
 use rd_tree::calls_keep_trees;
 
 /// The opening is a valid state, and an op in form leads from a valid state to a valid one. The call does nothing.
@@ -40,14 +37,7 @@ pub fn settling_keeps_states()
 /// shows the same buffer, unless the effect names it. The call does nothing.
 pub fn ops_leave_the_rest()
     ensures { (s t : StateValue) (op : Op) → IsValid s → IsInForm op → step s op ≡ Ok t → Outcome s t (effect_of s op) }
-{
-    deletions_leave_the_rest();
-    insertions_leave_the_rest();
-    new_objects_leave_all();
-    overlays_leave_the_rest();
-    puts_leave_the_rest();
-    settings_leave_all();
-}
+{}
 
 /// What a window tree says of a window is what its placed windows say, and each window that lives is valid. The call does nothing.
 pub fn windows_are_leaves()
