@@ -1,5 +1,5 @@
 -- What holds of all objects where one more is made.
-use Rattle.std.proofs.Common.{◌≡◌, ℕ, ◌<◌, ◌≤◌, true, false, not, List, [], ◌∷◌, ◌++◌, length, length-append, append_assoc, append-nil, Option, Some, None, refl, sym, arith}
+use Rattle.std.proofs.Common.{◌≡◌, ℕ, ◌<◌, ◌≤◌, true, false, not, List, [], ◌∷◌, ◌++◌, length, length-append, append_assoc, append-nil, Option, Some, None, refl, sym, ap, arith}
 use Rattle.std.specs.Prelude.{nat_le, nat_lt, slice_get, IfSome}
 use Rattle.std.specs.List.{All, AllByRecursion, list_all}
 use Rattle.std.proofs.lemmas.Bool.{not-false}
@@ -170,6 +170,9 @@ goes_one xs x = (x ∷ [], refl)
 
 goes_further : {X : Type 0} (xs ys zs : List X) → GoesOn xs ys → GoesOn ys zs → GoesOn xs zs
 goes_further xs ys zs a b = (a.0 ++ b.0, rw (b.1, a.1, append_assoc) refl)
+
+pub goes_longer : {X : Type 0} (old new : List X) → GoesOn old new → length old ≤ length new
+goes_longer old new (more, is) = omega (arith, ap length is, length-append old more)
 
 pub goes_kept : {X : Type 0} (xs ys : List X) (i : ℕ) → GoesOn xs ys → i < length xs → slice_get ys i ≡ slice_get xs i
 goes_kept xs ys i a p = rw a.1 (get-first xs a.0 i p)

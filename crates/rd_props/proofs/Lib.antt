@@ -10,5 +10,5 @@ mod Texts
 pub mod Editing
 mod Between
 pub mod Replacing
-mod Names
+pub mod Names
 mod Sees

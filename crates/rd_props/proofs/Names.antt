@@ -3,7 +3,6 @@ use Rattle.std.proofs.Common.{◌≡◌, inl, inr, ℕ, zero, suc, ◌+◌, ◌<
 use Rattle.std.specs.Prelude.{nat_lt, nat_le, ◌==◌, IfSome, slice_get}
 use Rattle.std.specs.Option.{unwrap_or}
 use Rattle.std.proofs.lemmas.Bool.Decides.{nat_tests}
-use Rattle.std.proofs.lemmas.List.{length-append}
 use Rattle.std.proofs.lemmas.Option.{unwrap_or-slice_get, get_or_from_slice_get}
 use Rattle.rd_base.proofs.Lists.{get-set}
 use Rattle.rd_spans.proofs.Beside.{opened-from, closed-from}
@@ -13,6 +12,7 @@ use Rattle.rd_overlays.specs.declared.overlay.Kind.TheVariants.{Face, Display, I
 use Rattle.rd_overlays.proofs.Slots.{slot-each, changed-each, after-set, after-end}
 use Rattle.rd_overlays.specs.Overlays.{overlay_at, place_of, slot_changed, grown, shrunk, moved, dropped, given}
 use Rattle.rd_objects.specs.Things.{ObjectLists}
+use Rattle.rd_objects.proofs.Soundness.{goes_longer}
 use Rattle.rd_objects.specs.Sound.{GoesOn, Extends}
 use Rattle.rd_props.specs.Buffers.{BufferValue, property}
 use Rattle.rd_props.specs.Values.{value_of}
@@ -148,9 +148,7 @@ module _ (old new : BufferValue) (objects : ObjectLists) (made : AreMade old obj
 -- ---- objects
 
 longer : {X : Type 0} (old new : List X) (n : ℕ) → GoesOn old new → n < length old → n < length new
-longer {X} old new n more less =
-    let size : length new ≡ length old + length more.0 = ap length more.1 ∙ length-append old more.0 in
-    omega arith
+longer old new n more less = omega (arith, less, goes_longer old new more)
 
 made-longer : (old new : ObjectLists) → Extends old new → (kind : Kind) (v : ℕ) → IsMade old kind v → IsMade new kind v
 made-longer old new extends Face v h = longer old.faces new.faces v extends.faces h

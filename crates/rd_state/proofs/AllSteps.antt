@@ -9,12 +9,11 @@ use Rattle.rd_base.specs.declared.settings.Anchor.{Anchor}
 use Rattle.rd_text.specs.Texts.{TextValue, IsAccessible}
 use Rattle.rd_objects.specs.Sound.{AreCodes}
 use Rattle.rd_objects.specs.Things.{nothing_made}
-use Rattle.rd_objects.proofs.Soundness.{nothing_sound, string_keeps, spec_keeps, face_keeps, table_keeps, nothing_closed, string_closed, spec_closed, face_closed, table_closed, string_extends, spec_extends, face_extends, table_extends}
+use Rattle.rd_objects.proofs.Soundness.{nothing_sound, nothing_closed, string_right, spec_right, face_right, table_right, string_extends, spec_extends, face_extends, table_extends}
 use Rattle.rd_script.specs.declared.op.Op.{Op}
 use Rattle.rd_script.specs.declared.op.Op.TheVariants as ops
 use Rattle.rd_script.specs.Forms.{IsInForm, is_buffer_name, is_plain_text}
-use Rattle.rd_tree.specs.Calls.{TreeLaws}
-use Rattle.rd_props.specs.Made.{MadeLaws}
+use Rattle.rd_tree.proofs.Validity.{opening_valid}
 use Rattle.rd_state.specs.declared.moves.Move.{Move}
 use Rattle.rd_state.specs.declared.moves.Move.TheVariants.{Inserted, Deleted, Narrowed}
 use Rattle.rd_state.specs.declared.refused.Refused.{Refused}
@@ -53,15 +52,15 @@ typed-place t p n at = let low = at.0 in let high = at.1 in (omega arith, omega 
 pub moved-buffer : (i : ℕ) (how : Move) (w : WindowState) → (moved_by i how w).buffer ≡ w.buffer
 moved-buffer i how w = either (λ (x : WindowState). x.buffer ≡ w.buffer) (w.buffer == i) (moved how w) w refl refl
 
-typing-valid : (made : MadeLaws) (s : StateValue) (new : List ℕ) → IsValid s → AreCodes new → IfOk (typing s new) IsValid
-typing-valid made s new v codes =
+typing-valid : (s : StateValue) (new : List ℕ) → IsValid s → AreCodes new → IfOk (typing s new) IsValid
+typing-valid s new v codes =
     typing-if IsValid s new
     (λ w b d lives at is.
     let how = Inserted w.point (length new) in
     let i = w.buffer in
     let place = w.point + length new in
     let u : StateValue = record (with_content s i b d) { windows = map (moved_in i how) s.windows } in
-    let valid : IsValid u = moving-valid s i b d how (insertion w.point new) v (insertion-keeps made s.objects w.point new codes) at is in
+    let valid : IsValid u = moving-valid s i b d how (insertion w.point new) v (insertion-keeps s.objects w.point new codes) at is in
     let m = insertion-means w.point new b.content d is in
     let end : IsAccessible d.text place = subst (λ (x : ContentValue). IsAccessible x.text place) m.2 (typed-place b.content.text w.point (length new) m.0) in
     pointed-valid u s.selected place valid
@@ -92,67 +91,65 @@ framed-valid s margin conservatively echo shifting v few rows plain = record {
 
 -- ---- all ops
 
-pub step-valid : (made : MadeLaws) (trees : TreeLaws) (s : StateValue) (op : Op) → IsValid s → IsInForm op → IfOk (step s op) IsValid
+pub step-valid : (s : StateValue) (op : Op) → IsValid s → IsInForm op → IfOk (step s op) IsValid
 unfolding step
-step-valid made trees s (ops.Frame width height) v form = resizing-valid trees s width height v form.0 form.1 form.2 form.3
-step-valid made trees s (ops.Buffer name) v form = making-valid s name v form
-step-valid made trees s (ops.Insert name place text) v form =
-    edited_moving-valid s name (Inserted place (length text)) (insertion place text) v (insertion-keeps made s.objects place text (text-codes text form.2))
-step-valid made trees s (ops.InsertRaw name place bytes) v form =
+step-valid s (ops.Frame width height) v form = resizing-valid s width height v form.0 form.1 form.2 form.3
+step-valid s (ops.Buffer name) v form = making-valid s name v form
+step-valid s (ops.Insert name place text) v form =
+    edited_moving-valid s name (Inserted place (length text)) (insertion place text) v (insertion-keeps s.objects place text (text-codes text form.2))
+step-valid s (ops.InsertRaw name place bytes) v form =
     let text = raw_text bytes in
-    edited_moving-valid s name (Inserted place (length text)) (insertion place text) v (insertion-keeps made s.objects place text (raw-codes bytes form.2))
-step-valid made trees s (ops.TypeText text) v form = typing-valid made s text v (text-codes text form)
-step-valid made trees s (ops.Delete name from to) v form = edited_moving-valid s name (Deleted from to) (deletion from to) v (deletion-keeps made s.objects from to)
-step-valid made trees s (ops.Narrow name from to) v form = edited_moving-valid s name (Narrowed from to) (narrowing from to) v (narrowing-keeps s.objects from to)
-step-valid made trees s (ops.Widen name) v form = edited-valid s name widening v (widening-keeps s.objects)
-step-valid made trees s (ops.Put name from to kind value) v form =
-    edited-valid s name (property_putting s.objects from to kind value) v (put-keeps made s.objects from to kind value form.3)
-step-valid made trees s (ops.Overlay name from to priority front rear) v form =
-    edited-valid s name (overlay_making from to priority front rear) v (making-keeps made s.objects from to priority front rear)
-step-valid made trees s (ops.OverlayMove name overlay from to) v form = edited-valid s name (overlay_moving overlay from to) v (moving-keeps made s.objects overlay from to)
-step-valid made trees s (ops.OverlayDrop name overlay) v form = edited-valid s name (overlay_dropping overlay) v (dropping-keeps made s.objects overlay)
-step-valid made trees s (ops.OverlayPut name overlay kind value) v form =
-    edited-valid s name (overlay_putting s.objects overlay kind value) v (giving-keeps made s.objects overlay kind value)
-step-valid made trees s (ops.Setting name value) v form = edited-valid s name (setting_putting s.objects value) v (setting-keeps s.objects value form.1)
-step-valid made trees s (ops.AddString text runs) v form =
+    edited_moving-valid s name (Inserted place (length text)) (insertion place text) v (insertion-keeps s.objects place text (raw-codes bytes form.2))
+step-valid s (ops.TypeText text) v form = typing-valid s text v (text-codes text form)
+step-valid s (ops.Delete name from to) v form = edited_moving-valid s name (Deleted from to) (deletion from to) v (deletion-keeps s.objects from to)
+step-valid s (ops.Narrow name from to) v form = edited_moving-valid s name (Narrowed from to) (narrowing from to) v (narrowing-keeps s.objects from to)
+step-valid s (ops.Widen name) v form = edited-valid s name widening v (widening-keeps s.objects)
+step-valid s (ops.Put name from to kind value) v form =
+    edited-valid s name (property_putting s.objects from to kind value) v (put-keeps s.objects from to kind value form.3)
+step-valid s (ops.Overlay name from to priority front rear) v form =
+    edited-valid s name (overlay_making from to priority front rear) v (making-keeps s.objects from to priority front rear)
+step-valid s (ops.OverlayMove name overlay from to) v form = edited-valid s name (overlay_moving overlay from to) v (moving-keeps s.objects overlay from to)
+step-valid s (ops.OverlayDrop name overlay) v form = edited-valid s name (overlay_dropping overlay) v (dropping-keeps s.objects overlay)
+step-valid s (ops.OverlayPut name overlay kind value) v form =
+    edited-valid s name (overlay_putting s.objects overlay kind value) v (giving-keeps s.objects overlay kind value)
+step-valid s (ops.Setting name value) v form = edited-valid s name (setting_putting s.objects value) v (setting-keeps s.objects value form.1)
+step-valid s (ops.AddString text runs) v form =
     let rs = map run_of runs in
-    objects-valid made s _ _ v (λ none. string_keeps s.objects text rs (text-codes text form.0) none v.objects) (λ none. string_closed s.objects text rs none v.closed)
-    (string_extends s.objects text rs)
-step-valid made trees s (ops.AddSpec spec) v form =
+    objects-valid s _ _ v (string_right s.objects text rs (text-codes text form.0)) (string_extends s.objects text rs)
+step-valid s (ops.AddSpec spec) v form =
     let x = spec_of spec in
-    objects-valid made s _ _ v (λ none. spec_keeps s.objects x (small-spec spec form) none v.objects) (λ none. spec_closed s.objects x none v.closed) (spec_extends s.objects x)
-step-valid made trees s (ops.AddFace face) v form =
-    objects-valid made s _ _ v (λ none. face_keeps s.objects face (record { fg = form.0; bg = form.1 }) none v.objects) (λ none. face_closed s.objects face v.closed)
-    (face_extends s.objects face)
-step-valid made trees s (ops.AddTable entries truncation continuation escape control ellipsis border) v form =
+    objects-valid s _ _ v (spec_right s.objects x (small-spec spec form)) (spec_extends s.objects x)
+step-valid s (ops.AddFace face) v form =
+    objects-valid s _ _ v (face_right s.objects face (record { fg = form.0; bg = form.1 })) (face_extends s.objects face)
+step-valid s (ops.AddTable entries truncation continuation escape control ellipsis border) v form =
     let table = table_of entries truncation continuation escape control ellipsis border in
     let right = table-right entries truncation continuation escape control ellipsis border form.1 form.2 form.3 form.4 form.5 form.6 form.7 in
-    objects-valid made s _ _ v (λ none. table_keeps s.objects table right none v.objects) (λ none. table_closed s.objects table v.closed) (table_extends s.objects table)
-step-valid made trees s (ops.Split window side size) v form = splitting-valid trees s window side size v
-step-valid made trees s (ops.Remove window) v form = removing-valid trees s window v
-step-valid made trees s (ops.Select window) v form = selecting-valid s window v
-step-valid made trees s (ops.Show window name) v form = showing-valid s window name v
-step-valid made trees s (ops.Point window place) v form =
+    objects-valid s _ _ v (table_right s.objects table right) (table_extends s.objects table)
+step-valid s (ops.Split window side size) v form = splitting-valid s window side size v
+step-valid s (ops.Remove window) v form = removing-valid s window v
+step-valid s (ops.Select window) v form = selecting-valid s window v
+step-valid s (ops.Show window name) v form = showing-valid s window name v
+step-valid s (ops.Point window place) v form =
     placing-valid s window place (λ old. record old { point = place }) v (λ w. refl) (λ w old at. point-keeps s.buffers place w old at)
-step-valid made trees s (ops.Start window place row) v form =
+step-valid s (ops.Start window place row) v form =
     placing-valid s window place (λ old. record old { anchor = record { pos = place; row = row }; forced = true; pending = pos 0 }) v (λ w. refl)
     (λ w old at. start-keeps s.buffers place row w old at)
-step-valid made trees s (ops.Scroll window rows) v form =
+step-valid s (ops.Scroll window rows) v form =
     setting-if IsValid s window _ (set-valid s window (λ old. record old { forced = true; pending = held (old.pending +ℤ rows) }) v (λ w. refl)
     (λ w lives old. scroll-keeps s.buffers (w.pending +ℤ rows) w old))
-step-valid made trees s (ops.Hscroll window columns) v form =
+step-valid s (ops.Hscroll window columns) v form =
     setting-if IsValid s window _ (set-valid s window (λ old. record old { hscroll = columns }) v (λ w. refl)
     (λ w lives old. window-still s.buffers (record w { hscroll = columns }) old.made old.point old.anchor old.pending form.1 old.format old.numbers old.strings))
-step-valid made trees s (ops.Wrap window mode) v form =
+step-valid s (ops.Wrap window mode) v form =
     setting-if IsValid s window _ (set-valid s window (λ old. record old { wrap = mode }) v (λ w. refl)
     (λ w lives old. window-still s.buffers (record w { wrap = mode }) old.made old.point old.anchor old.pending old.hscroll old.format old.numbers old.strings))
-step-valid made trees s (ops.ModeLine window format) v form = mode_lining-valid trees s window format v form.1
-step-valid made trees s (ops.Scrolling margin conservatively) v form = framed-valid s margin conservatively s.echo s.shifting v form.0 form.1 v.echo
-step-valid made trees s (ops.Echo text) v form = framed-valid s s.margin s.conservatively text s.shifting v v.margin v.conservatively form
-step-valid made trees s (ops.Shift on) v form = framed-valid s s.margin s.conservatively s.echo on v v.margin v.conservatively v.echo
-step-valid made trees s (ops.Margin window numbers strings) v form = margining-valid trees s window numbers strings v form.1 form.2
-step-valid made trees s (ops.MarginPut name overlay string) v form = edited-valid s name (margin_putting s.objects overlay string) v (margin-keeps s.objects overlay string)
-step-valid made trees s op v form = v
+step-valid s (ops.ModeLine window format) v form = mode_lining-valid s window format v form.1
+step-valid s (ops.Scrolling margin conservatively) v form = framed-valid s margin conservatively s.echo s.shifting v form.0 form.1 v.echo
+step-valid s (ops.Echo text) v form = framed-valid s s.margin s.conservatively text s.shifting v v.margin v.conservatively form
+step-valid s (ops.Shift on) v form = framed-valid s s.margin s.conservatively s.echo on v v.margin v.conservatively v.echo
+step-valid s (ops.Margin window numbers strings) v form = margining-valid s window numbers strings v form.1 form.2
+step-valid s (ops.MarginPut name overlay string) v form = edited-valid s name (margin_putting s.objects overlay string) v (margin-keeps s.objects overlay string)
+step-valid s op v form = v
 
 -- ---- settling
 
@@ -194,8 +191,8 @@ opening-leaf : (t : Bool) → (if t then Some (leaf_of opening_window) else None
 opening-leaf true = refl
 opening-leaf false = refl
 
-pub opening-valid : (trees : TreeLaws) → IsValid opening
-opening-valid trees = record {
+pub opening-valid : IsValid opening
+opening-valid = record {
   buffers = record {
     few = omega arith;
     told = main-apart;
@@ -205,7 +202,7 @@ opening-valid trees = record {
   objects = nothing_sound;
   closed = nothing_closed;
   windows = record {
-    tree = trees.opening 80 23 (omega arith) (omega arith) (omega arith) (omega arith);
+    tree = opening_valid 80 23 (omega arith) (omega arith) (omega arith) (omega arith);
     leaves = λ number. opening-leaf (0 == number);
     apart = (refl, tt);
     each = opening-windows;

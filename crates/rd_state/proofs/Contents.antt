@@ -17,7 +17,8 @@ use Rattle.rd_objects.specs.Sound.{AreCodes}
 use Rattle.rd_objects.specs.Things.{ObjectLists}
 use Rattle.rd_props.specs.Buffers as props
 use Rattle.rd_props.specs.Edits.{put_on, HasParts, IsInsertion, IsDeletion, IsPut, HasOverlays}
-use Rattle.rd_props.specs.Made.{IsMade, SettingsMade, AreMade, MadeLaws}
+use Rattle.rd_props.proofs.Names.{made-inserted, made-deleted, made-put, made-making, made-moving, made-dropping, made-giving}
+use Rattle.rd_props.specs.Made.{IsMade, SettingsMade, AreMade}
 use Rattle.rd_props.specs.Values.{value_of}
 use Rattle.rd_script.specs.Forms.{is_text_kind}
 use Rattle.rd_state.specs.States.{ContentValue, seen, values_on, value_in}
@@ -75,16 +76,16 @@ still-valid o c tab text characters within names marks = record {
   marks = marks;
 }
 
-pub grown-valid : (made : MadeLaws) (o : ObjectLists) (c : ContentValue) (pos : ℕ) (new : List ℕ) → IsContent o c → AreCodes new → IsAccessible c.text pos
+pub grown-valid : (o : ObjectLists) (c : ContentValue) (pos : ℕ) (new : List ℕ) → IsContent o c → AreCodes new → IsAccessible c.text pos
     → length c.text.text + length new ≤ most_characters → IsContent o (grown c pos new)
-grown-valid made o c pos new v codes at room =
+grown-valid o c pos new v codes at room =
     let code = λ (x : ℕ). IsTrue (is_code x) in
     let first = All-append code (take (pos - 1) c.text.text) new (All-take code (pos - 1) c.text.text v.characters) codes in
     let settings = settings-kept o c.settings (marked_modified (nat_lt 0 (length new)) c.settings) refl refl refl v.names.settings in
     still-valid o (grown c pos new) (v.least_tab, v.most_tab) (inserted-is_text c.text pos new v.text at room)
     (All-append code (take (pos - 1) c.text.text ++ new) (drop (pos - 1) c.text.text) first (All-drop code (pos - 1) c.text.text v.characters))
     (listed-within (seen_grown c pos new) (opened-within c pos new v.text v.within at))
-    (made.inserted (seen c) (seen (grown c pos new)) o pos new v.names settings (grown-is c pos new v.text v.within at)) v.marks
+    (made-inserted (seen c) (seen (grown c pos new)) o v.names settings pos new (grown-is c pos new v.text v.within at)) v.marks
 
 -- ---- deletion
 
@@ -94,14 +95,14 @@ closed-within c from to text within at = shrunk-within (seen c) (seen_shrunk c f
 pub shrunk-is : (c : ContentValue) (from to : ℕ) → IsText c.text → IsWithin (seen c) → IsAccessibleRange c.text from to → IsDeletion (seen c) (seen (shrunk c from to)) from to
 shrunk-is c from to text within at = seen-parts c (seen_shrunk c from to) c.settings (closed-within c from to text within at)
 
-pub shrunk-valid : (made : MadeLaws) (o : ObjectLists) (c : ContentValue) (from to : ℕ) → IsContent o c → IsAccessibleRange c.text from to → IsContent o (shrunk c from to)
-shrunk-valid made o c from to v at =
+pub shrunk-valid : (o : ObjectLists) (c : ContentValue) (from to : ℕ) → IsContent o c → IsAccessibleRange c.text from to → IsContent o (shrunk c from to)
+shrunk-valid o c from to v at =
     let code = λ (x : ℕ). IsTrue (is_code x) in
     let settings = settings-kept o c.settings (marked_modified (nat_lt from to) c.settings) refl refl refl v.names.settings in
     still-valid o (shrunk c from to) (v.least_tab, v.most_tab) (deleted-is_text c.text from to v.text at)
     (All-append code (take (from - 1) c.text.text) (drop (to - 1) c.text.text) (All-take code (from - 1) c.text.text v.characters) (All-drop code (to - 1) c.text.text v.characters))
     (listed-within (seen_shrunk c from to) (closed-within c from to v.text v.within at))
-    (made.deleted (seen c) (seen (shrunk c from to)) o from to v.names settings (shrunk-is c from to v.text v.within at)) v.marks
+    (made-deleted (seen c) (seen (shrunk c from to)) o v.names settings from to (shrunk-is c from to v.text v.within at)) v.marks
 
 -- ---- the accessible range
 
@@ -178,12 +179,12 @@ value-made o kinds.Display value h v e = made-number (length o.specs) value v h 
 value-made o kinds.Invisible value h v e = tt
 value-made o kind value h v e = made-number (length o.strings) value v h e
 
-pub put-valid : (made : MadeLaws) (o : ObjectLists) (c : ContentValue) (from to : ℕ) (kind : Kind) (value : Option ℕ) → IsContent o c → is_text_kind kind ≡ true
+pub put-valid : (o : ObjectLists) (c : ContentValue) (from to : ℕ) (kind : Kind) (value : Option ℕ) → IsContent o c → is_text_kind kind ≡ true
     → IsAccessibleRange c.text from to → is_value_made o kind value ≡ true → IsContent o (with_property c from to kind value)
-put-valid made o c from to kind value v is at numbered =
+put-valid o c from to kind value v is at numbered =
     still-valid o (with_property c from to kind value) (v.least_tab, v.most_tab) v.text v.characters
     (listed-within (put_values c from to kind value) (put_on-within (seen c) from to kind value v.text v.within is at))
-    (made.put (seen c) (seen (with_property c from to kind value)) o kind from to value v.names v.names.settings (value-made o kind value numbered) (put-is c from to kind value v.text v.within is at)) v.marks
+    (made-put (seen c) (seen (with_property c from to kind value)) o v.names v.names.settings kind from to value (value-made o kind value numbered) (put-is c from to kind value v.text v.within is at)) v.marks
 
 -- ---- overlays
 
@@ -202,32 +203,32 @@ no-value : (kind : Kind) (from to : ℕ) (priority : ℤ) (front rear : Bool) (v
 no-value kinds.Face from to priority front rear v h = cc
 no-value kind from to priority front rear v h = cc
 
-pub made-valid : (made : MadeLaws) (o : ObjectLists) (c : ContentValue) (from to : ℕ) (priority : ℤ) (front rear : Bool) → IsContent o c → is_range_of_all c.text from to ≡ true
+pub made-valid : (o : ObjectLists) (c : ContentValue) (from to : ℕ) (priority : ℤ) (front rear : Bool) → IsContent o c → is_range_of_all c.text from to ≡ true
     → IsRangeOfAll c.text from to → nat_le 65536 (length c.overlays) ≡ false → IsContent o (with_overlays c (c.overlays ++ Some (new_overlay from to priority front rear) ∷ []))
-made-valid made o c from to priority front rear v test range room =
+made-valid o c from to priority front rear v test range room =
     let overlay = new_overlay from to priority front rear in
     let all = c.overlays ++ Some overlay ∷ [] in
     let ordered = range.ordered in
     let none = cond-false (nat_lt to from) _ _ (le-ltb to from ordered) ∙ cond-false (nat_le 65536 (length c.overlays)) _ _ room in
     overlays-valid o c all v (made-within (seen c) all c.settings from to overlay v.within test none refl refl refl)
-    (made.made (seen c) (seen (with_overlays c all)) o overlay v.names v.names.settings (λ kind x h. absurd (no-value kind from to priority front rear x h)) (overlays-are c all))
+    (made-making (seen c) (seen (with_overlays c all)) o v.names v.names.settings overlay (λ kind x h. absurd (no-value kind from to priority front rear x h)) (overlays-are c all))
 
-pub moved-valid : (made : MadeLaws) (o : ObjectLists) (c : ContentValue) (number from to : ℕ) → IsContent o c → is_range_of_all c.text from to ≡ true
+pub moved-valid : (o : ObjectLists) (c : ContentValue) (number from to : ℕ) → IsContent o c → is_range_of_all c.text from to ≡ true
     → IsContent o (with_overlays c (moved c.overlays number from to))
-moved-valid made o c number from to v test =
+moved-valid o c number from to v test =
     let all = moved c.overlays number from to in
     overlays-valid o c all v (moved-within (seen c) all c.settings number from to v.within test refl)
-    (made.moved (seen c) (seen (with_overlays c all)) o number from to v.names v.names.settings (overlays-are c all))
+    (made-moving (seen c) (seen (with_overlays c all)) o v.names v.names.settings number from to (overlays-are c all))
 
-pub dropped-valid : (made : MadeLaws) (o : ObjectLists) (c : ContentValue) (number : ℕ) → IsContent o c → IsContent o (with_overlays c (dropped c.overlays number))
-dropped-valid made o c number v =
+pub dropped-valid : (o : ObjectLists) (c : ContentValue) (number : ℕ) → IsContent o c → IsContent o (with_overlays c (dropped c.overlays number))
+dropped-valid o c number v =
     let all = dropped c.overlays number in
     overlays-valid o c all v (put-within (seen c) all c.settings number None v.within (λ p h. absurd (cc)) refl)
-    (made.dropped (seen c) (seen (with_overlays c all)) o number v.names v.names.settings (overlays-are c all))
+    (made-dropping (seen c) (seen (with_overlays c all)) o v.names v.names.settings number (overlays-are c all))
 
-pub given-valid : (made : MadeLaws) (o : ObjectLists) (c : ContentValue) (number : ℕ) (kind : Kind) (value : Option ℕ) → IsContent o c → is_value_made o kind value ≡ true
+pub given-valid : (o : ObjectLists) (c : ContentValue) (number : ℕ) (kind : Kind) (value : Option ℕ) → IsContent o c → is_value_made o kind value ≡ true
     → IsContent o (with_overlays c (given c.overlays number kind value))
-given-valid made o c number kind value v numbered =
+given-valid o c number kind value v numbered =
     let all = given c.overlays number kind value in
     overlays-valid o c all v (given-within (seen c) all c.settings number kind value v.within refl)
-    (made.given (seen c) (seen (with_overlays c all)) o number kind value v.names v.names.settings (value-made o kind value numbered) (overlays-are c all))
+    (made-giving (seen c) (seen (with_overlays c all)) o v.names v.names.settings number kind value (value-made o kind value numbered) (overlays-are c all))

@@ -1,5 +1,5 @@
 -- A step leads from a valid state to a valid one: settings, margin strings, objects and new buffers.
-use Rattle.std.proofs.Common.{◌≡◌, ℕ, zero, suc, ◌<◌, ◌≤◌, true, is_some, inl, inr, Option, None, Some, List, [], ◌∷◌, ◌++◌, length, subst, sym, ap, refl, ◌∙◌, arith, length-append, IsTrue}
+use Rattle.std.proofs.Common.{◌≡◌, ℕ, zero, suc, ◌<◌, true, is_some, inl, inr, Option, None, Some, List, [], ◌∷◌, ◌++◌, length, subst, sym, refl, ◌∙◌, arith, IsTrue}
 use Rattle.std.proofs.lemmas.Bool.{cases_cond, ltb-true, ltb-false, leb-false}
 use Rattle.std.proofs.lemmas.List.Elements.{All-nil}
 use Rattle.std.proofs.lemmas.Option.{none-some, same_Some}
@@ -12,11 +12,13 @@ use Rattle.rd_base.specs.Chars.{is_code}
 use Rattle.rd_base.specs.Settings.{SettingValues}
 use Rattle.rd_text.specs.Texts.{IsText, no_text}
 use Rattle.rd_overlays.specs.Overlays.{overlay_at, place_of}
-use Rattle.rd_objects.specs.Sound.{AreObjects, IsClosed, Extends, GoesOn}
+use Rattle.rd_objects.proofs.Soundness.{goes_longer}
+use Rattle.rd_objects.specs.Sound.{AreRight, Extends}
 use Rattle.rd_objects.specs.Things.{ObjectLists, IsSmallSpec}
 use Rattle.rd_objects.specs.declared.fault.ObjectFault.{ObjectFault}
 use Rattle.rd_props.specs.Buffers as props
-use Rattle.rd_props.specs.Made.{SettingsMade, MadeLaws}
+use Rattle.rd_props.proofs.Names.{made-extended}
+use Rattle.rd_props.specs.Made.{SettingsMade}
 use Rattle.rd_margins.specs.Marks.{MarkValues, marked}
 use Rattle.rd_script.specs.Forms.{IsSettingInForm, IsSpecInForm, is_buffer_name}
 use Rattle.rd_script.specs.declared.object.OpSpec.{OpSpec}
@@ -83,25 +85,23 @@ margin-keeps o number string c d v h =
 
 -- ---- objects
 
-longer : {X : Type 0} (old new : List X) → GoesOn old new → length old ≤ length new
-longer old new (more, is) = omega (arith, ap length is, length-append old more)
-
-content-extended : (made : MadeLaws) (o p : ObjectLists) (c : ContentValue) → Extends o p → IsContent o c → IsContent p c
-content-extended made o p c more v =
-    let size = longer o.strings p.strings more.strings in
-    still-valid p c (v.least_tab, v.most_tab) v.text v.characters v.within (made.extended (seen c) o p v.names more) (λ k x h. let old = v.marks k x h in omega arith)
+content-extended : (o p : ObjectLists) (c : ContentValue) → Extends o p → IsContent o c → IsContent p c
+content-extended o p c more v =
+    let size = goes_longer o.strings p.strings more.strings in
+    still-valid p c (v.least_tab, v.most_tab) v.text v.characters v.within (made-extended (seen c) o p v.names more) (λ k x h. let old = v.marks k x h in omega arith)
 
 -- other objects, that go on from those that there were
-pub objects-valid : (made : MadeLaws) (s : StateValue) (fault : Option ObjectFault) (added : ObjectLists) → IsValid s → (fault ≡ None → AreObjects added) → (fault ≡ None → IsClosed added)
+pub objects-valid : (s : StateValue) (fault : Option ObjectFault) (added : ObjectLists) → IsValid s → (fault ≡ None → AreRight s.objects → AreRight added)
     → Extends s.objects added → IfOk (with_objects s (unless_fault fault added)) IsValid
-objects-valid made s (Some e) added v sound closed more = tt
-objects-valid made s None added v sound closed more =
+objects-valid s (Some e) added v right more = tt
+objects-valid s None added v right more =
+    let new = right refl (record { sound = v.objects; closed = v.closed }) in
     with_parts s s.buffers added s.tree s.windows s.selected s.width s.height v (record {
       few = v.buffers.few;
       told = v.buffers.told;
       names = v.buffers.names;
-      contents = λ k b h. content-extended made s.objects added b.content more (v.buffers.contents k b h);
-    }) (sound refl) (closed refl) v.windows v.frame
+      contents = λ k b h. content-extended s.objects added b.content more (v.buffers.contents k b h);
+    }) new.sound new.closed v.windows v.frame
 
 pub small-spec : (spec : OpSpec) → IsSpecInForm spec → IsSmallSpec (spec_of spec)
 small-spec (specs.Text n) form = tt

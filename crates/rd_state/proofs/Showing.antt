@@ -14,9 +14,9 @@ use Rattle.rd_text.specs.Texts.{IsAccessible}
 use Rattle.rd_script.specs.Forms.{IsFormat}
 use Rattle.rd_script.specs.Numbers.{is_near_zero}
 use Rattle.rd_tree.specs.Calls as tree
-use Rattle.rd_tree.specs.Calls.{Configuration, frame_of, split_tree, remove_tree, resize_tree, mode_tree, margins_tree, TreeLaws}
+use Rattle.rd_tree.specs.Calls.{Configuration, frame_of, split_tree, remove_tree, resize_tree, mode_tree, margins_tree}
 use Rattle.rd_tree.proofs.Keeping.{is_some-or}
-use Rattle.rd_tree.proofs.Steps.{split-means, remove-means, resize-means, mode-means, margins-means}
+use Rattle.rd_tree.proofs.Steps.{split-means, split_keeps, remove-means, remove_keeps, resize-means, resize_keeps, mode-means, mode_keeps, margins-means, margins_keeps}
 use Rattle.rd_tree.specs.Windows.{Windows, Window, holds, is_single, split_at, removed, replaced, resized, first_leaf, sibling}
 use Rattle.rd_tree.specs.declared.fault.TreeFault.{TreeFault}
 use Rattle.rd_tree.specs.declared.side.Side.{Side}
@@ -161,21 +161,21 @@ retold-valid s number f g r v means gives keep =
     (here ∙ (ap (option_map g) (v.windows.leaves number) ∙ map-map leaf_of g (λ w. leaf_of (f w)) (window_of number s.windows) gives)) others (λ w lives old. keep w old) v.windows)
     refl refl))
 
-pub mode_lining-valid : (laws : TreeLaws) (s : StateValue) (number : ℕ) (format : Option (List ℕ)) → IsValid s → IsFormat format → IfOk (mode_lining s number format) IsValid
-mode_lining-valid laws s number format v form =
+pub mode_lining-valid : (s : StateValue) (number : ℕ) (format : Option (List ℕ)) → IsValid s → IsFormat format → IfOk (mode_lining s number format) IsValid
+mode_lining-valid s number format v form =
     let shown = is_some format in
     found IsValid _ (window_of number s.windows) _
     (λ w lives. unless IsValid (format_fault format) _
     (λ good. retold-valid s number (λ old. record old { format = format }) (λ x. (shown, x.1)) (mode_tree s.tree number shown) v
-    (λ d at. (laws.mode s.tree d number shown v.windows.tree at, (mode-means s.tree d number shown at).2)) (λ x. refl)
+    (λ d at. (mode_keeps s.tree d number shown v.windows.tree at, (mode-means s.tree d number shown at).2)) (λ x. refl)
     (λ x old. window-still s.buffers (record x { format = format }) old.made old.point old.anchor old.pending old.hscroll (good-format format form good) old.numbers old.strings)))
 
-pub margining-valid : (laws : TreeLaws) (s : StateValue) (number numbers strings : ℕ) → IsValid s → numbers ≤ 10 → strings ≤ 20 → IfOk (margining s number numbers strings) IsValid
-margining-valid laws s number numbers strings v few some =
+pub margining-valid : (s : StateValue) (number numbers strings : ℕ) → IsValid s → numbers ≤ 10 → strings ≤ 20 → IfOk (margining s number numbers strings) IsValid
+margining-valid s number numbers strings v few some =
     let columns = numbers + strings in
     found IsValid _ (window_of number s.windows) _
     (λ w lives. retold-valid s number (λ old. record old { numbers = numbers; strings = strings }) (λ x. (x.0, columns)) (margins_tree s.tree number columns) v
-    (λ d at. (laws.margins s.tree d number columns v.windows.tree at, (margins-means s.tree d number columns at).2)) (λ x. refl)
+    (λ d at. (margins_keeps s.tree d number columns v.windows.tree at, (margins-means s.tree d number columns at).2)) (λ x. refl)
     (λ x old. window-still s.buffers (record x { numbers = numbers; strings = strings }) old.made old.point old.anchor old.pending old.hscroll old.format few some))
 
 -- ---- splits
@@ -223,13 +223,13 @@ copy-keeps bs w v = window-still bs (record w { forced = false; pending = pos 0 
 pub window-valid : (s : StateValue) (number : ℕ) (w : WindowState) → IsValid s → window_of number s.windows ≡ Some w → IsWindow s.buffers w
 window-valid s number w v found = let at = get-window number s.windows w found in v.windows.each at.0 (number, w) at.1
 
-pub splitting-valid : (laws : TreeLaws) (s : StateValue) (number : ℕ) (side : Side) (size : ℕ) → IsValid s → IfOk (splitting s number side size) IsValid
-splitting-valid laws s number side size v =
+pub splitting-valid : (s : StateValue) (number : ℕ) (side : Side) (size : ℕ) → IsValid s → IfOk (splitting s number side size) IsValid
+splitting-valid s number side size v =
     found IsValid _ (window_of number s.windows) _
     (λ w lives. tree-if IsValid (split_tree s.tree number side size) _
     (λ d at.
     let is = (split-means s.tree d number side size at).3 in
-    let valid = laws.split s.tree d number side size v.windows.tree at in
+    let valid = split_keeps s.tree d number side size v.windows.tree at in
     let copy : WindowState = record w { forced = false; pending = pos 0 } in
     let new = split-windows s d number side size w copy v valid (sym (ap (λ (x : Configuration). x.windows) is)) lives refl (copy-keeps s.buffers w (window-valid s number w v lives)) in
     with_windows s d (s.windows ++ (s.tree.made, copy) ∷ []) s.selected v new (sym (ap (λ (x : Configuration). x.width) is)) (sym (ap (λ (x : Configuration). x.height) is))))
@@ -268,26 +268,26 @@ removed-windows s d number w v valid there many is found =
           (λ h. subst IsSome (sym (entry-past number s.selected (λ x. None) s.windows (λ e. absurd (eqb-false s.selected number h e)))) v.windows.selected);
     }
 
-pub removing-valid : (laws : TreeLaws) (s : StateValue) (number : ℕ) → IsValid s → IfOk (removing s number) IsValid
-removing-valid laws s number v =
+pub removing-valid : (s : StateValue) (number : ℕ) → IsValid s → IfOk (removing s number) IsValid
+removing-valid s number v =
     found IsValid _ (window_of number s.windows) _
     (λ w lives. tree-if IsValid (remove_tree s.tree number) _
     (λ d at.
     let is = remove-means s.tree d number at in
-    let valid = laws.remove s.tree d number v.windows.tree at in
+    let valid = remove_keeps s.tree d number v.windows.tree at in
     let chosen = if s.selected == number then first_leaf (sibling number s.tree.windows) else s.selected in
     let new = removed-windows s d number w v valid is.0 is.1 (sym (ap (λ (x : Configuration). x.windows) is.2)) lives in
     with_windows s d (without_entry number s.windows) chosen v new (sym (ap (λ (x : Configuration). x.width) is.2)) (sym (ap (λ (x : Configuration). x.height) is.2))))
 
 -- ---- the frame
 
-pub resizing-valid : (laws : TreeLaws) (s : StateValue) (width height : ℕ) → IsValid s → 12 ≤ width → width ≤ 400 → 2 ≤ height → height ≤ 200
+pub resizing-valid : (s : StateValue) (width height : ℕ) → IsValid s → 12 ≤ width → width ≤ 400 → 2 ≤ height → height ≤ 200
     → IfOk (on_tree (resize_tree s.tree width (height - 1)) (λ c. record s { tree = c; width = width; height = height })) IsValid
-resizing-valid laws s width height v wide narrow high low =
+resizing-valid s width height v wide narrow high low =
     tree-if IsValid (resize_tree s.tree width (height - 1)) _
     (λ d at.
     let is = (resize-means s.tree d width (height - 1) at).1 in
-    let valid = laws.resize s.tree d width (height - 1) narrow (omega arith) v.windows.tree at in
+    let valid = resize_keeps s.tree d width (height - 1) narrow (omega arith) v.windows.tree at in
     let columns : d.width ≡ width = sym (ap (λ (x : Configuration). x.width) is) in
     let rows : d.height ≡ height - 1 = sym (ap (λ (x : Configuration). x.height) is) in
     let shapes : d.windows ≡ resized s.tree.windows (tree.frame width (height - 1)) = sym (ap (λ (x : Configuration). x.windows) is) in

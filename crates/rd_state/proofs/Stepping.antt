@@ -15,7 +15,6 @@ use Rattle.rd_overlays.specs.Overlays as overlays
 use Rattle.rd_overlays.specs.Overlays.{overlay_at, new_overlay, after_deletion}
 use Rattle.rd_objects.specs.Things.{ObjectLists}
 use Rattle.rd_objects.specs.Sound.{AreCodes}
-use Rattle.rd_props.specs.Made.{MadeLaws}
 use Rattle.rd_script.specs.Forms.{is_text_kind, IsRawByte}
 use Rattle.rd_state.specs.declared.moves.Move.{Move}
 use Rattle.rd_state.specs.declared.moves.Move.TheVariants.{Inserted, Deleted, Narrowed}
@@ -99,10 +98,10 @@ made-keeps : (o : ObjectLists) (f : ℕ → ℕ) (c made d : ContentValue) → m
     → IsContent o d × ((p : ℕ) → IsAccessible c.text p → IsAccessible d.text (f p))
 made-keeps o f c made d same v at = subst (λ (x : ContentValue). IsContent o x × ((p : ℕ) → IsAccessible c.text p → IsAccessible x.text (f p))) same (v, at)
 
-pub insertion-keeps : (made : MadeLaws) (o : ObjectLists) (pos : ℕ) (new : List ℕ) → AreCodes new → Keeps o (place_after (Inserted pos (length new))) (insertion pos new)
-insertion-keeps made o pos new codes c d v h =
+pub insertion-keeps : (o : ObjectLists) (pos : ℕ) (new : List ℕ) → AreCodes new → Keeps o (place_after (Inserted pos (length new))) (insertion pos new)
+insertion-keeps o pos new codes c d v h =
     let m = insertion-means pos new c d h in
-    made-keeps o (point_after_insertion pos (length new)) c (grown c pos new) d m.2 (grown-valid made o c pos new v codes m.0 m.1)
+    made-keeps o (point_after_insertion pos (length new)) c (grown c pos new) d m.2 (grown-valid o c pos new v codes m.0 m.1)
     (λ p a. let moves = place-moves (nat_lt pos p) p (length new) in (omega (arith, moves.0, a.0), omega (arith, moves.1, a.1)))
 
 pub deletion-means : (from to : ℕ) (c d : ContentValue) → deletion from to c ≡ Ok d → IsAccessibleRange c.text from to × (shrunk c from to ≡ d)
@@ -110,11 +109,11 @@ deletion-means from to c d h =
     let m = made-ok (is_accessible_range c.text from to) (shrunk c from to) OutOfRange d h in
     (is_accessible_range-means c.text from to m.0, m.1)
 
-pub deletion-keeps : (made : MadeLaws) (o : ObjectLists) (from to : ℕ) → Keeps o (place_after (Deleted from to)) (deletion from to)
-deletion-keeps made o from to c d v h =
+pub deletion-keeps : (o : ObjectLists) (from to : ℕ) → Keeps o (place_after (Deleted from to)) (deletion from to)
+deletion-keeps o from to c d v h =
     let m = deletion-means from to c d h in
     let at = m.0 in
-    made-keeps o (after_deletion from to) c (shrunk c from to) d m.1 (shrunk-valid made o c from to v at)
+    made-keeps o (after_deletion from to) c (shrunk c from to) d m.1 (shrunk-valid o c from to v at)
     (λ p a. deletion-within c.text.begin c.text.end from to p at.first at.ordered at.last a.0 a.1)
 
 brought : (from to p : ℕ) → from ≤ to → (from ≤ max from (min p to)) × (max from (min p to) ≤ to)
@@ -149,10 +148,10 @@ putting-means o from to kind value c d h =
     let m = both-ok (is_accessible_range c.text from to) (is_value_made o kind value) (with_property c from to kind value) NoObject OutOfRange d h in
     (is_accessible_range-means c.text from to m.0, m.1, m.2)
 
-pub put-keeps : (made : MadeLaws) (o : ObjectLists) (from to : ℕ) (kind : Kind) (value : Option ℕ) → is_text_kind kind ≡ true → Keeps o (λ p. p) (property_putting o from to kind value)
-put-keeps made o from to kind value is c d v h =
+pub put-keeps : (o : ObjectLists) (from to : ℕ) (kind : Kind) (value : Option ℕ) → is_text_kind kind ≡ true → Keeps o (λ p. p) (property_putting o from to kind value)
+put-keeps o from to kind value is c d v h =
     let m = putting-means o from to kind value c d h in
-    text-kept o c (with_property c from to kind value) d m.2 refl (put-valid made o c from to kind value v is m.0 m.1)
+    text-kept o c (with_property c from to kind value) d m.2 refl (put-valid o c from to kind value v is m.0 m.1)
 
 pub making-means : (from to : ℕ) (priority : ℤ) (front rear : Bool) (c d : ContentValue) → overlay_making from to priority front rear c ≡ Ok d
     → (is_range_of_all c.text from to ≡ true) × (nat_le most_overlays (length c.overlays) ≡ false) × (with_overlays c (c.overlays ++ Some (new_overlay from to priority front rear) ∷ []) ≡ d)
@@ -160,11 +159,11 @@ making-means from to priority front rear c d h =
     let new = with_overlays c (c.overlays ++ Some (new_overlay from to priority front rear) ∷ []) in
     ok-unless (is_range_of_all c.text from to) (nat_le most_overlays (length c.overlays)) new TooManyOverlays OutOfRange d h
 
-pub making-keeps : (made : MadeLaws) (o : ObjectLists) (from to : ℕ) (priority : ℤ) (front rear : Bool) → Keeps o (λ p. p) (overlay_making from to priority front rear)
-making-keeps made o from to priority front rear c d v h =
+pub making-keeps : (o : ObjectLists) (from to : ℕ) (priority : ℤ) (front rear : Bool) → Keeps o (λ p. p) (overlay_making from to priority front rear)
+making-keeps o from to priority front rear c d v h =
     let m = making-means from to priority front rear c d h in
     text-kept o c (with_overlays c (c.overlays ++ Some (new_overlay from to priority front rear) ∷ [])) d m.2 refl
-    (made-valid made o c from to priority front rear v m.0 (is_range_of_all-means c.text from to m.0) m.1)
+    (made-valid o c from to priority front rear v m.0 (is_range_of_all-means c.text from to m.0) m.1)
 
 -- an edit of an overlay, which lives
 abbrev pub OfOverlay : ℕ → Bool → List (Option Overlay) → ContentValue → ContentValue → Type 0
@@ -179,23 +178,23 @@ overlay-means number test overlays e c d h =
 pub moving-means : (number from to : ℕ) (c d : ContentValue) → overlay_moving number from to c ≡ Ok d → OfOverlay number (is_range_of_all c.text from to) (overlays.moved c.overlays number from to) c d
 moving-means number from to c d h = overlay-means number (is_range_of_all c.text from to) (overlays.moved c.overlays number from to) OutOfRange c d h
 
-pub moving-keeps : (made : MadeLaws) (o : ObjectLists) (number from to : ℕ) → Keeps o (λ p. p) (overlay_moving number from to)
-moving-keeps made o number from to c d v h =
+pub moving-keeps : (o : ObjectLists) (number from to : ℕ) → Keeps o (λ p. p) (overlay_moving number from to)
+moving-keeps o number from to c d v h =
     let m = moving-means number from to c d h in
-    text-kept o c (with_overlays c (overlays.moved c.overlays number from to)) d m.2 refl (moved-valid made o c number from to v m.1)
+    text-kept o c (with_overlays c (overlays.moved c.overlays number from to)) d m.2 refl (moved-valid o c number from to v m.1)
 
 pub dropping-means : (number : ℕ) (c d : ContentValue) → overlay_dropping number c ≡ Ok d → OfOverlay number true (overlays.dropped c.overlays number) c d
 dropping-means number c d h = overlay-means number true (overlays.dropped c.overlays number) NoOverlay c d h
 
-pub dropping-keeps : (made : MadeLaws) (o : ObjectLists) (number : ℕ) → Keeps o (λ p. p) (overlay_dropping number)
-dropping-keeps made o number c d v h =
-    text-kept o c (with_overlays c (overlays.dropped c.overlays number)) d (dropping-means number c d h).2 refl (dropped-valid made o c number v)
+pub dropping-keeps : (o : ObjectLists) (number : ℕ) → Keeps o (λ p. p) (overlay_dropping number)
+dropping-keeps o number c d v h =
+    text-kept o c (with_overlays c (overlays.dropped c.overlays number)) d (dropping-means number c d h).2 refl (dropped-valid o c number v)
 
 pub giving-means : (o : ObjectLists) (number : ℕ) (kind : Kind) (value : Option ℕ) (c d : ContentValue) → overlay_putting o number kind value c ≡ Ok d
     → OfOverlay number (is_value_made o kind value) (overlays.given c.overlays number kind value) c d
 giving-means o number kind value c d h = overlay-means number (is_value_made o kind value) (overlays.given c.overlays number kind value) NoObject c d h
 
-pub giving-keeps : (made : MadeLaws) (o : ObjectLists) (number : ℕ) (kind : Kind) (value : Option ℕ) → Keeps o (λ p. p) (overlay_putting o number kind value)
-giving-keeps made o number kind value c d v h =
+pub giving-keeps : (o : ObjectLists) (number : ℕ) (kind : Kind) (value : Option ℕ) → Keeps o (λ p. p) (overlay_putting o number kind value)
+giving-keeps o number kind value c d v h =
     let m = giving-means o number kind value c d h in
-    text-kept o c (with_overlays c (overlays.given c.overlays number kind value)) d m.2 refl (given-valid made o c number kind value v m.1)
+    text-kept o c (with_overlays c (overlays.given c.overlays number kind value)) d m.2 refl (given-valid o c number kind value v m.1)

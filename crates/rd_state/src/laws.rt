@@ -15,17 +15,11 @@ ghost use Rattle.rd_state.specs.Steps.{step, settled};
 ghost use Rattle.rd_state.specs.Effects.{effect_of};
 ghost use Rattle.rd_state.specs.Changes.{Outcome};
 
-use rd_props::edits_keep_what_is_made;
-use rd_tree::calls_keep_trees;
-
 /// The opening is a valid state, and an op in form leads from a valid state to a valid one. The call does nothing.
 pub fn steps_keep_states()
     ensures opening { IsValid opening }
     ensures step { (s t : StateValue) (op : Op) → IsValid s → IsInForm op → step s op ≡ Ok t → IsValid t }
-{
-    calls_keep_trees();
-    edits_keep_what_is_made();
-}
+{}
 
 /// Where a layout settles a window's view and its point at accessible positions, a valid state stays valid. The call does nothing.
 pub fn settling_keeps_states()

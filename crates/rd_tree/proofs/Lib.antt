@@ -7,4 +7,4 @@ pub mod Rooms
 mod Siblings
 pub mod Standing
 pub mod Steps
-mod Validity
+pub mod Validity

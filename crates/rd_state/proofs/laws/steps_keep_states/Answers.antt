@@ -4,7 +4,4 @@ use Rattle.rd_state.proofs.AllSteps.{step-valid, opening-valid}
 use Rattle.rd_state.proofs.laws.steps_keep_states.Goals as goal
 
 pub returns : goal.returns
-returns c =
-    let made = c.edits_keep_what_is_made.ensures in
-    let trees = c.calls_keep_trees.ensures in
-    record { opening = opening-valid trees; step = λ s t op v form h. IfOk-at_ok IsValid h (step-valid made trees s op v form) }
+returns c = record { opening = opening-valid; step = λ s t op v form h. IfOk-at_ok IsValid h (step-valid s op v form) }
