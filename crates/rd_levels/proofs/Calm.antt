@@ -2,7 +2,7 @@
 use Rattle.std.proofs.Common.{◌≡◌, ℕ, zero, suc, ◌-◌, Bool, true, false, ◌||◌, List, [], ◌∷◌, length, take, drop, set, replicate, Option, None, Some, IfSome, refl, sym, ap, ap₂, subst, ◌∙◌}
 use Rattle.std.specs.List.{AllByRecursion as Each}
 use Rattle.std.specs.Prelude.{if◌then◌else◌}
-use Rattle.std.proofs.lemmas.List.{length-map, length-set}
+use Rattle.std.proofs.lemmas.List.{length-set}
 use Rattle.rd_base.proofs.Choices.{either, if-else}
 use Rattle.rd_base.proofs.Lists.{each-take, each-drop}
 use Rattle.rd_base.specs.declared.class.Class.{Class}
@@ -48,6 +48,10 @@ IsFew c = is_few c ≡ true
 abbrev pub IsCalm : Class → Type 0
 IsCalm c = is_calm c ≡ true
 
+-- as many types as there were, each of which has a property
+abbrev pub Stay : (Class → Type 0) → List Class → List Class → Type 0
+Stay P old new = (length new ≡ length old) × Each P new
+
 w1_nonspacing_marks-plain : (before c : Class) → IsPlain before → IsItem c → IsPlain (w1_nonspacing_marks before c)
 w1_nonspacing_marks-plain LRI NSM p q = absurd (cc)
 w1_nonspacing_marks-plain RLI NSM p q = absurd (cc)
@@ -56,9 +60,12 @@ w1_nonspacing_marks-plain PDI NSM p q = absurd (cc)
 w1_nonspacing_marks-plain before NSM p q = p
 w1_nonspacing_marks-plain before c p q = q
 
-w1-plain : (before : Class) (cs : List Class) → IsPlain before → Each IsItem cs → Each IsPlain (w1 before cs)
-w1-plain before [] p qs = tt
-w1-plain before (c ∷ cs) p qs = let m = w1_nonspacing_marks-plain before c p qs.0 in (m, w1-plain (w1_nonspacing_marks before c) cs m qs.1)
+w1-plain : (before : Class) (cs : List Class) → IsPlain before → Each IsItem cs → Stay IsPlain cs (w1 before cs)
+w1-plain before [] p qs = (refl, tt)
+w1-plain before (c ∷ cs) p qs =
+    let m = w1_nonspacing_marks-plain before c p qs.0 in
+    let rest = w1-plain (w1_nonspacing_marks before c) cs m qs.1 in
+    (ap (λ n. suc n) rest.0, (m, rest.1))
 
 strong-plain : (c : Class) → IsPlain c → strong_after L c ≡ L
 strong-plain R p = absurd (cc)
@@ -83,17 +90,21 @@ w4_separators-plain EN CS EN p q = refl
 w4_separators-plain AN CS AN p q = absurd (cc)
 w4_separators-plain before c next p q = q
 
-w4-plain : (before : Class) (cs : List Class) → IsPlain before → Each IsPlain cs → Each IsPlain (w4 before cs)
-w4-plain before [] p qs = tt
-w4-plain before (c ∷ cs) p qs = (w4_separators-plain before c (first_type cs) p qs.0, w4-plain c cs qs.0 qs.1)
+w4-plain : (before : Class) (cs : List Class) → IsPlain before → Each IsPlain cs → Stay IsPlain cs (w4 before cs)
+w4-plain before [] p qs = (refl, tt)
+w4-plain before (c ∷ cs) p qs =
+    let rest = w4-plain c cs qs.0 qs.1 in
+    (ap (λ n. suc n) rest.0, (w4_separators-plain before c (first_type cs) p qs.0, rest.1))
 
 w5_terminators-plain : (b : Bool) (c : Class) → IsPlain c → IsPlain (w5_terminators b c)
 w5_terminators-plain true ET p = refl
 w5_terminators-plain b c p = p
 
-w5-plain : (en : Bool) (cs : List Class) → Each IsPlain cs → Each IsPlain (w5 en cs)
-w5-plain en [] ps = tt
-w5-plain en (c ∷ cs) ps = (w5_terminators-plain (en || w5_comes_en cs) c ps.0, w5-plain (is_en (w5_terminators (en || w5_comes_en cs) c)) cs ps.1)
+w5-plain : (en : Bool) (cs : List Class) → Each IsPlain cs → Stay IsPlain cs (w5 en cs)
+w5-plain en [] ps = (refl, tt)
+w5-plain en (c ∷ cs) ps =
+    let rest = w5-plain (is_en (w5_terminators (en || w5_comes_en cs) c)) cs ps.1 in
+    (ap (λ n. suc n) rest.0, (w5_terminators-plain (en || w5_comes_en cs) c ps.0, rest.1))
 
 w6_remaining_separators-few : (c : Class) → IsPlain c → IsFew (w6_remaining_separators c)
 w6_remaining_separators-few ES p = refl
@@ -101,9 +112,9 @@ w6_remaining_separators-few ET p = refl
 w6_remaining_separators-few CS p = refl
 w6_remaining_separators-few c p = p
 
-w6-few : (cs : List Class) → Each IsPlain cs → Each IsFew (w6 cs)
-w6-few [] ps = tt
-w6-few (c ∷ cs) ps = (w6_remaining_separators-few c ps.0, w6-few cs ps.1)
+w6-few : (cs : List Class) → Each IsPlain cs → Stay IsFew cs (w6 cs)
+w6-few [] ps = (refl, tt)
+w6-few (c ∷ cs) ps = let rest = w6-few cs ps.1 in (ap (λ n. suc n) rest.0, (w6_remaining_separators-few c ps.0, rest.1))
 
 w7_latin_numbers-calm : (c : Class) → IsFew c → IsCalm (w7_latin_numbers L c)
 w7_latin_numbers-calm EN p = refl
@@ -114,18 +125,22 @@ strong-few R p = absurd (cc)
 strong-few AL p = absurd (cc)
 strong-few c p = refl
 
-w7-calm : (strong : Class) (cs : List Class) → strong ≡ L → Each IsFew cs → Each IsCalm (w7 strong cs)
-w7-calm strong [] is ps = tt
+w7-calm : (strong : Class) (cs : List Class) → strong ≡ L → Each IsFew cs → Stay IsCalm cs (w7 strong cs)
+w7-calm strong [] is ps = (refl, tt)
 w7-calm strong (c ∷ cs) is ps =
-    (subst (λ s. IsCalm (w7_latin_numbers s c)) (sym is) (w7_latin_numbers-calm c ps.0), w7-calm (strong_after strong c) cs (ap (λ s. strong_after s c) is ∙ strong-few c ps.0) ps.1)
+    let rest = w7-calm (strong_after strong c) cs (ap (λ s. strong_after s c) is ∙ strong-few c ps.0) ps.1 in
+    (ap (λ n. suc n) rest.0, (subst (λ s. IsCalm (w7_latin_numbers s c)) (sym is) (w7_latin_numbers-calm c ps.0), rest.1))
 
 -- the types after the weak rules
-pub weak-calm : (cs : List Class) → Each IsItem cs → Each IsCalm (weak_types L cs)
+pub weak-calm : (cs : List Class) → Each IsItem cs → Stay IsCalm cs (weak_types L cs)
 weak-calm cs qs =
-    let plain = w1-plain L cs refl qs in
-    let same : w3 (w2 L (w1 L cs)) ≡ w1 L cs = ap w3 (w2-same (w1 L cs) plain) ∙ w3-same (w1 L cs) plain in
-    subst (λ l. Each IsCalm (w7 L (w6 (w5 false (w4 ON l))))) (sym same)
-    (w7-calm L (w6 (w5 false (w4 ON (w1 L cs)))) refl (w6-few (w5 false (w4 ON (w1 L cs))) (w5-plain false (w4 ON (w1 L cs)) (w4-plain ON (w1 L cs) refl plain))))
+    let one = w1-plain L cs refl qs in
+    let same : w3 (w2 L (w1 L cs)) ≡ w1 L cs = ap w3 (w2-same (w1 L cs) one.1) ∙ w3-same (w1 L cs) one.1 in
+    let four = w4-plain ON (w1 L cs) refl one.1 in
+    let five = w5-plain false (w4 ON (w1 L cs)) four.1 in
+    let six = w6-few (w5 false (w4 ON (w1 L cs))) five.1 in
+    let seven = w7-calm L (w6 (w5 false (w4 ON (w1 L cs)))) refl six.1 in
+    subst (λ l. Stay IsCalm cs (w7 L (w6 (w5 false (w4 ON l))))) (sym same) (seven.0 ∙ six.0 ∙ five.0 ∙ four.0 ∙ one.0, seven.1)
 
 right-absent : (t : Class) → IsCalm t → sides.counts_as R t ≡ false
 right-absent R p = absurd (cc)
@@ -151,35 +166,40 @@ n0_pair_side-calm before ts ps =
     either IsCalmSide (sides.holds L ts) (Some L) (if sides.holds R ts then S else None) refl
     (subst (λ b. IsCalmSide (if b then S else None)) (sym (holds-absent ts ps)) tt)
 
-both-calm : (side : Option Class) (a b : ℕ) (ts : List Class) → IsCalmSide side → Each IsCalm ts → Each IsCalm (sides.put_both side a b ts)
-both-calm None a b ts p ps = ps
-both-calm (Some t) a b ts p ps = set-calm b (set ts a t) t p (set-calm a ts t p ps)
+both-calm : (side : Option Class) (a b : ℕ) (ts : List Class) → IsCalmSide side → Each IsCalm ts → Stay IsCalm ts (sides.put_both side a b ts)
+both-calm None a b ts p ps = (refl, ps)
+both-calm (Some t) a b ts p ps = (length-set (set ts a t) b t ∙ length-set ts a t, set-calm b (set ts a t) t p (set-calm a ts t p ps))
 
-n0_with_pairs-calm : (sos : Class) (place : ℕ) (cs : List (Option ℕ)) (ts : List Class) → Each IsCalm ts → Each IsCalm (sides.n0_with_pairs L sos place cs ts)
-n0_with_pairs-calm sos place [] ts ps = ps
+n0_with_pairs-calm : (sos : Class) (place : ℕ) (cs : List (Option ℕ)) (ts : List Class) → Each IsCalm ts → Stay IsCalm ts (sides.n0_with_pairs L sos place cs ts)
+n0_with_pairs-calm sos place [] ts ps = (refl, ps)
 n0_with_pairs-calm sos place (None ∷ cs) ts ps = n0_with_pairs-calm sos (suc place) cs ts ps
 n0_with_pairs-calm sos place (Some closing ∷ cs) ts ps =
-    n0_with_pairs-calm sos (suc place) cs (sides.n0_with_pair L sos place closing ts)
-    (both-calm (sides.n0_pair_side L (sides.last_side sos (take place ts)) (sides.between place closing ts)) place closing ts
-    (n0_pair_side-calm (sides.last_side sos (take place ts)) (sides.between place closing ts) (each-take IsCalm (closing - suc place) (drop (suc place) ts) (each-drop IsCalm (suc place) ts ps))) ps)
+    let inner = each-take IsCalm (closing - suc place) (drop (suc place) ts) (each-drop IsCalm (suc place) ts ps) in
+    let side = n0_pair_side-calm (sides.last_side sos (take place ts)) (sides.between place closing ts) inner in
+    let both = both-calm (sides.n0_pair_side L (sides.last_side sos (take place ts)) (sides.between place closing ts)) place closing ts side ps in
+    let rest = n0_with_pairs-calm sos (suc place) cs (sides.n0_with_pair L sos place closing ts) both.1 in
+    (rest.0 ∙ both.0, rest.1)
 
 followed-calm : (side : Option Class) (c t : Class) → IsCalmSide side → IsCalmSide (sides.followed side c t)
 followed-calm side NSM ON p = p
 followed-calm side c t p = tt
 
-n0_with_marks-calm : (side : Option Class) (cs bs ts : List Class) → IsCalmSide side → Each IsCalm ts → Each IsCalm (sides.n0_with_marks side cs bs ts)
-n0_with_marks-calm side [] bs ts p ps = ps
-n0_with_marks-calm side (c ∷ cs) [] ts p ps = ps
-n0_with_marks-calm side (c ∷ cs) (b ∷ bs) [] p ps = tt
+n0_with_marks-calm : (side : Option Class) (cs bs ts : List Class) → IsCalmSide side → Each IsCalm ts → Stay IsCalm ts (sides.n0_with_marks side cs bs ts)
+n0_with_marks-calm side [] bs ts p ps = (refl, ps)
+n0_with_marks-calm side (c ∷ cs) [] ts p ps = (refl, ps)
+n0_with_marks-calm side (c ∷ cs) (b ∷ bs) [] p ps = (refl, tt)
 n0_with_marks-calm side (c ∷ cs) (b ∷ bs) (t ∷ ts) p ps =
     let next = either IsCalmSide (sides.became b t) (Some t) (sides.followed side c t) ps.0 (followed-calm side c t p) in
-    (if-else IsCalm (sides.side_taken side c b t) t next ps.0, n0_with_marks-calm (sides.side_taken side c b t) cs bs ts next ps.1)
+    let rest = n0_with_marks-calm (sides.side_taken side c b t) cs bs ts next ps.1 in
+    (ap (λ n. suc n) rest.0, (if-else IsCalm (sides.side_taken side c b t) t next ps.0, rest.1))
 
 -- the types after the paired brackets
-pub n0_bracket_types-calm : (entries : List BracketEntry) (sos : Class) (cs : List Class) (codes : List ℕ) (ts : List Class) → Each IsCalm ts → Each IsCalm (sides.n0_bracket_types entries L sos cs codes ts)
+pub n0_bracket_types-calm : (entries : List BracketEntry) (sos : Class) (cs : List Class) (codes : List ℕ) (ts : List Class) → Each IsCalm ts → Stay IsCalm ts (sides.n0_bracket_types entries L sos cs codes ts)
 n0_bracket_types-calm entries sos cs codes ts ps =
-    n0_with_marks-calm None cs ts (sides.n0_with_pairs L sos 0 (closings (bd16_pairs_of (roles entries ts codes)) (length ts)) ts) tt
-    (n0_with_pairs-calm sos 0 (closings (bd16_pairs_of (roles entries ts codes)) (length ts)) ts ps)
+    let places = closings (bd16_pairs_of (roles entries ts codes)) (length ts) in
+    let pairs = n0_with_pairs-calm sos 0 places ts ps in
+    let marks = n0_with_marks-calm None cs ts (sides.n0_with_pairs L sos 0 places ts) tt pairs.1 in
+    (marks.0 ∙ pairs.0, marks.1)
 
 -- every neutral stands between L and L
 n1-left : (cs : List Class) → Each IsCalm cs → (n1_following L cs ≡ L) × (n1 L L cs ≡ replicate (length cs) L)
@@ -199,52 +219,3 @@ n2-left (suc n) (l ∷ ls) = ap (λ t. L ∷ t) (n2-left n ls)
 -- the types after the neutral rules
 pub neutral-left : (cs : List Class) (ls : List ℕ) → Each IsCalm cs → neutral_types L L cs ls ≡ replicate (length cs) L
 neutral-left cs ls ps = ap (λ l. n2 l ls) (n1-left cs ps).1 ∙ n2-left (length cs) ls
-
--- all these rules keep the number of types
-w1-length : (before : Class) (cs : List Class) → length (w1 before cs) ≡ length cs
-w1-length before [] = refl
-w1-length before (c ∷ cs) = ap (λ n. suc n) (w1-length (w1_nonspacing_marks before c) cs)
-
-w2-length : (strong : Class) (cs : List Class) → length (w2 strong cs) ≡ length cs
-w2-length strong [] = refl
-w2-length strong (c ∷ cs) = ap (λ n. suc n) (w2-length (strong_after strong c) cs)
-
-w4-length : (before : Class) (cs : List Class) → length (w4 before cs) ≡ length cs
-w4-length before [] = refl
-w4-length before (c ∷ cs) = ap (λ n. suc n) (w4-length c cs)
-
-w5-length : (en : Bool) (cs : List Class) → length (w5 en cs) ≡ length cs
-w5-length en [] = refl
-w5-length en (c ∷ cs) = ap (λ n. suc n) (w5-length (is_en (w5_terminators (en || w5_comes_en cs) c)) cs)
-
-w7-length : (strong : Class) (cs : List Class) → length (w7 strong cs) ≡ length cs
-w7-length strong [] = refl
-w7-length strong (c ∷ cs) = ap (λ n. suc n) (w7-length (strong_after strong c) cs)
-
-pub weak-length : (sos : Class) (cs : List Class) → length (weak_types sos cs) ≡ length cs
-weak-length sos cs =
-    w7-length sos (w6 (w5 false (w4 ON (w3 (w2 sos (w1 sos cs))))))
-    ∙ length-map (w5 false (w4 ON (w3 (w2 sos (w1 sos cs))))) w6_remaining_separators ∙ w5-length false (w4 ON (w3 (w2 sos (w1 sos cs))))
-    ∙ w4-length ON (w3 (w2 sos (w1 sos cs))) ∙ length-map (w2 sos (w1 sos cs)) w3_arabic_letters ∙ w2-length sos (w1 sos cs) ∙ w1-length sos cs
-
-both-length : (side : Option Class) (a b : ℕ) (ts : List Class) → length (sides.put_both side a b ts) ≡ length ts
-both-length None a b ts = refl
-both-length (Some t) a b ts = length-set (set ts a t) b t ∙ length-set ts a t
-
-n0_with_pairs-length : (embedding sos : Class) (place : ℕ) (cs : List (Option ℕ)) (ts : List Class) → length (sides.n0_with_pairs embedding sos place cs ts) ≡ length ts
-n0_with_pairs-length embedding sos place [] ts = refl
-n0_with_pairs-length embedding sos place (None ∷ cs) ts = n0_with_pairs-length embedding sos (suc place) cs ts
-n0_with_pairs-length embedding sos place (Some closing ∷ cs) ts =
-    n0_with_pairs-length embedding sos (suc place) cs (sides.n0_with_pair embedding sos place closing ts)
-    ∙ both-length (sides.n0_pair_side embedding (sides.last_side sos (take place ts)) (sides.between place closing ts)) place closing ts
-
-n0_with_marks-length : (side : Option Class) (cs bs ts : List Class) → length (sides.n0_with_marks side cs bs ts) ≡ length ts
-n0_with_marks-length side [] bs ts = refl
-n0_with_marks-length side (c ∷ cs) [] ts = refl
-n0_with_marks-length side (c ∷ cs) (b ∷ bs) [] = refl
-n0_with_marks-length side (c ∷ cs) (b ∷ bs) (t ∷ ts) = ap (λ n. suc n) (n0_with_marks-length (sides.side_taken side c b t) cs bs ts)
-
-pub n0_bracket_types-length : (entries : List BracketEntry) (embedding sos : Class) (cs : List Class) (codes : List ℕ) (ts : List Class) → length (sides.n0_bracket_types entries embedding sos cs codes ts) ≡ length ts
-n0_bracket_types-length entries embedding sos cs codes ts =
-    n0_with_marks-length None cs ts (sides.n0_with_pairs embedding sos 0 (closings (bd16_pairs_of (roles entries ts codes)) (length ts)) ts)
-    ∙ n0_with_pairs-length embedding sos 0 (closings (bd16_pairs_of (roles entries ts codes)) (length ts)) ts

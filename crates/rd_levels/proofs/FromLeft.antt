@@ -22,7 +22,7 @@ use Rattle.rd_resolve.specs.Neutral.{neutral_types}
 use Rattle.rd_resolve.specs.Implicit.{i1_even_levels, i1_i2, kept, l1_resets, l1, implicit_levels}
 use Rattle.rd_brackets.specs.Sides.{n0_bracket_types, codes_at, embedding_of}
 use Rattle.rd_levels.specs.Levels.{resolved_in, x10_resolved, line_levels, is_leveled, are_leveled}
-use Rattle.rd_levels.proofs.Calm.{IsItem, IsCalm, weak-calm, weak-length, n0_bracket_types-calm, n0_bracket_types-length, neutral-left}
+use Rattle.rd_levels.proofs.Calm.{IsItem, IsCalm, Stay, weak-calm, n0_bracket_types-calm, neutral-left}
 
 abbrev IsLeveled : Class → Type 0
 IsLeveled c = is_leveled c ≡ true
@@ -247,9 +247,9 @@ module _ (entries : List BracketEntry) (cs : List Class) (codes : List ℕ) (lev
     abbrev after_weak : List Class
     after_weak = weak_types s.sos (types_at is cs)
 
-    weak-is-calm : Each IsCalm after_weak
+    weak-is-calm : Stay IsCalm (types_at is cs) after_weak
     weak-is-calm =
-        subst (λ t. Each IsCalm (weak_types t (types_at is cs))) (sym sos-left)
+        subst (λ t. Stay IsCalm (types_at is cs) (weak_types t (types_at is cs))) (sym sos-left)
         (weak-calm (types_at is cs) (types-item cs (x ∷ xs) (subst (Each (IsItemAt cs)) whole (items-at cs 0 cs refl leveled))))
 
     abbrev weak_line : List Class
@@ -260,9 +260,9 @@ module _ (entries : List BracketEntry) (cs : List Class) (codes : List ℕ) (lev
 
     weak-line-calm : Each IsCalm (types_at is weak_line)
     weak-line-calm =
-        let size = weak-length s.sos (types_at is cs) in
+        let size = weak-is-calm.0 in
         let count = types-size cs in
-        types-each IsCalm refl is weak_line (λ j member. put-covers IsCalm refl is after_weak cs (omega arith) weak-is-calm j (inr member))
+        types-each IsCalm refl is weak_line (λ j member. put-covers IsCalm refl is after_weak cs (omega arith) weak-is-calm.1 j (inr member))
 
     embedding-left : embedding_of is zeros ≡ L
     embedding-left = ap direction_of (zero-at (length cs) x.index)
@@ -270,9 +270,9 @@ module _ (entries : List BracketEntry) (cs : List Class) (codes : List ℕ) (lev
     abbrev after_brackets : List Class
     after_brackets = n0_bracket_types entries (embedding_of is zeros) s.sos (types_at is cs) (codes_at is codes) (types_at is weak_line)
 
-    brackets-are-calm : Each IsCalm after_brackets
+    brackets-are-calm : Stay IsCalm (types_at is weak_line) after_brackets
     brackets-are-calm =
-        subst (λ e. Each IsCalm (n0_bracket_types entries e s.sos (types_at is cs) (codes_at is codes) (types_at is weak_line))) (sym embedding-left)
+        subst (λ e. Stay IsCalm (types_at is weak_line) (n0_bracket_types entries e s.sos (types_at is cs) (codes_at is codes) (types_at is weak_line))) (sym embedding-left)
         (n0_bracket_types-calm entries s.sos (types_at is cs) (codes_at is codes) (types_at is weak_line) weak-line-calm)
 
     abbrev bracket_line : List Class
@@ -280,9 +280,9 @@ module _ (entries : List BracketEntry) (cs : List Class) (codes : List ℕ) (lev
 
     bracket-line-calm : Each IsCalm (types_at is bracket_line)
     bracket-line-calm =
-        let size = n0_bracket_types-length entries (embedding_of is zeros) s.sos (types_at is cs) (codes_at is codes) (types_at is weak_line) in
+        let size = brackets-are-calm.0 in
         let count = types-size weak_line in
-        types-each IsCalm refl is bracket_line (λ j member. put-covers IsCalm refl is after_brackets weak_line (omega arith) brackets-are-calm j (inr member))
+        types-each IsCalm refl is bracket_line (λ j member. put-covers IsCalm refl is after_brackets weak_line (omega arith) brackets-are-calm.1 j (inr member))
 
     abbrev after_neutral : List Class
     after_neutral = neutral_types s.sos s.eos (types_at is bracket_line) (levels_at is zeros)
