@@ -106,46 +106,40 @@ list-nearest way pos (slot ∷ slots) =
     nearest-same way (Either (SlotHasEdge slot) (HasEdge slots)) (HasEdge (slot ∷ slots)) pos (nearest_edge way pos (slot ∷ slots)) (edge-cons slot slots) (edge-uncons slot slots)
     (nearer-nearest way (SlotHasEdge slot) (HasEdge slots) pos (slot_edge way pos slot) (nearest_edge way pos slots) (slot-nearest way pos slot) (list-nearest way pos slots))
 
--- the first edge behind a position, and an end where there is none before it
-abbrev IsFirstEdge : List (Option Overlay) → ℕ → ℕ → ℕ → Type 0
-IsFirstEdge slots end pos stop = IsFirstChange (values_of []) slots end pos stop
+-- the nearest edge on the way from a position, and a limit where there is none before it
+record IsEdge (way : Way) (slots : List (Option Overlay)) (limit pos stop : ℕ) : Type 0 where
+  on : IsOn way pos stop
+  no_edge : (p : ℕ) → IsOn way pos p → IsCloser way p stop → HasEdge slots p → ⊥
+  reason : IsCloser way stop limit → HasEdge slots stop
 
--- the last edge up to a position, and a beginning where there is none behind it
-abbrev IsLastEdge : List (Option Overlay) → ℕ → ℕ → ℕ → Type 0
-IsLastEdge slots begin pos stop = IsLastChange (values_of []) slots begin pos stop
+closer-past : (way : Way) (x y : ℕ) → IsCloser way (closer way x y) x → closer way x y ≡ y
+closer-past Next x y less = omega arith
+closer-past Last x y less = omega arith
 
-first-by : (slots : List (Option Overlay)) (end pos : ℕ) (o : Option ℕ) → pos < end → IsNearest Next (HasEdge slots) pos o → IsFirstEdge slots end pos (min end (unwrap_or o end))
-first-by slots end pos None p nearest = record { later = omega arith; within = omega arith; same = λ q l m kind. refl; no_edge = λ q l m h. nearest q l h; reason = λ l. absurd (omega arith) }
-first-by slots end pos (Some q) p nearest =
-    let below = nearest.0 in
-    record {
-      later = omega arith;
-      within = omega arith;
-      same = λ r l m kind. refl;
-      no_edge = λ r l m h. nearest.2 r l (omega arith) h;
-      reason = λ l. let e : q ≡ min end q = omega arith in let P : ℕ → Type 0 = HasEdge slots in inr (subst P e nearest.1);
-    }
+edge-by : (way : Way) (slots : List (Option Overlay)) (limit pos : ℕ) (o : Option ℕ) → IsOn way pos limit → IsNearest way (HasEdge slots) pos o → IsEdge way slots limit pos (closer way limit (unwrap_or o limit))
+edge-by way slots limit pos None on nearest = record {
+  on = closer-on way pos limit limit on on;
+  no_edge = λ p l m h. nearest p l h;
+  reason = λ l. absurd (not-closer way (closer way limit limit) limit (sym (closer-past way limit limit l)) l);
+}
+edge-by way slots limit pos (Some q) on nearest = record {
+  on = closer-on way pos limit q on nearest.0;
+  no_edge = λ p l m h. nearest.2 p l (closer-than way p limit q m).1 h;
+  reason = λ l. let P : ℕ → Type 0 = HasEdge slots in subst P (sym (closer-past way limit q l)) nearest.1;
+}
 
-last-by : (slots : List (Option Overlay)) (begin pos : ℕ) (o : Option ℕ) → begin ≤ pos → IsNearest Last (HasEdge slots) pos o → IsLastEdge slots begin pos (max begin (unwrap_or o begin))
-last-by slots begin pos None p nearest = record { within = omega arith; before = omega arith; same = λ q l m kind. refl; no_edge = λ q l m h. nearest q m h; reason = λ l. absurd (omega arith) }
-last-by slots begin pos (Some q) p nearest =
-    let below = nearest.0 in
-    record {
-      within = omega arith;
-      before = omega arith;
-      same = λ r l m kind. refl;
-      no_edge = λ r l m h. nearest.2 r m (omega arith) h;
-      reason = λ l. let e : q ≡ max begin q = omega arith in let P : ℕ → Type 0 = HasEdge slots in inr (subst P e nearest.1);
-    }
+edge-at : (way : Way) (slots : List (Option Overlay)) (limit pos stop : ℕ) (o : Option ℕ) → IsOn way pos limit → o ≡ nearest_edge way pos slots → stop ≡ closer way limit (unwrap_or o limit) → IsEdge way slots limit pos stop
+edge-at way slots limit pos stop o on e is =
+    let P : ℕ → Type 0 = IsEdge way slots limit pos in
+    let Q : Option ℕ → Type 0 = λ x. IsEdge way slots limit pos (closer way limit (unwrap_or x limit)) in
+    subst P (sym is) (subst Q (sym e) (edge-by way slots limit pos (nearest_edge way pos slots) on (list-nearest way pos slots)))
 
-pub first-edge : (slots : List (Option Overlay)) (end pos stop : ℕ) (o : Option ℕ) → pos < end → o ≡ next_edge pos slots → stop ≡ min end (unwrap_or o end) → IsFirstEdge slots end pos stop
+pub first-edge : (slots : List (Option Overlay)) (end pos stop : ℕ) (o : Option ℕ) → pos < end → o ≡ next_edge pos slots → stop ≡ min end (unwrap_or o end) → IsFirstChange (values_of []) slots end pos stop
 first-edge slots end pos stop o p e is =
-    let P : ℕ → Type 0 = IsFirstEdge slots end pos in
-    let Q : Option ℕ → Type 0 = λ x. IsFirstEdge slots end pos (min end (unwrap_or x end)) in
-    subst P (sym is) (subst Q (sym e) (first-by slots end pos (next_edge pos slots) p (list-nearest Next pos slots)))
+    let edge = edge-at Next slots end pos stop o p e is in
+    record { later = edge.on; within = omega arith; same = λ q l m kind. refl; no_edge = edge.no_edge; reason = λ l. inr (edge.reason l) }
 
-pub last-edge : (slots : List (Option Overlay)) (begin pos stop : ℕ) (o : Option ℕ) → begin ≤ pos → o ≡ last_edge pos slots → stop ≡ max begin (unwrap_or o begin) → IsLastEdge slots begin pos stop
+pub last-edge : (slots : List (Option Overlay)) (begin pos stop : ℕ) (o : Option ℕ) → begin ≤ pos → o ≡ last_edge pos slots → stop ≡ max begin (unwrap_or o begin) → IsLastChange (values_of []) slots begin pos stop
 last-edge slots begin pos stop o p e is =
-    let P : ℕ → Type 0 = IsLastEdge slots begin pos in
-    let Q : Option ℕ → Type 0 = λ x. IsLastEdge slots begin pos (max begin (unwrap_or x begin)) in
-    subst P (sym is) (subst Q (sym e) (last-by slots begin pos (last_edge pos slots) p (list-nearest Last pos slots)))
+    let edge = edge-at Last slots begin pos stop o p e is in
+    record { within = omega arith; before = edge.on; same = λ q l m kind. refl; no_edge = λ q l m h. edge.no_edge q m l h; reason = λ l. inr (edge.reason l) }
