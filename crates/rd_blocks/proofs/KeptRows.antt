@@ -16,7 +16,7 @@ use Rattle.rd_objects.specs.Sound.{IsClosed, Extends}
 use Rattle.rd_objects.specs.Things.{ObjectLists}
 use Rattle.rd_props.specs.Buffers.{BufferValue}
 use Rattle.rd_props.specs.Made.{AreMade}
-use Rattle.rd_items.specs.Blocks.{blocks_of, IsBlock}
+use Rattle.rd_items.specs.Blocks.{AreListed, IsBlock}
 use Rattle.rd_items.specs.Pieces.{scene_in}
 use Rattle.rd_items.specs.Readings.{reading}
 use Rattle.rd_matrix.specs.Blocks.{IsAmong, first_start}
@@ -159,7 +159,7 @@ is-under es c start n e found =
 
 -- what lower layers promise, and what this one does
 pub record FreshLaws : Type 0 where
-  pub listed : (s : BufferValue) → s.text.begin ≤ s.text.end → (k : ℕ) (b : ℕ × ℕ) → slice_get (blocks_of s) k ≡ Some b → IsBlock s b.0 b.1
+  pub listed : (s : BufferValue) → s.text.begin ≤ s.text.end → AreListed s
   pub source : (s : BufferValue) (objects : ObjectLists) (files : Data) → IsText s.text → IsSource (text_source s objects files)
   pub local : (old new : BufferValue) (made objects : ObjectLists) (files : Data) (a b : Block) (shape : ShapeValues) → without_flags new.settings ≡ without_flags old.settings → IsClosed made → AreMade old made → Extends made objects
       → a.base ≡ b.base → reading old made a.start ≡ reading new objects b.start → rows_in new objects files b shape ≡ rows_in old made files a shape

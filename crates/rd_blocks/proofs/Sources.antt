@@ -1,6 +1,5 @@
 -- Each buffer is a source of blocks.
-use Rattle.std.proofs.Common.{◌≡◌, ℕ, ◌+◌, ◌<◌, ◌≤◌, true, IsTrue, List, [], ◌∷◌, length, get_or, map, None, Some, sym, subst, arith}
-use Rattle.std.specs.Prelude.{slice_get}
+use Rattle.std.proofs.Common.{◌≡◌, ℕ, ◌+◌, ◌<◌, ◌≤◌, true, IsTrue, List, [], ◌∷◌, length, get_or, map, None, sym, subst, arith}
 use Rattle.std.proofs.lemmas.List.Elements.{All-map}
 use Rattle.rd_base.specs.Elements.{ends_once}
 use Rattle.rd_base.specs.declared.element.Element.{Element}
@@ -11,7 +10,7 @@ use Rattle.rd_ucd.specs.declared.spans.Span.{Span}
 use Rattle.rd_objects.specs.Things.{ObjectLists}
 use Rattle.rd_props.specs.Buffers.{BufferValue}
 use Rattle.rd_props.specs.Seen.{Seen}
-use Rattle.rd_items.specs.Blocks.{blocks_of, Adjoin, IsBlock}
+use Rattle.rd_items.specs.Blocks.{blocks_of, Adjoin, AreListed, IsBlock}
 use Rattle.rd_items.specs.Readings.{reading, IsReading}
 use Rattle.rd_items.specs.Pieces.{Scene, scene_in}
 use Rattle.rd_items.specs.Items.{items_of}
@@ -39,8 +38,7 @@ use Rattle.rd_blocks.proofs.Quiet.{PrefixesOpen, quiet-cutting}
 pub record Lower : Type 0 where
   pub items : ItemsGive
   pub prefixes : PrefixesOpen
-  pub listed : (s : BufferValue) → s.text.begin ≤ s.text.end → (k : ℕ) (b : ℕ × ℕ) → slice_get (blocks_of s) k ≡ Some b → IsBlock s b.0 b.1
-  pub adjoin : (s : BufferValue) → s.text.begin ≤ s.text.end → Adjoin s.text.begin (s.text.end + 1) (blocks_of s)
+  pub listed : (s : BufferValue) → s.text.begin ≤ s.text.end → AreListed s
   pub read : (s : BufferValue) (objects : ObjectLists) (p : ℕ) → p ≤ s.text.end → IsReading s.settings.invisible (reading s objects p)
   pub size : (s : BufferValue) (objects : ObjectLists) (from to : ℕ) → IsBlock s from to → from + length (reading s objects from) ≡ to
   pub tile : (scene : Scene) (es : List Seen) → IsReading scene.parts.settings.invisible es → Tile 0 (length es) (items_of scene es)
@@ -55,7 +53,7 @@ later-less : (from to : ℕ) (c : ℕ × ℕ) (bs : List (ℕ × ℕ)) → Adjoi
 later-less from to c [] h = let a = h.0 in let b = h.1 in let e = h.2 in omega (arith, a, b, e)
 later-less from to c (d ∷ ds) h = let a = h.0 in let b = h.1 in let rest = later-less c.1 to d ds h.2 in omega (arith, a, b, rest)
 
-stand-map : (classes : List Span) (s : BufferValue) (from to : ℕ) (bs : List (ℕ × ℕ)) → Adjoin from to bs → StandFrom from (map (block_in classes s) bs)
+pub stand-map : (classes : List Span) (s : BufferValue) (from to : ℕ) (bs : List (ℕ × ℕ)) → Adjoin from to bs → StandFrom from (map (block_in classes s) bs)
 stand-map classes s from to [] h = tt
 stand-map classes s from to (b ∷ bs) h = (h.0, h.1, stand-map classes s b.1 to bs h.2)
 
@@ -90,17 +88,17 @@ pub source-right : Lower → (s : BufferValue) (objects : ObjectLists) (files : 
 source-right low s objects files right =
     let order = right.ordered in
     let classes = files.classes in
-    let adjoin = low.adjoin s order in
+    let listed = low.listed s order in
     let less : s.text.begin < s.text.end + 1 = omega (arith, order) in
     record {
       blocks = record {
-        some = some-map classes s s.text.begin (s.text.end + 1) (blocks_of s) adjoin less;
-        stand = subst (λ n. StandFrom n (blocks_in classes s)) (sym (first-is classes s s.text.begin (s.text.end + 1) (blocks_of s) adjoin less)) (stand-map classes s s.text.begin (s.text.end + 1) (blocks_of s) adjoin);
+        some = some-map classes s s.text.begin (s.text.end + 1) (blocks_of s) listed.adjoin less;
+        stand = subst (λ n. StandFrom n (blocks_in classes s)) (sym (first-is classes s s.text.begin (s.text.end + 1) (blocks_of s) listed.adjoin less)) (stand-map classes s s.text.begin (s.text.end + 1) (blocks_of s) listed.adjoin);
         bases = All-map (λ (b : Block). b.base ≤ 1) (block_in classes s) (blocks_of s) (λ k d inside. base-low classes s (get_or (blocks_of s) k d).0);
       };
       rows = λ b shape among good.
           let found = get-map (block_in classes s) (blocks_of s) among.0 b among.1 in
-          let block = low.listed s order among.0 found.0 found.1 in
+          let block = listed.blocks among.0 found.0 found.1 in
           let last = block.last in
           let some = block.some in
           subst (λ (x : Block). AreRowsOf x.start x.end ((text_source s objects files).rows_of x shape)) found.2

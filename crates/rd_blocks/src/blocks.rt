@@ -4,7 +4,7 @@ use crate::base::base_of;
 use crate::laws::buffers_are_sources;
 use crate::rows::rows_of;
 use rd_base::{Memory, Pos, Steps};
-use rd_items::{block_at, block_before, block_from, blocks_are_in_order, blocks_are_listed};
+use rd_items::{block_at, block_before, block_from, blocks_are_listed};
 use rd_matrix::{Block, BlockSource};
 use rd_para::Paragraph;
 use rd_props::View;
@@ -87,7 +87,6 @@ impl<'a> Blocks<'a> {
         ensures stays { self.new ≡ self.old }
     {
         blocks_are_listed();
-        blocks_are_in_order();
         self.stands(block);
         let state = self.view.state;
         let start = block.end;
@@ -105,7 +104,7 @@ impl<'a> Blocks<'a> {
         ensures prev { IfOk result (λ prev. (k : _) → slice_get (source_of self.old).blocks k ≡ Some block.now → prev ≡ block_before (source_of self.old).blocks k) }
         ensures stays { self.new ≡ self.old }
     {
-        blocks_are_in_order();
+        blocks_are_listed();
         self.stands(block);
         let state = self.view.state;
         let end = block.start;

@@ -1,44 +1,15 @@
 -- The list of the blocks of a text.
-use Rattle.std.proofs.Common.{◌≡◌, ◌⊎◌, inl, inr, ℕ, ◌+◌, ◌-◌, ◌<◌, ◌≤◌, Bool, true, false, List, [], ◌∷◌, Some, None, refl, sym, ap, subst, ◌∙◌, arith}
+use Rattle.std.proofs.Common.{◌≡◌, inl, inr, ℕ, ◌+◌, ◌-◌, ◌<◌, ◌≤◌, Bool, true, false, List, [], ◌∷◌, Some, refl, ap, subst, ◌∙◌, arith}
 use Rattle.std.specs.Prelude.{zero, suc, slice_get, if◌then◌else◌}
 use Rattle.std.proofs.lemmas.Bool.{both_ways, cases_lt}
 use Rattle.std.proofs.lemmas.Option.{same_Some}
 use Rattle.rd_props.specs.Buffers.{BufferValue}
 use Rattle.rd_items.specs.Readings.{ends_block}
-use Rattle.rd_items.specs.Blocks.{blocks_from, blocks_of, Adjoin, is_shown_newline, StartsBlock, EndsBlock, IsBlock}
+use Rattle.rd_items.specs.Blocks.{blocks_from, blocks_of, Adjoin, is_shown_newline, StartsBlock, EndsBlock, IsBlock, AreListed}
 use Rattle.rd_items.proofs.Newlines.{AreInside, both-inside, one-inside}
 use Rattle.rd_items.proofs.Readings.{newline-ends}
 
 -- ---- lists of blocks that adjoin
-
--- what stands behind the block of a place, and before it
-abbrev Behind : ℕ → List (ℕ × ℕ) → ℕ → ℕ × ℕ → Type 0
-Behind to bs k x = ((x.1 ≡ to) × (slice_get bs (suc k) ≡ None)) ⊎ ((y : ℕ × ℕ) × (slice_get bs (suc k) ≡ Some y) × (y.0 ≡ x.1))
-
-record IsBehind (from : ℕ) (bs : List (ℕ × ℕ)) (k : ℕ) (x : ℕ × ℕ) : Type 0 where
-  place : ℕ
-  block : ℕ × ℕ
-  next : k ≡ suc place
-  found : slice_get bs place ≡ Some block
-  ends : block.1 ≡ x.0
-  later : from < x.0
-
-abbrev Before : ℕ → List (ℕ × ℕ) → ℕ → ℕ × ℕ → Type 0
-Before from bs k x = ((k ≡ 0) × (x.0 ≡ from)) ⊎ IsBehind from bs k x
-
-behind : (from to : ℕ) (bs : List (ℕ × ℕ)) (k : ℕ) (x : ℕ × ℕ) → Adjoin from to bs → slice_get bs k ≡ Some x → Behind to bs k x
-behind from to [] k x all found = cc
-behind from to (b ∷ bs) (suc k) x all found = behind b.1 to bs k x all.2 found
-behind from to (b ∷ []) zero x all found = inl (ap (λ (y : ℕ × ℕ). y.1) (sym (same_Some b x found)) ∙ all.2, refl)
-behind from to (b ∷ c ∷ bs) zero x all found = inr (c, refl, all.2.0 ∙ ap (λ (y : ℕ × ℕ). y.1) (same_Some b x found))
-
-before : (from to : ℕ) (bs : List (ℕ × ℕ)) (k : ℕ) (x : ℕ × ℕ) → Adjoin from to bs → slice_get bs k ≡ Some x → Before from bs k x
-before from to [] k x all found = cc
-before from to (b ∷ bs) zero x all found = inl (refl, ap (λ (y : ℕ × ℕ). y.0) (sym (same_Some b x found)) ∙ all.0)
-before from to (b ∷ bs) (suc k) x all found = by-place (before b.1 to bs k x all.2 found) where
-  by-place : Before b.1 bs k x → Before from (b ∷ bs) (suc k) x
-  by-place (inl here) = inr (record { place = 0; block = b; next = ap suc here.0; found = refl; ends = sym here.1; later = omega (arith, all.0, all.1, here.1) })
-  by-place (inr there) = inr (record { place = suc there.place; block = there.block; next = ap suc there.next; found = there.found; ends = there.ends; later = omega (arith, all.0, all.1, there.later) })
 
 -- a block that holds a position
 record Holds (bs : List (ℕ × ℕ)) (p : ℕ) : Type 0 where
@@ -163,65 +134,18 @@ adjoining s (suc n) start p low far =
       by-end true next more = (refl, omega arith, next)
       by-end false next more = more
 
--- each of the list is a block
-pub listed-blocks : (s : BufferValue) → s.text.begin ≤ s.text.end → (k : ℕ) (b : ℕ × ℕ) → slice_get (blocks_of s) k ≡ Some b → IsBlock s b.0 b.1
-listed-blocks s ordered =
-    are-blocks s (s.text.end - s.text.begin) s.text.begin s.text.begin
-    (record { low = omega arith; order = omega arith; far = omega arith; begins = inl refl; inside = λ q a b. absurd (omega arith) })
+-- each of the list is a block, and each block is listed
+pub blocks-listed : (s : BufferValue) → s.text.begin ≤ s.text.end → AreListed s
+blocks-listed s ordered = record { blocks = blocks; every = every; adjoin = adjoin } where
+  blocks : AreBlocks s (blocks_of s)
+  blocks = are-blocks s (s.text.end - s.text.begin) s.text.begin s.text.begin
+      (record { low = omega arith; order = omega arith; far = omega arith; begins = inl refl; inside = λ q a b. absurd (omega arith) })
 
-pub all-adjoin : (s : BufferValue) → s.text.begin ≤ s.text.end → Adjoin s.text.begin (s.text.end + 1) (blocks_of s)
-all-adjoin s ordered = adjoining s (s.text.end - s.text.begin) s.text.begin s.text.begin (omega arith) (omega arith)
+  adjoin : Adjoin s.text.begin (s.text.end + 1) (blocks_of s)
+  adjoin = adjoining s (s.text.end - s.text.begin) s.text.begin s.text.begin (omega arith) (omega (arith, ordered))
 
-ordered-text : (s : BufferValue) (from to : ℕ) → IsBlock s from to → s.text.begin ≤ s.text.end
-ordered-text s from to block = omega (arith, block.first, block.some, block.last)
-
--- each block is listed
-pub every-block : (s : BufferValue) (from to : ℕ) → IsBlock s from to → (k : ℕ) × (slice_get (blocks_of s) k ≡ Some (from, to))
-every-block s from to block =
-    let ordered = ordered-text s from to block in
-    let held = holding s.text.begin (s.text.end + 1) from (blocks_of s) (all-adjoin s ordered) block.first (omega (arith, block.some, block.last)) in
-    let same = same-block s from held.block.0 held.block.1 from to (listed-blocks s ordered held.place held.block held.found) block held.first held.last (omega arith) block.some in
-    (held.place, held.found ∙ ap Some (pair held.block from to same.0 same.1))
-
-at-next : (s : BufferValue) (k : ℕ) → slice_get (blocks_of s) (k + 1) ≡ slice_get (blocks_of s) (suc k)
-at-next s k = (let place : k + 1 ≡ suc k = omega arith in ap (slice_get (blocks_of s)) place)
-
--- the block behind one
-pub next-block : (s : BufferValue) (k a b c : ℕ) → slice_get (blocks_of s) k ≡ Some (a, b) → IsBlock s b c → slice_get (blocks_of s) (k + 1) ≡ Some (b, c)
-next-block s k a b c found block =
-    by-place (behind s.text.begin (s.text.end + 1) (blocks_of s) k (a, b) (all-adjoin s (ordered-text s b c block)) found) where
-      by-place : Behind (s.text.end + 1) (blocks_of s) k (a, b) → slice_get (blocks_of s) (k + 1) ≡ Some (b, c)
-      by-place (inl last) = absurd (omega (arith, last.0, block.some, block.last))
-      by-place (inr next) =
-          let is = listed-blocks s (ordered-text s b c block) (suc k) next.0 next.1 in
-          let same = same-block s b next.0.0 next.0.1 b c is block (omega (arith, next.2)) (omega (arith, next.2, is.some)) (omega arith) block.some in
-          at-next s k ∙ next.1 ∙ ap Some (pair next.0 b c same.0 same.1)
-
--- none is behind the last
-pub last-listed : (s : BufferValue) (k a : ℕ) → s.text.begin ≤ s.text.end → slice_get (blocks_of s) k ≡ Some (a, s.text.end + 1) → slice_get (blocks_of s) (k + 1) ≡ None
-last-listed s k a ordered found =
-    by-place (behind s.text.begin (s.text.end + 1) (blocks_of s) k (a, s.text.end + 1) (all-adjoin s ordered) found) where
-      by-place : Behind (s.text.end + 1) (blocks_of s) k (a, s.text.end + 1) → slice_get (blocks_of s) (k + 1) ≡ None
-      by-place (inl last) = at-next s k ∙ last.1
-      by-place (inr next) =
-          let is = listed-blocks s ordered (suc k) next.0 next.1 in
-          absurd (omega (arith, next.2, is.some, is.last))
-
--- the block before one
-pub prev-block : (s : BufferValue) (k a b c : ℕ) → slice_get (blocks_of s) k ≡ Some (b, c) → IsBlock s a b → (j : ℕ) × (k ≡ j + 1) × (slice_get (blocks_of s) j ≡ Some (a, b))
-prev-block s k a b c found block =
-    by-place (before s.text.begin (s.text.end + 1) (blocks_of s) k (b, c) (all-adjoin s (ordered-text s a b block)) found) where
-      by-place : Before s.text.begin (blocks_of s) k (b, c) → (j : ℕ) × (k ≡ j + 1) × (slice_get (blocks_of s) j ≡ Some (a, b))
-      by-place (inl first) = absurd (omega (arith, first.1, block.first, block.some))
-      by-place (inr there) =
-          let is = listed-blocks s (ordered-text s a b block) there.place there.block there.found in
-          let same = same-block s (b - 1) there.block.0 there.block.1 a b is block (omega (arith, there.ends, is.some)) (omega (arith, there.ends, is.some)) (omega (arith, block.some)) (omega (arith, block.some)) in
-          (there.place, omega (arith, there.next), there.found ∙ ap Some (pair there.block a b same.0 same.1))
-
--- none is before the first
-pub first-listed : (s : BufferValue) (k c : ℕ) → s.text.begin ≤ s.text.end → slice_get (blocks_of s) k ≡ Some (s.text.begin, c) → k ≡ 0
-first-listed s k c ordered found =
-    by-place (before s.text.begin (s.text.end + 1) (blocks_of s) k (s.text.begin, c) (all-adjoin s ordered) found) where
-      by-place : Before s.text.begin (blocks_of s) k (s.text.begin, c) → k ≡ 0
-      by-place (inl first) = first.0
-      by-place (inr there) = absurd (omega (arith, there.later))
+  every : (from to : ℕ) → IsBlock s from to → (k : ℕ) × (slice_get (blocks_of s) k ≡ Some (from, to))
+  every from to block =
+      let held = holding s.text.begin (s.text.end + 1) from (blocks_of s) adjoin block.first (omega (arith, block.some, block.last)) in
+      let same = same-block s from held.block.0 held.block.1 from to (blocks held.place held.block held.found) block held.first held.last (omega arith) block.some in
+      (held.place, held.found ∙ ap Some (pair held.block from to same.0 same.1))

@@ -1,5 +1,5 @@
 -- The blocks into which the accessible text is cut.
-use Rattle.std.specs.Prelude.{◌≡◌, ◌⊎◌, ℕ, zero, suc, ◌+◌, ◌-◌, ◌<◌, ◌≤◌, nat_lt, Bool, true, false, ◌&&◌, if◌then◌else◌, List, [], ◌∷◌}
+use Rattle.std.specs.Prelude.{◌≡◌, ◌⊎◌, ℕ, zero, suc, ◌+◌, ◌-◌, ◌<◌, ◌≤◌, nat_lt, Bool, true, false, ◌&&◌, if◌then◌else◌, List, [], ◌∷◌, slice_get, Some}
 use Rattle.rd_props.specs.Buffers.{BufferValue}
 use Rattle.rd_items.specs.Readings.{ends_block}
 
@@ -60,3 +60,10 @@ pub record IsFirstEnd (s : BufferValue) (p to : ℕ) : Type 0 where
   pub last : to ≤ s.text.end + 1
   pub inside : (q : ℕ) → p ≤ q → suc q < to → is_shown_newline s q ≡ false
   pub ends : EndsBlock s to
+
+-- the blocks of a text are those of its list, which stand one behind the other from the beginning of the accessible text to its end,
+-- which counts as a position
+pub record AreListed (s : BufferValue) : Type 0 where
+  pub blocks : (k : ℕ) (b : ℕ × ℕ) → slice_get (blocks_of s) k ≡ Some b → IsBlock s b.0 b.1
+  pub every : (from to : ℕ) → IsBlock s from to → (k : ℕ) × (slice_get (blocks_of s) k ≡ Some (from, to))
+  pub adjoin : Adjoin s.text.begin (s.text.end + 1) (blocks_of s)

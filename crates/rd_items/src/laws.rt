@@ -1,5 +1,5 @@
 //! What holds of blocks and of their items, proved of the definitions.
-ghost use Rattle.std.specs.Prelude.{◌≡◌, ℕ, ◌+◌, ◌≤◌, List, length, slice_get, Some, None};
+ghost use Rattle.std.specs.Prelude.{◌≡◌, ℕ, ◌+◌, ◌≤◌, List, length};
 ghost use Rattle.rd_base.specs.Settings.{SettingValues, without_flags};
 ghost use Rattle.rd_ucd.specs.Data.{Data};
 ghost use Rattle.rd_objects.specs.Sound.{IsClosed, Extends};
@@ -8,7 +8,7 @@ ghost use Rattle.rd_props.specs.Buffers.{BufferValue};
 ghost use Rattle.rd_props.specs.Made.{AreMade, SettingsMade};
 ghost use Rattle.rd_props.specs.Seen.{Seen};
 ghost use Rattle.rd_items.specs.Readings.{reading, IsReading, HaveCodes};
-ghost use Rattle.rd_items.specs.Blocks.{blocks_of, Adjoin, IsBlock};
+ghost use Rattle.rd_items.specs.Blocks.{AreListed, IsBlock};
 ghost use Rattle.rd_items.specs.Pieces.{Scene, table_in, scene_in};
 ghost use Rattle.rd_items.specs.Items.{items_of, AreMeasuredItems};
 ghost use Rattle.rd_items.specs.Covers.{Tile, CoverWhereTheyGive, EndOnce};
@@ -20,18 +20,7 @@ use rd_props::made_objects_alone_are_seen;
 /// The blocks of a text are those of its list, which stand one behind the other from the beginning of the accessible text to its
 /// end, which counts as a position. The call does nothing.
 pub fn blocks_are_listed()
-    ensures blocks { (s : BufferValue) → s.text.begin ≤ s.text.end → (k : ℕ) (b : ℕ × ℕ) → slice_get (blocks_of s) k ≡ Some b → IsBlock s b.0 b.1 }
-    ensures every { (s : BufferValue) (from to : ℕ) → IsBlock s from to → (k : ℕ) × (slice_get (blocks_of s) k ≡ Some (from, to)) }
-    ensures adjoin { (s : BufferValue) → s.text.begin ≤ s.text.end → Adjoin s.text.begin (s.text.end + 1) (blocks_of s) }
-{}
-
-/// The block that starts where another ends stands behind it in the list, and the block that ends where another starts before
-/// it; none is behind the block that ends with the text, and none before the one that starts with it. The call does nothing.
-pub fn blocks_are_in_order()
-    ensures next { (s : BufferValue) (k a b c : ℕ) → slice_get (blocks_of s) k ≡ Some (a, b) → IsBlock s b c → slice_get (blocks_of s) (k + 1) ≡ Some (b, c) }
-    ensures last { (s : BufferValue) (k a : ℕ) → s.text.begin ≤ s.text.end → slice_get (blocks_of s) k ≡ Some (a, s.text.end + 1) → slice_get (blocks_of s) (k + 1) ≡ None }
-    ensures prev { (s : BufferValue) (k a b c : ℕ) → slice_get (blocks_of s) k ≡ Some (b, c) → IsBlock s a b → (j : ℕ) × (k ≡ j + 1) × (slice_get (blocks_of s) j ≡ Some (a, b)) }
-    ensures first { (s : BufferValue) (k c : ℕ) → s.text.begin ≤ s.text.end → slice_get (blocks_of s) k ≡ Some (s.text.begin, c) → k ≡ 0 }
+    ensures { (s : BufferValue) → s.text.begin ≤ s.text.end → AreListed s }
 {}
 
 /// What is read from an accessible position on, the end of the accessible text included, ends with its ender and has none before,

@@ -27,7 +27,7 @@ use Rattle.rd_layout.proofs.Chosen.{chosen-anchor, chosen-point}
 -- ---- positions of the blocks are accessible
 
 pub accessible : ViewLaws → (classes : List Span) (s : props.BufferValue) (p : ℕ) → IsText s.text → IsWithin p (blocks_in classes s) → IsAccessible s.text p
-accessible laws classes s p text at = within-accessible classes s text.ordered (laws.adjoin s text.ordered) p at
+accessible laws classes s p text at = within-accessible classes s (laws.listed s text.ordered) text.ordered p at
 
 -- ---- shapes
 

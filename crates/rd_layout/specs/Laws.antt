@@ -7,7 +7,7 @@ use Rattle.rd_base.specs.Faces.{plain}
 use Rattle.rd_base.specs.declared.settings.Anchor.{Anchor}
 use Rattle.rd_blocks.specs.Sources.{text_source}
 use Rattle.rd_glyphs.specs.Lines.{plain_cells}
-use Rattle.rd_items.specs.Blocks.{Adjoin, IsBlock, blocks_of}
+use Rattle.rd_items.specs.Blocks.{AreListed}
 use Rattle.rd_margins.specs.Cells.{IsMargin, row_margin}
 use Rattle.rd_margins.specs.declared.rows.Widths.{Widths}
 use Rattle.rd_matrix.specs.Blocks.{IsWithin}
@@ -53,8 +53,7 @@ pub record StartLaws : Type 0 where
 pub record ViewLaws : Type 0 where
   pub source : (s : props.BufferValue) (objects : ObjectLists) (files : Data) → IsText s.text → IsSource (text_source s objects files)
   pub within : (s : props.BufferValue) (objects : ObjectLists) (files : Data) (pos : ℕ) → IsAccessible s.text pos → IsWithin pos (text_source s objects files).blocks
-  pub listed : (s : props.BufferValue) → s.text.begin ≤ s.text.end → (k : ℕ) (b : ℕ × ℕ) → slice_get (blocks_of s) k ≡ Some b → IsBlock s b.0 b.1
-  pub adjoin : (s : props.BufferValue) → s.text.begin ≤ s.text.end → Adjoin s.text.begin (s.text.end + 1) (blocks_of s)
+  pub listed : (s : props.BufferValue) → s.text.begin ≤ s.text.end → AreListed s
   pub start : StartLaws
   pub places : PlaceLaws
 

@@ -57,6 +57,41 @@ same-holder from (suc k) (suc j) (c ∷ bs) a b h i g low high = ap suc (same-ho
 pub same-place : (from k j : ℕ) (bs : List Block) (a b : Block) → StandFrom from bs → slice_get bs k ≡ Some a → slice_get bs j ≡ Some b → a.start ≡ b.start → k ≡ j
 same-place from k j bs a b h i g s = let some = (later-start from k bs a h i).1 in same-holder from k j bs a b h i g (omega (arith, s)) (omega (arith, s, some))
 
+end-least : (from : ℕ) (bs : List Block) → StandFrom from bs → from ≤ end_from from bs
+end-least from [] h = omega arith
+end-least from (b ∷ bs) h = let start = h.0 in let some = h.1 in let rest = end-least b.end bs h.2 in omega (arith, start, some, rest)
+
+-- the place of the one that starts where they all start
+pub first-place : (from k : ℕ) (bs : List Block) (b : Block) → StandFrom from bs → slice_get bs k ≡ Some b → b.start ≡ from → k ≡ 0
+first-place from k [] b h i first = absurd cc
+first-place from zero (a ∷ bs) b h i first = refl
+first-place from (suc k) (a ∷ bs) b h i first = let later = later-start a.end k bs b h.2 i in absurd (omega (arith, first, h.0, h.1, later.0))
+
+-- the place of the one that starts where another ends
+pub place-behind : (from k j : ℕ) (bs : List Block) (a b : Block) → StandFrom from bs → slice_get bs k ≡ Some a → slice_get bs j ≡ Some b
+    → a.end ≡ b.start → j ≡ suc k
+place-behind from k j [] a b h i g meets = absurd cc
+place-behind from k zero (c ∷ bs) a b h i g meets =
+    let same : c ≡ b = cc in
+    let start = ap (λ (x : Block). x.start) same in
+    let later = later-start from k (c ∷ bs) a h i in
+    absurd (omega (arith, start, h.0, later.0, later.1, meets))
+place-behind from zero (suc j) (c ∷ bs) a b h i g meets =
+    let same : c ≡ a = cc in
+    ap suc (first-place c.end j bs b h.2 g (sym (ap (λ (x : Block). x.end) same ∙ meets)))
+place-behind from (suc k) (suc j) (c ∷ bs) a b h i g meets = ap suc (place-behind c.end k j bs a b h.2 i g meets)
+
+-- none stands behind the one that ends where they all end
+pub none-behind : (from last k : ℕ) (bs : List Block) (b : Block) → StandFrom from bs → slice_get bs k ≡ Some b → end_from last bs ≤ b.end
+    → slice_get bs (suc k) ≡ None
+none-behind from last k [] b h i past = absurd cc
+none-behind from last zero (a ∷ []) b h i past = refl
+none-behind from last zero (a ∷ c ∷ bs) b h i past =
+    let same : a ≡ b = cc in
+    let end = ap (λ (x : Block). x.end) same in
+    absurd (omega (arith, end, h.2.0, h.2.1, end-least c.end bs h.2.2, past))
+none-behind from last (suc k) (a ∷ bs) b h i past = none-behind a.end a.end k bs b h.2 i past
+
 -- where some end, from wherever they are followed
 pub end-any : (x y : ℕ) (bs : List Block) → 0 < length bs → end_from x bs ≡ end_from y bs
 end-any x y [] some = absurd (omega arith)
@@ -231,10 +266,6 @@ passed-all hs pos n passed all within =
     absurd (omega (arith, end, high))
 
 -- a block is found by its start
-
-end-least : (from : ℕ) (bs : List Block) → StandFrom from bs → from ≤ end_from from bs
-end-least from [] h = omega arith
-end-least from (b ∷ bs) h = let start = h.0 in let some = h.1 in let rest = end-least b.end bs h.2 in omega (arith, start, some, rest)
 
 end-behind : (from last k : ℕ) (bs : List Block) (b : Block) → StandFrom from bs → slice_get bs k ≡ Some b → b.end ≤ end_from last bs
 end-behind from last k [] b h i = absurd cc

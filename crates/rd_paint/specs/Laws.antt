@@ -5,7 +5,7 @@ use Rattle.rd_ucd.specs.Data.{Data}
 use Rattle.rd_frame.specs.Fits.{FitsFrame}
 use Rattle.rd_frame.specs.Frames.{FrameValues}
 use Rattle.rd_frame.specs.Turns.{IsTurn}
-use Rattle.rd_items.specs.Blocks.{IsBlock, blocks_of}
+use Rattle.rd_items.specs.Blocks.{AreListed}
 use Rattle.rd_props.specs.Buffers as props
 use Rattle.rd_state.specs.States.{StateValue}
 use Rattle.rd_state.specs.Valid.{IsValid, IsWindow}
@@ -25,9 +25,9 @@ pub record LeafLaws : Type 0 where
   pub places : PlaceLaws
   pub found : (s : StateValue) (number : ℕ) (w : WindowState) → IsValid s → window_of number s.windows ≡ Some w → IsWindow s.buffers w
 
--- where the accessible range is in order, each range that is listed is a block of the buffer
+-- where the accessible range is in order, the blocks of the buffer are those of its list
 abbrev pub ListedLaw : Type 0
-ListedLaw = (s : props.BufferValue) → s.text.begin ≤ s.text.end → (k : ℕ) (b : ℕ × ℕ) → slice_get (blocks_of s) k ≡ Some b → IsBlock s b.0 b.1
+ListedLaw = (s : props.BufferValue) → s.text.begin ≤ s.text.end → AreListed s
 
 -- of a window that is painted in its turn
 pub record TurnLaws : Type 0 where

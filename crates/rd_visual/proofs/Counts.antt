@@ -102,7 +102,7 @@ module _ (s : BufferValue) (objects : ObjectLists) (files : Data) (are : AreTile
   covered-stand from to (b ∷ bs) adjoin = (adjoin.0, adjoin.1, covered-stand b.1 to bs adjoin.2)
 
   all-count : (pos : ℕ) → count_by (holds pos) (all_ranges s objects files) ≡ cond (holds pos (record { from = s.text.begin; to = s.text.end + 1 })) 1 0
-  all-count pos = blocks-count pos (blocks_of s) are.listed ∙ stand-count pos s.text.begin (s.text.end + 1) (covered (blocks_of s)) (covered-stand s.text.begin (s.text.end + 1) (blocks_of s) are.adjoin)
+  all-count pos = blocks-count pos (blocks_of s) are.listed.blocks ∙ stand-count pos s.text.begin (s.text.end + 1) (covered (blocks_of s)) (covered-stand s.text.begin (s.text.end + 1) (blocks_of s) are.listed.adjoin)
 
   pub every : (pos : ℕ) → IsAccessible s.text pos → count_by (holds pos) (all_ranges s objects files) ≡ 1
   every pos place =

@@ -1,9 +1,9 @@
 -- The blocks of a text, and the items that tile each of them.
-use Rattle.std.specs.Prelude.{◌≡◌, ℕ, ◌+◌, length, slice_get, Some}
+use Rattle.std.specs.Prelude.{◌≡◌, ◌+◌, length}
 use Rattle.rd_ucd.specs.Data.{Data}
 use Rattle.rd_objects.specs.Things.{ObjectLists}
 use Rattle.rd_props.specs.Buffers.{BufferValue}
-use Rattle.rd_items.specs.Blocks.{Adjoin, IsBlock, blocks_of}
+use Rattle.rd_items.specs.Blocks.{AreListed, IsBlock}
 use Rattle.rd_items.specs.Covers.{EndOnce, Tile}
 use Rattle.rd_items.specs.Readings.{reading}
 use Rattle.rd_matrix.specs.declared.block.Block.{Block}
@@ -17,6 +17,5 @@ pub record IsTiled (s : BufferValue) (objects : ObjectLists) (files : Data) (b :
 
 -- the blocks of a text stand one behind the other from its begin to its end, and items tile each
 pub record AreTiled (s : BufferValue) : Type 0 where
-  pub listed : (k : ℕ) (b : ℕ × ℕ) → slice_get (blocks_of s) k ≡ Some b → IsBlock s b.0 b.1
-  pub adjoin : Adjoin s.text.begin (s.text.end + 1) (blocks_of s)
+  pub listed : AreListed s
   pub tiled : (objects : ObjectLists) (files : Data) (b : Block) → IsBlock s b.start b.end → IsTiled s objects files b

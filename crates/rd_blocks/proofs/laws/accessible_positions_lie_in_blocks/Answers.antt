@@ -7,4 +7,4 @@ returns c = λ s objects files pos at.
     let low = at.0 in
     let high = at.1 in
     let order : s.text.begin ≤ s.text.end = omega (arith, low, high) in
-    accessible-within files.classes s (c.blocks_are_listed.ensures.adjoin s order) pos at
+    accessible-within files.classes s (c.blocks_are_listed.ensures s order) pos at

@@ -5,8 +5,7 @@ pub returns : goal.returns
 returns c = source-right (record {
   items = c.items_that_give_have_elements.ensures.some;
   prefixes = c.prefixes_end_no_line.ensures;
-  listed = c.blocks_are_listed.ensures.blocks;
-  adjoin = c.blocks_are_listed.ensures.adjoin;
+  listed = c.blocks_are_listed.ensures;
   read = c.blocks_are_read_whole.ensures.reading;
   size = c.blocks_are_read_whole.ensures.length;
   tile = c.items_cover_their_block.ensures.tile;

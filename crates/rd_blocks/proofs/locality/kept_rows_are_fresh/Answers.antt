@@ -6,7 +6,7 @@ use Rattle.rd_blocks.proofs.locality.kept_rows_are_fresh.Goals as goal
 pub returns-clause-changed : goal.returns-clause-changed
 returns-clause-changed c = λ old new made objects files change shape rows right text is follows all.
     rows-fresh (record {
-      listed = c.blocks_are_listed.ensures.blocks;
+      listed = c.blocks_are_listed.ensures;
       source = c.buffers_are_sources.ensures;
       local = c.rows_are_local.ensures;
     }) old new made objects files change shape rows right text is follows all
@@ -14,7 +14,7 @@ returns-clause-changed c = λ old new made objects files change shape rows right
 pub returns-clause-all : goal.returns-clause-all
 returns-clause-all c = λ s objects files shape rows text.
     c.all_keeps_no_block.ensures.source _ rows shape (c.buffers_are_sources.ensures s objects files text)
-    (among-small files.classes s (c.blocks_are_listed.ensures.blocks s text.ordered) text)
+    (among-small files.classes s (c.blocks_are_listed.ensures s text.ordered) text)
 
 pub returns-clause-rows : goal.returns-clause-rows
 returns-clause-rows c = slice-rows

@@ -5,8 +5,7 @@ use Rattle.rd_visual.proofs.laws.blocks_are_tiled.Goals as goal
 
 pub returns : goal.returns
 returns c = λ s text. record {
-  listed = c.blocks_are_listed.ensures.blocks s text.ordered;
-  adjoin = c.blocks_are_listed.ensures.adjoin s text.ordered;
+  listed = c.blocks_are_listed.ensures s text.ordered;
   tiled = λ objects files b is.
       let some = is.some in
       let last = is.last in

@@ -1,4 +1,4 @@
-use Rattle.std.proofs.Common.{◌≡◌, ℕ, None, Some, sym, subst, ◌∙◌}
+use Rattle.std.proofs.Common.{◌≡◌, ℕ, None, Some, refl, sym, subst, ◌∙◌}
 use Rattle.std.specs.Prelude.{slice_get}
 use Rattle.rd_props.specs.Buffers.{meaning}
 use Rattle.rd_props.specs.declared.state.View.{View}
@@ -12,12 +12,10 @@ use Rattle.rd_blocks.proofs.blocks.Blocks.before.Goals as goal
 pub returns-then-end-begin-clause-prev : goal.returns-then-end-begin-clause-prev
 returns-then-end-begin-clause-prev c =
     let x = c.self.inside.view in
-    let order = c.blocks_are_in_order.ensures in
     let s = meaning x.state.now in
     let b = c.args.block.now in
-    let right = c.begin.ensures.right in
     subst (λ (w : View). (k : ℕ) → slice_get (source_of w).blocks k ≡ Some b → None ≡ block_before (source_of w).blocks k) c.self.view_is
-    (prev-none x.classes.now s (λ k c. order.first s k c right.ordered) b (c.if-end-begin.true ∙ c.begin.ensures.value))
+    (prev-none x.classes.now s (c.blocks_are_listed.ensures s c.begin.ensures.right.ordered) b (c.if-end-begin.true ∙ c.begin.ensures.value))
 
 -- the block does not begin the text, so that a newline is shown before it
 newline : (c : goal.Else-end-begin) → IsBehindNewline (meaning c.self.inside.view.state.now) c.args.block.now.start
@@ -38,9 +36,8 @@ block_before-requires-clause-newline c = (newline c).2
 pub returns-clause-prev : goal.returns-clause-prev
 returns-clause-prev c =
     let x = c.self.inside.view in
-    let order = c.blocks_are_in_order.ensures in
     let s = meaning x.state.now in
     let b = c.args.block.now in
     let before : Block = record { start = c.in_ok-start.start; end = b.start; base = c.base_of-base.result } in
     subst (λ (w : View). (k : ℕ) → slice_get (source_of w).blocks k ≡ Some b → Some before ≡ block_before (source_of w).blocks k) c.self.view_is
-    (prev-block x.classes.now s (order.prev s) b c.in_ok-start.start c.base_of-base.result c.in_ok-start.ensures c.base_of-base.ensures.base)
+    (prev-block x.classes.now s (c.blocks_are_listed.ensures s c.begin.ensures.right.ordered) before b refl c.in_ok-start.ensures c.base_of-base.ensures.base)

@@ -1,4 +1,4 @@
-use Rattle.std.proofs.Common.{◌≡◌, ◌+◌, ℕ, None, Some, sym, subst, arith}
+use Rattle.std.proofs.Common.{◌≡◌, ◌+◌, ℕ, None, Some, refl, sym, subst, arith}
 use Rattle.std.specs.Prelude.{slice_get}
 use Rattle.rd_text.specs.Texts.{IsAccessible}
 use Rattle.rd_props.specs.Buffers.{meaning}
@@ -12,14 +12,13 @@ use Rattle.rd_blocks.proofs.blocks.Blocks.behind.Goals as goal
 pub returns-then-end-start-clause-next : goal.returns-then-end-start-clause-next
 returns-then-end-start-clause-next c =
     let x = c.self.inside.view in
-    let order = c.blocks_are_in_order.ensures in
     let s = meaning x.state.now in
     let b = c.args.block.now in
     let right = c.end.ensures.right in
     let value = c.end.ensures.value in
     let past = c.if-end-start.true in
     subst (λ (w : View). (k : ℕ) → slice_get (source_of w).blocks k ≡ Some b → None ≡ slice_get (source_of w).blocks (k + 1)) c.self.view_is
-    (next-none x.classes.now s (c.blocks_are_listed.ensures.blocks s right.ordered) (λ k a. order.last s k a right.ordered) b (omega (arith, value, past)))
+    (next-none x.classes.now s (c.blocks_are_listed.ensures s right.ordered) b (omega (arith, value, past)))
 
 -- the block ends before the end of the text, so that another starts there
 starts : (c : goal.Else-end-start) → let s = meaning c.self.inside.view.state.now in IsAccessible s.text c.args.block.now.end × StartsBlock s c.args.block.now.end
@@ -39,9 +38,8 @@ block_from-requires-clause-start c = (starts c).1
 pub returns-clause-next : goal.returns-clause-next
 returns-clause-next c =
     let x = c.self.inside.view in
-    let order = c.blocks_are_in_order.ensures in
     let s = meaning x.state.now in
     let b = c.args.block.now in
     let next : Block = record { start = b.end; end = c.in_ok-end.end; base = c.base_of-base.result } in
     subst (λ (w : View). (k : ℕ) → slice_get (source_of w).blocks k ≡ Some b → Some next ≡ slice_get (source_of w).blocks (k + 1)) c.self.view_is
-    (next-block x.classes.now s (order.next s) b c.in_ok-end.end c.base_of-base.result c.in_ok-end.ensures c.base_of-base.ensures.base)
+    (next-block x.classes.now s (c.blocks_are_listed.ensures s c.end.ensures.right.ordered) b next refl c.in_ok-end.ensures c.base_of-base.ensures.base)

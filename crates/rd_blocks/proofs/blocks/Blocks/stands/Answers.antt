@@ -11,11 +11,10 @@ use Rattle.rd_blocks.proofs.blocks.Blocks.stands.Goals as goal
 pub returns-clause-block : goal.returns-clause-block
 returns-clause-block c =
     let x = c.self.inside.view in
-    let law = c.blocks_are_listed.ensures in
     let s = meaning x.state.now in
     let b = c.args.block.now in
     subst (λ (w : View). IsBlock (meaning w.state.now) b.start b.end) c.self.view_is
-    (among-block x.classes.now s (law.blocks s c.begin-begin.ensures.right.ordered) b (subst (λ (w : View). IsAmong (source_of w).blocks b) (sym c.self.view_is) c.requires))
+    (among-block x.classes.now s (c.blocks_are_listed.ensures s c.begin-begin.ensures.right.ordered) b (subst (λ (w : View). IsAmong (source_of w).blocks b) (sym c.self.view_is) c.requires))
 
 pub returns-clause-base : goal.returns-clause-base
 returns-clause-base c =
