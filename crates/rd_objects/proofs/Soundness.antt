@@ -200,18 +200,6 @@ face_extends o face = record { strings = goes_nowhere o.strings; specs = goes_no
 pub table_extends : (o : ObjectLists) (table : TableValue) → Extends o (table_added o table)
 table_extends o table = record { strings = goes_nowhere o.strings; specs = goes_nowhere o.specs; faces = goes_nowhere o.faces; tables = goes_one o.tables table }
 
-pub same_strings : (old new : ObjectLists) (number : ℕ) → Extends old new → number < length old.strings → slice_get new.strings number ≡ slice_get old.strings number
-same_strings old new number e p = goes_kept old.strings new.strings number e.strings p
-
-pub same_specs : (old new : ObjectLists) (number : ℕ) → Extends old new → number < length old.specs → slice_get new.specs number ≡ slice_get old.specs number
-same_specs old new number e p = goes_kept old.specs new.specs number e.specs p
-
-pub same_faces : (old new : ObjectLists) (number : ℕ) → Extends old new → number < length old.faces → slice_get new.faces number ≡ slice_get old.faces number
-same_faces old new number e p = goes_kept old.faces new.faces number e.faces p
-
-pub same_tables : (old new : ObjectLists) (number : ℕ) → Extends old new → number < length old.tables → slice_get new.tables number ≡ slice_get old.tables number
-same_tables old new number e p = goes_kept old.tables new.tables number e.tables p
-
 -- what holds of all that runs give holds of what the last one over a place gives
 given_at-each : {T : Type 0} (P : T → Type 0) (runs : List (RunOf T)) (i : ℕ) → All (λ run. P run.value) runs → IfSome (given_at runs i) P
 given_at-each P runs i = last-gives P (λ run. run.value) (λ run. covers run.from run.to i) runs

@@ -15,7 +15,7 @@ use Rattle.rd_objects.specs.declared.run.Spec.TheVariants.{Text, Width, Align}
 use Rattle.rd_objects.specs.Sound.{IsClosed}
 use Rattle.rd_objects.specs.Tables.{TableValue}
 use Rattle.rd_objects.specs.Texts.{TextValue, spec_of}
-use Rattle.rd_objects.proofs.Soundness.{same_strings, same_specs, named_specs, named_strings}
+use Rattle.rd_objects.proofs.Soundness.{goes_kept, named_specs, named_strings}
 use Rattle.rd_glyphs.specs.Characters.{entry_of, elements_by, elements_of}
 use Rattle.rd_glyphs.proofs.Joined.{Grows}
 use Rattle.rd_props.specs.Seen.{Seen}
@@ -111,7 +111,7 @@ module _ (old new : Scene) (goes : GoesOnFrom old new) (closed : IsClosed old.ob
 
   same-named : (o : Option ℕ) → IfSome o (λ n. n < length old.objects.specs) → option_map (spec_in new.objects) o ≡ option_map (spec_in old.objects) o
   same-named None made = refl
-  same-named (Some n) made = ap (λ (x : Option Spec). Some (unwrap_or x (Width 0))) (same_specs old.objects new.objects n goes.objects made)
+  same-named (Some n) made = ap (λ (x : Option Spec). Some (unwrap_or x (Width 0))) (goes_kept old.objects.specs new.objects.specs n goes.objects.specs made)
 
   same-by : (spec : Option Spec) (p : Place) → part_by new spec p ≡ part_by old spec p
   same-by None p = rw (goes.table, ctl, goes.classes)
@@ -155,7 +155,7 @@ module _ (old new : Scene) (goes : GoesOnFrom old new) (closed : IsClosed old.ob
       → ((text : TextValue) → slice_get old.objects.strings number ≡ Some text → f (Some text) ≡ g (Some text))
       → f (slice_get new.objects.strings number) ≡ g (slice_get old.objects.strings number)
   string-stays f g number made none some =
-      ap f (same_strings old.objects new.objects number goes.objects made) ∙ found-stays f g (slice_get old.objects.strings number) none some
+      ap f (goes_kept old.objects.strings new.objects.strings number goes.objects.strings made) ∙ found-stays f g (slice_get old.objects.strings number) none some
 
   -- the elements of a string that was made, where those of strings in it stay
   same-put : (f g : Attributes → Option TextValue → List Element) → ((n : ℕ) (face : Attributes) → n < length old.objects.strings → f face (slice_get new.objects.strings n) ≡ g face (slice_get old.objects.strings n))
