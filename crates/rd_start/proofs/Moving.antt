@@ -13,7 +13,7 @@ use Rattle.rd_rows.specs.Shapes.{ShapeValues}
 use Rattle.rd_start.specs.Chosen.{anchor_at, chosen_of, forced_point, places_of, row_of}
 use Rattle.rd_start.specs.Near.{is_near, near_costs}
 use Rattle.rd_start.specs.Starts.{around, centred, following, moved, scrolled, suits}
-use Rattle.rd_start.specs.Strips.{Affords, HasPoint, IsFor, IsLaidOut, IsPaid, IsStrip, IsUnsuited, AsksAt, BeginsAbove, Between, all_costs, centred_chosen, count_in, first_row, home_row, moved_row, point_row, rows_in}
+use Rattle.rd_start.specs.Strips.{Affords, FindsNear, HasPoint, IsFor, IsLaidOut, IsPaid, IsStrip, IsUnsuited, AsksAt, BeginsAbove, Between, all_costs, centred_chosen, count_in, first_row, home_row, moved_row, point_row, rows_in}
 use Rattle.rd_start.specs.declared.strip.Edge.TheVariants.{Bottom, Top}
 use Rattle.rd_start.specs.declared.strip.Strip.{Strip}
 use Rattle.rd_start.specs.declared.strip.Sweep.{Sweep}
@@ -46,35 +46,34 @@ asks-view m s w h of free = λ k from to.
     let inside = h.inside in
     view-near w (places_of m s.sweep.shape w) k free (omega arith) (omega arith)
 
-moves-old : (m : SourceValues) (s : Strip) (w : Wanted) → IsStrip m s → IsFor w s.sweep → suits w (places_of m s.sweep.shape w) (first_row m s + s.home) ≡ false
-    → suits w (places_of m s.sweep.shape w) (places_of m s.sweep.shape w).old ≡ false
-moves-old m s w h of moves = ap (suits w (places_of m s.sweep.shape w)) (old-is m w s.sweep of ∙ sym (home-is m s h)) ∙ moves
+-- what a window whose old start does not suit asks of a strip of its sweep
+module _ (m : SourceValues) (win : Window) (moves : IsUnsuited m win) (new : Strip) (e : new.sweep ≡ win.strip.sweep) where
+  moves-old : suits win.wanted (places_of m win.strip.sweep.shape win.wanted) (places_of m win.strip.sweep.shape win.wanted).old ≡ false
+  moves-old =
+      ap (suits win.wanted (places_of m win.strip.sweep.shape win.wanted))
+      (old-is m win.wanted win.strip.sweep moves.laid.of ∙ sym (home-is m win.strip moves.laid.strip)) ∙ moves.home
 
--- as far above the old start as it may be moved
-pub asks-far : (m : SourceValues) (s : Strip) (w : Wanted) → IsStrip m s → IsFor w s.sweep → w.forced ≡ false → suits w (places_of m s.sweep.shape w) (first_row m s + s.home) ≡ false
-    → AsksAt Top (near_of m s.sweep w) m s w.conservatively
-asks-far m s w h of free moves = λ k from to.
-    let old = old-is m w s.sweep of in
-    let home = h.home in
-    moving-near w (places_of m s.sweep.shape w) k free (moves-old m s w h of moves) (omega arith) (omega arith)
+  -- the rows as far from the old start as it may be moved, and in the views from there
+  near-home : Between (near_of m win.strip.sweep win.wanted) (home_row m new.sweep - win.wanted.conservatively)
+      (home_row m new.sweep + win.wanted.conservatively + win.wanted.height + 1)
+  near-home = λ k from to.
+      let old = old-is m win.wanted win.strip.sweep moves.laid.of in
+      let same = ap (home_row m) e in
+      moving-near win.wanted (places_of m win.strip.sweep.shape win.wanted) k moves.laid.kind moves-old (omega arith) (omega arith)
 
--- and below it
-pub asks-end : (m : SourceValues) (s new : Strip) (w : Wanted) → IsStrip m s → IsStrip m new → new.sweep ≡ s.sweep → IsFor w s.sweep → w.forced ≡ false
-    → suits w (places_of m s.sweep.shape w) (first_row m s + s.home) ≡ false → AsksAt Bottom (near_of m s.sweep w) m new (new.home + w.conservatively + w.height + 1)
-asks-end m s new w h i e of free moves = λ k from to.
-    let old = old-is m w s.sweep of in
-    let same = ap (home_row m) e in
-    let home = i.home in
-    let inside = i.inside in
-    moving-near w (places_of m s.sweep.shape w) k free (moves-old m s w h of moves) (omega arith) (omega arith)
+  pub asks-far : AsksAt Top (near_of m win.strip.sweep win.wanted) m new win.wanted.conservatively
+  asks-far = λ k from to. near-home k from (omega arith)
 
--- round point's row
-pub asks-point : (m : SourceValues) (s new : Strip) (w : Wanted) → IsStrip m s → new.sweep ≡ s.sweep → IsFor w s.sweep → w.forced ≡ false
-    → suits w (places_of m s.sweep.shape w) (first_row m s + s.home) ≡ false → Between (near_of m s.sweep w) (point_row m new.sweep - w.height) (point_row m new.sweep + 1)
-asks-point m s new w h e of free moves = λ k from to.
-    let point = point-is m w s.sweep of.point in
-    let same = ap (point_row m) e in
-    point-near w (places_of m s.sweep.shape w) k free (moves-old m s w h of moves) (omega arith) (omega arith)
+  pub asks-end : IsStrip m new
+      → AsksAt Bottom (near_of m win.strip.sweep win.wanted) m new (new.home + win.wanted.conservatively + win.wanted.height + 1)
+  asks-end h = λ k from to. let home = h.home in let inside = h.inside in near-home k (omega arith) (omega arith)
+
+  -- round point's row
+  pub asks-point : Between (near_of m win.strip.sweep win.wanted) (point_row m new.sweep - win.wanted.height) (point_row m new.sweep + 1)
+  asks-point = λ k from to.
+      let point = point-is m win.wanted win.strip.sweep moves.laid.of.point in
+      let same = ap (point_row m) e in
+      point-near win.wanted (places_of m win.strip.sweep.shape win.wanted) k moves.laid.kind moves-old (omega arith) (omega arith)
 
 -- a forced start
 scrolled-is : (m : SourceValues) (sweep : Sweep) (w : Wanted) → IsFor w sweep → scrolled w (places_of m sweep.shape w) ≡ moved_row m sweep w.pending
@@ -129,16 +128,20 @@ module _ (m : SourceValues) (sweep : Sweep) (s : Strip) (w : Wanted) (h : IsStri
   pub follows-home : suits w (places_of m sweep.shape w) (first_row m s + s.home) ≡ true → following w (places_of m sweep.shape w) ≡ first_row m s + s.home
   follows-home here = follows-old w (places_of m sweep.shape w) (ap (suits w (places_of m sweep.shape w)) old-home ∙ here) ∙ old-home
 
-  abbrev pub IsNear : Option ℕ → Type 0
-  IsNear o = option_map (λ n. first_row m s + n) o ≡ find (suits w (places_of m sweep.shape w)) (around (first_row m s + s.home) w.conservatively)
+  found-near : (o found : Option ℕ) → o ≡ found → FindsNear m (record { wanted = w; strip = s }) o
+      → find (suits w (places_of m sweep.shape w)) (around (places_of m sweep.shape w).old w.conservatively)
+      ≡ option_map (λ n. first_row m s + n) found
+  found-near o found is near =
+      ap (λ n. find (suits w (places_of m sweep.shape w)) (around n w.conservatively)) old-home
+      ∙ (ap (λ (x : Sweep). find (suits w (places_of m x.shape w)) (around (first_row m s + s.home) w.conservatively)) (sym e)
+      ∙ (sym near ∙ ap (option_map (λ n. first_row m s + n)) is))
 
-  found-near : (o found : Option ℕ) → o ≡ found → IsNear o → find (suits w (places_of m sweep.shape w)) (around (places_of m sweep.shape w).old w.conservatively) ≡ option_map (λ n. first_row m s + n) found
-  found-near o found is near = ap (λ n. find (suits w (places_of m sweep.shape w)) (around n w.conservatively)) old-home ∙ (sym near ∙ ap (option_map (λ n. first_row m s + n)) is)
-
-  pub follows-near : (o : Option ℕ) (place : ℕ) → o ≡ Some place → IsNear o → following w (places_of m sweep.shape w) ≡ first_row m s + place
+  pub follows-near : (o : Option ℕ) (place : ℕ) → o ≡ Some place → FindsNear m (record { wanted = w; strip = s }) o
+      → following w (places_of m sweep.shape w) ≡ first_row m s + place
   follows-near o place is near = follows-found w (places_of m sweep.shape w) (first_row m s + place) (found-near o (Some place) is near)
 
-  pub follows-centre : (o : Option ℕ) → o ≡ None → IsNear o → following w (places_of m sweep.shape w) ≡ centred w (places_of m sweep.shape w)
+  pub follows-centre : (o : Option ℕ) → o ≡ None → FindsNear m (record { wanted = w; strip = s }) o
+      → following w (places_of m sweep.shape w) ≡ centred w (places_of m sweep.shape w)
   follows-centre o is near = follows-none w (places_of m sweep.shape w) (found-near o None is near)
 
 value-centred : (m : SourceValues) (sweep : Sweep) (s : Strip) (w : Wanted) (chosen : Chosen) → s.sweep ≡ sweep → w.forced ≡ false
@@ -227,13 +230,13 @@ unsuited-on m win new moves strip same =
 pub far-above : (m : SourceValues) (win : Window) (up : Strip) (n steps base : ℕ) → IsUnsuited m win → EdgePays Top m win.strip up n steps win.wanted.conservatively → NearPaid m win win.strip base n
     → NearPaid m win up base steps
 far-above m win up n steps base moves pays paid =
-    pays (near_of m win.strip.sweep win.wanted) base paid (asks-far m win.strip win.wanted moves.laid.strip moves.laid.of moves.laid.kind moves.home)
+    pays (near_of m win.strip.sweep win.wanted) base paid (asks-far m win moves win.strip refl)
 
 pub far-below : (m : SourceValues) (win : Window) (up : Strip) (home : ℕ) → IsUnsuited m win → IsStrip m up → up.sweep ≡ win.strip.sweep → home ≡ up.home
     → AsksAt Bottom (near_of m win.strip.sweep win.wanted) m up (home + win.wanted.conservatively + win.wanted.height + 1)
 far-below m win up home moves strip same is =
     subst (λ n. AsksAt Bottom (near_of m win.strip.sweep win.wanted) m up (n + win.wanted.conservatively + win.wanted.height + 1)) (sym is)
-    (asks-end m win.strip up win.wanted moves.laid.strip strip same moves.laid.of moves.laid.kind moves.home)
+    (asks-end m win moves up same strip)
 
 -- the view from the old start
 pub view-below : (m : SourceValues) (win : Window) (home : ℕ) → IsLaidOut m win false → home ≡ win.strip.home → AsksAt Bottom (near_of m win.strip.sweep win.wanted) m win.strip (home + win.wanted.height)

@@ -1,5 +1,5 @@
 -- Rows of a strip that suit as a start.
-use Rattle.std.proofs.Common.{◌≡◌, ℕ, ◌+◌, ◌-◌, ◌<◌, ◌≤◌, ◌⊎◌, inl, inr, Bool, true, false, cond, List, [], ◌∷◌, Option, None, Some, Result, Ok, Err, refl, sym, ap, subst, ◌∙◌, arith}
+use Rattle.std.proofs.Common.{◌≡◌, ℕ, ◌+◌, ◌-◌, ◌<◌, ◌≤◌, ◌⊎◌, inl, inr, Bool, true, false, cond, [], ◌∷◌, Option, None, Some, Result, Ok, Err, refl, sym, ap, subst, ◌∙◌, arith}
 use Rattle.std.proofs.lemmas.Bool.{le-leb, lt-leb}
 use Rattle.std.proofs.lemmas.Bool.Decides.{nat_tests}
 use Rattle.std.specs.List.{find}
@@ -7,7 +7,7 @@ use Rattle.rd_matrix.specs.Sources.{SourceValues}
 use Rattle.rd_matrix.specs.declared.block.Block.{Block}
 use Rattle.rd_start.specs.Chosen.{anchor_row, places_of, row_of}
 use Rattle.rd_start.specs.Starts.{above_at, around, both_at, margin_of, suits}
-use Rattle.rd_start.specs.Strips.{IsFor, IsStrip, BeginsAbove, EndsAt, Reaches, StandsBeyond, count_in, first_row, hides_edge, home_row, point_row, row_at, rows_in, wanted_at}
+use Rattle.rd_start.specs.Strips.{Finds, IsFor, IsStrip, BeginsAbove, EndsAt, Reaches, StandsBeyond, count_in, first_row, hides_edge, home_row, point_row, row_at, rows_in, wanted_at}
 use Rattle.rd_start.specs.declared.strip.Edge.{Edge}
 use Rattle.rd_start.specs.declared.strip.Edge.TheVariants.{Bottom, Top}
 use Rattle.rd_matrix.specs.Entries.{all_rows}
@@ -128,10 +128,6 @@ at-greater : (row far next : ℕ) (p : ℕ → Bool) (o found : Option ℕ) → 
 at-greater row far next p o found e none same here =
     here ∙ (ap (λ n. find p (n ∷ [])) same
     ∙ sym (find-append p (above_at row far) ((row + far) ∷ []) ∙ ap (λ r. option_or r (find p ((row + far) ∷ []))) (sym e ∙ none)))
-
--- what suits among rows, as places of a window's strip
-abbrev pub Finds : SourceValues → Window → Option ℕ → List ℕ → Type 0
-Finds m win o rows = option_map (λ n. first_row m win.strip + n) o ≡ find (suits win.wanted (places_of m win.strip.sweep.shape win.wanted)) rows
 
 pub lesser-found : (m : SourceValues) (win : Window) (far start : ℕ) (o lesser : Option ℕ) → row_at (first_row m win.strip) lesser ≡ above_at (first_row m win.strip + win.strip.home) far
     → Finds m win o (row_at (first_row m win.strip) lesser) → o ≡ Some start → Finds m win (Some start) (both_at (first_row m win.strip + win.strip.home) far)

@@ -1,7 +1,8 @@
 -- Words for what the code holds while it chooses: a strip of rows that were laid out. The crate's public contract does not name
 -- them.
 use Rattle.std.specs.Prelude.{◌≡◌, ℕ, ◌+◌, ◌-◌, ◌*◌, ◌^◌, ◌<◌, ◌≤◌, ◌⊎◌, min, max, nat_lt, Bool, true, false, if◌then◌else◌, List, [], ◌∷◌, ◌++◌, length, map, slice_get, ℤ, Option, None, Some}
-use Rattle.std.specs.List.{AllByRecursion, fold, list_any, position, range_with_len}
+use Rattle.std.specs.List.{AllByRecursion, find, fold, list_any, position, range_with_len}
+use Rattle.std.specs.Option.{option_map}
 use Rattle.rd_matrix.specs.Blocks.{IsAmong, IsWithin}
 use Rattle.rd_matrix.specs.Entries.{EntryMeaning, all_rows, numbered}
 use Rattle.rd_matrix.specs.Rows.{blocks_with}
@@ -11,7 +12,7 @@ use Rattle.rd_rows.specs.Rows.{RowMeaning}
 use Rattle.rd_rows.specs.Shapes.{ShapeValues, IsShape}
 use Rattle.rd_start.specs.Chosen.{anchor_at, anchor_row, begins_item, chosen_of, places_of, positions_of, row_of}
 use Rattle.rd_start.specs.Near.{is_near, near_costs}
-use Rattle.rd_start.specs.Starts.{centred, moved, suits, wanted_above, wanted_below}
+use Rattle.rd_start.specs.Starts.{around, centred, moved, suits, wanted_above, wanted_below}
 use Rattle.rd_start.specs.declared.strip.Edge.{Edge}
 use Rattle.rd_start.specs.declared.strip.Edge.TheVariants.{Bottom, Top}
 use Rattle.rd_start.specs.declared.strip.StripRow.{StripRow}
@@ -222,6 +223,16 @@ window_chosen m window = chosen_of m window.strip.sweep.shape window.wanted
 pub record IsUnsuited (m : SourceValues) (window : Window) : Type 0 where
   pub laid : IsLaidOut m window false
   pub home : suits window.wanted (places_of m window.strip.sweep.shape window.wanted) (first_row m window.strip + window.strip.home) ≡ false
+
+-- what suits as the start among rows, as a place of a window's strip
+abbrev pub Finds : SourceValues → Window → Option ℕ → List ℕ → Type 0
+Finds m window o rows =
+    option_map (λ place. first_row m window.strip + place) o
+    ≡ find (suits window.wanted (places_of m window.strip.sweep.shape window.wanted)) rows
+
+-- the same among the rows near the anchor's, the nearest first
+abbrev pub FindsNear : SourceValues → Window → Option ℕ → Type 0
+FindsNear m window o = Finds m window o (around (first_row m window.strip + window.strip.home) window.wanted.conservatively)
 
 -- a window that follows point, and whose strip has point's row at a place
 pub record ShowsPoint (m : SourceValues) (window : Window) (row : ℕ) : Type 0 where

@@ -1,10 +1,8 @@
 //! Which rows of a strip suit as a window's start.
 ghost use Rattle.std.specs.Prelude.{◌≡◌, ◌+◌, ◌<◌, ◌^◌, true, false, length, IfOk, IfSome};
-ghost use Rattle.std.specs.List.{find};
-ghost use Rattle.std.specs.Option.{option_map};
 ghost use Rattle.rd_start.specs.Chosen.{places_of};
-ghost use Rattle.rd_start.specs.Starts.{around, both_at, is_inside, suits};
-ghost use Rattle.rd_start.specs.Strips.{IsLaidOut, IsStrip, IsUnsuited, BeginsAbove, Reaches, ShowsPoint, count_in, first_row, hides_edge, row_at, wanted_at};
+ghost use Rattle.rd_start.specs.Starts.{both_at, is_inside, suits};
+ghost use Rattle.rd_start.specs.Strips.{IsLaidOut, IsStrip, IsUnsuited, BeginsAbove, Finds, FindsNear, Reaches, ShowsPoint, count_in, first_row, hides_edge, row_at, wanted_at};
 
 use crate::strip::Edge;
 use crate::wanted::margin_of;
@@ -110,8 +108,8 @@ fn suiting<B: BlockSource>(
     requires shows { ShowsPoint (B.meaning source.old) window.now row }
     requires reached { IfSome place (λ start. Reaches (B.meaning source.old) window.now.strip (start + window.now.wanted.height)) }
     ensures stays { B.meaning source.new ≡ B.meaning source.old }
-    ensures value { IfOk result (λ found. option_map (λ place. first_row (B.meaning source.old) window.now.strip + place) found
-        ≡ find (suits window.now.wanted (places_of (B.meaning source.old) window.now.strip.sweep.shape window.now.wanted)) (row_at (first_row (B.meaning source.old) window.now.strip) place)) }
+    ensures value { IfOk result (λ found. Finds (B.meaning source.old) window.now found
+        (row_at (first_row (B.meaning source.old) window.now.strip) place)) }
     ensures inside { IfOk result (λ found. IfSome found (λ place. place < length window.now.strip.strip_rows.items)) }
 {
     let Some(start) = place else {
@@ -136,8 +134,8 @@ fn suiting_at<B: BlockSource>(
     requires above { BeginsAbove (B.meaning source.old) window.now.strip far }
     requires reached { Reaches (B.meaning source.old) window.now.strip (window.now.strip.home + far + window.now.wanted.height) }
     ensures stays { B.meaning source.new ≡ B.meaning source.old }
-    ensures value { IfOk result (λ found. option_map (λ place. first_row (B.meaning source.old) window.now.strip + place) found
-        ≡ find (suits window.now.wanted (places_of (B.meaning source.old) window.now.strip.sweep.shape window.now.wanted)) (both_at (first_row (B.meaning source.old) window.now.strip + window.now.strip.home) far)) }
+    ensures value { IfOk result (λ found. Finds (B.meaning source.old) window.now found
+        (both_at (first_row (B.meaning source.old) window.now.strip + window.now.strip.home) far)) }
     ensures inside { IfOk result (λ found. IfSome found (λ place. place < length window.now.strip.strip_rows.items)) }
 {
     let home = window.strip.home();
@@ -158,8 +156,7 @@ pub(crate) fn nearest<B: BlockSource>(
     requires above { BeginsAbove (B.meaning source.old) window.now.strip window.now.wanted.conservatively }
     requires below { Reaches (B.meaning source.old) window.now.strip (window.now.strip.home + window.now.wanted.conservatively + window.now.wanted.height + 1) }
     ensures stays { B.meaning source.new ≡ B.meaning source.old }
-    ensures value { IfOk result (λ start. option_map (λ place. first_row (B.meaning source.old) window.now.strip + place) start
-        ≡ find (suits window.now.wanted (places_of (B.meaning source.old) window.now.strip.sweep.shape window.now.wanted)) (around (first_row (B.meaning source.old) window.now.strip + window.now.strip.home) window.now.wanted.conservatively)) }
+    ensures value { IfOk result (λ start. FindsNear (B.meaning source.old) window.now start) }
     ensures inside { IfOk result (λ start. IfSome start (λ place. place < length window.now.strip.strip_rows.items)) }
 {
     let Some(row) = window.strip.point_row() else {

@@ -1,11 +1,7 @@
-use Rattle.std.proofs.Common.{◌≡◌, ℕ, ◌+◌, sym, ap, subst, ◌∙◌, arith}
+use Rattle.std.proofs.Common.{◌≡◌, ℕ, ◌+◌, refl, sym, ap, ◌∙◌, arith}
 use Rattle.std.specs.Prelude.{IfOk}
-use Rattle.std.specs.List.{find}
-use Rattle.std.specs.Option.{option_map}
 use Rattle.rd_matrix.specs.Sources.{SourceValues}
-use Rattle.rd_start.specs.Chosen.{places_of}
-use Rattle.rd_start.specs.Starts.{around, suits}
-use Rattle.rd_start.specs.Strips.{IsStrip, IsUnsuited, all_costs, centred_chosen, first_row}
+use Rattle.rd_start.specs.Strips.{FindsNear, IsStrip, IsUnsuited, all_costs, centred_chosen}
 use Rattle.rd_start.specs.declared.strip.Edge.TheVariants.{Bottom}
 use Rattle.rd_start.specs.declared.strip.Sweep.{Sweep}
 use Rattle.rd_start.specs.declared.wanted.Chosen.{Chosen}
@@ -20,8 +16,8 @@ pub returns-in_err-reach-clause-steps : goal.returns-in_err-reach-clause-steps
 returns-in_err-reach-clause-steps g c = λ base paid.
     let m = g.B.BlockSource.meaning c.args.source.now in
     let win = c.args.window in
-    let laid = c.requires.laid in
-    let bound = c.in_err-reach.ensures.paid (near_of m win.strip.sweep win.wanted) base paid (asks-far m win.strip win.wanted laid.strip laid.of laid.kind c.requires.home) in
+    let asks = asks-far m win c.requires win.strip refl in
+    let bound = c.in_err-reach.ensures.paid (near_of m win.strip.sweep win.wanted) base paid asks in
     omega (arith, bound)
 
 pub returns-in_err-reach-2-clause-steps : goal.returns-in_err-reach-2-clause-steps
@@ -68,17 +64,13 @@ returns-in_err-start-clause-steps g c = λ base paid.
     spent-near (g.B.BlockSource.meaning c.args.source.now) c.args.window c.reach-2.new.self base c.reach-2.new.steps (same g at) (laid g at base paid)
 
 -- the nearest row that suits
-found : (g : given.Over) (c : goal.In_ok-start g) → option_map (λ n. first_row (g.B.BlockSource.meaning c.args.source.now) c.reach-2.new.self + n) c.in_ok-start.field-0
-    ≡ find (suits c.args.window.wanted (places_of (g.B.BlockSource.meaning c.args.source.now) c.args.window.strip.sweep.shape c.args.window.wanted))
-    (around (first_row (g.B.BlockSource.meaning c.args.source.now) c.reach-2.new.self + c.reach-2.new.self.home) c.args.window.wanted.conservatively)
+found : (g : given.Over) (c : goal.In_ok-start g)
+    → let win : Window = record { wanted = c.args.window.wanted; strip = c.reach-2.new.self } in
+    FindsNear (g.B.BlockSource.meaning c.args.source.now) win c.in_ok-start.field-0
 found g c =
-    let m = g.B.BlockSource.meaning c.args.source.now in
-    let w = c.args.window.wanted in
-    let down = c.reach-2.new.self in
-    let told = at-source (λ (x : SourceValues). option_map (λ n. first_row x down + n) c.in_ok-start.field-0 ≡ find (suits w (places_of x down.sweep.shape w)) (around (first_row x down + down.home) w.conservatively))
-    m (g.B.BlockSource.meaning c.reach-2.new.source) (c.reach-2.ensures.stays ∙ c.reach.ensures.stays) c.in_ok-start.ensures.value in
-    subst (λ (x : Sweep). option_map (λ n. first_row m down + n) c.in_ok-start.field-0 ≡ find (suits w (places_of m x.shape w)) (around (first_row m down + down.home) w.conservatively))
-    (c.in_ok-reach-2.ensures.sweep ∙ c.in_ok-reach.ensures.sweep) told
+    let win : Window = record { wanted = c.args.window.wanted; strip = c.reach-2.new.self } in
+    at-source (λ (x : SourceValues). FindsNear x win c.in_ok-start.field-0) (g.B.BlockSource.meaning c.args.source.now)
+    (g.B.BlockSource.meaning c.reach-2.new.source) (c.reach-2.ensures.stays ∙ c.reach.ensures.stays) c.in_ok-start.ensures.value
 
 pub returns-in-Some-clause-value : goal.returns-in-Some-clause-value
 returns-in-Some-clause-value g c =
@@ -115,6 +107,6 @@ returns-in-None-clause-steps g c = λ base paid.
     let has = laid g (goal.at.returns-in-None-clause-steps g c).In_ok-reach-2 base paid in
     let told = at-source (λ (x : SourceValues). CentredPays x down win.wanted c.reach-2.new.steps c.centred.new.steps) m (g.B.BlockSource.meaning c.nearest.new.source)
     (c.nearest.ensures.stays ∙ (c.reach-2.ensures.stays ∙ c.reach.ensures.stays)) c.centred.ensures.steps in
-    let bound = told kind base has (asks-point m win.strip down win.wanted c.requires.laid.strip both c.requires.laid.of c.requires.laid.kind c.requires.home) in
+    let bound = told kind base has (asks-point m win c.requires down both) in
     let costs = ap (λ (x : Sweep). all_costs kind m x) both in
     omega (arith, bound, costs)

@@ -1,10 +1,9 @@
-use Rattle.std.proofs.Common.{◌≡◌, ◌+◌, ◌<◌, Some, sym, ap, ◌∙◌, arith}
-use Rattle.std.specs.List.{find}
+use Rattle.std.proofs.Common.{◌+◌, ◌<◌, Some, sym, ap, ◌∙◌, arith}
 use Rattle.std.specs.Option.{option_map}
 use Rattle.rd_matrix.specs.Sources.{SourceValues}
 use Rattle.rd_start.specs.Chosen.{places_of}
 use Rattle.rd_start.specs.Starts.{both_at, suits}
-use Rattle.rd_start.specs.Strips.{ShowsPoint, first_row}
+use Rattle.rd_start.specs.Strips.{Finds, ShowsPoint, first_row}
 use Rattle.rd_start.proofs.Reaching.{at-source}
 use Rattle.rd_start.proofs.Sides.{point-told}
 use Rattle.rd_start.proofs.Suits.{lost-nearest, nearest-here, nearest-later}
@@ -26,14 +25,12 @@ suiting_at-requires-clause-shows g c =
 
 -- what the search at a distance answered, as rows of the source
 told : (g : given.Over) (c : In_ok-found g)
-    → let m = g.B.BlockSource.meaning c.args.source.now in
-    let s = c.args.window.now.strip in
-    let w = c.args.window.now.wanted in
-    option_map (λ n. first_row m s + n) c.in_ok-found.found ≡ find (suits w (places_of m s.sweep.shape w)) (both_at (first_row m s + s.home) (c.loop-step.step + 1))
+    → let m = g.B.BlockSource.meaning c.args.source.now in let win = c.args.window.now in
+    Finds m win c.in_ok-found.found (both_at (first_row m win.strip + win.strip.home) (c.loop-step.step + 1))
 told g c =
-    let s = c.args.window.now.strip in
-    let w = c.args.window.now.wanted in
-    at-source (λ (x : SourceValues). option_map (λ n. first_row x s + n) c.in_ok-found.found ≡ find (suits w (places_of x s.sweep.shape w)) (both_at (first_row x s + s.home) (c.loop-step.step + 1)))
+    let win = c.args.window.now in
+    at-source
+    (λ (x : SourceValues). Finds x win c.in_ok-found.found (both_at (first_row x win.strip + win.strip.home) (c.loop-step.step + 1)))
     (g.B.BlockSource.meaning c.args.source.now) (g.B.BlockSource.meaning c.loop-step.source) c.loop-step.invariant.source c.in_ok-found.ensures.value
 
 pub returns-in-Some-found-clause-value : goal.returns-in-Some-found-clause-value
