@@ -14,7 +14,7 @@ use Rattle.rd_items.specs.Blocks.{blocks_of, Adjoin, AreListed, IsBlock}
 use Rattle.rd_items.specs.Readings.{reading, IsReading}
 use Rattle.rd_items.specs.Pieces.{Scene, scene_in}
 use Rattle.rd_items.specs.Items.{items_of}
-use Rattle.rd_items.specs.Covers.{Tile, CoverWhereTheyGive}
+use Rattle.rd_items.specs.Covers.{CoverBlock}
 use Rattle.rd_matrix.proofs.HeldLemmas.{are-rows}
 use Rattle.rd_matrix.specs.Blocks.{StandFrom, first_start, end_from}
 use Rattle.rd_matrix.specs.Sources.{IsSource, AreRowsOf}
@@ -41,8 +41,7 @@ pub record Lower : Type 0 where
   pub listed : (s : BufferValue) → s.text.begin ≤ s.text.end → AreListed s
   pub read : (s : BufferValue) (objects : ObjectLists) (p : ℕ) → p ≤ s.text.end → IsReading s.settings.invisible (reading s objects p)
   pub size : (s : BufferValue) (objects : ObjectLists) (from to : ℕ) → IsBlock s from to → from + length (reading s objects from) ≡ to
-  pub tile : (scene : Scene) (es : List Seen) → IsReading scene.parts.settings.invisible es → Tile 0 (length es) (items_of scene es)
-  pub give : (scene : Scene) (es : List Seen) → IsReading scene.parts.settings.invisible es → CoverWhereTheyGive scene (items_of scene es)
+  pub cover : (scene : Scene) (es : List Seen) → IsReading scene.parts.settings.invisible es → CoverBlock scene 0 (length es) (items_of scene es)
   pub ends : (scene : Scene) (base : ℕ) (es : List Seen) → IsReading scene.parts.settings.invisible es → ends_once (line_elements scene base es) ≡ true
   pub last : (c : Cutting) (es : List Element) → HasQuietLeads c → IsTrue (ends_once es) → IsTrue (ends_last (seen_rows (rows_of c es)))
   pub begun : (c : Cutting) (es : List Element) → HasQuietLeads c → IsTrue (ends_once es) → map range_of (begins_of (seen_rows (rows_of c es))) ≡ ranges_of None es
@@ -79,10 +78,10 @@ rows-right low scene base start end shape es is size =
     let quiet = quiet-cutting low.prefixes scene base shape es in
     let ends = low.ends scene base es is in
     let items = items_of scene es in
-    let tile = low.tile scene es is in
+    let cover = low.cover scene es is in
     are-rows start end (length es) (seen_rows (rows_of cutting line)) (ranges_of None line) size (low.last cutting line quiet ends) (low.begun cutting line quiet ends)
-    (line-within scene base (length es) items tile (items-within (length es) scene es (omega arith)))
-    (λ k. line-once low.items scene base (length es) k items tile (low.give scene es is))
+    (line-within scene base (length es) items cover.tile (items-within (length es) scene es (omega arith)))
+    (λ k. line-once low.items scene base (length es) k items cover.tile cover.give)
 
 pub source-right : Lower → (s : BufferValue) (objects : ObjectLists) (files : Data) → IsText s.text → IsSource (text_source s objects files)
 source-right low s objects files right =

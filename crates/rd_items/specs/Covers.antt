@@ -32,3 +32,9 @@ abbrev pub EndOnce : List Item → Type 0
 EndOnce [] = ⊥
 EndOnce (x ∷ []) = IsEnder x
 EndOnce (x ∷ y ∷ xs) = (is_ender_kind x.kind ≡ false) × EndOnce (y ∷ xs)
+
+-- items that cover each offset from one to another once, and of which the ender is the last
+pub record CoverBlock (scene : Scene) (since to : ℕ) (items : List Item) : Type 0 where
+  pub tile : Tile since to items
+  pub give : CoverWhereTheyGive scene items
+  pub end : EndOnce items

@@ -11,7 +11,7 @@ ghost use Rattle.rd_items.specs.Readings.{reading, IsReading, HaveCodes};
 ghost use Rattle.rd_items.specs.Blocks.{AreListed, IsBlock};
 ghost use Rattle.rd_items.specs.Pieces.{Scene, table_in, scene_in};
 ghost use Rattle.rd_items.specs.Items.{items_of, AreMeasuredItems};
-ghost use Rattle.rd_items.specs.Covers.{Tile, CoverWhereTheyGive, EndOnce};
+ghost use Rattle.rd_items.specs.Covers.{CoverBlock};
 ghost use Rattle.rd_items.specs.Growing.{ReadsMade, ShowMade, GoesOnFrom};
 
 use rd_glyphs::marks_join_measured_glyphs;
@@ -34,9 +34,7 @@ pub fn blocks_are_read_whole()
 /// any ended, from the first position to the ender. An item covers any exactly where it is no overlay's string and gives an
 /// element. The last item is the ender, and no other is. The call does nothing.
 pub fn items_cover_their_block()
-    ensures tile { (scene : Scene) (es : List Seen) → IsReading scene.parts.settings.invisible es → Tile 0 (length es) (items_of scene es) }
-    ensures give { (scene : Scene) (es : List Seen) → IsReading scene.parts.settings.invisible es → CoverWhereTheyGive scene (items_of scene es) }
-    ensures end { (scene : Scene) (es : List Seen) → IsReading scene.parts.settings.invisible es → EndOnce (items_of scene es) }
+    ensures { (scene : Scene) (es : List Seen) → IsReading scene.parts.settings.invisible es → CoverBlock scene 0 (length es) (items_of scene es) }
 {}
 
 /// The glyphs of the items of characters are measured: each has the columns that Unicode gives it. The call does nothing.

@@ -69,7 +69,7 @@ module _ (s : BufferValue) (objects : ObjectLists) (files : Data) (b : Block) (t
       let start : b.start + 0 ≡ b.start = omega arith in
       subst (λ (n : ℕ). StandBetween n b.end (ordered_ranges s objects files b)) start
       (subst (λ (n : ℕ). StandBetween (b.start + 0) n (ordered_ranges s objects files b)) tiles.size
-      (order-stands b.start 0 (length (reading s objects b.start)) (block_items s objects files b) tiles.tile))
+      (order-stands b.start 0 (length (reading s objects b.start)) (block_items s objects files b) tiles.items.tile))
 
   block-count : (pos : ℕ) → count_by (holds pos) (block_ranges s objects files b) ≡ cond (holds pos (record { from = b.start; to = b.end })) 1 0
   block-count pos =

@@ -79,12 +79,12 @@ module _ (s : BufferValue) (objects : ObjectLists) (files : Data) (b : Block) (t
   items = block_items s objects files b
 
   e : Ended items
-  e = ended items tiles.end
+  e = ended items tiles.items.end
 
   cut : (e.ender.to ≡ length (reading s objects b.start)) × (0 ≤ e.ender.from) × All (LiesBefore e.ender.from) e.others
   cut =
       let size = length (reading s objects b.start) in
-      tiled 0 size e.others e.ender (subst (Tile 0 size) e.whole tiles.tile) e.is.some
+      tiled 0 size e.others e.ender (subst (Tile 0 size) e.whole tiles.items.tile) e.is.some
 
   ends-by : (front ranges : List Range) → ranges ≡ front ++ range_of b.start e.ender ∷ [] → All (EndsBy (b.start + e.ender.from)) front → EndsWithEnder b.start b.end items ranges
   ends-by front ranges whole before = record {

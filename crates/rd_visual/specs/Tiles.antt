@@ -4,7 +4,8 @@ use Rattle.rd_ucd.specs.Data.{Data}
 use Rattle.rd_objects.specs.Things.{ObjectLists}
 use Rattle.rd_props.specs.Buffers.{BufferValue}
 use Rattle.rd_items.specs.Blocks.{AreListed, IsBlock}
-use Rattle.rd_items.specs.Covers.{EndOnce, Tile}
+use Rattle.rd_items.specs.Covers.{CoverBlock}
+use Rattle.rd_items.specs.Pieces.{scene_in}
 use Rattle.rd_items.specs.Readings.{reading}
 use Rattle.rd_matrix.specs.declared.block.Block.{Block}
 use Rattle.rd_visual.specs.Order.{block_items}
@@ -12,8 +13,7 @@ use Rattle.rd_visual.specs.Order.{block_items}
 -- the items of a block tile it, and end with the ender
 pub record IsTiled (s : BufferValue) (objects : ObjectLists) (files : Data) (b : Block) : Type 0 where
   pub size : b.start + length (reading s objects b.start) ≡ b.end
-  pub tile : Tile 0 (length (reading s objects b.start)) (block_items s objects files b)
-  pub end : EndOnce (block_items s objects files b)
+  pub items : CoverBlock (scene_in s.settings objects files) 0 (length (reading s objects b.start)) (block_items s objects files b)
 
 -- the blocks of a text stand one behind the other from its begin to its end, and items tile each
 pub record AreTiled (s : BufferValue) : Type 0 where

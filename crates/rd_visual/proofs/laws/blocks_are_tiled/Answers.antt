@@ -14,7 +14,6 @@ returns c = λ s text. record {
       let read = c.blocks_are_read_whole.ensures.reading s objects b.start (omega (arith, some, last)) in
       record {
         size = c.blocks_are_read_whole.ensures.length s objects b.start b.end is;
-        tile = c.items_cover_their_block.ensures.tile scene es read;
-        end = c.items_cover_their_block.ensures.end scene es read;
+        items = c.items_cover_their_block.ensures scene es read;
       };
 }
