@@ -1,21 +1,17 @@
 -- The rows of a buffer's blocks are whole and coloured.
-use Rattle.std.proofs.Common.{ℕ, ◌≤◌, List, [], ◌∷◌, Option, None, Some, All, refl, arith}
+use Rattle.std.proofs.Common.{ℕ, List, [], ◌∷◌, Option, None, Some, All, refl, arith}
 use Rattle.std.proofs.lemmas.List.Elements.{All-nil, All-cons, All-map}
 use Rattle.rd_base.specs.Cells.{HasColours, IsColoured}
 use Rattle.rd_base.specs.Elements.{AreSound}
 use Rattle.rd_base.specs.Glyphs.{AreMeasured}
-use Rattle.rd_base.specs.declared.cell.Glyph.{Glyph}
-use Rattle.rd_base.specs.declared.element.Element.{Element}
-use Rattle.rd_base.specs.declared.limits.TheConstants.{FRAME_COLUMNS}
 use Rattle.rd_objects.specs.Sound.{AreObjects}
 use Rattle.rd_glyphs.specs.Characters.{AreSoundParts}
 use Rattle.rd_items.specs.Pieces.{Scene}
 use Rattle.rd_props.specs.Seen.{Seen}
 use Rattle.rd_rows.specs.Laws.{seen_rows}
-use Rattle.rd_rows.specs.Rows.{LaidRow, RowMeaning, cutting_of, rows_of}
+use Rattle.rd_rows.specs.Rows.{LaidRow, RowMeaning}
 use Rattle.rd_rows.specs.Shapes.{ShapeValues, IsShape}
-use Rattle.rd_rows.specs.Whole.{IsWhole, AreWhole, IsMark, IsMeasuredPrefix, IsMeasuredCutting}
-use Rattle.rd_rows.specs.declared.cutting.Cutting.{Cutting}
+use Rattle.rd_rows.specs.Whole.{IsWhole, AreWhole, IsMeasuredPrefix, RowLaws}
 use Rattle.rd_stack.specs.Lines.{line_elements}
 use Rattle.rd_stack.specs.Shown.{prefix, AreInside, AreOfOneRow, AreColoured}
 use Rattle.rd_blocks.specs.Rows.{line_prefix_of, wrap_prefix_of, prefix_elements, line_prefix, wrap_prefix, truncation_mark, continuation_mark, block_cutting, block_rows}
@@ -31,19 +27,12 @@ all-whole width (r ∷ rs) whole = All-cons (IsWhole width) r.row (seen_rows rs)
 pub all-coloured : (rows : List LaidRow) → All (λ r. All IsColoured r.row.cells) rows → All (λ r. All IsColoured r.cells) (seen_rows rows)
 all-coloured rows all = All-map (λ (r : RowMeaning). All IsColoured r.cells) (λ (r : LaidRow). r.row) rows all
 
--- ---- what lower layers promise
+-- ---- prefixes
 
--- of prefixes
+-- what the layer below promises of them
 pub record PrefixLaws : Type 0 where
   pub inside : (scene : Scene) (base number : ℕ) → AreObjects scene.objects → AreSoundParts scene.parts → AreInside (prefix scene base number)
   pub row : (scene : Scene) (base number : ℕ) → AreOfOneRow (prefix scene base number)
-
--- of rows
-pub record RowLaws : Type 0 where
-  pub cutting : (shape : ShapeValues) (base : ℕ) (first wrap : List Element) (truncation continuation : Glyph)
-      → 2 ≤ shape.width → shape.width ≤ FRAME_COLUMNS → IsMeasuredPrefix first → IsMeasuredPrefix wrap → IsMark truncation → IsMark continuation
-      → IsMeasuredCutting (cutting_of shape base first wrap truncation continuation)
-  pub rows : (c : Cutting) (es : List Element) → IsMeasuredCutting c → AreSound es → AreMeasured es → AreWhole c.shape.width (rows_of c es)
 
 module _ (laws : PrefixLaws) (rows : RowLaws) (scene : Scene) (base : ℕ) (sound : AreObjects scene.objects) (parts : AreSoundParts scene.parts) where
   prefix-measured : (number : Option ℕ) → IsMeasuredPrefix (prefix_elements scene base number)

@@ -1,14 +1,17 @@
 -- Rows in which each glyph stands whole.
 use Rattle.std.specs.Prelude.{◌≡◌, ℕ, ◌≤◌, List, [], ◌∷◌, length}
 use Rattle.std.specs.List.{AllByRecursion}
+use Rattle.rd_base.specs.Elements.{AreSound}
 use Rattle.rd_base.specs.Glyphs.{IsMeasured, IsMeasuredLook, AreMeasured, IsRowAfter}
 use Rattle.rd_base.specs.declared.cell.Glyph.{Glyph}
 use Rattle.rd_base.specs.declared.element.Element.{Element}
+use Rattle.rd_base.specs.declared.limits.TheConstants.{FRAME_COLUMNS}
 use Rattle.rd_rows.specs.declared.cutting.Cutting.{Cutting}
 use Rattle.rd_rows.specs.declared.spot.Placed.{Placed}
 use Rattle.rd_rows.specs.Leads.{HasLeads}
 use Rattle.rd_rows.specs.Prefixes.{IsPrefix}
-use Rattle.rd_rows.specs.Rows.{RowMeaning, LaidRow}
+use Rattle.rd_rows.specs.Rows.{RowMeaning, LaidRow, cutting_of, rows_of}
+use Rattle.rd_rows.specs.Shapes.{ShapeValues}
 
 -- a row of the window's columns, in which each glyph stands in all of its own
 pub record IsWhole (width : ℕ) (row : RowMeaning) : Type 0 where
@@ -41,3 +44,11 @@ pub record IsMeasuredCutting (c : Cutting) : Type 0 where
   pub wrap : ArePlacedMeasured c.wrap
   pub truncation : IsMark c.truncation
   pub continuation : IsMark c.continuation
+
+-- prefixes and marks that are measured give such a cutting, and it cuts sound and measured elements into rows in which each glyph
+-- stands whole
+pub record RowLaws : Type 0 where
+  pub cutting : (shape : ShapeValues) (base : ℕ) (first wrap : List Element) (truncation continuation : Glyph)
+      → 2 ≤ shape.width → shape.width ≤ FRAME_COLUMNS → IsMeasuredPrefix first → IsMeasuredPrefix wrap → IsMark truncation → IsMark continuation
+      → IsMeasuredCutting (cutting_of shape base first wrap truncation continuation)
+  pub rows : (c : Cutting) (es : List Element) → IsMeasuredCutting c → AreSound es → AreMeasured es → AreWhole c.shape.width (rows_of c es)

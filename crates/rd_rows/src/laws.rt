@@ -3,15 +3,14 @@ ghost use Rattle.std.specs.Prelude.{◌≡◌, ◌≤◌, ℕ, List, map, All, I
 ghost use Rattle.rd_base.specs.Cells.{HasColours, IsColoured};
 ghost use Rattle.rd_base.specs.declared.cell.Glyph.{Glyph};
 ghost use Rattle.rd_base.specs.declared.element.Element.{Element};
-ghost use Rattle.rd_base.specs.Elements.{AreSound, ends_once};
-ghost use Rattle.rd_base.specs.Glyphs.{AreMeasured};
+ghost use Rattle.rd_base.specs.Elements.{ends_once};
 ghost use Rattle.rd_rows.specs.declared.cutting.Cutting.{Cutting};
 ghost use Rattle.rd_rows.specs.Leads.{HasLeads, HasQuietLeads};
 ghost use Rattle.rd_rows.specs.Prefixes.{IsPrefix};
 ghost use Rattle.rd_rows.specs.Rows.{cutting_of, rows_of};
 ghost use Rattle.rd_rows.specs.Shapes.{ShapeValues};
 ghost use Rattle.rd_rows.specs.Laws.{seen_rows, ends_last, begins_of, range_of, ranges_of, IsPlacedOnce};
-ghost use Rattle.rd_rows.specs.Whole.{AreWhole, IsMark, IsMeasuredPrefix, IsMeasuredCutting};
+ghost use Rattle.rd_rows.specs.Whole.{RowLaws};
 
 use rd_base::limits::FRAME_COLUMNS;
 
@@ -40,10 +39,7 @@ pub fn prefixes_stand_before_lines()
 /// In the rows of sound and measured elements, with measured prefixes and marks of one column, each glyph stands whole, and each
 /// row has the window's columns, whichever edge it is read from. The call does nothing.
 pub fn rows_are_whole()
-    ensures cutting { (shape : ShapeValues) (base : ℕ) (first wrap : List Element) (truncation continuation : Glyph)
-        → 2 ≤ shape.width → shape.width ≤ FRAME_COLUMNS → IsMeasuredPrefix first → IsMeasuredPrefix wrap → IsMark truncation → IsMark continuation
-        → IsMeasuredCutting (cutting_of shape base first wrap truncation continuation) }
-    ensures rows { (c : Cutting) (es : List Element) → IsMeasuredCutting c → AreSound es → AreMeasured es → AreWhole c.shape.width (rows_of c es) }
+    ensures { RowLaws }
 {}
 
 /// In the rows of elements whose faces have their colours in range, behind prefixes of such elements, each cell has its colours in
