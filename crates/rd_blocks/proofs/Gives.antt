@@ -1,14 +1,13 @@
 -- What an item shows has elements exactly where it is said to give one.
-use Rattle.std.proofs.Common.{◌≡◌, ◌⊎◌, ℕ, ◌+◌, ◌-◌, ◌≤◌, Bool, true, false, cond, not, ◌||◌, List, [], ◌∷◌, ◌++◌, length, map, get_or, All, inl, inr, Option, None, Some, refl, ap, ap₂, sym, ◌∙◌, subst, arith, nat_eq, length-append}
+use Rattle.std.proofs.Common.{◌≡◌, ◌⊎◌, ℕ, ◌+◌, ◌-◌, ◌≤◌, Bool, true, false, cond, not, ◌||◌, List, [], ◌∷◌, ◌++◌, length, map, get_or, inl, inr, Option, None, Some, refl, ap, ap₂, sym, ◌∙◌, subst, arith, nat_eq, length-append}
 use Rattle.std.specs.Prelude.{is_some, if◌then◌else◌, slice_get, option_map}
 use Rattle.std.specs.Option.{unwrap_or}
-use Rattle.std.specs.List.{flat_map, list_any, position_or_len, range_with_len}
-use Rattle.std.proofs.lemmas.Bool.{cond-false, cond_both, eqb-true, not-true, or_cases, or_left, or_parts, or_right}
+use Rattle.std.specs.List.{AllByRecursion, flat_map, list_any, position_or_len, range_with_len}
+use Rattle.std.proofs.lemmas.Bool.{and_parts, both_ways, cond_both, eqb-true, false_from_ne_true, not-true, or_cases, or_left, or_parts, or_right}
 use Rattle.std.proofs.lemmas.List.{append_assoc, length-map, length_push}
 use Rattle.std.proofs.Math.Seq.{get_or-append_seam}
 use Rattle.std.proofs.lemmas.Grind.{flat_map-append}
-use Rattle.std.proofs.lemmas.List.Folds.{list_any-append}
-use Rattle.std.proofs.lemmas.List.Elements.{All-append, All-cons, All-head, All-nil, All-tail}
+use Rattle.std.proofs.lemmas.List.Folds.{list_any-append, list_any_at}
 use Rattle.rd_base.proofs.Choices.{second-holds}
 use Rattle.rd_base.specs.Faces.{Attributes}
 use Rattle.rd_base.specs.declared.cell.Glyph.{Glyph}
@@ -20,7 +19,8 @@ use Rattle.rd_objects.specs.Texts.{TextValue}
 use Rattle.rd_objects.specs.declared.run.Spec.TheVariants.{Text}
 use Rattle.rd_text.specs.Texts.{is_newline}
 use Rattle.rd_glyphs.specs.Characters.{PartValues, glyph_elements, entry_of, elements_by, elements_of, shown_as}
-use Rattle.rd_glyphs.specs.MarkRoles.{is_empty_entry, base_of, mark_role_by}
+use Rattle.rd_glyphs.specs.MarkRoles.{is_empty_entry, base_of, mark_of, mark_role_by}
+use Rattle.rd_glyphs.proofs.Joined.{Grows}
 use Rattle.rd_glyphs.specs.Marks.{marked_glyph, marks_joined_from, marks_joined}
 use Rattle.rd_items.specs.Pieces.{Scene, gives_element, give_elements, string_gives, ellipsis_gives}
 use Rattle.rd_items.specs.Items.{kind_gives}
@@ -31,13 +31,13 @@ use Rattle.rd_levels.specs.Turns.{turns_of}
 use Rattle.rd_levels.specs.declared.turn.Turn.{Turn}
 use Rattle.rd_matrix.proofs.Passing.{at-position, first-inside}
 use Rattle.rd_order.proofs.Once.{is_place, once-at-least}
+use Rattle.rd_stack.proofs.EachPart.{string-each}
 use Rattle.rd_stack.specs.Strings.{place_of, run_heads, ends_row, part_by, part_of, part_joins, part_class, part_code, shown_by, shown_at, in_order, row, row_end, rows_from, string_parts}
 use Rattle.rd_stack.specs.Shown.{ellipsis_glyphs, display_part_elements, display_elements, kind_elements}
 use Rattle.rd_stack.specs.Lines.{put_kind}
 use Rattle.rd_stack.specs.declared.part.Place.{Place}
 use Rattle.rd_stack.specs.declared.part.Part.{Part}
 use Rattle.rd_stack.specs.declared.part.Shown.{Shown}
-use Rattle.rd_base.proofs.Lists.{all-at}
 
 -- the law of characters that give an element
 abbrev CharactersGive : Type 0
@@ -225,47 +225,36 @@ char-empty s p h = record {
   alone = ap (λ entry. base_of (mark_role_by entry (shown_as s.parts.settings.ctl_arrow (class_of s.parts.classes p.ch) p.ch))) (empty-entry (entry_of s.parts.table p.ch) h);
 }
 
-marks_joined_from-same : (s : Scene) (held : Part) (xs : List Part) → IsEmptyPart s held → All (IsEmptyPart s) xs → marks_joined_from part_joins held xs ≡ held ∷ xs
-marks_joined_from-same s held [] h all = refl
-marks_joined_from-same s held (x ∷ xs) h all =
-    let alone = h.alone in
-    rw alone (ap (λ (ys : List Part). held ∷ ys) (marks_joined_from-same s x xs (All-head (IsEmptyPart s) x xs all) (All-tail (IsEmptyPart s) x xs all)))
+grows-none : (s : Scene) → Grows part_joins (IsEmptyPart s)
+grows-none s held next glyph these those e =
+    let joins : marked_glyph None (mark_of next.role) ≡ Some glyph = rw these.alone at e in
+    cc
 
-marks_joined-same : (s : Scene) (xs : List Part) → All (IsEmptyPart s) xs → marks_joined part_joins xs ≡ xs
-marks_joined-same s [] all = refl
-marks_joined-same s (x ∷ xs) all = marks_joined_from-same s x xs (All-head (IsEmptyPart s) x xs all) (All-tail (IsEmptyPart s) x xs all)
+-- a place that no spec replaces, whose character gives no element
+abbrev GivesNone : Scene → Place → Type 0
+GivesNone s p = (p.spec ≡ None) × (gives_element s.parts.table p.ch ≡ false)
 
-shown-none : (s : Scene) (origin : Origin) (odd : Bool) (o : Option Part) → ((x : Part) → o ≡ Some x → IsEmptyPart s x) → flat_map (display_part_elements s origin) (shown_by odd o) ≡ []
-shown-none s origin odd None each = refl
-shown-none s origin odd (Some x) each = let none = (each x refl).none x.face odd origin in rw none refl
+place-empty : (s : Scene) (p : Place) → GivesNone s p → IsEmptyPart s (part_of s p)
+place-empty s p none =
+    let own = or_parts (is_newline p.ch) (not (is_empty_entry (entry_of s.parts.table p.ch))) none.1 in
+    rw none.0 (char-empty s p own.1)
 
-turns-none : (s : Scene) (origin : Origin) (xs : List Part) (ts : List Turn) → All (IsEmptyPart s) xs → flat_map (display_part_elements s origin) (flat_map (shown_at xs) ts) ≡ []
-turns-none s origin xs [] all = refl
-turns-none s origin xs (t ∷ ts) all =
-    flat_map-append (display_part_elements s origin) (shown_at xs t) (flat_map (shown_at xs) ts)
-    ∙ ap₂ ◌++◌ (shown-none s origin t.odd (slice_get xs t.index) (λ x at. all-at (IsEmptyPart s) xs t.index x all at)) (turns-none s origin xs ts all)
+not-end : (s : Scene) (p : Place) → GivesNone s p → ends_row p ≡ true → ⊥
+not-end s p none ends =
+    let own = or_parts (is_newline p.ch) (not (is_empty_entry (entry_of s.parts.table p.ch))) none.1 in
+    both_ways (is_newline p.ch) own.0 (and_parts (not (is_some p.spec)) (is_newline p.ch) ends).1
 
-row-none : (s : Scene) (base : ℕ) (origin : Origin) (xs : List Part) → All (IsEmptyPart s) xs → flat_map (display_part_elements s origin) (row s base xs) ≡ []
-row-none s base origin xs all =
-    ap (λ (ys : List Part). flat_map (display_part_elements s origin) (in_order s base ys)) (marks_joined-same s xs all)
-    ∙ turns-none s origin xs (turns_of s.brackets s.parts.settings.reorder base (map part_class xs) (map part_code xs)) all
-
-rows-none : (s : Scene) (base : ℕ) (origin : Origin) (text : TextValue) (under : Attributes) (xs : List Part) (is : List ℕ)
-    → All (IsEmptyPart s) xs → char_gives s text is ≡ false → flat_map (display_part_elements s origin) (rows_from s base xs (map (bare_place text under) is)) ≡ []
-rows-none s base origin text under xs [] all h = row-none s base origin xs all
-rows-none s base origin text under xs (i ∷ is) all h =
-    let p = bare_place text under i in
-    let both = or_parts (gives_element s.parts.table p.ch) (char_gives s text is) h in
-    let own = or_parts (is_newline p.ch) (not (is_empty_entry (entry_of s.parts.table p.ch))) both.0 in
-    ap (flat_map (display_part_elements s origin)) (cond-false (ends_row p) (row s base xs ++ row_end p.face ∷ rows_from s base [] (map (bare_place text under) is)) (rows_from s base (xs ++ part_of s p ∷ []) (map (bare_place text under) is)) own.0)
-    ∙ rows-none s base origin text under (xs ++ part_of s p ∷ []) is
-    (All-append (IsEmptyPart s) xs (part_of s p ∷ []) all (All-cons (IsEmptyPart s) (part_of s p) [] (char-empty s p own.1) (All-nil (IsEmptyPart s)))) both.1
+flat-none : {X : Type 0} (f : X → List Element) (xs : List X) → AllByRecursion (λ (x : X). f x ≡ []) xs → flat_map f xs ≡ []
+flat-none f [] all = refl
+flat-none f (x ∷ xs) all = ap₂ ◌++◌ all.0 (flat-none f xs all.1)
 
 string-none : (s : Scene) (base : ℕ) (origin : Origin) (under : Attributes) (text : Option TextValue) → string_gives s.parts.table text ≡ false → display_elements s base origin under text ≡ []
 string-none s base origin under None h = refl
 string-none s base origin under (Some text) h =
-    ap (flat_map (display_part_elements s origin)) (parts-are s base text under)
-    ∙ rows-none s base origin text under [] (range_with_len 0 (length text.chars)) (All-nil (IsEmptyPart s)) (chars-are s text text.chars [] refl ∙ h)
+    flat-none (display_part_elements s origin) (string_parts s base false text under)
+    (string-each s base (GivesNone s) (IsEmptyPart s) (λ (x : Shown). display_part_elements s origin x ≡ []) (place-empty s) (grows-none s)
+    (λ odd x empty. empty.none x.face odd origin) (λ p none ends. absurd (not-end s p none ends)) false text under
+    (λ i less. (refl, false_from_ne_true _ (λ gives. both_ways _ h (list_any_at (gives_element s.parts.table) text.chars i 0 less gives)))))
 
 ellipsis-none : (table : Option TableValue) (face : Attributes) (origin : Origin) → ellipsis_gives table ≡ false → glyph_elements face origin (ellipsis_glyphs table) ≡ []
 ellipsis-none None face origin h = absurd (let q : true ≡ false = h in cc)

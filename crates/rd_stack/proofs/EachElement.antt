@@ -98,13 +98,13 @@ module _ (s : Scene) (base : ℕ) (origin : Origin) (F : Attributes → Type 0) 
       → AllByRecursion (λ (x : ShownPart). F x.face) (string_parts s base replaced text under)
   shown-faces replaced n text found under h =
       string-each s base (λ (p : Place). F p.face) (λ (x : Part). F x.face) (λ (x : ShownPart). F x.face) (λ p own. part-face _ p own) (λ held next glyph these those e. these)
-      (λ odd x own. own) (λ p own. own) replaced text under (λ i. faces n text found i under h)
+      (λ odd x own. own) (λ p own ends. own) replaced text under (λ i less. faces n text found i under h)
 
-  string-by : (inner : Attributes → Option TextValue → List Element) → ((m : ℕ) (face : Attributes) → F face → Each (inner face (slice_get s.objects.strings m)))
-      → (replaced : Bool) (n : ℕ) (text : Option TextValue) → slice_get s.objects.strings n ≡ text → (under : Attributes) → F under → Each (put_string kind_elements inner s base replaced origin under text)
-  string-by inner each replaced n None found under h = tt
-  string-by inner each replaced n (Some text) found under h =
-      each-flat (put_part kind_elements inner s origin) (λ (x : ShownPart). F x.face) P (λ x own. part-each (inner x.face) x (λ m. each m x.face own) own)
+  string-by : (named : Attributes → Option TextValue → List Element) → ((m : ℕ) (face : Attributes) → F face → Each (named face (slice_get s.objects.strings m)))
+      → (replaced : Bool) (n : ℕ) (text : Option TextValue) → slice_get s.objects.strings n ≡ text → (under : Attributes) → F under → Each (put_string kind_elements named s base replaced origin under text)
+  string-by named each replaced n None found under h = tt
+  string-by named each replaced n (Some text) found under h =
+      each-flat (put_part kind_elements named s origin) (λ (x : ShownPart). F x.face) P (λ x own. part-each (named x.face) x (λ m. each m x.face own) own)
       (string_parts s base replaced text under) (shown-faces replaced n text found under h)
 
   pub display-each : (n : ℕ) (under : Attributes) → F under → Each (display_elements s base origin under (slice_get s.objects.strings n))

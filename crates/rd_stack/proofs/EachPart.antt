@@ -1,9 +1,10 @@
 -- What holds of each part of a string, by what holds of each of its places.
-use Rattle.std.proofs.Common.{ℕ, ◌-◌, Bool, List, [], ◌∷◌, ◌++◌, length, Option, None, Some, IfSome}
+use Rattle.std.proofs.Common.{◌≡◌, ℕ, ◌-◌, ◌<◌, Bool, true, List, [], ◌∷◌, ◌++◌, length, Option, None, Some, IfSome, arith}
 use Rattle.std.specs.Prelude.{if◌then◌else◌, slice_get}
 use Rattle.std.specs.List.{flat_map, range_with_len, AllByRecursion}
 use Rattle.std.proofs.lemmas.Bool.{cond_both}
 use Rattle.std.proofs.lemmas.List.Elements.{All-map, recursion_from_All}
+use Rattle.std.proofs.lemmas.List.FromFn.{get_or-range_with_len, length-range_with_len}
 use Rattle.rd_base.proofs.Lists.{each-append}
 use Rattle.rd_base.specs.Faces.{Attributes}
 use Rattle.rd_objects.specs.Texts.{TextValue}
@@ -25,19 +26,25 @@ heads-each L before (p ∷ ps) all =
     (cond_both (same_spec before p.spec) [] (p ∷ []) (AllByRecursion L) (λ goes. tt) (λ heads. (all.0, tt))) (heads-each L p.spec ps all.1)
 
 -- the places of a string of which its parts are made
-pub places-each : (L : Place → Type 0) (replaced : Bool) (text : TextValue) (under : Attributes) → ((i : ℕ) → L (place_of replaced text under i))
-    → AllByRecursion L (run_heads None (places_from replaced text under 0))
+pub places-each : (L : Place → Type 0) (replaced : Bool) (text : TextValue) (under : Attributes)
+    → ((i : ℕ) → i < length text.chars → L (place_of replaced text under i)) → AllByRecursion L (run_heads None (places_from replaced text under 0))
 places-each L replaced text under place =
-    let is = range_with_len 0 (length text.chars - 0) in
+    let size : ℕ = length text.chars - 0 in
+    let is = range_with_len 0 size in
     let ps = places_from replaced text under 0 in
-    heads-each L None ps (recursion_from_All L ps (All-map L (place_of replaced text under) is (λ k d inside. place _)))
+    heads-each L None ps (recursion_from_All L ps (All-map L (place_of replaced text under) is
+    (λ k d inside.
+    let many = length-range_with_len 0 size in
+    let less : k < size = omega (arith, many, inside) in
+    let at = get_or-range_with_len 0 size k d less in
+    place _ (omega (arith, at, less)))))
 
 -- P holds of each part, and S of each as it is shown, where L holds of each place
 module _ (s : Scene) (base : ℕ) (L : Place → Type 0) (P : Part → Type 0) (S : Shown → Type 0)
     (part : (p : Place) → L p → P (part_of s p))
     (grows : Grows part_joins P)
     (shown : (odd : Bool) (x : Part) → P x → S (record { kind = x.kind; face = x.face; odd = odd }))
-    (end : (p : Place) → L p → S (row_end p.face)) where
+    (end : (p : Place) → L p → ends_row p ≡ true → S (row_end p.face)) where
   shown-each : (odd : Bool) (x : Option Part) → IfSome x P → AllByRecursion S (shown_by odd x)
   shown-each odd None holds = tt
   shown-each odd (Some x) holds = (shown odd x holds, tt)
@@ -55,8 +62,9 @@ module _ (s : Scene) (base : ℕ) (L : Place → Type 0) (P : Part → Type 0) (
       let next : List Shown = row_end p.face ∷ rows_from s base [] ps in
       let longer = xs ++ part_of s p ∷ [] in
       cond_both (ends_row p) (row s base xs ++ next) (rows_from s base longer ps) (AllByRecursion S)
-      (λ ends. each-append S (row s base xs) next (row-each xs all) (end p places.0, rows-each [] ps tt places.1))
+      (λ ends. each-append S (row s base xs) next (row-each xs all) (end p places.0 ends, rows-each [] ps tt places.1))
       (λ goes. rows-each longer ps (each-append P xs (part_of s p ∷ []) all (part p places.0, tt)) places.1)
 
-  pub string-each : (replaced : Bool) (text : TextValue) (under : Attributes) → ((i : ℕ) → L (place_of replaced text under i)) → AllByRecursion S (string_parts s base replaced text under)
+  pub string-each : (replaced : Bool) (text : TextValue) (under : Attributes)
+      → ((i : ℕ) → i < length text.chars → L (place_of replaced text under i)) → AllByRecursion S (string_parts s base replaced text under)
   string-each replaced text under place = rows-each [] (run_heads None (places_from replaced text under 0)) tt (places-each L replaced text under place)

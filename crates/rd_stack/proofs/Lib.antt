@@ -8,7 +8,7 @@ pub mod LineEnds
 mod Joined
 mod Good
 mod Parts
-mod EachPart
+pub mod EachPart
 pub mod EachElement
 mod Holds
 mod Sound

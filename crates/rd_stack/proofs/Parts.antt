@@ -80,8 +80,8 @@ module _ (laws : MarkLaws) (s : Scene) (base : ℕ) (sound : AreObjects s.object
   -- the parts of a sound string are fit
   pub string-fit : (replaced : Bool) (text : TextValue) (under : Attributes) → IsString text → AllByRecursion IsFitShown (string_parts s base replaced text under)
   string-fit replaced text under is =
-      string-each s base IsFitPlace IsFitPart IsFitShown (λ p code. part-by-fit (option_map (spec_in s.objects) p.spec) p (named-small p.spec) code) grows (λ odd x fit. fit.0) (λ p code. (tt, tt, tt))
-      replaced text under (λ i. all-read (λ c. IsTrue (is_code c)) text.chars i 0 is.chars refl)
+      string-each s base IsFitPlace IsFitPart IsFitShown (λ p code. part-by-fit (option_map (spec_in s.objects) p.spec) p (named-small p.spec) code) grows (λ odd x fit. fit.0) (λ p code ends. (tt, tt, tt))
+      replaced text under (λ i less. all-read (λ c. IsTrue (is_code c)) text.chars i 0 is.chars refl)
 
 -- ---- how many there are
 

@@ -71,7 +71,7 @@ module _ (s : Scene) (closed : IsClosed s.objects) where
 
   string-fine : (base : ℕ) (replaced : Bool) (text : TextValue) (under : Attributes) → AllByRecursion IsFineShown (string_parts s base replaced text under)
   string-fine base replaced text under =
-      string-each s base (λ (p : Place). Unit {0}) IsFine IsFineShown (λ p any. by-fine p.spec p) grows (λ odd x fine. fine) (λ p any. tt) replaced text under (λ i. tt)
+      string-each s base (λ (p : Place). Unit {0}) IsFine IsFineShown (λ p any. by-fine p.spec p) grows (λ odd x fine. fine) (λ p any ends. tt) replaced text under (λ i less. tt)
 
 -- ---- what stays
 
@@ -143,7 +143,7 @@ module _ (old new : Scene) (goes : GoesOnFrom old new) (closed : IsClosed old.ob
     spec-made false i = tt
 
     same-string : (base : ℕ) (replaced : Bool) (under : Attributes) → string_parts new base replaced text under ≡ string_parts old base replaced text under
-    same-string base replaced under = same-rows base [] (run_heads None (places_from replaced text under 0)) (places-each IsMade replaced text under (spec-made replaced))
+    same-string base replaced under = same-rows base [] (run_heads None (places_from replaced text under 0)) (places-each IsMade replaced text under (λ i less. spec-made replaced i))
 
   -- what the string of a number gives, where what it gives if it was made stays
   found-stays : (f g : Option TextValue → List Element) (found : Option TextValue) → f None ≡ g None → ((text : TextValue) → found ≡ Some text → f (Some text) ≡ g (Some text))
@@ -161,11 +161,11 @@ module _ (old new : Scene) (goes : GoesOnFrom old new) (closed : IsClosed old.ob
   same-put : (f g : Attributes → Option TextValue → List Element) → ((n : ℕ) (face : Attributes) → n < length old.objects.strings → f face (slice_get new.objects.strings n) ≡ g face (slice_get old.objects.strings n))
       → (replaced : Bool) (number base : ℕ) (origin : Origin) (under : Attributes) → number < length old.objects.strings
       → put_string kind_elements f new base replaced origin under (slice_get new.objects.strings number) ≡ put_string kind_elements g old base replaced origin under (slice_get old.objects.strings number)
-  same-put f g inner replaced number base origin under made =
+  same-put f g stays replaced number base origin under made =
       string-stays (put_string kind_elements f new base replaced origin under) (put_string kind_elements g old base replaced origin under) number made refl (λ text found.
       ap (λ (xs : List Shown). flat_map (put_part kind_elements f new origin) xs) (same-string number text found base replaced under)
       ∙ flat-same (IsFineShown old closed) (put_part kind_elements f new origin) (put_part kind_elements g old origin) (string_parts old base replaced text under)
-      (λ x made. same-kind look.RowEnd (f x.face) (g x.face) x.kind x.odd x.face origin (λ n is. inner n x.face (subst (ShowsMade old.objects) is made)))
+      (λ x made. same-kind look.RowEnd (f x.face) (g x.face) x.kind x.odd x.face origin (λ n is. stays n x.face (subst (ShowsMade old.objects) is made)))
       (string-fine old closed base replaced text under))
 
   same-display : (number base : ℕ) (origin : Origin) (under : Attributes) → number < length old.objects.strings
