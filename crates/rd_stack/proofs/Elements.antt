@@ -38,19 +38,19 @@ kind-elements end steps string each s item.Ellipsis odd face origin = append-nil
 kind-elements end steps string each s item.Ender odd face origin = refl
 
 module _ (s : Scene) (base : ℕ) (origin : Origin) where
-  string-elements : (steps : Attributes → Option TextValue → List (List Element)) (inner : Attributes → Option TextValue → List Element) → ((face : Attributes) (text : Option TextValue) → elements_in (steps face text) ≡ inner face text)
-      → (replaced : Bool) (under : Attributes) (text : Option TextValue) → elements_in (put_string kind_steps steps s base replaced origin under text) ≡ put_string kind_elements inner s base replaced origin under text
-  string-elements steps inner each replaced under None = refl
-  string-elements steps inner each replaced under (Some text) =
-      one-by-one (put_part kind_steps steps s origin) (put_part kind_elements inner s origin)
-      (λ x. kind-elements look.RowEnd (steps x.face) (inner x.face) (each x.face) s x.kind x.odd x.face origin) (string_parts s base replaced text under)
+  string-elements : (steps : Attributes → Option TextValue → List (List Element)) (named : Attributes → Option TextValue → List Element) → ((face : Attributes) (text : Option TextValue) → elements_in (steps face text) ≡ named face text)
+      → (replaced : Bool) (under : Attributes) (text : Option TextValue) → elements_in (put_string kind_steps steps s base replaced origin under text) ≡ put_string kind_elements named s base replaced origin under text
+  string-elements steps named each replaced under None = refl
+  string-elements steps named each replaced under (Some text) =
+      one-by-one (put_part kind_steps steps s origin) (put_part kind_elements named s origin)
+      (λ x. kind-elements look.RowEnd (steps x.face) (named x.face) (each x.face) s x.kind x.odd x.face origin) (string_parts s base replaced text under)
 
-  inner-elements : (overlay : Bool) (face : Attributes) (text : Option TextValue) → elements_in (put_named kind_steps s base overlay origin face text) ≡ put_named kind_elements s base overlay origin face text
-  inner-elements true = string-elements (λ over other. []) (λ over other. []) (λ over other. refl) false
-  inner-elements false = λ face text. refl
+  named-elements : (overlay : Bool) (face : Attributes) (text : Option TextValue) → elements_in (put_named kind_steps s base overlay origin face text) ≡ put_named kind_elements s base overlay origin face text
+  named-elements true = string-elements (λ over other. []) (λ over other. []) (λ over other. refl) false
+  named-elements false = λ face text. refl
 
   pub text-elements : (overlay : Bool) (face : Attributes) (text : Option TextValue) → elements_in (put_text kind_steps s base overlay origin face text) ≡ put_text kind_elements s base overlay origin face text
-  text-elements overlay = string-elements (put_named kind_steps s base overlay origin) (put_named kind_elements s base overlay origin) (inner-elements overlay) overlay
+  text-elements overlay = string-elements (put_named kind_steps s base overlay origin) (put_named kind_elements s base overlay origin) (named-elements overlay) overlay
 
 turn-elements : (s : Scene) (base : ℕ) (turn : Turn) (found : Option Item) → elements_in (put_turn kind_steps s base turn found) ≡ put_turn kind_elements s base turn found
 turn-elements s base turn None = refl

@@ -49,13 +49,13 @@ kind_elements end string s kind.Ender odd face origin = element_of face origin e
 
 -- a part of a string; what is put over its face for a string that it names is given
 abbrev pub put_part : {X : Type 0} → Putting X → (Attributes → Option TextValue → List X) → Scene → Origin → Shown → List X
-put_part put inner s origin x = put look.RowEnd (inner x.face) s x.kind x.odd x.face origin
+put_part put named s origin x = put look.RowEnd (named x.face) s x.kind x.odd x.face origin
 
 -- a string over a face, in a line of this base; a flag says whether its own display runs are used. What is put for a string that one of
 -- these runs names, over the face there, is given. None, as of a number that names no string, puts nothing
 abbrev pub put_string : {X : Type 0} → Putting X → (Attributes → Option TextValue → List X) → Scene → ℕ → Bool → Origin → Attributes → Option TextValue → List X
-put_string put inner s base replaced origin under None = []
-put_string put inner s base replaced origin under (Some text) = flat_map (put_part put inner s origin) (string_parts s base replaced text under)
+put_string put named s base replaced origin under None = []
+put_string put named s base replaced origin under (Some text) = flat_map (put_part put named s origin) (string_parts s base replaced text under)
 
 -- what is put for a string that a display run names: in an overlay's string (true) that display string, and in a display string (false)
 -- nothing, since its own runs are not used
