@@ -6,7 +6,7 @@ use Rattle.std.proofs.lemmas.List.{append-nil, length-drop, drop_all}
 use Rattle.std.proofs.lemmas.List.Edits.{paste_all, paste-paste}
 use Rattle.std.proofs.lemmas.List.Elements.{recursion_from_All}
 use Rattle.std.proofs.lemmas.List.Sums.{fold-append}
-use Rattle.rd_base.proofs.Lists.{each-weaker, length-replaced}
+use Rattle.rd_base.proofs.Lists.{all-back, all-front, each-weaker, length-replaced}
 use Rattle.rd_base.specs.Cells.{row_at}
 use Rattle.rd_term.specs.Pictures.{with_cells, written_over}
 use Rattle.rd_tree.specs.declared.placed.Placed.{Placed}
@@ -15,8 +15,8 @@ use Rattle.rd_tree.specs.declared.side.Side.{Side}
 use Rattle.rd_tree.specs.declared.side.Side.TheVariants.{Below, Right}
 use Rattle.rd_tree.specs.Windows.{Windows, Window, Split, HasRoom, first_part, second_part, placed}
 use Rattle.rd_tree.specs.Calls.{frame}
-use Rattle.rd_tree.specs.Compositions.{beside, composed, HasSize, FillTheirRectangles}
-use Rattle.rd_tree.proofs.Composing.{composed-size, filled_first, filled_second}
+use Rattle.rd_tree.specs.Compositions.{beside, composed, HasSize, FillsItsRectangle, FillTheirRectangles}
+use Rattle.rd_tree.proofs.Composing.{composed-size}
 use Rattle.rd_tree.proofs.Standing.{parts_within}
 use Rattle.rd_frame.specs.Paints.{laid_over, painted, with_echo}
 
@@ -158,11 +158,11 @@ parts-laid : {C : Type 0} (rows_of : Placed → List (List C)) (side : Side) (si
 parts-laid rows_of Right size first second rect rows h f wide =
     let lefts = composed rows_of first (first_part Right size rect) in
     let rights = composed rows_of second (second_part Right size rect) in
-    let left_size = composed-size rows_of first (first_part Right size rect) h.0 (filled_first rows_of Right size first second rect f) in
-    let right_size = composed-size rows_of second (second_part Right size rect) h.1 (filled_second rows_of Right size first second rect f) in
+    let left_size = composed-size rows_of first (first_part Right size rect) h.0 (all-front (FillsItsRectangle rows_of) _ _ f) in
+    let right_size = composed-size rows_of second (second_part Right size rect) h.1 (all-back (FillsItsRectangle rows_of) _ _ f) in
     at-beside rect.y rect.x (rect.x + size) size lefts rights rows refl (left_size.0 ∙ sym right_size.0) (recursion_from_All (λ row. length row ≡ size) lefts left_size.1) wide
 parts-laid rows_of Below size first second rect rows h f wide =
-    let top_size = composed-size rows_of first (first_part Below size rect) h.0 (filled_first rows_of Below size first second rect f) in
+    let top_size = composed-size rows_of first (first_part Below size rect) h.0 (all-front (FillsItsRectangle rows_of) _ _ f) in
     at-below rect.y (rect.y + size) rect.x (composed rows_of first (first_part Below size rect)) (composed rows_of second (second_part Below size rect)) rows (omega (arith, top_size.0))
 
 -- windows that are painted in order show what they compose
@@ -175,8 +175,8 @@ painted-composed rows_of (Split side size first second) rect rows h f wide =
     let within = parts_within side size first second rect h in
     let laid = laid_at a.y a.x (composed rows_of first a) rows in
     fold-append _ rows (placed first a) (placed second b)
-    ∙ (ap (painted rows_of (placed second b)) (painted-composed rows_of first a rows h.0 (filled_first rows_of side size first second rect f) (narrower (rect.x + rect.width) (a.x + a.width) rows within.0.1 wide))
-    ∙ (painted-composed rows_of second b laid h.1 (filled_second rows_of side size first second rect f)
+    ∙ (ap (painted rows_of (placed second b)) (painted-composed rows_of first a rows h.0 (all-front (FillsItsRectangle rows_of) _ _ f) (narrower (rect.x + rect.width) (a.x + a.width) rows within.0.1 wide))
+    ∙ (painted-composed rows_of second b laid h.1 (all-back (FillsItsRectangle rows_of) _ _ f)
     (at-each (λ row. b.x + b.width ≤ length row) (λ new. Unit {0}) a.x (λ new row any n. written-at_least (b.x + b.width) a.x new row n) a.y (composed rows_of first a) rows
     (recursion_from_All (λ new. Unit {0}) (composed rows_of first a) (λ k d inside. tt)) (narrower (rect.x + rect.width) (b.x + b.width) rows within.1.1 wide))
     ∙ parts-laid rows_of side size first second rect rows h f (narrower (rect.x + rect.width) rect.x rows (omega arith) wide)))

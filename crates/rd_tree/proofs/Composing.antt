@@ -17,7 +17,7 @@ use Rattle.rd_tree.specs.declared.side.Side.TheVariants.{Below, Right}
 use Rattle.rd_tree.specs.declared.placed.Placed.{Placed}
 use Rattle.rd_tree.specs.Windows.{Windows, Window, Split, HasRoom, first_part, second_part, along, placed}
 use Rattle.rd_tree.specs.Places.{lies_in, windows_with, IsWithin}
-use Rattle.rd_tree.specs.Compositions.{beside, both_parts, composed, cell_at, HasSize, FillTheirRectangles, IsHeld}
+use Rattle.rd_tree.specs.Compositions.{beside, both_parts, composed, cell_at, HasSize, FillsItsRectangle, FillTheirRectangles, IsHeld}
 use Rattle.rd_tree.proofs.Rooms.{room_within}
 use Rattle.rd_tree.proofs.Standing.{in_one, one_window, stands_listed}
 
@@ -53,15 +53,6 @@ both-size Right size rect lefts rights within a b = (
 both-size Below size rect tops rests within a b =
     (omega (arith, length-append tops rests, a.0, b.0), All-append (λ row. length row ≡ rect.width) tops rests a.1 b.1)
 
--- each window's rows fill its rectangle: in the first part and in the second
-pub filled_first : {C : Type 0} (rows_of : Placed → List (List C)) (side : Side) (size : ℕ) (first second : Windows) (rect : Rect) → FillTheirRectangles rows_of (placed (Split side size first second) rect) → FillTheirRectangles rows_of (placed first (first_part side size rect))
-filled_first rows_of side size first second rect f =
-    all-front (λ window. HasSize window.rect.width window.rect.height (rows_of window)) (placed first (first_part side size rect)) (placed second (second_part side size rect)) f
-
-pub filled_second : {C : Type 0} (rows_of : Placed → List (List C)) (side : Side) (size : ℕ) (first second : Windows) (rect : Rect) → FillTheirRectangles rows_of (placed (Split side size first second) rect) → FillTheirRectangles rows_of (placed second (second_part side size rect))
-filled_second rows_of side size first second rect f =
-    all-back (λ window. HasSize window.rect.width window.rect.height (rows_of window)) (placed first (first_part side size rect)) (placed second (second_part side size rect)) f
-
 -- what holds of a window alone by what holds of each window that stands, and of a split by both of its parts, holds of all windows
 by_windows : (P : Placed → Type 0) (Goal : Windows → Rect → Type 0)
     → ((window : Placed) → P window → Goal (Window window.number window.mode window.margins) window.rect)
@@ -74,8 +65,7 @@ by_windows P Goal one both (Split side size first second) rect h =
 -- the rows fill the rectangle
 pub composed-size : {C : Type 0} (rows_of : Placed → List (List C)) (windows : Windows) (rect : Rect) → HasRoom windows rect → FillTheirRectangles rows_of (placed windows rect) → HasSize rect.width rect.height (composed rows_of windows rect)
 composed-size rows_of windows rect h f =
-    by_windows (λ window. HasSize window.rect.width window.rect.height (rows_of window))
-    (λ ws r. HasRoom ws r → HasSize r.width r.height (composed rows_of ws r)) (λ _ filled _. filled)
+    by_windows (FillsItsRectangle rows_of) (λ ws r. HasRoom ws r → HasSize r.width r.height (composed rows_of ws r)) (λ _ filled _. filled)
     (λ side size first second r a b room. both-size side size r _ _ (room_within side size first second r room).0 (a room.0) (b room.1)) windows rect f h
 
 -- where a cell that lies in a rectangle is
@@ -95,8 +85,8 @@ parts-cell {C = C} rows_of Right size first second rect column row window h f l 
     let at = lies_where column row window.rect l in
     let lefts = composed rows_of first (first_part Right size rect) in
     let rights = composed rows_of second (second_part Right size rect) in
-    let a = composed-size rows_of first (first_part Right size rect) h.0 (filled_first rows_of Right size first second rect f) in
-    let b = composed-size rows_of second (second_part Right size rect) h.1 (filled_second rows_of Right size first second rect f) in
+    let a = composed-size rows_of first (first_part Right size rect) h.0 (all-front (FillsItsRectangle rows_of) _ _ f) in
+    let b = composed-size rows_of second (second_part Right size rect) h.1 (all-back (FillsItsRectangle rows_of) _ _ f) in
     let both = ap (λ (r : List C). slice_get r (column - rect.x)) (beside-row lefts rights (row - rect.y) (a.0 ∙ sym b.0)) in
     let wide : row - rect.y < rect.height → length (row_at lefts (row - rect.y)) ≡ size = row_size size rect.height (row - rect.y) lefts a in (
       λ within. both ∙ get-first (row_at lefts (row - rect.y)) (row_at rights (row - rect.y)) (column - rect.x) (omega (arith, wide (omega arith))),
@@ -106,7 +96,7 @@ parts-cell {C = C} rows_of Below size first second rect column row window h f l 
     let at = lies_where column row window.rect l in
     let tops = composed rows_of first (first_part Below size rect) in
     let rests = composed rows_of second (second_part Below size rect) in
-    let a = composed-size rows_of first (first_part Below size rect) h.0 (filled_first rows_of Below size first second rect f) in
+    let a = composed-size rows_of first (first_part Below size rect) h.0 (all-front (FillsItsRectangle rows_of) _ _ f) in
     let same : IsWithin window.rect (second_part Below size rect) → (row - rect.y) - size ≡ row - (rect.y + size) = λ within. omega arith in (
       λ within. ap (λ (r : List C). slice_get r (column - rect.x)) (get_or_append_left tops rests [] (row - rect.y) (omega (arith, a.0))),
       λ within. ap (λ (r : List C). slice_get r (column - rect.x)) (get_or-append_right tops rests size (row - rect.y) [] a.0 (omega arith) ∙ ap (row_at rests) (same within)),
@@ -124,8 +114,8 @@ composed-cell rows_of (Split side size first second) rect column row i window h 
     let b = second_part side size rect in
     let parts = parts-cell rows_of side size first second rect column row window h f l in
     elim (in_one (placed first a) (placed second b) i window e) [
-      | inl p ↦ parts.0 (stands_listed first a p.0 window h.0 p.1).0 ∙ composed-cell rows_of first a column row p.0 window h.0 (filled_first rows_of side size first second rect f) p.1 l
-      | inr p ↦ parts.1 (stands_listed second b p.0 window h.1 p.1).0 ∙ composed-cell rows_of second b column row p.0 window h.1 (filled_second rows_of side size first second rect f) p.1 l
+      | inl p ↦ parts.0 (stands_listed first a p.0 window h.0 p.1).0 ∙ composed-cell rows_of first a column row p.0 window h.0 (all-front (FillsItsRectangle rows_of) _ _ f) p.1 l
+      | inr p ↦ parts.1 (stands_listed second b p.0 window h.1 p.1).0 ∙ composed-cell rows_of second b column row p.0 window h.1 (all-back (FillsItsRectangle rows_of) _ _ f) p.1 l
     ]
 
 -- one of the windows holds each cell

@@ -33,9 +33,12 @@ cell_at column row rows = slice_get (row_at rows row) column
 abbrev pub HasSize : {C : Type 0} → ℕ → ℕ → List (List C) → Type 0
 HasSize width height rows = (length rows ≡ height) × All (λ row. length row ≡ width) rows
 
--- each window's rows fill its rectangle
+-- a window's rows fill its rectangle
+abbrev pub FillsItsRectangle : {C : Type 0} → (Placed → List (List C)) → Placed → Type 0
+FillsItsRectangle rows_of window = HasSize window.rect.width window.rect.height (rows_of window)
+
 abbrev pub FillTheirRectangles : {C : Type 0} → (Placed → List (List C)) → List Placed → Type 0
-FillTheirRectangles rows_of windows = All (λ window. HasSize window.rect.width window.rect.height (rows_of window)) windows
+FillTheirRectangles rows_of windows = All (FillsItsRectangle rows_of) windows
 
 -- one of the windows holds a cell
 abbrev pub IsHeld : ℕ → ℕ → List Placed → Type 0
