@@ -1,14 +1,14 @@
 -- What the calls say, from the window that was found.
 use Rattle.std.proofs.Common.{◌≡◌, ℕ, suc, ◌≤◌, ◌<◌, Bool, true, false, length, Option, None, Some, Result, Ok, Err, refl, sym, ap, ◌∙◌, arith}
-use Rattle.std.specs.Prelude.{is_some, ⊤}
+use Rattle.std.specs.Prelude.{is_some, option_map, ⊤}
+use Rattle.rd_base.proofs.Choices.{map-some}
 use Rattle.std.proofs.lemmas.Bool.Decides.{nat_tests}
-use Rattle.rd_tree.specs.declared.rect.Rect.{Rect}
 use Rattle.rd_tree.specs.declared.side.Side.{Side}
 use Rattle.rd_tree.specs.declared.placed.Placed.{Placed}
 use Rattle.rd_tree.specs.declared.fault.TreeFault.{TreeFault}
 use Rattle.rd_tree.specs.declared.fault.TreeFault.TheVariants.{NoWindow, TooSmall, TooMany}
 use Rattle.rd_tree.specs.Windows.{Windows, Window, Split, HasRoom, fits, leaves, placed, window_at, holds, halves, split_at, dressed}
-use Rattle.rd_tree.specs.Calls.{Configuration, frame_of, is_full, split_tree, changed_to, mode_tree, margins_tree, rect_of_placed, rect_of, Answers}
+use Rattle.rd_tree.specs.Calls.{Configuration, frame_of, is_full, split_tree, changed_to, mode_tree, margins_tree, rect_of, Answers}
 use Rattle.rd_tree.proofs.Keeping.{found_held, replaced_fits, replaced_found}
 use Rattle.rd_tree.proofs.Rooms.{found_number}
 
@@ -50,17 +50,13 @@ not_full c p q = grind (arith, nat_tests)
 
 -- a window that was found stands in its rectangle
 pub found_rect : (c : Configuration) (w : ℕ) (found : Option Placed) (window : Placed) → found ≡ window_at w c.windows (frame_of c) → found ≡ Some window → rect_of window.number c ≡ Some window.rect
-found_rect c w found window looked e = rw (found_number w (placed c.windows (frame_of c)) window (sym looked ∙ e)) (ap rect_of_placed (sym looked ∙ e))
-
-in_rect : (found : Option Placed) (rect : Rect) → rect_of_placed found ≡ Some rect → (window : Placed) × (found ≡ Some window) × (window.rect ≡ rect)
-in_rect None rect e = absurd (cc)
-in_rect (Some window) rect e = (window, refl, cc)
+found_rect c w found window looked e = rw (found_number w (placed c.windows (frame_of c)) window (sym looked ∙ e)) (ap (option_map (λ (p : Placed). p.rect)) (sym looked ∙ e))
 
 -- a window that stands in its rectangle is among the windows, and its change leaves room where it has room then
 pub dressed_room : (c : Configuration) (window : Placed) → HasRoom c.windows (frame_of c) → rect_of window.number c ≡ Some window.rect
     → (holds window.number c.windows ≡ true) × (fits (dressed window c.windows) (frame_of c) ≡ fits (Window window.number window.mode window.margins) window.rect)
 dressed_room c window room e =
-    let old = in_rect (window_at window.number c.windows (frame_of c)) window.rect e in
+    let old = map-some (λ (p : Placed). p.rect) (window_at window.number c.windows (frame_of c)) window.rect e in
     let as_said : Bool → ℕ → Windows = λ _ _. Window window.number window.mode window.margins in
     (found_is_held c window.number old.0 old.1, replaced_fits window.number as_said c.windows (frame_of c) old.0 room old.1 ∙ ap (fits (Window window.number window.mode window.margins)) old.2)
 

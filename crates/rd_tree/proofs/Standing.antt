@@ -7,7 +7,7 @@ use Rattle.std.proofs.Math.Bool.{or-false, and-true, and-false}
 use Rattle.std.proofs.lemmas.Bool.Decides.{nat_tests}
 use Rattle.std.proofs.lemmas.List.{map-append}
 use Rattle.std.proofs.lemmas.List.Folds.{list_any-append}
-use Rattle.std.specs.Option.{option_or}
+use Rattle.std.specs.Option.{option_map, option_or}
 use Rattle.rd_base.proofs.Choices.{none-of}
 use Rattle.rd_base.proofs.Lists.{each-append, found-passes, total-append}
 use Rattle.rd_base.specs.Cells.{bit_of}
@@ -16,7 +16,7 @@ use Rattle.rd_tree.specs.declared.side.Side.{Side}
 use Rattle.rd_tree.specs.declared.side.Side.TheVariants.{Below, Right}
 use Rattle.rd_tree.specs.declared.placed.Placed.{Placed}
 use Rattle.rd_tree.specs.Windows.{Windows, Window, Split, columns_for, rows_for, first_part, second_part, HasRoom, resized, leaves, placed, window_at, holds, replaced, is_leaf_of, is_single, sibling, removed, times}
-use Rattle.rd_tree.specs.Calls.{Configuration, IsValid, frame_of, rect_of_placed}
+use Rattle.rd_tree.specs.Calls.{Configuration, IsValid, frame_of}
 use Rattle.rd_tree.specs.Places.{is_from, lies_in, windows_with, AllHaveRoom, in_place_of, replaced_first, without, is_among, IsWithin, StandsIn, LiesIn}
 use Rattle.rd_tree.proofs.Rooms.{rows_for-some, room_within, of_number-append}
 use Rattle.rd_tree.proofs.Keeping.{found_held, placed_among, by_way, resized_same}
@@ -231,7 +231,7 @@ stands_in number windows rect window h e =
     let found = found-passes (λ (p : Placed). p.number == number) (placed windows rect) window e in stands_listed windows rect found.1 window h found.2
 
 -- a rectangle that is answered of a valid tree lies in its frame
-pub lies_in_frame : (c : Configuration) (found : Option Placed) (number : ℕ) → IsValid c → window_at number c.windows (frame_of c) ≡ found → LiesIn (rect_of_placed found) (frame_of c)
+pub lies_in_frame : (c : Configuration) (found : Option Placed) (number : ℕ) → IsValid c → window_at number c.windows (frame_of c) ≡ found → LiesIn (option_map (λ (p : Placed). p.rect) found) (frame_of c)
 lies_in_frame c None number valid e = tt
 lies_in_frame c (Some window) number valid e =
     let s = stands_in number c.windows (frame_of c) window valid.room e in

@@ -1,8 +1,7 @@
 -- What the calls of a window tree answer, and what they leave.
-use Rattle.std.specs.Prelude.{◌≡◌, ℕ, suc, ◌≤◌, Bool, false, if◌then◌else◌, nat_le, ◌&&◌, ◌||◌, length, Option, None, Some, Result, Ok, Err, ⊤}
+use Rattle.std.specs.Prelude.{◌≡◌, ℕ, suc, ◌≤◌, Bool, false, if◌then◌else◌, nat_le, ◌&&◌, ◌||◌, length, Option, option_map, Result, Ok, Err, ⊤}
 use Rattle.rd_base.specs.declared.limits.TheConstants.{FRAME_COLUMNS, FRAME_ROWS, LEAST_WINDOW_COLUMNS, WINDOWS}
 use Rattle.rd_tree.specs.declared.rect.Rect.{Rect}
-use Rattle.rd_tree.specs.declared.placed.Placed.{Placed}
 use Rattle.rd_tree.specs.declared.side.Side.{Side}
 use Rattle.rd_tree.specs.declared.fault.TreeFault.{TreeFault}
 use Rattle.rd_tree.specs.declared.fault.TreeFault.TheVariants.{NoWindow, TooSmall, TooMany, LastWindow, Memory}
@@ -60,12 +59,8 @@ unfoldable pub margins_tree : Configuration → ℕ → ℕ → Result Configura
 margins_tree c window columns = if holds window c.windows then changed_to c (with_margins window columns c.windows) else Err NoWindow
 
 -- the rectangle of a window that lives
-abbrev pub rect_of_placed : Option Placed → Option Rect
-rect_of_placed None = None
-rect_of_placed (Some window) = Some window.rect
-
 abbrev pub rect_of : ℕ → Configuration → Option Rect
-rect_of window c = rect_of_placed (window_at window c.windows (frame_of c))
+rect_of window c = option_map (λ placed. placed.rect) (window_at window c.windows (frame_of c))
 
 -- a call leaves what was said, or answers the fault that was said and changes nothing
 abbrev pub Answers : Result ⊤ TreeFault → Result Configuration TreeFault → Configuration → Configuration → Type 0
