@@ -83,24 +83,35 @@ cut-made row r1 r2 from to begin end lt order le b e within p q =
     ∙ sym (overwritten-is row from to M (omega arith))
 
 -- other cells in place of what was put
-pub refilled : (row r M N : Row) (column to : ℕ) → column ≤ length row → r ≡ overwritten column M row → column + length M ≡ to → column + length N ≡ to
+refilled : (row r M N : Row) (column to : ℕ) → column ≤ length row → r ≡ overwritten column M row → column + length M ≡ to → column + length N ≡ to
     → take column r ++ (N ++ drop to r) ≡ overwritten column N row
 refilled row r M N column to le p e n =
     ap (λ r. take column r ++ (N ++ drop to r)) (p ∙ overwritten-is row column to M e)
     ∙ filled-seam (front row column) M N (behind row to) column to (length-front row column le) e
     ∙ sym (overwritten-is row column to N n)
 
--- a first value and others in place of what was put
-pub refilled-first : (row r M : Row) (column to : ℕ) (x v : Option Cell) → column ≤ length row → r ≡ overwritten column M row → column + length M ≡ to → column < to
+part-length : (row : Row) (column to : ℕ) → column ≤ to → to ≤ length row → column + length (take (to - column) (drop column row)) ≡ to
+part-length row column to order within = omega (arith, order, within, length-take-le (to - column) (drop column row) (omega (arith, within, length-drop column row)))
+
+-- copies of a cell in place of the cells that were cut
+pub refilled-same : (row r : Row) (column to : ℕ) (v : Option Cell) → column ≤ to → to ≤ length row → r ≡ overwritten column (take (to - column) (drop column row)) row
+    → take column r ++ (replicate (to - column) v ++ drop to r) ≡ overwritten column (replicate (to - column) v) row
+refilled-same row r column to v order within p =
+    refilled row r (take (to - column) (drop column row)) (replicate (to - column) v) column to (omega arith) p (part-length row column to order within) (omega (arith, order, length-replicate (to - column) v))
+
+-- a first value and others in place of the cells that were cut
+pub refilled-first : (row r : Row) (column to : ℕ) (x v : Option Cell) → column < to → to ≤ length row → r ≡ overwritten column (take (to - column) (drop column row)) row
     → take (column + 1) (set r column x) ++ (replicate (to - (column + 1)) v ++ drop to (set r column x)) ≡ overwritten column (x ∷ replicate (to - (column + 1)) v) row
-refilled-first row r M column to x v le p e lt =
+refilled-first row r column to x v lt within p =
+    let M = take (to - column) (drop column row) in
+    let e = part-length row column to (omega arith) within in
     let k = to - (column + 1) in
     let long = ap length (p ∙ overwritten-is row column to M e) in
-    let inside : column < length r = omega (arith, long, length-append (front row column) (M ++ behind row to), length-append M (behind row to), length-front row column le) in
+    let inside : column < length r = omega (arith, long, length-append (front row column) (M ++ behind row to), length-append M (behind row to), length-front row column (omega arith)) in
     let n : column + length (x ∷ replicate (to - (column + 1)) v) ≡ to = omega (arith, length-replicate (to - (column + 1)) v) in
     ap₂ (λ (a b : Row). a ++ (replicate k v ++ b)) (take_more_set r column x inside) (drop-set-lt to r column x lt)
     ∙ append_assoc (take column r) (x ∷ []) (replicate k v ++ drop to r)
-    ∙ refilled row r M (x ∷ replicate k v) column to le p e n
+    ∙ refilled row r M (x ∷ replicate k v) column to (omega arith) p e n
 
 pub map-replicate : {X Y : Type 0} (f : X → Y) (n : ℕ) (x : X) → map f (replicate n x) ≡ replicate n (f x)
 map-replicate f zero x = refl

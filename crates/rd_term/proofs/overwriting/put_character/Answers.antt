@@ -1,19 +1,11 @@
-use Rattle.std.proofs.Common.{◌≡◌, if◌then◌else◌, ℕ, ◌+◌, ◌-◌, ◌≤◌, ◌∙◌, ◌∷◌, ◌++◌, Bool, length, map, take, drop, replicate, Some, ap, sym, arith}
-use Rattle.std.proofs.lemmas.List.{length-take-le, length-replicate, length-drop}
+use Rattle.std.proofs.Common.{◌≡◌, if◌then◌else◌, ℕ, ◌+◌, ◌-◌, ◌∙◌, ◌∷◌, ◌++◌, Bool, map, take, drop, replicate, Some, ap, sym, arith}
 use Rattle.rd_base.specs.Faces.{Attributes}
 use Rattle.rd_base.specs.declared.cell.Glyph.{Glyph}
 use Rattle.rd_base.specs.declared.cell.Cell.TheVariants.{Blank, First, Rest}
 use Rattle.rd_base.specs.Glyphs.{blanks}
 use Rattle.rd_term.specs.Overwriting.{overwritten}
-use Rattle.rd_term.proofs.Cutting.{Row, refilled, refilled-first, map-replicate}
+use Rattle.rd_term.proofs.Cutting.{Row, refilled-same, refilled-first, map-replicate}
 use Rattle.rd_term.proofs.overwriting.put_character.Goals as goal
-
--- the cells in some columns from one on
-abbrev cells : Row → ℕ → ℕ → Row
-cells row column n = take (column + n - column) (drop column row)
-
-length-cells : (row : Row) (column n : ℕ) → column + n ≤ length row → column + length (cells row column n) ≡ column + n
-length-cells row column n room = omega (arith, room, length-take-le (column + n - column) (drop column row) (omega (arith, room, length-drop column row)))
 
 -- a row with a character put into it, by whether it is a space
 abbrev put : Row → ℕ → Glyph → Attributes → Bool → Row
@@ -26,10 +18,8 @@ returns-then-is_space c =
     let n = c.args.glyph.now.width in
     let blank = Some (Blank c.args.face) in
     let width : c.args.column + c.args.glyph.now.width - c.args.column ≡ c.args.glyph.now.width = omega arith in
-    let m : c.args.column + length (replicate (c.args.column + c.args.glyph.now.width - c.args.column) (Some (Blank c.args.face))) ≡ c.args.column + c.args.glyph.now.width =
-    omega (arith, length-replicate (c.args.column + c.args.glyph.now.width - c.args.column) (Some (Blank c.args.face))) in
     c.fill.ensures
-    ∙ refilled row c.cut.new.row (cells row column n) (replicate (column + n - column) blank) column (column + n) (omega (arith, c.requires.room)) c.cut.ensures (length-cells row column n c.requires.room) m
+    ∙ refilled-same row c.cut.new.row column (column + n) blank (omega arith) c.requires.room c.cut.ensures
     ∙ ap (λ cells. overwritten column cells row) (ap (λ k. replicate k blank) width ∙ sym (map-replicate Some n (Blank c.args.face)))
     ∙ ap (put row column c.args.glyph.now c.args.face) (sym c.if-is_space.true ∙ c.is_space.ensures)
 
@@ -42,6 +32,6 @@ returns-else-is_space c =
     let width : c.args.column + c.args.glyph.now.width - (c.args.column + 1) ≡ c.args.glyph.now.width - 1 = omega arith in
     c.fill-else-is_space.ensures
     ∙ ap (λ r. take (column + 1) r ++ (replicate (column + n - (column + 1)) (Some Rest) ++ drop (column + n) r)) c.set.ensures
-    ∙ refilled-first row c.cut.new.row (cells row column n) column (column + n) first (Some Rest) (omega (arith, c.requires.room)) c.cut.ensures (length-cells row column n c.requires.room) (omega (arith, c.requires.some))
+    ∙ refilled-first row c.cut.new.row column (column + n) first (Some Rest) (omega (arith, c.requires.some)) c.requires.room c.cut.ensures
     ∙ ap (λ cells. overwritten column (first ∷ cells) row) (ap (λ k. replicate k (Some Rest)) width ∙ sym (map-replicate Some (n - 1) Rest))
     ∙ ap (put row column c.args.glyph.now c.args.face) (sym c.if-is_space.false ∙ c.is_space.ensures)
