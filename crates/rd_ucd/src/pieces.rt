@@ -1,6 +1,6 @@
 //! Cutting bytes into lines, and lines into fields.
 ghost use Rattle.std.specs.Prelude.{◌≡◌, ◌==◌, ◌<◌, ◌≤◌, [], ◌∷◌, length, drop, MatchOption, slice_index_or};
-ghost use Rattle.std.specs.List.{slice_split};
+ghost use Rattle.std.specs.List.{slice_split, prefix_len, suffix_len};
 ghost use Rattle.std.specs.Str.Lines.{strip_carriage_return};
 ghost use Rattle.rd_ucd.specs.Lines.{fields_of};
 ghost use Rattle.rd_ucd.specs.Pieces.{uncommented, trimmed, trimmed_front, trimmed_back, is_blank};
@@ -66,21 +66,33 @@ pub fn trim(bytes: &[u8]) -> &[u8]
 fn trim_front(bytes: &[u8]) -> &[u8]
     ensures { result.now ≡ trimmed_front bytes.now }
 {
-    let mut start = 0;
-    while start < bytes.len() && is_space(bytes[start]) {
-        start += 1;
-    }
-    bytes.split_at(start).1
+    bytes.split_at(blanks_before(bytes)).1
 }
 
 fn trim_back(bytes: &[u8]) -> &[u8]
     ensures { result.now ≡ trimmed_back bytes.now }
 {
-    let mut end = bytes.len();
-    while end > 0 && is_space(bytes[end - 1]) {
-        end -= 1;
-    }
-    bytes.split_at(end).0
+    bytes.split_at(bytes.len() - blanks_behind(bytes)).0
+}
+
+/// How many spaces and tabs stand at the beginning.
+fn blanks_before(bytes: &[u8]) -> usize
+    ensures value { result ≡ prefix_len is_blank bytes.now }
+    ensures bound { result ≤ length bytes.now }
+{
+    bytes.iter().take_while(|byte| is_space(**byte)).count()
+}
+
+/// How many spaces and tabs stand at the end.
+fn blanks_behind(bytes: &[u8]) -> usize
+    ensures value { result ≡ suffix_len is_blank bytes.now }
+    ensures bound { result ≤ length bytes.now }
+{
+    bytes
+        .iter()
+        .rev()
+        .take_while(|byte| is_space(**byte))
+        .count()
 }
 
 /// A space or a tab.
