@@ -4,8 +4,8 @@ use Rattle.std.specs.Prelude.{count_by, slice_get, option_map}
 use Rattle.std.proofs.lemmas.Bool.Decides.{nat_tests}
 use Rattle.std.proofs.lemmas.Bool.{and_parts, cases_lt}
 use Rattle.std.proofs.lemmas.Option.{slice_get-map, slice_get_within, slice_get_read, get_or_from_slice_get}
-use Rattle.std.proofs.lemmas.List.{take_all}
-use Rattle.std.proofs.lemmas.List.Elements.{All-cons, All-nil, All-head, All-tail, All-more, All-append}
+use Rattle.std.proofs.lemmas.List.{take_all, length-map, map-append}
+use Rattle.std.proofs.lemmas.List.Elements.{All-cons, All-map, All-nil, All-head, All-tail, All-more, All-append}
 use Rattle.std.proofs.lemmas.Simd.{map-map}
 use Rattle.rd_base.specs.Elements.{ends_once}
 use Rattle.rd_base.specs.declared.cell.Glyph.{Glyph}
@@ -159,21 +159,17 @@ are-rows start end size rows rs whole last begun inside once = record {
       (count-same (covers start (start + k)) (in_range k) (begins_of rows) (covers-moved start k) ∙ (ap (count_by (in_range k)) begun ∙ once k (omega (arith, low, high, whole))));
 }
 
-bases-of : (hs : List HeldBlock) → All IsHeld hs → All (λ b. b.base ≤ 1) (blocks_held hs)
-bases-of [] all = All-nil (λ (b : Block). b.base ≤ 1)
-bases-of (h ∷ hs) all = All-cons (λ (b : Block). b.base ≤ 1) h.block (blocks_held hs) (all zero h (omega arith)).base (bases-of hs (All-tail IsHeld h hs all))
-
-some-blocks : (hs : List HeldBlock) → 0 < length hs → 0 < length (blocks_held hs)
-some-blocks [] h = absurd (omega (arith, h))
-some-blocks (x ∷ xs) h = omega arith
-
 pub source-right : (hs : List HeldBlock) → AreHeld hs → 0 < length hs
     → ((c : Cutting) (es : List Element) → HasLeads c → IsTrue (ends_once es) → IsTrue (ends_last (seen_rows (rows_of c es))))
     → ((c : Cutting) (es : List Element) → HasLeads c → IsTrue (ends_once es) → map range_of (begins_of (seen_rows (rows_of c es))) ≡ ranges_of None es)
     → ((shape : ShapeValues) (base : ℕ) (first wrap : List Element) (truncation continuation : Glyph) → shape.width ≤ 400 → IsPrefix first → IsPrefix wrap → HasLeads (cutting_of shape base first wrap truncation continuation))
     → IsSource (source_of hs)
 source-right hs held some last begun leads = record {
-  blocks = record { some = some-blocks hs some; stand = held.stand; bases = bases-of hs held.lines };
+  blocks = record {
+    some = let size = length-map hs (λ (h : HeldBlock). h.block) in omega (arith, size, some);
+    stand = held.stand;
+    bases = All-map (λ (b : Block). b.base ≤ 1) (λ (h : HeldBlock). h.block) hs (λ k d inside. (held.lines k d inside).base);
+  };
   rows = λ b shape among good.
       let found = get-map (λ (h : HeldBlock). h.block) hs among.0 b among.1 in
       let h = found.0 in
@@ -194,17 +190,13 @@ stand-more : (from : ℕ) (bs : List Block) (b : Block) → StandFrom from bs �
 stand-more from [] b h next some = (next, some, tt)
 stand-more from (a ∷ bs) b h next some = (h.0, h.1, stand-more a.end bs b h.2 next some)
 
-blocks-more : (hs : List HeldBlock) (h : HeldBlock) → blocks_held (hs ++ h ∷ []) ≡ blocks_held hs ++ h.block ∷ []
-blocks-more [] h = refl
-blocks-more (x ∷ xs) h = ap (λ bs. x.block ∷ bs) (blocks-more xs h)
-
 first-more : (bs : List Block) (b : Block) → StandFrom (first_start bs) bs → b.start ≡ end_from b.start bs → b.start < b.end → StandFrom (first_start (bs ++ b ∷ [])) (bs ++ b ∷ [])
 first-more [] b h next some = (refl, some, tt)
 first-more (a ∷ bs) b h next some = stand-more a.start (a ∷ bs) b h next some
 
 pub held-more : (hs all : List HeldBlock) (h : HeldBlock) → AreHeld hs → IsHeld h → h.block.start ≡ end_from h.block.start (blocks_held hs) → all ≡ hs ++ h ∷ [] → AreHeld all
 held-more hs all h held one next push = rw push (record {
-  stand = rw (blocks-more hs h) (first-more (blocks_held hs) h.block held.stand next one.some);
+  stand = rw (map-append (λ (x : HeldBlock). x.block) hs (h ∷ [])) (first-more (blocks_held hs) h.block held.stand next one.some);
   lines = All-append IsHeld hs (h ∷ []) held.lines (All-cons IsHeld h [] one (All-nil IsHeld));
 })
 

@@ -2,6 +2,7 @@
 use Rattle.std.proofs.Common.{◌≡◌, inl, inr, ℕ, suc, ◌+◌, ◌<◌, ◌==◌, Bool, true, false, if◌then◌else◌, drop, get_or, length, Option, None, Some, List, [], ◌∷◌, map, sym, ap, refl, subst, subst₂, ◌∙◌}
 use Rattle.std.proofs.lemmas.Bool.{cases_eq}
 use Rattle.std.proofs.lemmas.List.{drop_more}
+use Rattle.std.proofs.lemmas.Simd.{map-map}
 use Rattle.std.proofs.lemmas.Option.{none-some, same_Some}
 use Rattle.std.proofs.lemmas.Iterator.Adapters.{option_map_id}
 use Rattle.std.specs.Prelude.{IsSome, option_map, pos, slice_get}
@@ -86,10 +87,6 @@ settled-numbers [] es ws = refl
 settled-numbers (x ∷ xs) [] ws = refl
 settled-numbers (x ∷ xs) (e ∷ es) ws = settled-numbers xs es (with_entry e.0 (settle_to x.chosen) ws) ∙ with-numbers e.0 (settle_to x.chosen) ws
 
-map-numbers : (f : ℕ → WindowState → WindowState) (ws : List NumberedWindow) → map (λ (e : NumberedWindow). e.0) (map (λ (e : NumberedWindow). (e.0, f e.0 e.1)) ws) ≡ map (λ (e : NumberedWindow). e.0) ws
-map-numbers f [] = refl
-map-numbers f (w ∷ ws) = ap (λ (ns : List ℕ). w.0 ∷ ns) (map-numbers f ws)
-
 -- ---- what is found behind
 
 -- what was chosen, under the numbers of the windows
@@ -164,7 +161,7 @@ module _ (v : SessionValue) where
   windows-are xs es apart once h =
       let f = λ (n : ℕ) (w : WindowState). settled_by v.files v.state w (place_of n v.state) in
       sym (same-windows (map (settled_at v.files v.state) v.state.windows) (windows_settled xs es v.state.windows)
-      (map-numbers f v.state.windows ∙ sym (settled-numbers xs es v.state.windows))
+      (map-map _ _ v.state.windows ∙ sym (settled-numbers xs es v.state.windows))
       (apart-became f v.state.windows apart)
       (λ n. under-became f n v.state.windows
       ∙ (sym (both-settle n (place_of n v.state) (under n (choices xs es)) refl (right-chosen n (places v.state) xs es h)) ∙ sym (found-settled n xs es v.state.windows once))))
