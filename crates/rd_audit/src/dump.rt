@@ -94,7 +94,7 @@ impl Groups {
     ghost use Rattle.std.specs.Option.{option_or};
     ghost use Rattle.rd_audit.specs.Rows.{is_row, is_cursor};
 
-    /// The same behind a line that begins here.
+    /// The groups that were found, behind a line that begins here.
     fn after(self, here: LineStart, line: &[u8]) -> Groups
         ensures begun { result.begun ≡ (if is_row line.now then option_or self.begun (Some here) else None) }
         ensures found { result.found ≡ (if is_row line.now then self.found else if is_cursor line.now then option_or self.begun self.found else self.found) }

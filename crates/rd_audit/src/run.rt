@@ -30,7 +30,7 @@ pub fn runs_over(text: &[u8], cells: ListOf<Cell>) -> Option<ListOf<Cell>>
     painted(cells, text.split_at(1).1)
 }
 
-/// The same by the text behind the first space.
+/// The cells of a row, painted by the text behind the first space.
 fn painted(cells: ListOf<Cell>, runs: &[u8]) -> Option<ListOf<Cell>>
     ensures { result ≡ painted 0 cells (pieces 32 runs.now) }
 {

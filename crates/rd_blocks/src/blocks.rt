@@ -55,7 +55,7 @@ impl<'a> Blocks<'a> {
         }
     }
 
-    /// What holds of it as a source.
+    /// What holds of a buffer's blocks as a source.
     fn rules(&self)
         ensures { IsSource (source_of self.now) }
     {

@@ -68,7 +68,7 @@ impl Matching {
     ghost use Rattle.rd_brackets.specs.Matchings.{all_pairs, AreOpenedBefore, ArePairsBefore, Opens};
     ghost use Rattle.rd_brackets.specs.declared.role.Role.{Role};
 
-    /// Goes on over the character at a place; false where a bracket opens there while 63 stand open.
+    /// BD16: goes on over the character at a place; false where a bracket opens there while 63 stand open.
     fn add(&mut self, place: usize, role: Role) -> Result<bool, Memory>
         requires opened { AreOpenedBefore place self.old.opened }
         requires pairs { ArePairsBefore place self.old.pairs }
@@ -86,7 +86,7 @@ impl Matching {
         }
     }
 
-    /// Adds a bracket that opens, unless 63 stand open.
+    /// BD16: adds a bracket that opens, unless 63 stand open.
     fn open(&mut self, place: usize, partner: u32) -> Result<bool, Memory>
         requires { AreOpenedBefore place self.old.opened }
         ensures opened { IfOk result (λ added. Opens added place partner self.old.opened self.new.opened) }
@@ -100,7 +100,7 @@ impl Matching {
         Ok(true)
     }
 
-    /// Pairs a bracket that closes with the last one that stands open and that it closes. That one and all behind it then stand
+    /// BD16: pairs a bracket that closes with the last one that stands open and that it closes. That one and all behind it then stand
     /// open no more. Where it closes none, nothing changes.
     fn close(&mut self, place: usize, code: u32) -> Result<(), Memory>
         requires opened { AreOpenedBefore place self.old.opened }
@@ -122,7 +122,7 @@ impl Matching {
     }
 }
 
-/// The index of the last of these brackets that a code closes.
+/// For BD16, the index of the last of these brackets that a code closes.
 fn last_closed(opened: &[Opened], code: u32) -> Option<usize>
     ensures { IsLastClosed result code opened.now }
 {

@@ -57,7 +57,7 @@ fn embedding_of(line: &Line, seq: &Seq) -> Class
     Class::of_level(line.levels.at(seq.indexes.at(0) as usize))
 }
 
-/// For each of so many places where the pair closes that opens there.
+/// For N0, for each of so many places where the pair closes that opens there.
 fn closings(alloc: Global, pairs: &[Pair], count: usize) -> Result<ListOf<Option<usize>>, Memory>
     requires { ArePairsBefore count pairs.now }
     ensures value { IfOk result (λ found. found ≡ closings pairs.now count) }

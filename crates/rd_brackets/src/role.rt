@@ -40,7 +40,7 @@ fn role_by(code: u32, bracket: Option<Bracket>) -> Role
     }
 }
 
-/// U+3008 for U+2329, and U+3009 for U+232A, which are canonically equivalent; every other code itself.
+/// For BD16, U+3008 for U+2329 and U+3009 for U+232A, which are canonically equivalent; every other code itself.
 fn canonical(code: u32) -> u32
     ensures { result ≡ canonical code }
 {

@@ -74,7 +74,7 @@ fn n0_pair_side(
     Some(embedding)
 }
 
-/// Whether a type between two places counts as this direction.
+/// For N0, whether a type between two places counts as this direction.
 fn holds(side: Class, opening: usize, closing: usize, types: &[Class]) -> bool
     requires opening { opening < length types.now }
     requires closing { closing < length types.now }
@@ -88,7 +88,7 @@ fn holds(side: Class, opening: usize, closing: usize, types: &[Class]) -> bool
     false
 }
 
-/// The direction of the last strong type before a place, or sos where there is none.
+/// For N0, the direction of the last strong type before a place, or sos where there is none.
 fn last_side(sos: Class, place: usize, types: &[Class]) -> Class
     requires { place < length types.now }
     ensures { result ≡ last_side sos (take place types.now) }
@@ -107,7 +107,7 @@ fn last_side(sos: Class, place: usize, types: &[Class]) -> Class
     sos
 }
 
-/// Whether a type counts as this direction: EN and AN count as R.
+/// For N0, whether a type counts as this direction: EN and AN count as R.
 fn counts_as(side: Class, class: Class) -> bool
     ensures { result ≡ counts_as side class }
 {
@@ -118,7 +118,7 @@ fn counts_as(side: Class, class: Class) -> bool
     }
 }
 
-/// The other direction.
+/// For N0, the other direction.
 fn opposite(side: Class) -> Class
     ensures { result ≡ opposite side }
 {
@@ -139,7 +139,7 @@ pub fn side_taken(side: Option<Class>, class: Class, before: Class, after: Class
     followed(side, class, after)
 }
 
-/// Whether a bracket took a direction.
+/// For N0, whether a bracket took a direction.
 fn became(before: Class, after: Class) -> bool
     ensures { result ≡ became before after }
 {
@@ -150,7 +150,7 @@ fn became(before: Class, after: Class) -> bool
     }
 }
 
-/// The direction that a mark takes: that of the bracket before it, or of the mark before it that took one.
+/// For N0, the direction that a mark takes: that of the bracket before it, or of the mark before it that took one.
 fn followed(side: Option<Class>, class: Class, after: Class) -> Option<Class>
     ensures { result ≡ followed side class after }
 {

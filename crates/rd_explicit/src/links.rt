@@ -63,7 +63,7 @@ impl Links {
     }
 
     /// BD9: the index of the PDI that matches a class, if that is an isolate initiator and has one. A PDI itself waits from then on.
-    fn partner(&mut self, class: Class, i: usize) -> Result<Option<u32>, Memory>
+    fn bd9_partner(&mut self, class: Class, i: usize) -> Result<Option<u32>, Memory>
         requires { i < 2 ^ 32 }
         ensures partner { (cs : List Class) → self.old.pdis ≡ reverse (unmatched (i + 1) cs) → IfOk result (λ p. p ≡ partner_of i class cs) }
         ensures pdis { (cs : List Class) → self.old.pdis ≡ reverse (unmatched (i + 1) cs) → OnOk result (self.new.pdis ≡ reverse (unmatched i (class ∷ cs))) }
@@ -110,7 +110,7 @@ impl Links {
     {
         let class = line.classes.at(i);
         let level = line.levels.at(i);
-        let partner = self.partner(class, i)?;
+        let partner = self.bd9_partner(class, i)?;
         if class.is_removed() {
             self.begins.set(i, false);
             return Ok(());
@@ -170,7 +170,7 @@ impl Links {
     }
 }
 
-/// Whether a class is an isolate initiator that nothing matches.
+/// For X10, whether a class is an isolate initiator that nothing matches.
 fn is_unmatched(class: Class, partner: Option<u32>) -> bool
     ensures { result ≡ (is_initiator class && is_none partner) }
 {

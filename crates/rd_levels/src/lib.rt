@@ -19,8 +19,8 @@
 //! A line at base 0 of classes that can raise no level is looked through once, and steps 1 to 4 are passed over: all its levels are
 //! 0, as `lines_read_from_the_left` says. A `LevelCache` that is filled again uses its room again.
 //!
-//! The definitions have each rule as a pass over a whole list; `specs/Levels` puts them together. docs/THEOREMS.md says where each rule is
-//! stated, coded and proved.
+//! The rules are in docs/RULES.md, "Levels and order". The definitions have each as a pass over a whole list; `specs/Levels` puts them
+//! together. docs/THEOREMS.md says where each rule is stated, coded and proved.
 //!
 //! GNU Emacs has the same rules in bidi.c: step 1 in `bidi_resolve_explicit`, step 3 in `bidi_resolve_weak`, `bidi_resolve_brackets` and
 //! `bidi_resolve_neutral`, step 4 in `bidi_level_of_next_char`, step 5 in `bidi_move_to_visually_next`; as here, a line begins anew behind

@@ -79,7 +79,7 @@ fn l2_following(levels: &[u8], base: u8, index: usize) -> Option<usize>
     }
 }
 
-/// The index beside `place` in the direction in which a run at `level` is read, where it lies in this run too.
+/// For L2, the index beside `place` in the direction in which a run at `level` is read, where it lies in this run too.
 fn neighbour(levels: &[u8], level: u8, base: u8, place: usize) -> Option<usize>
     requires base { base ≤ level }
     requires place { place < length levels.now }
@@ -97,7 +97,7 @@ fn neighbour(levels: &[u8], level: u8, base: u8, place: usize) -> Option<usize>
     }
 }
 
-/// The highest level of the two indexes beside a run, at least the base.
+/// For L2, the highest level of the two indexes beside a run, at least the base.
 fn highest_beside(levels: &[u8], base: u8, run: &ReversedRun) -> u8
     requires order { run.now.start < run.now.end }
     requires end { run.now.end ≤ length levels.now }

@@ -18,7 +18,7 @@ pub(crate) struct Rank {
     pub(crate) number: u32,
 }
 
-/// Adds an overlay where it stands so to a position.
+/// Adds an overlay where it meets a position as `meeting` says.
 fn take_in(
     ranks: &mut Vec<Rank>,
     slot: Option<Overlay>,
@@ -37,7 +37,7 @@ fn take_in(
     Ok(())
 }
 
-/// The overlays that stand so to a position, against the order in which the index comes to them.
+/// The overlays that meet a position as `meeting` says, against the order in which the index comes to them.
 fn found(
     alloc: Global,
     slots: &[Option<Overlay>],
@@ -71,7 +71,7 @@ fn numbers(alloc: Global, ranks: &[Rank]) -> Result<ListOf<u32>, Memory>
     mapped(alloc, ranks, |rank| rank.number)
 }
 
-/// The numbers of the overlays that stand so to a position, in increasing order of priority and number.
+/// The numbers of the overlays that meet a position as `meeting` says, in increasing order of priority and number.
 pub(crate) fn listed(
     alloc: Global,
     store: &Store,

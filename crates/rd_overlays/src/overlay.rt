@@ -37,7 +37,7 @@ pub(crate) enum Meeting {
     Ends,
 }
 
-/// Whether an overlay stands so to a position.
+/// Whether an overlay meets a position as `meeting` says.
 pub(crate) fn meets(meeting: Meeting, pos: Pos, overlay: Overlay) -> bool
     ensures { result ≡ meets meeting pos overlay }
 {

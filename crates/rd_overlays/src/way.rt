@@ -22,7 +22,7 @@ pub(crate) fn closer(way: Way, x: Pos, y: Pos) -> Pos
     }
 }
 
-/// The same of two places that may be missing.
+/// The one of two places that is nearer on the way, where either may be missing.
 pub(crate) fn nearer(way: Way, a: Option<Pos>, b: Option<Pos>) -> Option<Pos>
     ensures { result ≡ nearer way a b }
 {

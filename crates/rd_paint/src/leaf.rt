@@ -27,7 +27,7 @@ pub(crate) fn leaf_at(state: &State, i: u32) -> Leaf<'_>
     }
 }
 
-/// The same; None exactly where there are not so many windows.
+/// The window at a place of leaf order, with its place on the frame; None exactly where there are not so many windows.
 fn found_leaf(state: &State, i: u32) -> Option<Leaf<'_>>
     ensures { MatchOption result (length (places state.now) ≤ i) (λ leaf. IsLeaf state.now i leaf.place leaf.window.now leaf.content) }
 {

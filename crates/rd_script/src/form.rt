@@ -104,7 +104,7 @@ pub fn number_within(value: &Value, least: u64, greatest: u64) -> Option<u64>
     }
 }
 
-/// The same of a range of 32 bits.
+/// A number of 32 bits from the least to the greatest, or None.
 pub fn small_within(value: &Value, least: u32, greatest: u32) -> Option<u32>
     ensures { result ≡ within least greatest (view value.now) }
 {

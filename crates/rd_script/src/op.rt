@@ -186,7 +186,7 @@ pub enum Op {
     Shift {
         on: bool,
     },
-    /// Moves a window's point by one character as it is seen: to the right, or to the left.
+    /// Moves a window's point to the next item as it is seen: to the right, or to the left.
     Go {
         window: u64,
         right: bool,

@@ -13,7 +13,7 @@ use rd_objects::Objects;
 use rd_overlays::Kind;
 use rd_script::Setting;
 
-/// No sort of objects has more.
+/// How many strings there can be: no sort of objects has more.
 const MOST_NUMBERS: u64 = STRINGS as u64;
 
 /// The value of a kind in 32 bits, which is refused where it names an object that was not made.

@@ -15,7 +15,7 @@ use rd_objects::{Objects, Run, Spec, Table};
 use rd_script::{OpRun, OpSpec};
 use std::alloc::Global;
 
-/// How many strings there can be, and display specs.
+/// How many strings there can be, and display specs, of which there can be as many.
 const MOST: u64 = STRINGS as u64;
 
 /// Makes a string with runs of faces and display specs.
@@ -33,7 +33,7 @@ pub(crate) fn add_string(
     add_runs(objects, text, runs.as_slice())
 }
 
-/// The same with runs of 32 bits.
+/// Makes a string with runs of 32 bits.
 fn add_runs(objects: &mut Objects, text: &[Ch], runs: &[Run]) -> Result<(), Refused>
     ensures { Answers result (unless_fault (string_fault objects.old text.now runs.now) (string_added objects.old text.now runs.now)) objects.old objects.new }
 {

@@ -150,7 +150,7 @@ fn restyled(buffer: u32, from: Pos, to: Pos) -> Effect
     }
 }
 
-/// The same of the text that an overlay covers.
+/// The effect that the text which an overlay covers looks otherwise.
 fn covered(buffer: u32, overlay: Overlay) -> Effect
     ensures { result ≡ covered_effect buffer (Some overlay) }
 {

@@ -30,7 +30,7 @@ pub(crate) fn close(spans: &mut [Spans], from: Pos, to: Pos)
     close_first(spans, spans.len(), from, to);
 }
 
-/// The same for the first kinds, so many of them.
+/// Closes a range in the values of the first kinds, so many of them.
 fn close_first(spans: &mut [Spans], count: usize, from: Pos, to: Pos)
     requires ordered { from ≤ to }
     requires there { count ≤ length spans.old }

@@ -42,7 +42,7 @@ pub(crate) fn copy(alloc: Global, window: &WindowState) -> Result<WindowState, M
     })
 }
 
-/// The same format.
+/// A copy of a mode line's format, where there is one.
 fn copy_format(alloc: Global, format: &Option<ListOf<Ch>>) -> Result<Option<ListOf<Ch>>, Memory>
     ensures { IfOk result (λ copy. copy ≡ format.now) }
 {

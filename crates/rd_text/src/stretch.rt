@@ -28,7 +28,7 @@ pub(crate) struct Stretch {
 }
 
 impl Stretch {
-    /// Of no characters.
+    /// What is kept of no characters.
     pub(crate) fn of_none() -> Stretch
         ensures { result ≡ summary [] }
     {
@@ -42,7 +42,7 @@ impl Stretch {
         }
     }
 
-    /// Of characters, by what they are one by one.
+    /// What is kept of these characters, by what they are one by one.
     pub(crate) fn of(codes: &[u32]) -> Stretch
         requires { length codes.now < 4294967296 }
         ensures { result ≡ summary codes.now }
@@ -81,7 +81,7 @@ impl Stretch {
         self.opens || (self.blank && opened)
     }
 
-    /// Of one more character, in front.
+    /// What is kept of these and one more character, in front.
     fn behind(self, code: u32) -> Stretch
         requires { self.newlines + 1 < 4294967296 }
         ensures { (codes : List ℕ) → self ≡ summary codes → result ≡ summary (code ∷ codes) }

@@ -16,7 +16,7 @@ pub(crate) fn note(layouts: &mut Vec<(u32, Layout)>, effect: Effect, state: &Sta
     }
 }
 
-/// The same for the last layout of one window.
+/// Notes in the last layout of one window what an effect changed of what it shows.
 fn note_in(entry: &mut (u32, Layout), effect: Effect, state: &State)
     ensures { entry.new ≡ later effect state.now entry.old }
 {

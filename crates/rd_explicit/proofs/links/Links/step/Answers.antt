@@ -9,7 +9,7 @@ use Rattle.rd_explicit.proofs.links.Links.step.Goals as goal
 pub returns-then-is_removed-clause-joins : goal.returns-then-is_removed-clause-joins
 returns-then-is_removed-clause-joins c =
     let line = c.args.line.now in
-    let rest = c.partner.ensures.rest in
+    let rest = c.bd9_partner.ensures.rest in
     joins-removed line.base c.args.i line.classes line.levels c.at-class.result c.at-level.result c.args.self.now _
     c.requires.within line.same_levels c.at-class.ensures c.at-level.ensures c.requires.links c.requires.begins c.requires.joins
     (c.in_ok-partner.ensures.pdis (drop (c.args.i + 1) line.classes) c.requires.joins.pdis)
@@ -18,7 +18,7 @@ returns-then-is_removed-clause-joins c =
 pub join-next-requires : goal.join-next-requires
 join-next-requires c =
     let line = c.args.line.now in
-    let rest = c.partner.ensures.rest in
+    let rest = c.bd9_partner.ensures.rest in
     below-end c.args.i (length line.classes) _ c.bd13_follower.result
     (follows-within line.base c.args.i c.at-level.result c.at-class.result line.classes line.levels c.args.self.now c.in_ok-partner.partner c.bd13_follower.result
     c.requires.within c.requires.joins (c.in_ok-partner.ensures.partner (drop (c.args.i + 1) line.classes) c.requires.joins.pdis)
@@ -28,7 +28,7 @@ join-next-requires c =
 pub returns-clause-leads : goal.returns-clause-leads
 returns-clause-leads c =
     let line = c.args.line.now in
-    let rest = c.partner.ensures.rest in
+    let rest = c.bd9_partner.ensures.rest in
     let behind = follows-within line.base c.args.i c.at-level.result c.at-class.result line.classes line.levels c.args.self.now c.in_ok-partner.partner c.bd13_follower.result
     c.requires.within c.requires.joins (c.in_ok-partner.ensures.partner (drop (c.args.i + 1) line.classes) c.requires.joins.pdis)
     (c.bd13_follower.ensures ∙ ap (λ o. bd13_follower o c.at-level.result c.in_ok-partner.partner) rest.first) in
@@ -40,7 +40,7 @@ returns-clause-leads c =
 pub returns-clause-joins : goal.returns-clause-joins
 returns-clause-joins c =
     let line = c.args.line.now in
-    let rest = c.partner.ensures.rest in
+    let rest = c.bd9_partner.ensures.rest in
     let f = c.bd13_follower.result in
     let l = c.at-level.result in
     let partner = c.in_ok-partner.partner in

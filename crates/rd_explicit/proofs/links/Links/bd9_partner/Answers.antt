@@ -2,7 +2,7 @@ use Rattle.std.proofs.Common.{◌≡◌, true, sym, ◌+◌, ◌∙◌}
 use Rattle.rd_base.specs.Classes.{is_initiator}
 use Rattle.rd_explicit.proofs.Nesting.{popped, get-unmatched}
 use Rattle.rd_explicit.specs.Links.{unmatched}
-use Rattle.rd_explicit.proofs.links.Links.partner.Goals as goal
+use Rattle.rd_explicit.proofs.links.Links.bd9_partner.Goals as goal
 
 pub returns-then-is_initiator-clause-partner : goal.returns-then-is_initiator-clause-partner
 returns-then-is_initiator-clause-partner c = λ cs same.
