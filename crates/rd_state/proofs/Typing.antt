@@ -1,7 +1,6 @@
 -- Texts put in: that the windows can move with them, and what is typed at the selected window's point.
 use Rattle.std.proofs.Common.{◌≡◌, ℕ, ◌+◌, ◌<◌, ◌==◌, not, cond, Some, Result, Ok, Err, List, [], ◌∷◌, length, map, set, get_or, sym, ap, refl, ◌∙◌, arith}
 use Rattle.std.proofs.lemmas.List.{length-map}
-use Rattle.std.proofs.lemmas.Option.{slice_get-get_or}
 use Rattle.std.specs.Prelude.{◌≢◌, IsErr, IsErrAnd, slice_get, unwrap_or}
 use Rattle.rd_script.specs.declared.op.Op.{Op}
 use Rattle.rd_state.specs.declared.effect.Effect.{Effect}
@@ -39,10 +38,6 @@ can-insert s i place new bs valid (b, c, at, gives, is) k e there shows =
     let point = (window.point b here).1 in
     let anchor = (window.anchor b here).1 in
     (omega arith, omega arith)
-
--- a window shows a buffer that was made
-pub shows-made : (s : StateValue) (i : ℕ) (e : NumberedWindow) → IsValid s → i < length s.windows → e ≡ get_or s.windows i e → e.1.buffer < length s.buffers
-shows-made s i e valid less at = (valid.windows.each i e (slice_get-get_or s.windows i e less ∙ ap Some (sym at))).made
 
 -- ---- typing
 

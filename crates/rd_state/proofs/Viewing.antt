@@ -1,7 +1,6 @@
 -- What the ops on a window's view leave.
-use Rattle.std.proofs.Common.{◌≡◌, ℕ, ◌<◌, ◌≤◌, Bool, true, false, if◌then◌else◌, IsTrue, ℤ, pos, ◌+ℤ◌, neg_ℤ, ◌≤ℤ◌, FitsSigned, w64, to_z, of_z, Some, Result, Ok, Err, List, length, set, get_or, ap, subst, sym, ◌∙◌, arith}
+use Rattle.std.proofs.Common.{◌≡◌, ℕ, ◌<◌, ◌≤◌, Bool, false, if◌then◌else◌, IsTrue, ℤ, pos, ◌+ℤ◌, neg_ℤ, ◌≤ℤ◌, FitsSigned, w64, to_z, of_z, Some, Result, Ok, Err, List, length, set, get_or, ap, subst, sym, ◌∙◌, arith}
 use Rattle.std.proofs.lemmas.Bool.{and_parts}
-use Rattle.std.proofs.lemmas.Bool.Decides.{nat_tests}
 use Rattle.std.proofs.lemmas.Int.{ints, to_z-of_z}
 use Rattle.std.proofs.lemmas.Option.{slice_get_past}
 use Rattle.std.specs.Prelude.{int_le, slice_get}
@@ -68,15 +67,6 @@ sets-placed s t n i place short e f same is inside near at placed =
     let there = found-in t s.windows n i e (ap (λ (x : StateValue). x.windows) (sym same)) is inside at in
     placed (f place) ∙ (sets-window s t n i e (f place) same there ∙ ap (λ p. Ok (record t { windows = set t.windows i (e.0, f p e.1) })) (sym near))
 
-before-begin : (t : TextValue) (place begin : ℕ) → begin ≡ t.begin → place < begin → is_accessible t place ≡ false
-before-begin t place begin is less = grind (arith, nat_tests)
-
-behind-end : (t : TextValue) (place end : ℕ) → end ≡ t.end → end < place → is_accessible t place ≡ false
-behind-end t place end is less = grind (arith, nat_tests)
-
-within : (t : TextValue) (place begin end : ℕ) → begin ≡ t.begin → end ≡ t.end → begin ≤ place → place ≤ end → is_accessible t place ≡ true
-within t place begin end is at low high = grind (arith, nat_tests)
-
 -- what `text_at` tells of the buffer with a number
 abbrev pub IsTextAt : List BufferValue → ℕ → TextValue → Type 0
 IsTextAt buffers i t = (b : BufferValue) × (slice_get buffers i ≡ Some b) × (t ≡ b.content.text)
@@ -85,18 +75,8 @@ IsTextAt buffers i t = (b : BufferValue) × (slice_get buffers i ≡ Some b) × 
 abbrev pub TellsAt : List BufferValue → ℕ → ℕ → Bool → Type 0
 TellsAt buffers i place answer = (b : BufferValue) × (slice_get buffers i ≡ Some b) × (is_accessible b.content.text place ≡ answer)
 
-pub tells-before : (buffers : List BufferValue) (i place begin : ℕ) (t : TextValue) → IsTextAt buffers i t → begin ≡ t.begin → place < begin → TellsAt buffers i place false
-tells-before buffers i place begin t at is less = (at.0, at.1, before-begin at.0.content.text place begin (is ∙ ap (λ (x : TextValue). x.begin) at.2) less)
-
-pub tells-behind : (buffers : List BufferValue) (i place end : ℕ) (t : TextValue) → IsTextAt buffers i t → end ≡ t.end → end < place → TellsAt buffers i place false
-tells-behind buffers i place end t at is less = (at.0, at.1, behind-end at.0.content.text place end (is ∙ ap (λ (x : TextValue). x.end) at.2) less)
-
-pub tells-within : (buffers : List BufferValue) (i place begin end : ℕ) (t : TextValue) → IsTextAt buffers i t → begin ≡ t.begin → end ≡ t.end → begin ≤ place → place ≤ end → TellsAt buffers i place true
-tells-within buffers i place begin end t at is too low high = (
-  at.0,
-  at.1,
-  within at.0.content.text place begin end (is ∙ ap (λ (x : TextValue). x.begin) at.2) (too ∙ ap (λ (x : TextValue). x.end) at.2) low high,
-)
+pub tells-at : (buffers : List BufferValue) (i place : ℕ) (answer : Bool) (t : TextValue) → IsTextAt buffers i t → is_accessible t place ≡ answer → TellsAt buffers i place answer
+tells-at buffers i place answer t at is = (at.0, at.1, ap (λ (x : TextValue). is_accessible x place) (sym at.2) ∙ is)
 
 -- ---- rows that wait
 

@@ -12,15 +12,16 @@ use Rattle.rd_state.specs.Windows.{place_in, NumberedWindow}
 use Rattle.rd_state.proofs.ByName.{answers-at, length-buffers_of}
 use Rattle.rd_state.proofs.Finding.{found-in}
 use Rattle.rd_state.proofs.Small.{inserted-small}
-use Rattle.rd_state.proofs.Typing.{can-insert, shows-made, found-moved, typing-ok, typing-err, typing-effect, refuses-unless}
+use Rattle.rd_state.proofs.Typing.{can-insert, found-moved, typing-ok, typing-err, typing-effect, refuses-unless}
+use Rattle.rd_state.proofs.Viewing.{shown-made}
 use Rattle.rd_state.proofs.parts.StateParts.type_text.Goals as goal
 
 pub index_mut-requires : goal.index_mut-requires
 index_mut-requires c =
     let t = the_view c.self.inside in
-    let inside = subst (λ (ws : List NumberedWindow). c.in_ok-w.w < length ws) c.as_slice.ensures.value c.in_ok-w.ensures.1 in
-    let made = shows-made t c.in_ok-w.w c.index.result.now (subst IsValid (sym c.self.view_is) c.requires) inside c.index.ensures in
-    subst (λ n. c.index.result.now.1.buffer < n) (length-buffers_of c.self.inside.buffers.entries) made
+    let e = c.index.result.now in
+    let there = found-in t c.as_slice.result.now t.selected c.in_ok-w.w e c.as_slice.ensures.value c.in_ok-w.ensures.0 c.in_ok-w.ensures.1 c.index.ensures in
+    subst (λ n. e.1.buffer < n) (length-buffers_of c.self.inside.buffers.entries) (shown-made t t.selected c.in_ok-w.w e (subst IsValid (sym c.self.view_is) c.requires) there)
 
 pub move_windows-requires : goal.move_windows-requires
 move_windows-requires c =
