@@ -7,18 +7,14 @@ returns-then-not-same_value-clause-count c =
     rw c.push_reserved.ensures.items
     (kept-count c.args.runs.now.items c.pop.new.self.items c.in-Some.run' c.args.value c.in-Some.ensures.items (sym c.same_value.ensures ∙ c.if-not-same_value.true))
 
-pub returns-else-not-same_value-clause-values : goal.returns-else-not-same_value-clause-values
-returns-else-not-same_value-clause-values c =
-    taken-values c.args.runs.now.items c.pop.new.self.items c.in-Some.run' c.args.value c.in-Some.ensures.items (sym c.same_value.ensures ∙ c.if-not-same_value.false)
-
-pub returns-else-not-same_value-clause-order : goal.returns-else-not-same_value-clause-order
-returns-else-not-same_value-clause-order c = (popped-rises c.args.runs.now.items c.pop.new.self.items c.in-Some.run' c.in-Some.ensures.items c.requires.order).0
-
-pub returns-else-not-same_value-clause-count : goal.returns-else-not-same_value-clause-count
-returns-else-not-same_value-clause-count c =
-    taken-count c.args.runs.now.items c.pop.new.self.items c.in-Some.run' c.args.value c.in-Some.ensures.items (sym c.same_value.ensures ∙ c.if-not-same_value.false)
-
-pub returns-else-not-same_value-clause-less : goal.returns-else-not-same_value-clause-less
-returns-else-not-same_value-clause-less c =
+pub returns-else-not-same_value : goal.returns-else-not-same_value
+returns-else-not-same_value c =
     let p = popped-rises c.args.runs.now.items c.pop.new.self.items c.in-Some.run' c.in-Some.ensures.items c.requires.order in
-    omega (arith, p.1.0, p.1.1)
+    let same = sym c.same_value.ensures ∙ c.if-not-same_value.false in
+    record {
+      values = taken-values c.args.runs.now.items c.pop.new.self.items c.in-Some.run' c.args.value c.in-Some.ensures.items same;
+      order = p.0;
+      count = taken-count c.args.runs.now.items c.pop.new.self.items c.in-Some.run' c.args.value c.in-Some.ensures.items same;
+      less = omega (arith, p.1.0, p.1.1);
+      room = c.pop.ensures.capacity;
+    }
