@@ -35,23 +35,20 @@ w5_run_ends-run-requires-clause-run c =
     let (after_w1, strong, after_w3, after_w4) = known (goal.at.w5_run_ends-run-requires-clause-run c).After-w4_separators-after_w4 in
     λ e. w5-run-known b.w5_run b c.args.class cs c.requires.known (sym after_w4 ∙ e)
 
-pub returns-clause-left : goal.returns-clause-left
-returns-clause-left c =
+pub returns : goal.returns
+returns c =
     let b = c.args.self.now in
     let cs = types_at c.args.rest.now c.args.types.now in
-    let (after_w1, strong, after_w3, after_w4) = known (goal.at.returns-clause-left c).After-w4_separators-after_w4 in
+    let at = goal.at.returns c in
+    let (after_w1, strong, after_w3, after_w4) = known at.After-w4_separators-after_w4 in
+    let known_run = run at.After-w5_run_ends-run after_w4 in
     let after_w5 : c.w5_terminators-after_w5.result ≡ w5_type b c.args.class cs =
-    c.w5_terminators-after_w5.ensures ∙ ap₂ (λ r n. w5_terminators r n) (c.w5_beside.ensures ∙ ap (λ r. b.w5_number || unwrap_or r false) (run (goal.at.returns-clause-left c).After-w5_run_ends-run after_w4)) after_w4 in
+    c.w5_terminators-after_w5.ensures ∙ ap₂ (λ r n. w5_terminators r n) (c.w5_beside.ensures ∙ ap (λ r. b.w5_number || unwrap_or r false) known_run) after_w4 in
     let after_w6 : c.w6_remaining_separators-after_w6.result ≡ w6_remaining_separators (w5_type b c.args.class cs) = c.w6_remaining_separators-after_w6.ensures ∙ ap w6_remaining_separators after_w5 in
-    λ levels. assembled _ _ _ _ _ _ _ _ _ _ _ _ cs _ (weak-step b c.args.class cs c.w5_run_ends-run.result)
-    (c.w7_latin_numbers-given.ensures ∙ ap (w7_latin_numbers b.w7_strong) after_w6)
-    (c.strong_after-self.ensures ∙ ap (strong_after b.w7_strong) after_w6)
-    (c.is_en-self.ensures ∙ ap is_en after_w5) after_w3 strong after_w1
-
-pub returns-clause-known : goal.returns-clause-known
-returns-clause-known c =
-    let b = c.args.self.now in
-    let cs = types_at c.args.rest.now c.args.types.now in
-    let (after_w1, strong, after_w3, after_w4) = known (goal.at.returns-clause-known c).After-w4_separators-after_w4 in
-    w5-run-is c.w5_run_ends-run.result (w4_type b c.args.class cs) (w5_run_ends b.w2_strong cs) _ cs (run (goal.at.returns-clause-known c).After-w5_run_ends-run after_w4)
-    (λ e. (after_w1 ∙ w1_type-et b c.args.class cs e, after_w3 ∙ w3_type-et b c.args.class cs e, ap (λ s. w5_run_ends s cs) (sym (strong ∙ strong_type-et b c.args.class cs e))))
+    record {
+      left = λ levels. assembled _ _ _ _ _ _ _ _ _ _ _ _ cs _ (weak-step b c.args.class cs c.w5_run_ends-run.result)
+          (c.w7_latin_numbers-given.ensures ∙ ap (w7_latin_numbers b.w7_strong) after_w6) (c.strong_after-self.ensures ∙ ap (strong_after b.w7_strong) after_w6)
+          (c.is_en-self.ensures ∙ ap is_en after_w5) after_w3 strong after_w1;
+      known = w5-run-is c.w5_run_ends-run.result (w4_type b c.args.class cs) (w5_run_ends b.w2_strong cs) _ cs known_run
+          (λ e. (after_w1 ∙ w1_type-et b c.args.class cs e, after_w3 ∙ w3_type-et b c.args.class cs e, ap (λ s. w5_run_ends s cs) (sym (strong ∙ strong_type-et b c.args.class cs e))));
+    }
