@@ -27,8 +27,8 @@ pub(crate) fn shifted(alloc: Global, current: &Screen, shift: Shift) -> Result<S
     Ok(screen)
 }
 
-/// The cells of a row after a shift, where the rows that come in have the cells `free`. A row of the band comes from `by` rows further down,
-/// if that is in the band.
+/// The cells of a row after a shift, where the rows that come in have the cells `free`. A row of the band comes from `by` rows further
+/// down, if that is in the band.
 fn row_after<'a>(current: &'a Screen, free: &'a [Cell], shift: Shift, row: u32) -> &'a [Cell]
     requires shift { IsShift (length current.now.rows) shift }
     requires row { row < length current.now.rows }
