@@ -9,7 +9,6 @@ use Rattle.rd_dump.specs.declared.dump.WindowFacts.{WindowFacts}
 use Rattle.rd_io.specs.Lines.{lines_of}
 use Rattle.rd_layout.specs.Copies.{redisplayed as redisplayed_session}
 use Rattle.rd_layout.specs.Facts.{fact_of, facts_of}
-use Rattle.rd_layout.specs.Laws.{PlaceLaws}
 use Rattle.rd_layout.specs.Redisplays.{update_of}
 use Rattle.rd_layout.specs.Screens.{laid_out}
 use Rattle.rd_layout.specs.Sessions.{SessionValue}
@@ -65,10 +64,10 @@ some-placed (Split side size first second) rect =
     omega (arith, one, length-append (placed first (first_part side size rect)) (placed second (second_part side size rect)))
 
 -- so a dump has the line of one
-windows-told : (laws : PlaceLaws) (v : SessionValue) → IsValid v.state → 0 < length (facts_of v)
-windows-told laws v valid =
+windows-told : (v : SessionValue) → IsValid v.state → 0 < length (facts_of v)
+windows-told v valid =
     let some = some-placed v.state.tree.windows (frame_of v.state.tree) in
-    omega (arith, shown-count laws v.state valid (fact_of v), some)
+    omega (arith, shown-count v.state valid (fact_of v), some)
 
 -- ---- what a redisplay tells that is shown
 
@@ -144,9 +143,9 @@ terminals-same : (w n x m : ℕ) (bs cs : List ℕ) → w ≡ x → n ≡ m → 
 terminals-same w n x m bs cs p q r =
     ap (λ k. feed_bytes (unknown k n) bs) p ∙ ap (λ k. feed_bytes (unknown x k) bs) q ∙ ap (feed_bytes (unknown x m)) r
 
-shown-run : (laws : StandLaws) (places : PlaceLaws) (mode : Mode) (before : List Input) (t : Input) (behind : List Input) → mode.dumps ≡ true → mode.generated ≡ None
+shown-run : (laws : StandLaws) (mode : Mode) (before : List Input) (t : Input) (behind : List Input) → mode.dumps ≡ true → mode.generated ≡ None
     → Ran mode (before ++ t ∷ behind) → is_shown (outcome_at (run (opened mode) before) t) ≡ true → LeaveScreen (run_line (run (opened mode) before) t) behind → IsLeft mode (before ++ t ∷ behind)
-shown-run laws places mode before t behind dumps read ran shown leave =
+shown-run laws mode before t behind dumps read ran shown leave =
     let w = run (opened mode) before in
     let next = run_line w t in
     let inputs = before ++ t ∷ behind in
@@ -175,7 +174,7 @@ shown-run laws places mode before t behind dumps read ran shown leave =
       picture = screen;
       has = has-dump next.now.session.state screen session.state fits;
       windows = facts_of next.now.session;
-      some = windows-told places next.now.session session.state;
+      some = windows-told next.now.session session.state;
       front = w.told ++ line;
       tail = leaves.tail;
       told = ap (λ (x : World). x.told) whole ∙ leaves.told ∙ ap (λ l. l ++ leaves.tail) told ∙ dump-behind-newline w.told line dump leaves.tail;
@@ -235,15 +234,15 @@ left-agrees mode inputs file old read e left =
       shows = left.shows;
     }
 
-pub recording-agrees : (laws : StandLaws) (places : PlaceLaws) (e : End) (mode : Mode) (stream file : List ℕ) → IsRecording e mode stream file
+pub recording-agrees : (laws : StandLaws) (e : End) (mode : Mode) (stream file : List ℕ) → IsRecording e mode stream file
     → Agree stream file
-recording-agrees laws places e mode stream file h =
+recording-agrees laws e mode stream file h =
     let whole = whole-of e.given e.mode mode e.status e.inputs e.bytes e.source e.screen e.report h.begun h.status h.ended in
     let ran = ran-of e.given mode e.inputs e.bytes e.source whole.comes in
     let last = h.ends in
     let inputs = last.before ++ last.redisplay ∷ last.behind in
     let left : IsLeft mode inputs =
-    shown-run laws places mode last.before last.redisplay last.behind h.dumps h.read (subst (Ran mode) last.split ran) last.shown last.leave in
+    shown-run laws mode last.before last.redisplay last.behind h.dumps h.read (subst (Ran mode) last.split ran) last.shown last.leave in
     let all : IsLeft mode e.inputs = subst (IsLeft mode) (sym last.split) left in
     let told = wrote e.report.before e.report.after (told_in (Some mode) e.inputs ++ last_in (Some mode) Done e.inputs) file h.told h.contents whole.told in
     subst (λ s. Agree s file) (sym h.sent) (left-agrees mode e.inputs file told.0 h.read told.1 all)

@@ -16,7 +16,6 @@ ghost use Rattle.rd_audit.specs.Verdicts.{Comes, IsSound};
 ghost use Rattle.rd_audit.specs.declared.verdict.Verdict.{Verdict};
 ghost use Rattle.rd_audit.specs.declared.verdict.Verdict.TheVariants.{NoMemory, ReadFault, Yes};
 
-use rd_layout::windows_are_placed;
 use rd_run::a_session_stands_behind_each_line;
 
 /// A dump that is printed of a sound screen of 12 to 400 columns and 2 to 200 rows is read back as that screen (`alone`), also where
@@ -47,5 +46,4 @@ pub fn recorded_runs_get_yes()
         → verdict ≢ ReadFault → verdict ≢ NoMemory → verdict ≡ Yes }
 {
     a_session_stands_behind_each_line();
-    windows_are_placed();
 }

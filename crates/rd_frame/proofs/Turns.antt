@@ -14,7 +14,7 @@ use Rattle.rd_tree.specs.declared.placed.Placed.{Placed}
 use Rattle.rd_frame.specs.Fits.{FitsWindow, FitsFrame, StandsOn}
 use Rattle.rd_frame.specs.Frames.{FrameValues, rows_of}
 use Rattle.rd_frame.specs.Paints.{painted}
-use Rattle.rd_frame.specs.Turns.{IsTurn}
+use Rattle.rd_frame.specs.Turns.{IsPaintedNext}
 use Rattle.rd_term.proofs.Shapes.{grid-width}
 use Rattle.rd_frame.proofs.Filling.{window-size}
 use Rattle.rd_frame.proofs.Painting.{laid_at, at-each, at-rectangle, at-length, written-length}
@@ -33,7 +33,7 @@ size-kept width height columns count y column news rows size new room = (
       (recursion_from_All (λ row. length row ≡ columns) news new.1) (recursion_from_All (λ row. length row ≡ width) rows size.1)),
 )
 
-pub painted-turn : (f : FrameValues) (i : ℕ) (window : Placed) (rows : List (List Cell)) → FitsFrame f → HasSize f.tree.width (f.tree.height + 1) rows → StandsIn window (frame_of f.tree) → slice_get (placed f.tree.windows (frame_of f.tree)) i ≡ Some window → IsTurn f i window rows
+pub painted-turn : (f : FrameValues) (i : ℕ) (window : Placed) (rows : List (List Cell)) → FitsFrame f → HasSize f.tree.width (f.tree.height + 1) rows → StandsIn window (frame_of f.tree) → slice_get (placed f.tree.windows (frame_of f.tree)) i ≡ Some window → IsPaintedNext f i window rows
 painted-turn f i window rows frame size stands here =
     let windows = placed f.tree.windows (frame_of f.tree) in
     let inside = slice_get_within windows i window here in

@@ -20,7 +20,7 @@ painted_from f i rows = painted (rows_of f) (drop i (placed f.tree.windows (fram
 
 -- the window at a place of the order can be painted over a screen of these rows, which then is one of the same size, where the
 -- windows behind it are still to be painted
-pub record IsTurn (f : FrameValues) (i : ℕ) (window : Placed) (rows : List (List Cell)) : Type 0 where
+pub record IsPaintedNext (f : FrameValues) (i : ℕ) (window : Placed) (rows : List (List Cell)) : Type 0 where
   pub stands : StandsOn window rows
   pub fits : FitsWindow (width_of rows) (f.panes window) window
   pub size : HasSize f.tree.width (f.tree.height + 1) (with_window f window rows)

@@ -43,6 +43,7 @@ use Rattle.rd_rows.specs.Whole.{IsWhole}
 use Rattle.rd_rows.specs.declared.begin.Begin.{Begin}
 use Rattle.rd_state.specs.States.{StateValue, seen}
 use Rattle.rd_state.proofs.Leaves.{is_some-leaf, placed-window}
+use Rattle.rd_state.proofs.Showing.{window-valid}
 use Rattle.rd_state.specs.Valid.{IsGoodFormat, IsValid, IsWindow}
 use Rattle.rd_state.specs.Windows.{leaf_at, leaf_of, shown_content, window_of}
 use Rattle.rd_state.specs.declared.window.WindowState.{WindowState}
@@ -133,7 +134,7 @@ module _ (laws : FitLaws) (files : Data) (s : StateValue) (valid : IsValid s) wh
   view-whole w p at window =
       let content = shown-right s w valid window in
       in-view (λ (e : EntryMeaning). IsWhole (body_width s.width p) e.row) w p
-      (laws.whole (seen (shown_content s w)) s.objects files (window_shape s w p) valid.objects content.least_tab content.most_tab content.characters (is-shape laws.views s valid p.number w p at))
+      (laws.whole (seen (shown_content s w)) s.objects files (window_shape s w p) valid.objects content.least_tab content.most_tab content.characters (is-shape s valid p.number w p at))
 
   pub string-codes : (w : WindowState) (start : ℕ) → AreCodes (margin_text s.objects (shown_content s w) start)
   string-codes w start =
@@ -170,7 +171,7 @@ module _ (laws : FitLaws) (files : Data) (s : StateValue) (valid : IsValid s) wh
   pane-fits : (p : Placed) → place_of p.number s ≡ Some p → FitsWindow s.width (pane_at files s p) p
   pane-fits p at =
       let w = place-window p at in
-      subst (λ (o : Option WindowState). FitsWindow s.width (pane_by files s p o) p) (sym w.1) (window-fits w.0 p at (laws.found s p.number w.0 valid w.1) w.2)
+      subst (λ (o : Option WindowState). FitsWindow s.width (pane_by files s p o) p) (sym w.1) (window-fits w.0 p at (window-valid s p.number w.0 valid w.1) w.2)
 
   -- ---- the selected window and its cursor
 
@@ -179,7 +180,7 @@ module _ (laws : FitLaws) (files : Data) (s : StateValue) (valid : IsValid s) wh
       let rows = (view_in files s w p).rows in
       let whole = view-whole w p at window in
       let columns = in-view (λ (e : EntryMeaning). All (λ (b : Begin). b.column < body_width s.width p) e.row.begins) w p
-      (laws.columns (seen (shown_content s w)) s.objects files (window_shape s w p) (is-shape laws.views s valid p.number w p at)) in
+      (laws.columns (seen (shown_content s w)) s.objects files (window_shape s w p) (is-shape s valid p.number w p at)) in
       let taken = length-take (body_height p) (drop (start_row (window_source files s w) (window_shape s w p) (wanted_of s w p)) (rows_at (window_source files s w) (window_shape s w p))) in
       if-value (IsInBody s.width p) (cursor_in (view_in files s w p).point rows) (λ place at.
       let held = cursor-hold (body_width s.width p) (view_in files s w p).point rows (λ k d less. (whole k d less).wide) columns place at in
@@ -193,7 +194,7 @@ module _ (laws : FitLaws) (files : Data) (s : StateValue) (valid : IsValid s) wh
 
     by : (w : Option WindowState) → window_of s.selected s.windows ≡ w → IfSome (cursor_by files s w (Some p)) (IsInBody s.width p)
     by None is = tt
-    by (Some w) is = cursor-fits w p (ap (λ (n : ℕ). place_of n s) number ∙ at) (laws.found s s.selected w valid is)
+    by (Some w) is = cursor-fits w p (ap (λ (n : ℕ). place_of n s) number ∙ at) (window-valid s s.selected w valid is)
 
   selected-there : is_some (place_of s.selected s) ≡ true
   selected-there =
@@ -203,7 +204,7 @@ module _ (laws : FitLaws) (files : Data) (s : StateValue) (valid : IsValid s) wh
   pub fits : FitsFrame (frame_in files s)
   fits = record {
     room = valid.windows.tree.room;
-    windows = all-places laws.views.places s valid (λ (p : Placed). FitsWindow s.tree.width (pane_at files s p) p)
+    windows = all-places s valid (λ (p : Placed). FitsWindow s.tree.width (pane_at files s p) p)
         (λ p at. subst (λ (n : ℕ). FitsWindow n (pane_at files s p) p) (sym valid.frame.columns) (pane-fits p at));
     echo = laws.plain_width files.classes s.width s.echo ∙ sym valid.frame.columns;
     selected = selected-there;

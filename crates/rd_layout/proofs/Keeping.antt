@@ -12,7 +12,6 @@ use Rattle.rd_reuse.specs.declared.change.Change.{Change}
 use Rattle.rd_rows.specs.Shapes.{IsShape, ShapeValues, is_same_shape}
 use Rattle.rd_rows.proofs.SameShapes.{same-shape}
 use Rattle.rd_state.specs.States.{StateValue, seen}
-use Rattle.rd_state.specs.Valid.{IsValid, IsWindow}
 use Rattle.rd_state.specs.Windows.{shown_content, window_of}
 use Rattle.rd_state.specs.declared.window.WindowState.{WindowState}
 use Rattle.rd_text.specs.Texts.{IsText}
@@ -22,6 +21,7 @@ use Rattle.rd_window.specs.declared.layout.Layout.{Layout}
 use Rattle.rd_layout.specs.Sessions.{SessionValue, layout_of}
 use Rattle.rd_layout.specs.Since.{IsKnown, IsSession}
 use Rattle.rd_layout.specs.Windows.{window_source}
+use Rattle.rd_state.proofs.Showing.{window-valid}
 use Rattle.rd_layout.proofs.Settling.{shown-right}
 
 -- what the layers below say
@@ -57,11 +57,10 @@ module _ (laws : KeptLaws) (files : Data) (s : StateValue) (w : WindowState) (te
 
 -- ---- the session
 
-pub kept-session : KeptLaws → ((s : StateValue) (number : ℕ) (w : WindowState) → IsValid s → window_of number s.windows ≡ Some w → IsWindow s.buffers w)
-    → (v : SessionValue) (number : ℕ) (w : WindowState) (shape : ShapeValues) → IsSession v → window_of number v.state.windows ≡ Some w
+pub kept-session : KeptLaws → (v : SessionValue) (number : ℕ) (w : WindowState) (shape : ShapeValues) → IsSession v → window_of number v.state.windows ≡ Some w
     → AreRight (window_source v.files v.state w) (older_rows (layout_of number v.layouts) shape) (change_since (layout_of number v.layouts)) shape
-kept-session laws found v number w shape session lives =
-    kept-right laws v.files v.state w (shown-right v.state w session.state (found v.state number w session.state lives)).text (layout_of number v.layouts) shape
+kept-session laws v number w shape session lives =
+    kept-right laws v.files v.state w (shown-right v.state w session.state (window-valid v.state number w session.state lives)).text (layout_of number v.layouts) shape
     (λ l at. session.layouts number w l lives at)
 
 pub session-stands : (v : SessionValue) (number : ℕ) (w : WindowState) → IsSession v → window_of number v.state.windows ≡ Some w

@@ -23,9 +23,10 @@ use Rattle.rd_state.specs.Changes.{Outcome}
 use Rattle.rd_state.specs.Effects.{effect_of}
 use Rattle.rd_state.specs.States.{BufferValue, ContentValue, StateValue, opening, seen}
 use Rattle.rd_state.specs.Steps.{in_window, step}
-use Rattle.rd_state.specs.Valid.{IsValid, IsWindow}
+use Rattle.rd_state.specs.Valid.{IsValid}
 use Rattle.rd_state.specs.Windows.{content_in, shown_content, window_of}
 use Rattle.rd_state.proofs.ByNumber.{under-became}
+use Rattle.rd_state.proofs.Showing.{window-valid}
 use Rattle.rd_state.proofs.StepParts.{found, each-if}
 use Rattle.rd_state.specs.declared.effect.Effect.{Effect}
 use Rattle.rd_state.specs.declared.effect.Effect.TheVariants.{Nothing, Edit, Moved, All, Window}
@@ -53,7 +54,6 @@ use Rattle.rd_layout.proofs.Standing.{Moves, moved}
 -- what the layers below say
 pub record StepLaws : Type 0 where
   pub valid : (s t : StateValue) (op : Op) → IsValid s → IsInForm op → step s op ≡ Ok t → IsValid t
-  pub found : (s : StateValue) (number : ℕ) (w : WindowState) → IsValid s → window_of number s.windows ≡ Some w → IsWindow s.buffers w
   pub left : (s t : StateValue) (op : Op) → IsValid s → IsInForm op → step s op ≡ Ok t → Outcome s t (effect_of s op)
   pub joined : (first second third : props.BufferValue) (a b c : ObjectLists) (change later : Change) → LeadsTo first a second b change → LeadsTo second b third c later → LeadsTo first a third c (join change later)
   pub last_all : (c : Change) → join c all ≡ all
@@ -91,8 +91,8 @@ module _ (laws : StepLaws) (s t : StateValue) (op : Op) (valid : IsValid s) (for
   shown-both : (number : ℕ) (w v : WindowState) → window_of number s.windows ≡ Some w → window_of number t.windows ≡ Some v → v.buffer ≡ w.buffer
       → (b : BufferValue) × (c : BufferValue) × (slice_get s.buffers v.buffer ≡ Some b) × (slice_get t.buffers v.buffer ≡ Some c) × (b.content ≡ shown_content s w) × (c.content ≡ shown_content t v)
   shown-both number w v hw hv same =
-      let b = element-at s.buffers w.buffer (laws.found s number w valid hw).made in
-      let c = element-at t.buffers v.buffer (laws.found t number v (laws.valid s t op valid form is) hv).made in
+      let b = element-at s.buffers w.buffer (window-valid s number w valid hw).made in
+      let c = element-at t.buffers v.buffer (window-valid t number v (laws.valid s t op valid form is) hv).made in
       (b.0, c.0, ap (slice_get s.buffers) same ∙ b.1, c.1, sym (ap content_in b.1), sym (ap content_in c.1))
 
   window-leads : (number : ℕ) (w v : WindowState) → window_of number s.windows ≡ Some w → window_of number t.windows ≡ Some v

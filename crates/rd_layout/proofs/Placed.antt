@@ -18,14 +18,14 @@ use Rattle.rd_state.specs.Windows.{window_of}
 use Rattle.rd_state.specs.declared.window.WindowState.{WindowState}
 use Rattle.rd_tree.specs.Calls.{frame_of}
 use Rattle.rd_tree.proofs.Listing.{listed_found}
+use Rattle.rd_tree.proofs.Standing.{stands_in}
 use Rattle.rd_tree.specs.declared.placed.Placed.{Placed}
-use Rattle.rd_layout.specs.Laws.{PlaceLaws}
 use Rattle.rd_layout.specs.Redisplays.{band_of, bands_of}
 use Rattle.rd_layout.specs.Windows.{of_place, of_window, of_windows, place_of, places}
 
 -- ---- the windows of a state
 
-module _ (laws : PlaceLaws) (s : StateValue) (valid : IsValid s) where
+module _ (s : StateValue) (valid : IsValid s) where
   pub placed-at : (i : ℕ) (p : Placed) → slice_get (places s) i ≡ Some p → place_of p.number s ≡ Some p
   placed-at i p at = listed_found s.tree.windows (frame_of s.tree) valid.windows.tree.once i p at
 
@@ -83,7 +83,7 @@ module _ (laws : PlaceLaws) (s : StateValue) (valid : IsValid s) where
   band-fits p at = by (p.rect.width == s.width) where
     fits : p.rect.y + body_height p ≤ s.height
     fits =
-        let stands = laws.inside p.number s.tree.windows (frame_of s.tree) p valid.windows.tree.room at in
+        let stands = stands_in p.number s.tree.windows (frame_of s.tree) p valid.windows.tree.room at in
         let low = stands.0.3 in
         body-fits p.mode p.rect.y p.rect.height s.tree.height s.height (omega arith) valid.frame.rows
 

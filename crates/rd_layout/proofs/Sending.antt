@@ -51,6 +51,7 @@ use Rattle.rd_layout.specs.Since.{FitsFrame, IsKnown, IsSession}
 use Rattle.rd_layout.specs.Windows.{place_of, places, wanted_of, window_shape, window_source}
 use Rattle.rd_layout.proofs.Known.{Last}
 use Rattle.rd_state.proofs.ByNumber.{under-became, under-here, under-there}
+use Rattle.rd_state.proofs.Showing.{window-valid}
 use Rattle.rd_layout.proofs.Over.{new-change}
 use Rattle.rd_layout.proofs.Placed.{bands-within, made-number, placed-at}
 use Rattle.rd_layout.proofs.Settling.{is-shape, point-within, shown-right, state-stays}
@@ -66,7 +67,6 @@ pub record SendLaws : Type 0 where
   pub grown : (s : props.BufferValue) (made objects : ObjectLists) → IsClosed made → AreMade s made → Extends made objects → LeadsTo s made s objects none
   pub itself : (o : ObjectLists) → Extends o o
   pub stand : (last : Option Layout) (m : SourceValues) (shape : ShapeValues) (w : Wanted) (new : Layout) → IsSource m → IsShape shape → IsWithin w.point m.blocks → IsLaidOut last m shape w new → Stands m (chosen_of m shape w).anchor new
-  pub found : (s : StateValue) (number : ℕ) (w : WindowState) → IsValid s → window_of number s.windows ≡ Some w → IsWindow s.buffers w
 
 -- ---- the new current screen
 
@@ -143,11 +143,11 @@ module _ (laws : SendLaws) (files : Data) (s : StateValue) (valid : IsValid s) w
         old = seen (shown_content s x);
         made = s.objects;
         text = content.text;
-        shape = subst IsShape (sym shaped) (is-shape laws.views s valid p.number x p at);
+        shape = subst IsShape (sym shaped) (is-shape s valid p.number x p at);
         rows = subst (λ (y : ShapeValues). AreRowsAt m y l.matrix) (sym shaped) (laws.rows m shape l.matrix (start_row m shape (wanted_of s x p)) (body_height p) laid.rows);
         change = subst IsChange (sym anew) new-change;
         stands = λ unchanged forced. subst₂ (λ (c : ContentValue) (a : Anchor). Stands (text_source (seen c) s.objects files) a l) (sym here) (ap (λ (y : WindowState). y.anchor) settled)
-            (laws.stand last m shape (wanted_of s x p) l (laws.views.source (seen (shown_content s x)) s.objects files content.text) (is-shape laws.views s valid p.number x p at)
+            (laws.stand last m shape (wanted_of s x p) l (laws.views.source (seen (shown_content s x)) s.objects files content.text) (is-shape s valid p.number x p at)
             (point-within laws.views files s valid x window) laid);
         leads = subst₂ (λ (c : ContentValue) (change : Change). LeadsTo (seen (shown_content s x)) s.objects (seen c) s.objects change) (sym here) (sym anew)
             (laws.grown (seen (shown_content s x)) s.objects s.objects valid.closed content.names (laws.itself s.objects));
@@ -178,27 +178,27 @@ module _ (laws : SendLaws) (rows : ℕ) (done : Bool) (stop : Option ℕ) (old n
       subst (λ (c : Option Picture). FitsFrame c new.state) (sym sent.current)
       (subst (λ (x : StateValue). FitsFrame (Some (update_of old stop).screen) x) (sym now)
       (new-screen laws s (laid_out old.files s).picture (bands_of s) stop session.state.frame.narrow session.state.frame.low size sound
-      (bands-within laws.views.places s session.state) old.current session.screen))
+      (bands-within s session.state) old.current session.screen))
 
   sent-made : (number : ℕ) (l : Layout) → layout_of number new.layouts ≡ Some l → number < new.state.tree.made
   sent-made number l at =
       let found = found-layout old number (places s) new.layouts l sent.layouts at in
       let p = found.1 in
-      let place = placed-at laws.views.places s session.state found.0 p found.2 in
-      subst (λ (x : StateValue). number < x.tree.made) (sym now) (subst (λ (k : ℕ). k < s.tree.made) found.3 (made-number laws.views.places s session.state p.number p place))
+      let place = placed-at s session.state found.0 p found.2 in
+      subst (λ (x : StateValue). number < x.tree.made) (sym now) (subst (λ (k : ℕ). k < s.tree.made) found.3 (made-number s session.state p.number p place))
 
   sent-known : (number : ℕ) (w : WindowState) (l : Layout) → window_of number new.state.windows ≡ Some w → layout_of number new.layouts ≡ Some l → IsKnown new.files new.state w l
   sent-known number w l lives at =
       let found = found-layout old number (places s) new.layouts l sent.layouts at in
       let p = found.1 in
-      let place = placed-at laws.views.places s session.state found.0 p found.2 in
+      let place = placed-at s session.state found.0 p found.2 in
       let x = map-some (λ w. settled_by old.files s w (place_of number s)) (window_of number s.windows) w (sym (same-windows number) ∙ lives) in
       let there : window_of p.number s.windows ≡ Some x.0 = ap (λ (k : ℕ). window_of k s.windows) found.3 ∙ x.1 in
       let laid = laid-of old.files s (layout_of p.number old.layouts) p (window_of p.number s.windows) x.0 l there found.4 in
       let placed : place_of number s ≡ Some p = ap (λ (k : ℕ). place_of k s) (sym found.3) ∙ place in
       let settled : settled_by old.files s x.0 (Some p) ≡ w = ap (settled_by old.files s x.0) (sym placed) ∙ x.2 in
       subst₂ (λ (f : Data) (y : StateValue). IsKnown f y w l) (sym sent.files) (sym now)
-      (known-by laws old.files s session.state p x.0 w (layout_of p.number old.layouts) l place (laws.found s number x.0 session.state x.1) settled laid)
+      (known-by laws old.files s session.state p x.0 w (layout_of p.number old.layouts) l place (window-valid s number x.0 session.state x.1) settled laid)
 
   pub sent-session : IsSession new
   sent-session = record {

@@ -22,6 +22,7 @@ use Rattle.rd_layout.specs.Windows.{place_of, view_in, wanted_of, window_shape, 
 use Rattle.rd_state.proofs.Keeping.{windows-became}
 use Rattle.rd_state.proofs.Showing.{placed-keeps, shown-has}
 use Rattle.rd_state.proofs.WithParts.{with_parts}
+use Rattle.rd_tree.proofs.Standing.{stands_in}
 use Rattle.rd_layout.proofs.Chosen.{chosen-anchor, chosen-point}
 
 -- ---- positions of the blocks are accessible
@@ -35,9 +36,9 @@ shape-fits : (t : Bool) (width margins : ℕ) → 11 + margins ≤ width → wid
 shape-fits true width margins least most = (omega arith, omega arith)
 shape-fits false width margins least most = (omega arith, omega arith)
 
-module _ (laws : ViewLaws) (s : StateValue) (valid : IsValid s) where
+module _ (s : StateValue) (valid : IsValid s) where
   pub stands : (number : ℕ) (place : Placed) → place_of number s ≡ Some place → StandsIn place (frame_of s.tree)
-  stands number place at = laws.places.inside number s.tree.windows (frame_of s.tree) place valid.windows.tree.room at
+  stands number place at = stands_in number s.tree.windows (frame_of s.tree) place valid.windows.tree.room at
 
   pub is-shape : (number : ℕ) (w : WindowState) (place : Placed) → place_of number s ≡ Some place → IsShape (window_shape s w place)
   is-shape number w place at =
@@ -64,7 +65,7 @@ module _ (laws : ViewLaws) (files : Data) (s : StateValue) (valid : IsValid s) w
       let wanted = wanted_of s w place in
       let text = (shown-right s w valid window).text in
       let source = laws.source (seen (shown_content s w)) s.objects files text in
-      let is = is-shape laws s valid number w place there in
+      let is = is-shape s valid number w place there in
       let point = point-within w window in
       let first = accessible laws files.classes (seen (shown_content s w)) _ text (chosen-anchor m shape source is laws.start wanted point) in
       let second = accessible laws files.classes (seen (shown_content s w)) _ text (chosen-point m shape source is wanted point) in

@@ -49,6 +49,7 @@ use Rattle.rd_ucd.specs.Data.{Data}
 use Rattle.rd_ucd.specs.declared.spans.Span.{Span}
 use Rattle.rd_update.specs.Laws.{IsSound}
 use Rattle.rd_window.specs.Views.{WindowView}
+use Rattle.rd_state.proofs.Showing.{window-valid}
 use Rattle.rd_state.proofs.Tests.{text-codes}
 use Rattle.rd_layout.specs.Laws.{FitLaws}
 use Rattle.rd_layout.specs.Panes.{border_in, border_slot, line_facts, margin_of, mode_line, widths_of}
@@ -58,7 +59,7 @@ use Rattle.rd_layout.proofs.Fitting.{fits, in-view, line-small, margin-right, mo
 use Rattle.rd_layout.proofs.Placed.{all-places}
 
 -- what the layers below say
-pub record SoundLaws : Type 0 where
+pub record FramePartLaws : Type 0 where
   pub fit : FitLaws
   pub coloured : (s : props.BufferValue) (objects : ObjectLists) (files : Data) (shape : ShapeValues) → AreObjects objects → All (λ (e : EntryMeaning). All IsColoured e.row.cells) (rows_at (text_source s objects files) shape)
   pub mode_coloured : (classes : List Span) (facts : FactValues) (width : ℕ) (pieces : List Piece) → All IsColoured (line_cells classes facts width pieces)
@@ -85,7 +86,7 @@ name-codes name h =
 
 -- ---- the border
 
-slot-mark : SoundLaws → (g : Glyph) → IsTrue (is_slot_glyph g) → IsMark g
+slot-mark : FramePartLaws → (g : Glyph) → IsTrue (is_slot_glyph g) → IsMark g
 slot-mark laws g h =
     let parts = and_parts (is_glyph_character g) (g.width == 1) h in
     let one : IsTrue (is_glyph_text (g ∷ [])) = ap (λ (t : Bool). t && true) parts.0 in
@@ -93,11 +94,11 @@ slot-mark laws g h =
     let all = recursion_from_All (λ (e : Element). IsMeasuredLook e.look) (glyph_elements plain origin (g ∷ [])) (laws.measured plain origin (g ∷ []) one) in
     record { measured = all.0; columns = eqb-true g.width 1 parts.1 }
 
-border-whole : SoundLaws → (o : Option Glyph) → ((g : Glyph) → o ≡ Some g → IsTrue (is_slot_glyph g)) → IsRowAfter 0 (border_cell o ∷ [])
+border-whole : FramePartLaws → (o : Option Glyph) → ((g : Glyph) → o ≡ Some g → IsTrue (is_slot_glyph g)) → IsRowAfter 0 (border_cell o ∷ [])
 border-whole laws None h = laws.bar
 border-whole laws (Some g) h = laws.slot g (slot-mark laws g (h g refl))
 
-module _ (laws : SoundLaws) (files : Data) (s : StateValue) (valid : IsValid s) where
+module _ (laws : FramePartLaws) (files : Data) (s : StateValue) (valid : IsValid s) where
   slot-right : (c : ContentValue) (g : Glyph) → border_slot s.objects c ≡ Some g → IsTrue (is_slot_glyph g)
   slot-right c g h = by (table_in s.objects c.settings.table) right h where
     right : (t : TableValue) → table_in s.objects c.settings.table ≡ Some t → IsTable t
@@ -141,10 +142,10 @@ module _ (laws : SoundLaws) (files : Data) (s : StateValue) (valid : IsValid s) 
       → P (mode_line files (line_facts (shown_buffer s w) v) width w.format))
       → P (plain_cells files.classes plain s.width s.echo) → EachPartOf P (frame_in files s)
   parts-have P margin text border line echo = record {
-    windows = all-places laws.fit.views.places s valid (λ (p : Placed). EachPart P (pane_at files s p) p) (λ p at.
+    windows = all-places s valid (λ (p : Placed). EachPart P (pane_at files s p) p) (λ p at.
         let x = place-window laws.fit files s valid p at in
         let w = x.0 in
-        let window = laws.fit.found s p.number w valid x.1 in
+        let window = window-valid s p.number w valid x.1 in
         let v = view_in files s w p in
         let row = glyph_row (margin_of files s.objects (shown_content s w) (widths_of w)) in
         subst (λ (o : Option WindowState). EachPart P (pane_by files s p o) p) (sym x.1) (record {

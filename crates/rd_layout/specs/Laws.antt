@@ -1,6 +1,6 @@
--- What several proofs of this crate take from the laws of the layers below; what one alone takes stands beside it. Proofs of crates
--- above take `PlaceLaws` too, which `windows_are_placed` promises.
-use Rattle.std.specs.Prelude.{◌≡◌, ℕ, ◌+◌, ◌^◌, ◌<◌, ◌≤◌, List, Some, length, map, slice_get, IsTrue}
+-- What several proofs of this crate take from the laws of the layers below; what one alone takes stands beside it. And `LeadLaw`, the one
+-- clause of the law of redisplays, which proofs of crates above take.
+use Rattle.std.specs.Prelude.{◌≡◌, ℕ, ◌+◌, ◌^◌, ◌<◌, ◌≤◌, Bool, List, Option, Some, length, slice_get, IsTrue}
 use Rattle.std.specs.List.{All}
 use Rattle.rd_base.specs.Chars.{is_code}
 use Rattle.rd_base.specs.Faces.{plain}
@@ -26,23 +26,12 @@ use Rattle.rd_rows.specs.declared.begin.Begin.{Begin}
 use Rattle.rd_start.specs.Chosen.{places_of}
 use Rattle.rd_start.specs.Starts.{start_of}
 use Rattle.rd_start.specs.declared.wanted.Wanted.{Wanted}
-use Rattle.rd_state.specs.States.{StateValue}
-use Rattle.rd_state.specs.Valid.{IsValid, IsWindow}
-use Rattle.rd_state.specs.Windows.{window_of}
-use Rattle.rd_state.specs.declared.window.WindowState.{WindowState}
 use Rattle.rd_text.specs.Texts.{IsAccessible, IsText}
-use Rattle.rd_tree.specs.Places.{StandsIn}
-use Rattle.rd_tree.specs.Windows.{HasRoom, Windows, leaves, placed, times, window_at}
-use Rattle.rd_tree.specs.declared.placed.Placed.{Placed}
-use Rattle.rd_tree.specs.declared.rect.Rect.{Rect}
 use Rattle.rd_ucd.specs.Data.{Data}
 use Rattle.rd_ucd.specs.declared.spans.Span.{Span}
-
--- of the windows of a frame, in their order and by their numbers
-pub record PlaceLaws : Type 0 where
-  pub inside : (number : ℕ) (windows : Windows) (rect : Rect) (window : Placed) → HasRoom windows rect → window_at number windows rect ≡ Some window → StandsIn window rect
-  pub listed : (windows : Windows) (rect : Rect) → map (λ (window : Placed). window.number) (placed windows rect) ≡ leaves windows
-  pub in_order : (windows : Windows) (rect : Rect) (i number : ℕ) → ((n : ℕ) → times n windows ≤ 1) → slice_get (leaves windows) i ≡ Some number → window_at number windows rect ≡ slice_get (placed windows rect) i
+use Rattle.rd_layout.specs.Redisplays.{IsSent}
+use Rattle.rd_layout.specs.Sessions.{SessionValue}
+use Rattle.rd_layout.specs.Since.{IsSession}
 
 -- of the start that is chosen for a window
 pub record StartLaws : Type 0 where
@@ -55,15 +44,16 @@ pub record ViewLaws : Type 0 where
   pub within : (s : props.BufferValue) (objects : ObjectLists) (files : Data) (pos : ℕ) → IsAccessible s.text pos → IsWithin pos (text_source s objects files).blocks
   pub listed : (s : props.BufferValue) → s.text.begin ≤ s.text.end → AreListed s
   pub start : StartLaws
-  pub places : PlaceLaws
 
 -- of the sizes of what windows show
 pub record FitLaws : Type 0 where
-  pub views : ViewLaws
-  pub found : (s : StateValue) (number : ℕ) (w : WindowState) → IsValid s → window_of number s.windows ≡ Some w → IsWindow s.buffers w
   pub whole : (s : props.BufferValue) (objects : ObjectLists) (files : Data) (shape : ShapeValues) → AreObjects objects → 1 ≤ s.settings.tab_width → s.settings.tab_width ≤ 32 → AreCodes s.text.text → IsShape shape
       → All (λ (e : EntryMeaning). IsWhole shape.width e.row) (rows_at (text_source s objects files) shape)
   pub margin : (classes : List Span) (widths : Widths) (row line : ℕ) (text : List ℕ) → line < 2 ^ 64 → All (λ c. IsTrue (is_code c)) text → IsMargin (widths.numbers + widths.strings) (row_margin classes widths row line text)
   pub mode_width : (classes : List Span) (facts : FactValues) (width : ℕ) (pieces : List Piece) → length (line_cells classes facts width pieces) ≡ width
   pub plain_width : (classes : List Span) (width : ℕ) (text : List ℕ) → length (plain_cells classes plain width text) ≡ width
   pub columns : (s : props.BufferValue) (objects : ObjectLists) (files : Data) (shape : ShapeValues) → IsShape shape → All (λ (e : EntryMeaning). All (λ (b : Begin). b.column < shape.width) e.row.begins) (rows_at (text_source s objects files) shape)
+
+-- a redisplay that is sent leads from a session to a session
+abbrev pub LeadLaw : Type 0
+LeadLaw = (rows : ℕ) (done : Bool) (stop : Option ℕ) (old new : SessionValue) (before after : Option (List ℕ)) → IsSession old → IsSent rows done stop old new before after → IsSession new

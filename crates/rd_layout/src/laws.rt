@@ -21,7 +21,7 @@ ghost use Rattle.rd_window.specs.Layouts.{StandsUnchanged, change_since, older_r
 ghost use Rattle.rd_window.specs.declared.layout.Layout.{Layout};
 ghost use Rattle.rd_layout.specs.Copies.{redisplayed, without_copies};
 ghost use Rattle.rd_layout.specs.Facts.{facts_of};
-ghost use Rattle.rd_layout.specs.Laws.{FitLaws, PlaceLaws, ViewLaws};
+ghost use Rattle.rd_layout.specs.Laws.{FitLaws, LeadLaw, ViewLaws};
 ghost use Rattle.rd_layout.specs.Redisplays.{IsSent, allowed, bands_of};
 ghost use Rattle.rd_layout.specs.Screens.{frame_in, laid_out};
 ghost use Rattle.rd_layout.specs.Sessions.{IsStep, SessionValue, behind, layout_of, opened, session_step};
@@ -41,8 +41,7 @@ use rd_modeline::mode_lines_are_whole;
 use rd_objects::extensions_keep_objects;
 use rd_reuse::{an_anchor_of_a_row_is_within, joined_with_all, joined_with_none};
 use rd_start::a_start_is_a_row;
-use rd_state::{ops_leave_the_rest, steps_keep_states, windows_are_leaves};
-use rd_tree::windows_tile_their_rectangle;
+use rd_state::{ops_leave_the_rest, steps_keep_states};
 use rd_visual::items_begin_in_the_window;
 use rd_window::{layouts_stand_over_equal_rows, new_layouts_stand, no_rows_are_kept};
 
@@ -56,8 +55,6 @@ pub fn redisplays_keep_states()
     ensures bands { (s : StateValue) → IsValid s → AreWithin s.height (bands_of s) }
 {
     view_laws();
-    windows_are_leaves();
-    windows_are_placed();
 }
 
 /// The opening is a session, whatever the data files are, and an op in form leads from a session to a session: its state stays valid,
@@ -83,13 +80,11 @@ pub fn sessions_stay_known()
     rows_are_local();
     steps_keep_states();
     view_laws();
-    windows_are_leaves();
 }
 
 /// A redisplay that is sent leads from a session to a session. The call does nothing.
 pub fn redisplays_lead_on()
-    ensures { (rows : ℕ) (done : Bool) (stop : Option ℕ) (old new : SessionValue) (before after : Option (List ℕ)) → IsSession old
-        → IsSent rows done stop old new before after → IsSession new }
+    ensures { LeadLaw }
 {
     changes_lead_on();
     extensions_keep_objects();
@@ -99,7 +94,6 @@ pub fn redisplays_lead_on()
     shifted_updates_keep_screens_sound();
     targets_are_sound();
     view_laws();
-    windows_are_leaves();
 }
 
 /// A redisplay that is sent leaves one session, but for how often rows were copied. The call does nothing.
@@ -143,13 +137,6 @@ pub fn targets_are_sound()
     rows_of_buffers_are_coloured();
 }
 
-/// The windows of a frame stand in it, and the one at a place in leaf order is the one under its number. The call does nothing.
-pub fn windows_are_placed()
-    ensures { PlaceLaws }
-{
-    windows_tile_their_rectangle();
-}
-
 /// What the proofs here take from the laws below of what a window shows. The call does nothing.
 fn view_laws()
     ensures { ViewLaws }
@@ -159,7 +146,6 @@ fn view_laws()
     an_anchor_of_a_row_is_within();
     blocks_are_listed();
     buffers_are_sources();
-    windows_are_placed();
 }
 
 /// The same of the sizes of what windows show. The call does nothing.
@@ -171,6 +157,4 @@ fn fit_laws()
     mode_lines_are_whole();
     plain_lines_are_whole();
     rows_of_buffers_are_whole();
-    view_laws();
-    windows_are_leaves();
 }

@@ -13,7 +13,7 @@ mod shown;
 pub use laws::{
     copies_change_no_allowance, copies_change_no_op, redisplays_keep_states, redisplays_lead_on,
     sent_redisplays_are_determined, sessions_stay_known, targets_are_sound,
-    targets_fit_their_frames, windows_are_placed,
+    targets_fit_their_frames,
 };
 pub use outcome::Outcome;
 pub use shown::ShownWindow;

@@ -13,7 +13,6 @@ use Rattle.rd_tree.specs.declared.placed.Placed.{Placed}
 use Rattle.rd_window.specs.Views.{WindowView}
 use Rattle.rd_layout.specs.Screens.{cursor_at, cursor_by, cursor_of}
 use Rattle.rd_layout.specs.Windows.{place_of, places, view_in, views_in}
-use Rattle.rd_paint.specs.Laws.{LeafLaws}
 use Rattle.rd_paint.specs.Shown.{IsLeaf}
 use Rattle.rd_paint.proofs.Leaves.{view-at}
 
@@ -31,11 +30,11 @@ no-cursor files s number none = by (place_of number s) refl where
       absurd (none found.1 p (slice_get_within (places s) found.1 p found.2) found.2 (found_number number (places s) p is))
 
 -- the window at a place of the leaf order has the number
-pub cursor-here : LeafLaws → (files : Data) (s : StateValue) → IsValid s → (views : List WindowView) → views ≡ views_in files s → (i number : ℕ) (place : Placed) (w : WindowState) (content : BufferValue)
+pub cursor-here : (files : Data) (s : StateValue) → IsValid s → (views : List WindowView) → views ≡ views_in files s → (i number : ℕ) (place : Placed) (w : WindowState) (content : BufferValue)
     → IsLeaf s i place w content → place.number ≡ number → (v : WindowView) → slice_get views i ≡ Some v → cursor_of v ≡ cursor_at files s number
-cursor-here laws files s valid views shown i number place w content leaf same v at =
+cursor-here files s valid views shown i number place w content leaf same v at =
     let is : v ≡ view_in files s w place
-    = ap (λ o. unwrap_or o v) (sym at ∙ (ap (λ (vs : List WindowView). slice_get vs i) shown ∙ view-at laws s valid files i place w leaf.listed leaf.window)) in
+    = ap (λ o. unwrap_or o v) (sym at ∙ (ap (λ (vs : List WindowView). slice_get vs i) shown ∙ view-at s valid files i place w leaf.listed leaf.window)) in
     ap cursor_of is
     ∙ (sym (ap (cursor_by files s (Some w)) leaf.placed)
     ∙ (sym (ap (λ (o : Option WindowState). cursor_by files s o (place_of place.number s)) leaf.window) ∙ ap (cursor_at files s) same))

@@ -11,6 +11,8 @@ use Rattle.rd_state.specs.Valid.{IsValid}
 use Rattle.rd_state.specs.Windows.{window_of}
 use Rattle.rd_state.specs.declared.window.WindowState.{WindowState}
 use Rattle.rd_state.proofs.Leaves.{placed-window}
+use Rattle.rd_state.proofs.Showing.{window-valid}
+use Rattle.rd_tree.proofs.Standing.{listed}
 use Rattle.rd_tree.specs.Calls.{Configuration, frame_of}
 use Rattle.rd_tree.specs.Windows.{placed, window_at}
 use Rattle.rd_tree.specs.declared.placed.Placed.{Placed}
@@ -18,7 +20,6 @@ use Rattle.rd_ucd.specs.Data.{Data}
 use Rattle.rd_window.specs.Views.{WindowView}
 use Rattle.rd_layout.specs.Windows.{place_of, places, view_in, views_in}
 use Rattle.rd_layout.proofs.Placed.{shown-at, shown-count}
-use Rattle.rd_paint.specs.Laws.{LeafLaws}
 use Rattle.rd_paint.specs.Shown.{IsLeaf, painted_of}
 
 -- an answer that is nothing
@@ -33,10 +34,10 @@ listed-of-tree s t i o is h = sym (h ∙ ap (λ (c : Configuration). slice_get (
 pub found-of-tree : (s : StateValue) (t : Configuration) (p : Placed) → t ≡ s.tree → window_at p.number t.windows (frame_of t) ≡ Some p → place_of p.number s ≡ Some p
 found-of-tree s t p is h = sym (ap (λ (c : Configuration). window_at p.number c.windows (frame_of c)) is) ∙ h
 
-module _ (laws : LeafLaws) (s : StateValue) (valid : IsValid s) where
+module _ (s : StateValue) (valid : IsValid s) where
   pub few : length (places s) ≤ 64
   few =
-      let numbers = ap length (laws.places.listed s.tree.windows (frame_of s.tree)) in
+      let numbers = ap length (listed s.tree.windows (frame_of s.tree)) in
       let each = length-map (places s) (λ (window : Placed). window.number) in
       let most = valid.windows.tree.few in
       omega (arith, numbers, each, most)
@@ -47,7 +48,7 @@ module _ (laws : LeafLaws) (s : StateValue) (valid : IsValid s) where
 
   pub shows-buffer : (number : ℕ) (w : WindowState) → window_of number s.windows ≡ Some w → None ≡ option_map painted_of (slice_get s.buffers w.buffer) → ⊥
   shows-buffer number w at none =
-      let b = element-at s.buffers w.buffer (laws.found s number w valid at).made in
+      let b = element-at s.buffers w.buffer (window-valid s number w valid at).made in
       none-some (painted_of b.0) (none ∙ ap (option_map painted_of) b.1)
 
   pub is-leaf : (i : ℕ) (p : Placed) (w : WindowState) (content : BufferValue) → slice_get (places s) i ≡ Some p → place_of p.number s ≡ Some p
@@ -61,10 +62,10 @@ module _ (laws : LeafLaws) (s : StateValue) (valid : IsValid s) where
 
   pub view-at : (files : Data) (i : ℕ) (p : Placed) (w : WindowState) → slice_get (places s) i ≡ Some p → window_of p.number s.windows ≡ Some w
       → slice_get (views_in files s) i ≡ Some (view_in files s w p)
-  view-at files = shown-at laws.places s valid (λ p w. view_in files s w p)
+  view-at files = shown-at s valid (λ p w. view_in files s w p)
 
   pub views-count : (files : Data) → length (views_in files s) ≡ length (places s)
-  views-count files = shown-count laws.places s valid (λ p w. view_in files s w p)
+  views-count files = shown-count s valid (λ p w. view_in files s w p)
 
   -- a place in a list of views is one of the leaf order
   pub inside : (files : Data) (views : List WindowView) (i : ℕ) → views ≡ views_in files s → i < length views → i < length (places s)

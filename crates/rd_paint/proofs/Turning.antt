@@ -9,7 +9,7 @@ use Rattle.rd_frame.specs.Fits.{FitsWindow}
 use Rattle.rd_frame.specs.Frames.{FrameValues, rows_of}
 use Rattle.rd_frame.specs.Paints.{painted, with_rectangle}
 use Rattle.rd_frame.specs.Panes.{PaneValues, window_rows}
-use Rattle.rd_frame.specs.Turns.{IsTurn, painted_from, with_window}
+use Rattle.rd_frame.specs.Turns.{IsPaintedNext, painted_from, with_window}
 use Rattle.rd_objects.specs.Things.{ObjectLists}
 use Rattle.rd_state.specs.States.{BufferValue, StateValue}
 use Rattle.rd_state.specs.Valid.{IsValid}
@@ -41,7 +41,7 @@ all-painted f i first rows end h = h ∙ ap (λ (ps : List Placed). painted (row
 
 -- the turn of the window at a place of the leaf order
 pub turn-here : TurnLaws → (s : StateValue) → IsValid s → (i : ℕ) (place : Placed) (w : WindowState) (content : BufferValue) → IsLeaf s i place w content → (rows : List (List Cell)) → HasSize s.tree.width (s.tree.height + 1) rows
-    → (files : Data) → IsTurn (frame_in files s) i place rows
+    → (files : Data) → IsPaintedNext (frame_in files s) i place rows
 turn-here laws s valid i place w content leaf rows size files = laws.turn (frame_in files s) i place.number place rows (laws.fits files s valid) size leaf.placed leaf.listed
 
 module _ (laws : TurnLaws) (s : StateValue) (valid : IsValid s) (classes : List Span) (views : List WindowView) (i : ℕ) (place : Placed) (w : WindowState) (content : BufferValue) (leaf : IsLeaf s i place w content) (v : WindowView)
@@ -49,7 +49,7 @@ module _ (laws : TurnLaws) (s : StateValue) (valid : IsValid s) (classes : List 
   -- the view of the window
   view-is : (files : Data) → AreShown files classes s views → v ≡ view_in files s w place
   view-is files shown =
-      ap (λ o. unwrap_or o v) (sym at ∙ (ap (λ (vs : List WindowView). slice_get vs i) shown.shown ∙ view-at laws.leaves s valid files i place w leaf.listed leaf.window))
+      ap (λ o. unwrap_or o v) (sym at ∙ (ap (λ (vs : List WindowView). slice_get vs i) shown.shown ∙ view-at s valid files i place w leaf.listed leaf.window))
 
   -- what the window shows
   abbrev pub pane : PaneValues

@@ -9,7 +9,7 @@ ghost use Rattle.rd_tree.specs.Compositions.{HasSize};
 ghost use Rattle.rd_ucd.specs.Data.{Data};
 ghost use Rattle.rd_paint.specs.Shown.{AreShown};
 
-use crate::laws::{leaf_laws, turn_laws};
+use crate::laws::turn_laws;
 use crate::leaf::leaf_at;
 use crate::pane::paint_leaf;
 use rd_base::{Face, Memory};
@@ -94,7 +94,6 @@ fn cursor_of(state: &State, windows: &[ShownWindow<'_>], number: u32) -> Option<
     ensures { (files : Data) → windows.now ≡ views_in files state.now → result ≡ cursor_at files state.now number }
 {
     state.states_are_valid();
-    leaf_laws();
     for (i, shown) in windows.iter().enumerate() {
         if leaf_at(state, i as u32).place.number == number {
             return shown.matrix.cursor(shown.chosen.point);

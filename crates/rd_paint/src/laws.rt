@@ -1,25 +1,15 @@
 //! What the proofs here take from the laws of the layers below, gathered once.
-ghost use Rattle.rd_paint.specs.Laws.{LeafLaws, TurnLaws};
+ghost use Rattle.rd_paint.specs.Laws.{TurnLaws};
 
 use rd_frame::windows_are_painted_in_turn;
 use rd_items::blocks_are_listed;
-use rd_layout::{redisplays_keep_states, targets_fit_their_frames, windows_are_placed};
-use rd_state::windows_are_leaves;
-
-/// Of the windows of a frame in leaf order. The call does nothing.
-pub(crate) fn leaf_laws()
-    ensures { LeafLaws }
-{
-    windows_are_leaves();
-    windows_are_placed();
-}
+use rd_layout::{redisplays_keep_states, targets_fit_their_frames};
 
 /// Of a window that is painted in its turn. The call does nothing.
 pub(crate) fn turn_laws()
     ensures { TurnLaws }
 {
     blocks_are_listed();
-    leaf_laws();
     redisplays_keep_states();
     targets_fit_their_frames();
     windows_are_painted_in_turn();

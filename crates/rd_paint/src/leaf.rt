@@ -4,7 +4,6 @@ ghost use Rattle.rd_layout.specs.Windows.{places};
 ghost use Rattle.rd_paint.specs.Shown.{IsLeaf};
 
 use crate::content::{Content, content_of};
-use crate::laws::leaf_laws;
 use rd_state::{State, WindowState};
 use rd_tree::Placed;
 
@@ -32,7 +31,6 @@ fn found_leaf(state: &State, i: u32) -> Option<Leaf<'_>>
     ensures { MatchOption result (length (places state.now) ≤ i) (λ leaf. IsLeaf state.now i leaf.place leaf.window.now leaf.content) }
 {
     state.states_are_valid();
-    leaf_laws();
     let place = state.tree().placed_leaf(i)?;
     let window = state.window(place.number)?;
     let content = content_of(state, window.buffer)?;

@@ -1,5 +1,5 @@
 -- A redisplay that is sent leads from a session to a session, whose layouts are those from nothing.
-use Rattle.std.proofs.Common.{◌≡◌, ℕ, Bool, List, [], ◌∷◌, ◌++◌, map, Option, None, Some, refl, sym, ap, subst}
+use Rattle.std.proofs.Common.{◌≡◌, ℕ, List, [], ◌∷◌, ◌++◌, map, Option, None, Some, refl, sym, ap, subst}
 use Rattle.std.proofs.lemmas.List.Elements.{recursion_from_All}
 use Rattle.std.proofs.lemmas.Option.{none-some}
 use Rattle.std.specs.List.{AllByRecursion, flat_map}
@@ -14,19 +14,13 @@ use Rattle.rd_ucd.specs.Data.{Data}
 use Rattle.rd_window.specs.Layouts.{IsLaidOut}
 use Rattle.rd_window.specs.declared.layout.Layout.{Layout}
 use Rattle.rd_layout.specs.Copies.{fresh_layout, redisplayed}
-use Rattle.rd_layout.specs.Laws.{PlaceLaws}
-use Rattle.rd_layout.specs.Redisplays.{AreLaidOut, IsLaidOutBy, IsSent, update_of}
+use Rattle.rd_layout.specs.Laws.{LeadLaw}
+use Rattle.rd_layout.specs.Redisplays.{AreLaidOut, IsLaidOutBy, update_of}
 use Rattle.rd_layout.specs.Sessions.{SessionValue}
 use Rattle.rd_layout.specs.Since.{IsSession}
 use Rattle.rd_layout.specs.Windows.{of_place, of_window, place_of, places, view_in, wanted_of, window_shape, window_source}
 use Rattle.rd_layout.proofs.Placed.{all-places}
 use Rattle.rd_layout.proofs.Sending.{sent-anew}
-
--- what the layers below say of the places of a frame's windows, and of redisplays
-pub record LeadLaws : Type 0 where
-  pub places : PlaceLaws
-  pub lead : (rows : ℕ) (done : Bool) (stop : Option ℕ) (old new : SessionValue) (before after : Option (List ℕ)) → IsSession old
-      → IsSent rows done stop old new before after → IsSession new
 
 -- ---- one window
 
@@ -57,8 +51,8 @@ bare-session v h = record { state = h.state; screen = h.screen; made = λ number
 abbrev Lives : StateValue → Placed → Type 0
 Lives s p = (w : WindowState) × (window_of p.number s.windows ≡ Some w)
 
-all-live : (laws : PlaceLaws) (s : StateValue) → IsValid s → AllByRecursion (Lives s) (places s)
-all-live laws s valid = recursion_from_All (Lives s) (places s) (all-places laws s valid (Lives s) lives) where
+all-live : (s : StateValue) → IsValid s → AllByRecursion (Lives s) (places s)
+all-live s valid = recursion_from_All (Lives s) (places s) (all-places s valid (Lives s) lives) where
   lives : (p : Placed) → place_of p.number s ≡ Some p → Lives s p
   lives p at =
       let w = placed-window s p.number p valid at in
@@ -79,7 +73,7 @@ all-laid v (p ∷ ps) h = one-laid v p ps (flat_map (of_place (fresh_layout v.fi
 
 -- ---- the session
 
-pub leads-on : (laws : LeadLaws) (v : SessionValue) (stop : Option ℕ) → IsSession v → IsSession (redisplayed v stop)
-leads-on laws v stop h =
-    laws.lead (update_of v stop).rows (update_of v stop).done stop (bare v) (redisplayed v stop) None None (bare-session v h)
-    (sent-anew (bare v) stop v.files (redisplayed v stop).state (redisplayed v stop).layouts refl refl (all-laid v (places v.state) (all-live laws.places v.state h.state)))
+pub leads-on : LeadLaw → (v : SessionValue) (stop : Option ℕ) → IsSession v → IsSession (redisplayed v stop)
+leads-on law v stop h =
+    law (update_of v stop).rows (update_of v stop).done stop (bare v) (redisplayed v stop) None None (bare-session v h)
+    (sent-anew (bare v) stop v.files (redisplayed v stop).state (redisplayed v stop).layouts refl refl (all-laid v (places v.state) (all-live v.state h.state)))

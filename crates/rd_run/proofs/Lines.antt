@@ -17,6 +17,7 @@ use Rattle.rd_update.specs.Laws.{AtFrame, IsReady, IsUpdated, IsSound}
 use Rattle.rd_update.specs.Plans.{HaveOneSize}
 use Rattle.rd_update.specs.Updates.{Update}
 use Rattle.rd_layout.specs.Copies.{redisplayed as redisplayed_session}
+use Rattle.rd_layout.specs.Laws.{LeadLaw}
 use Rattle.rd_layout.specs.Redisplays.{bands_of, update_of}
 use Rattle.rd_layout.specs.Screens.{laid_out}
 use Rattle.rd_layout.specs.Sessions.{IsStep, SessionValue, behind, is_frame, opened as opened_session, session_step}
@@ -26,7 +27,7 @@ use Rattle.rd_layout.proofs.Sending.{unknown-at}
 use Rattle.rd_run.specs.Runs.{AreOfOneSize, Effect, Input, IsOn, LeadsOn, Mode, Standing, World, after, effect, is_sent, is_shown, opened, outcome_at, quiet, redisplayed, refused, run, run_line, stepped, terminal_after, unshown}
 use Rattle.rd_run.specs.declared.status.ScriptFault.TheVariants as faults
 use Rattle.rd_run.proofs.Effects.{effect-is, shown-done}
-use Rattle.rd_run.proofs.Leading.{LeadLaws, leads-on}
+use Rattle.rd_run.proofs.Leading.{leads-on}
 use Rattle.rd_run.proofs.Ops.{keeps-size}
 use Rattle.rd_update.proofs.Sizes.{is-screen, one-size}
 
@@ -34,7 +35,7 @@ use Rattle.rd_update.proofs.Sizes.{is-screen, one-size}
 pub record RunLaws : Type 0 where
   pub opened : (files : Data) → IsSession (opened_session files)
   pub stepped : (v : SessionValue) (op : Op) (state : StateValue) → IsSession v → IsInForm op → IsStep op → session_step v op ≡ Ok state → IsSession (behind v op state)
-  pub leads : LeadLaws
+  pub lead : LeadLaw
   pub bands : (s : StateValue) → IsValid s → AreWithin s.height (bands_of s)
   pub targets : (files : Data) (s : StateValue) → IsValid s → IsOfSize s.width s.height (laid_out files s).picture × IsSound (laid_out files s).picture
   pub updated : (width height : ℕ) (current : Option Picture) (target : Picture) (bands : List Band) (limit : Option ℕ) (t : Tty) → IsReady width height current target t → AreWithin height bands
@@ -164,7 +165,7 @@ redisplayed-goes laws place t stop h =
     let reached = target-reached laws v stop h.session in
     record {
       on = record {
-        at = updated-at v (redisplayed_session v stop) u target (feed_bytes t u.bytes) (leads-on laws.leads v stop h.session) same refl updated;
+        at = updated-at v (redisplayed_session v stop) u target (feed_bytes t u.bytes) (leads-on laws.lead v stop h.session) same refl updated;
         under = refl;
         knows = λ s. (updated.sure, updated.cells);
         reaches = λ s. ap (λ (p : Picture). Some p) (reached (shown-done u.done u.rows s));

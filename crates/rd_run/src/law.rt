@@ -11,7 +11,6 @@ ghost use Rattle.rd_run.specs.declared.status.Status.{Status};
 
 use rd_layout::{
     redisplays_keep_states, redisplays_lead_on, sessions_stay_known, targets_are_sound,
-    windows_are_placed,
 };
 use rd_lineshift::{shift_law, shifted_updates_reach_their_targets};
 use rd_script::no_line_says_want_of_memory;
@@ -28,7 +27,6 @@ pub fn a_session_stands_behind_each_line()
     shift_law();
     shifted_updates_reach_their_targets();
     targets_are_sound();
-    windows_are_placed();
 }
 
 /// The headline, over all runs: behind each redisplay that was shown, the written terminal, which reads the bytes since the last

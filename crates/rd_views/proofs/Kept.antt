@@ -1,7 +1,7 @@
 -- A session stays one where what laying out all windows gave is kept.
-use Rattle.std.proofs.Common.{◌≡◌, ℕ, Bool, Option, None, List, sym, refl, subst, subst₂, ◌∙◌}
-use Rattle.rd_layout.specs.Laws.{PlaceLaws}
-use Rattle.rd_layout.specs.Redisplays.{AreLaidOut, IsSent, update_of}
+use Rattle.std.proofs.Common.{◌≡◌, None, List, sym, refl, subst, subst₂, ◌∙◌}
+use Rattle.rd_layout.specs.Laws.{LeadLaw}
+use Rattle.rd_layout.specs.Redisplays.{AreLaidOut, update_of}
 use Rattle.rd_layout.specs.Screens.{laid_out, settled_state}
 use Rattle.rd_layout.specs.Sessions.{SessionValue}
 use Rattle.rd_layout.specs.Since.{IsSession}
@@ -18,9 +18,6 @@ use Rattle.rd_views.specs.declared.desired.LaidWindow.{LaidWindow}
 use Rattle.rd_views.proofs.Desiring.{laid-out, once}
 use Rattle.rd_views.proofs.Settled.{ChosenLaw, can-settle, state-settled}
 
-abbrev pub LeadOn : Type 0
-LeadOn = (rows : ℕ) (done : Bool) (stop : Option ℕ) (old new : SessionValue) (before after : Option (List ℕ)) → IsSession old → IsSent rows done stop old new before after → IsSession new
-
 settled-is : (files : Data) (s : StateValue) → settled_state files s ≡ (laid_out files s).state
 unfolding laid_out
 settled-is files s = refl
@@ -29,14 +26,14 @@ settled-is files s = refl
 abbrev pub unknown : Data → StateValue → List Last → SessionValue
 unknown files s layouts = record { files = files; state = s; current = None; layouts = layouts }
 
-pub adopted : LeadOn → (old : SessionValue) (files : Data) (s : StateValue) (layouts : List Last) → IsSession old → files ≡ old.files → s ≡ (laid_out old.files old.state).state
+pub adopted : LeadLaw → (old : SessionValue) (files : Data) (s : StateValue) (layouts : List Last) → IsSession old → files ≡ old.files → s ≡ (laid_out old.files old.state).state
     → AreLaidOut old (places old.state) layouts → IsSession (unknown files s layouts)
 adopted law old files s layouts session files_stay state laid =
     let u = update_of old None in
     let shown = law u.rows u.done None old _ None None session (sent-anew old None files s layouts files_stay state laid) in
     record { state = shown.state; screen = tt; made = shown.made; layouts = shown.layouts }
 
-module _ (law : PlaceLaws) (v : SessionValue) (session : IsSession v) (xs : List LaidWindow) (es : List Last) (desired : AreDesired v (places v.state) xs es) where
+module _ (v : SessionValue) (session : IsSession v) (xs : List LaidWindow) (es : List Last) (desired : AreDesired v (places v.state) xs es) where
   numbers-once : AreOnce es
   numbers-once = once v (places v.state) xs es desired (placed-apart v.state.tree.windows (frame_of v.state.tree) session.state.windows.tree.once)
 
@@ -45,7 +42,7 @@ module _ (law : PlaceLaws) (v : SessionValue) (session : IsSession v) (xs : List
 
   pub can-as : ChosenLaw → (s : StateValue) (us : List LaidWindow) (ws : List Last) → s ≡ v.state → us ≡ xs → ws ≡ es → CanSettle s us ws
   can-as chosen s us ws a b d =
-      let can = can-settle v chosen session.state xs es (λ k p at. placed-at law v.state session.state k p at) desired in
+      let can = can-settle v chosen session.state xs es (λ k p at. placed-at v.state session.state k p at) desired in
       subst (λ (t : StateValue). CanSettle t us ws) (sym a) (subst₂ (λ (ys : List LaidWindow) (fs : List Last). CanSettle v.state ys fs) (sym b) (sym d) can)
 
   pub state-as : (new s : StateValue) (us : List LaidWindow) (ws : List Last) → s ≡ v.state → us ≡ xs → ws ≡ es → new ≡ all_settled us ws s → new ≡ (laid_out v.files v.state).state

@@ -13,9 +13,9 @@ use Rattle.rd_reuse.specs.Keeping.{AreRight}
 use Rattle.rd_rows.specs.Shapes.{ShapeValues}
 use Rattle.rd_start.specs.Chosen.{chosen_of}
 use Rattle.rd_start.specs.declared.wanted.Wanted.{Wanted}
-use Rattle.rd_state.proofs.Showing.{shown-has}
+use Rattle.rd_state.proofs.Showing.{shown-has, window-valid}
 use Rattle.rd_state.specs.States.{BufferValue, StateValue, seen}
-use Rattle.rd_state.specs.Valid.{IsValid, IsWindow}
+use Rattle.rd_state.specs.Valid.{IsWindow}
 use Rattle.rd_state.specs.Windows.{shown_content, window_of}
 use Rattle.rd_state.specs.declared.window.WindowState.{WindowState}
 use Rattle.rd_text.specs.Texts.{IsAccessible, IsText}
@@ -45,11 +45,10 @@ pub record LookLaws : Type 0 where
       → AreRight (window_source v.files v.state w) (older_rows (layout_of number v.layouts) shape) (change_since (layout_of number v.layouts)) shape
   pub stands : (v : SessionValue) (number : ℕ) (w : WindowState) → IsSession v → window_of number v.state.windows ≡ Some w
       → StandsUnchanged (layout_of number v.layouts) (window_source v.files v.state w) w.forced w.anchor
-  pub found : (s : StateValue) (number : ℕ) (w : WindowState) → IsValid s → window_of number s.windows ≡ Some w → IsWindow s.buffers w
 
 module _ (laws : LookLaws) (v : SessionValue) (session : IsSession v) (n : ℕ) (w : WindowState) (lives : window_of n v.state.windows ≡ Some w) (m : SourceValues) (source : m ≡ window_source v.files v.state w) where
   window : IsWindow v.state.buffers w
-  window = laws.found v.state n w session.state lives
+  window = window-valid v.state n w session.state lives
 
   text : IsText (shown_content v.state w).text
   text = shown-has (λ c. IsText c.text) v.state w window (λ b at. (session.state.buffers.contents w.buffer b at).text)

@@ -8,8 +8,8 @@ ghost use Rattle.rd_views.specs.Layings.{AreOnce, CanSettle, IsDesired, all_sett
 use crate::desired::{Desired, LaidWindow};
 use crate::lasts::take_last;
 use crate::views::Views;
-use rd_layout::{redisplays_keep_states, redisplays_lead_on, windows_are_placed};
-use rd_state::{State, windows_are_leaves};
+use rd_layout::{redisplays_keep_states, redisplays_lead_on};
+use rd_state::State;
 use rd_window::Layout;
 
 impl Views {
@@ -24,8 +24,6 @@ impl Views {
     {
         redisplays_keep_states();
         redisplays_lead_on();
-        windows_are_leaves();
-        windows_are_placed();
         let Desired {
             windows,
             mut layouts,

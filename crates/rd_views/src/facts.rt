@@ -6,8 +6,6 @@ ghost use Rattle.rd_layout.specs.Facts.{cursor_since, facts_of};
 use crate::views::Views;
 use rd_base::Pos;
 use rd_dump::WindowFacts;
-use rd_layout::windows_are_placed;
-use rd_state::windows_are_leaves;
 use rd_window::Layout;
 
 impl Views {
@@ -19,8 +17,6 @@ impl Views {
         ensures few { IsSome result → i < WINDOWS }
     {
         self.state.states_are_valid();
-        windows_are_leaves();
-        windows_are_placed();
         let place = self.place(i)?;
         let window = self.state.window(place.number)?;
         let cursor = cursor_since(self.layout(place.number), window.point);

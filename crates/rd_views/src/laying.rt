@@ -16,7 +16,7 @@ use rd_blocks::{Blocks, accessible_positions_lie_in_blocks, buffers_are_sources}
 use rd_frame::body_height;
 use rd_layout::sessions_stay_known;
 use rd_start::Wanted;
-use rd_state::{State, WindowState, windows_are_leaves};
+use rd_state::{State, WindowState};
 use rd_tree::Placed;
 use rd_window::{Laying, lay_out_again};
 use std::sync::ledger::Ledger;
@@ -47,7 +47,6 @@ impl Views {
         accessible_positions_lie_in_blocks();
         buffers_are_sources();
         sessions_stay_known();
-        windows_are_leaves();
         self.views_are_known();
         let Some(window) = self.state.window(place.number) else {
             unreachable!()

@@ -15,7 +15,7 @@ use rd_frame::body_height;
 use rd_layout::sessions_stay_known;
 use rd_rows::Shape;
 use rd_script::Op;
-use rd_state::{Refused, State, WindowState, windows_are_leaves};
+use rd_state::{Refused, State, WindowState};
 use rd_visual::{left, position_at, right};
 use rd_window::Layout;
 
@@ -50,7 +50,6 @@ impl Views {
         ensures { Points result window self.now.state (going self.now.files self.now.state window to_the_right) }
     {
         self.state.states_are_valid();
-        windows_are_leaves();
         let number = number_of(&self.state, window)?;
         let Some(shown) = self.state.window(number) else {
             return Err(Refused::NoWindow);

@@ -9,8 +9,8 @@ use Rattle.rd_audit.specs.Recorded.{IsRecording}
 use Rattle.rd_audit.specs.Verdicts.{IsSound}
 use Rattle.rd_audit.proofs.law.recorded_runs_get_yes.Goals as goal
 
-agree : goal.After-windows_are_placed → (e : End) (mode : Mode) (stream file : List ℕ) → IsRecording e mode stream file → Agree stream file
-agree c e mode stream file h = recording-agrees c.a_session_stands_behind_each_line.ensures c.windows_are_placed.ensures e mode stream file h
+agree : goal.After-a_session_stands_behind_each_line → (e : End) (mode : Mode) (stream file : List ℕ) → IsRecording e mode stream file → Agree stream file
+agree c e mode stream file h = recording-agrees c.a_session_stands_behind_each_line.ensures e mode stream file h
 
 sound : (stream file name : List ℕ) (told : List ℕ → Option (List ℕ)) (e : End) (mode : Mode) → IsRecording e mode stream file → told name ≡ Some file → Agree stream file
     → IsSound (name ∷ []) told (Some stream)

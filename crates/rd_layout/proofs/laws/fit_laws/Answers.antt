@@ -4,8 +4,6 @@ use Rattle.rd_layout.proofs.laws.fit_laws.Goals as goal
 
 pub returns : goal.returns
 returns c = record {
-  views = c.view_laws.ensures;
-  found = c.windows_are_leaves.ensures.found;
   whole = c.rows_of_buffers_are_whole.ensures.all;
   margin = c.margins_are_whole.ensures;
   mode_width = c.mode_lines_are_whole.ensures.width;

@@ -11,7 +11,6 @@ returns c =
       grown = c.changes_lead_on.ensures.grown;
       itself = c.extensions_keep_objects.ensures.more.itself;
       stand = c.new_layouts_stand.ensures;
-      found = c.windows_are_leaves.ensures.found;
     } in
     let target = c.targets_are_sound.ensures in
     λ rows done stop old new before after session sent.

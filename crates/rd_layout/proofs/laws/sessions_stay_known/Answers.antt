@@ -17,7 +17,6 @@ returns-clause-step c =
     } in
     let laws : StepLaws = record {
       valid = c.steps_keep_states.ensures.step;
-      found = c.windows_are_leaves.ensures.found;
       left = c.ops_leave_the_rest.ensures;
       joined = c.changes_lead_on.ensures.joined;
       last_all = c.joined_with_all.ensures.last;
@@ -29,7 +28,7 @@ returns-clause-step c =
 pub returns-clause-kept : goal.returns-clause-kept
 returns-clause-kept c =
     let laws : KeptLaws = record { changed = c.kept_rows_are_fresh.ensures.changed; all = c.kept_rows_are_fresh.ensures.all; none = c.no_rows_are_kept.ensures } in
-    λ v number w shape session lives. kept-session laws c.windows_are_leaves.ensures.found v number w shape session lives
+    λ v number w shape session lives. kept-session laws v number w shape session lives
 
 pub returns-clause-stands : goal.returns-clause-stands
 returns-clause-stands c = λ v number w session lives. session-stands v number w session lives

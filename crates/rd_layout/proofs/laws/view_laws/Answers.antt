@@ -6,5 +6,4 @@ returns c = record {
   within = c.accessible_positions_lie_in_blocks.ensures;
   listed = c.blocks_are_listed.ensures;
   start = record { row = c.a_start_is_a_row.ensures; anchor = c.an_anchor_of_a_row_is_within.ensures };
-  places = c.windows_are_placed.ensures;
 }

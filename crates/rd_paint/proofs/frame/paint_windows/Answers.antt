@@ -4,7 +4,7 @@ use Rattle.std.specs.Prelude.{slice_get}
 use Rattle.rd_base.specs.declared.cell.Cell.{Cell}
 use Rattle.rd_frame.proofs.Screens.{twice}
 use Rattle.rd_frame.specs.Fits.{FitsWindow}
-use Rattle.rd_frame.specs.Turns.{IsTurn, painted_from, with_window}
+use Rattle.rd_frame.specs.Turns.{IsPaintedNext, painted_from, with_window}
 use Rattle.rd_layout.specs.Screens.{frame_in}
 use Rattle.rd_objects.specs.Things.{ObjectLists}
 use Rattle.rd_term.specs.Pictures.{Picture, width_of}
@@ -19,18 +19,18 @@ use Rattle.rd_paint.proofs.frame.paint_windows.Goals.{After-leaf_at-leaf}
 
 pub overflow_cast-i : goal.overflow_cast-i
 overflow_cast-i c =
-    let less = small c.turn_laws.ensures.leaves c.args.state.now c.states_are_valid.ensures c.requires.shown.0 c.args.windows.now c.loop-i.i c.requires.shown.1.shown c.loop-i-test.true in
+    let less = small c.args.state.now c.states_are_valid.ensures c.requires.shown.0 c.args.windows.now c.loop-i.i c.requires.shown.1.shown c.loop-i-test.true in
     omega arith
 
 pub leaf_at-leaf-requires : goal.leaf_at-leaf-requires
-leaf_at-leaf-requires c = inside c.turn_laws.ensures.leaves c.args.state.now c.states_are_valid.ensures c.requires.shown.0 c.args.windows.now c.loop-i.i c.requires.shown.1.shown c.loop-i-test.true
+leaf_at-leaf-requires c = inside c.args.state.now c.states_are_valid.ensures c.requires.shown.0 c.args.windows.now c.loop-i.i c.requires.shown.1.shown c.loop-i-test.true
 
 -- the view of the window whose turn it is
 viewed : (c : goal.After-leaf_at-leaf) → slice_get c.args.windows.now c.loop-i.i ≡ Some c.index-windows-i.result
 viewed c = slice_get-get_or c.args.windows.now c.loop-i.i c.index-windows-i.result c.loop-i-test.true ∙ ap (λ (x : WindowView). Some x) (sym c.index-windows-i.is)
 
 -- its turn
-turned : (c : goal.After-leaf_at-leaf) (files : Data) → IsTurn (frame_in files c.args.state.now) c.loop-i.i c.leaf_at-leaf.result.place c.loop-i.screen.rows
+turned : (c : goal.After-leaf_at-leaf) (files : Data) → IsPaintedNext (frame_in files c.args.state.now) c.loop-i.i c.leaf_at-leaf.result.place c.loop-i.screen.rows
 turned c =
     let leaf = c.leaf_at-leaf.result in
     turn-here c.turn_laws.ensures c.args.state.now c.states_are_valid.ensures c.loop-i.i leaf.place leaf.window.now leaf.content c.leaf_at-leaf.ensures c.loop-i.screen.rows c.loop-i.invariant.size
@@ -75,7 +75,7 @@ pub returns-clause-painted : goal.returns-clause-painted
 returns-clause-painted c =
     let s = c.args.state.now in
     λ files shown.
-    let count = ap length shown.shown ∙ views-count c.turn_laws.ensures.leaves s c.states_are_valid.ensures files in
+    let count = ap length shown.shown ∙ views-count s c.states_are_valid.ensures files in
     let over = c.loop-i-test.false in
     c.loop-i.invariant.others
     ∙ ap (λ (xs : List (List Cell)). let p : Picture = record c.args.screen.now { rows = xs } in p)

@@ -2,7 +2,6 @@ use Rattle.rd_paint.proofs.laws.turn_laws.Goals as goal
 
 pub returns : goal.returns
 returns c = record {
-  leaves = c.leaf_laws.ensures;
   listed = c.blocks_are_listed.ensures;
   fits = c.targets_fit_their_frames.ensures;
   turn = c.windows_are_painted_in_turn.ensures;

@@ -13,17 +13,17 @@ pub returns-in_err-window : goal.returns-in_err-window
 returns-in_err-window c =
     let s = c.args.state.now in
     let p = c.in_ok-place.place in
-    absurd (lives c.leaf_laws.ensures s c.states_are_valid.ensures p (found-of-tree s c.tree.result.now p c.tree.ensures c.in_ok-place.ensures.found) (sym c.in_err-window.ensures))
+    absurd (lives s c.states_are_valid.ensures p (found-of-tree s c.tree.result.now p c.tree.ensures c.in_ok-place.ensures.found) (sym c.in_err-window.ensures))
 
 pub returns-in_err-content : goal.returns-in_err-content
 returns-in_err-content c =
     let s = c.args.state.now in
-    absurd (shows-buffer c.leaf_laws.ensures s c.states_are_valid.ensures c.in_ok-place.place.number c.in_ok-window.window.now (sym c.in_ok-window.ensures) c.in_err-content.ensures)
+    absurd (shows-buffer s c.states_are_valid.ensures c.in_ok-place.place.number c.in_ok-window.window.now (sym c.in_ok-window.ensures) c.in_err-content.ensures)
 
 pub returns : goal.returns
 returns c =
     let s = c.args.state.now in
     let p = c.in_ok-place.place in
-    is-leaf c.leaf_laws.ensures s c.states_are_valid.ensures c.args.i p c.in_ok-window.window.now c.in_ok-content.content
+    is-leaf s c.states_are_valid.ensures c.args.i p c.in_ok-window.window.now c.in_ok-content.content
     (listed-of-tree s c.tree.result.now c.args.i _ c.tree.ensures c.in_ok-place.ensures.place) (found-of-tree s c.tree.result.now p c.tree.ensures c.in_ok-place.ensures.found)
     c.in_ok-window.ensures c.in_ok-content.ensures

@@ -1,13 +1,13 @@
 use Rattle.rd_run.proofs.Lines.{RunLaws, leads, stands}
 use Rattle.rd_run.proofs.law.a_session_stands_behind_each_line.Goals as goal
 
-laws : goal.After-windows_are_placed → RunLaws
+laws : goal.After-targets_are_sound → RunLaws
 laws c =
     let targets = c.targets_are_sound.ensures in
     record {
       opened = c.sessions_stay_known.ensures.opened;
       stepped = c.sessions_stay_known.ensures.step;
-      leads = record { places = c.windows_are_placed.ensures; lead = c.redisplays_lead_on.ensures };
+      lead = c.redisplays_lead_on.ensures;
       bands = c.redisplays_keep_states.ensures.bands;
       targets = λ files s valid. (targets.size files s valid, targets.sound files s valid);
       updated = c.shift_law.ensures;

@@ -15,7 +15,7 @@ use Rattle.rd_views.proofs.views.Views.adopt.Goals.{After-settle, After-take_las
 settled : (c : goal.After-settle) → c.settle.new.state ≡ (laid_out c.args.self.now.files c.args.self.now.state).state
 settled c =
     let d = c.args.desired in
-    state-as c.windows_are_placed.ensures c.args.self.now (subst IsSession c.self.view_is c.self.invariant) d.windows d.layouts.items c.requires c.settle.new.state c.self.inside.state c.as_slice.result.now c.as_slice-2.result.now
+    state-as c.args.self.now (subst IsSession c.self.view_is c.self.invariant) d.windows d.layouts.items c.requires c.settle.new.state c.self.inside.state c.as_slice.result.now c.as_slice-2.result.now
     (ap (λ (x : SessionValue). x.state) c.self.view_is) c.as_slice.ensures c.as_slice-2.ensures.value c.settle.ensures
 
 taken : (c : goal.After-take_lasts) → (layouts : List Last) → layouts ≡ c.take_lasts.new.layouts → AreLaidOut c.args.self.now (places c.args.self.now.state) layouts
@@ -23,7 +23,7 @@ taken c layouts is =
     let v = c.args.self.now in
     let d = c.args.desired in
     let lasts : c.deref_mut-2.result.now ≡ v.layouts = c.deref_mut-2.ensures.value ∙ ap (λ (x : SessionValue). x.layouts) c.self.view_is in
-    layouts-as c.windows_are_placed.ensures v (subst IsSession c.self.view_is c.self.invariant) d.windows d.layouts.items c.requires layouts c.deref_mut-2.result.now c.as_slice-3.result.now c.deref_mut.result.now lasts c.as_slice-3.ensures c.deref_mut.ensures.value
+    layouts-as v (subst IsSession c.self.view_is c.self.invariant) d.windows d.layouts.items c.requires layouts c.deref_mut-2.result.now c.as_slice-3.result.now c.deref_mut.result.now lasts c.as_slice-3.ensures c.deref_mut.ensures.value
     (is ∙ c.take_lasts.ensures)
 
 pub settle-requires-clause-same : goal.settle-requires-clause-same
@@ -35,7 +35,7 @@ settle-requires-clause-same c =
 pub settle-requires-clause-can : goal.settle-requires-clause-can
 settle-requires-clause-can c =
     let d = c.args.desired in
-    can-as c.windows_are_placed.ensures c.args.self.now (subst IsSession c.self.view_is c.self.invariant) d.windows d.layouts.items c.requires c.redisplays_keep_states.ensures.chosen c.self.inside.state c.as_slice.result.now c.as_slice-2.result.now
+    can-as c.args.self.now (subst IsSession c.self.view_is c.self.invariant) d.windows d.layouts.items c.requires c.redisplays_keep_states.ensures.chosen c.self.inside.state c.as_slice.result.now c.as_slice-2.result.now
     (ap (λ (x : SessionValue). x.state) c.self.view_is) c.as_slice.ensures c.as_slice-2.ensures.value
 
 pub take_lasts-requires-clause-same : goal.take_lasts-requires-clause-same
@@ -47,7 +47,7 @@ take_lasts-requires-clause-same c =
 pub take_lasts-requires-clause-once : goal.take_lasts-requires-clause-once
 take_lasts-requires-clause-once c =
     let d = c.args.desired in
-    once-as c.windows_are_placed.ensures c.args.self.now (subst IsSession c.self.view_is c.self.invariant) d.windows d.layouts.items c.requires c.deref_mut.result.now c.deref_mut.ensures.value
+    once-as c.args.self.now (subst IsSession c.self.view_is c.self.invariant) d.windows d.layouts.items c.requires c.deref_mut.result.now c.deref_mut.ensures.value
 
 pub returns-clause-state : goal.returns-clause-state
 returns-clause-state c = settled (goal.at.returns-clause-state c).After-settle

@@ -6,6 +6,7 @@ use Rattle.rd_state.specs.Windows.{shown_content, window_of}
 use Rattle.rd_layout.specs.Sessions.{SessionValue, layout_of}
 use Rattle.rd_layout.specs.Windows.{wanted_of, window_shape, window_source}
 use Rattle.rd_state.proofs.Leaves.{placed-window}
+use Rattle.rd_state.proofs.Showing.{window-valid}
 use Rattle.rd_views.proofs.Premises.{LookLaws, allowed-steps, anchor-wanted, is-source, kept-right, laid-result, point-wanted, source-is, stands-unchanged}
 use Rattle.rd_views.proofs.views.Views.lay_out_window.Given as given
 use Rattle.rd_views.proofs.views.Views.lay_out_window.Goals as goal
@@ -17,7 +18,6 @@ laws g c = record {
   within = c.accessible_positions_lie_in_blocks.ensures;
   kept = c.sessions_stay_known.ensures.kept;
   stands = c.sessions_stay_known.ensures.stands;
-  found = c.windows_are_leaves.ensures.found;
 }
 
 -- the window lives, and its source, its shape and what it wants are those of the session
@@ -46,7 +46,7 @@ unreachable-requires g c =
 
 pub look_at-requires : goal.look_at-requires
 look_at-requires g c =
-    (c.windows_are_leaves.ensures.found c.args.self.now.state c.args.place.number c.in-Some.window.now c.views_are_known.ensures.state (lives g (goal.at.look_at-requires g c).In-Some)).made
+    (window-valid c.args.self.now.state c.args.place.number c.in-Some.window.now c.views_are_known.ensures.state (lives g (goal.at.look_at-requires g c).In-Some)).made
 
 pub lay_out_again-requires-clause-source : goal.lay_out_again-requires-clause-source
 lay_out_again-requires-clause-source g c =
