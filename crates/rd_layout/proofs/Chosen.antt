@@ -1,5 +1,5 @@
 -- The start and the point that are chosen for a window are positions of the blocks that it shows.
-use Rattle.std.proofs.Common.{ℕ, ◌<◌, ◌≤◌, min, max, nat_lt, Bool, true, false, if◌then◌else◌, List, [], ◌∷◌, take, drop, arith, unwrap_or}
+use Rattle.std.proofs.Common.{ℕ, ◌<◌, ◌≤◌, min, max, nat_lt, Bool, true, false, if◌then◌else◌, List, [], ◌∷◌, length, take, drop, arith, unwrap_or}
 use Rattle.std.proofs.lemmas.List.Elements.{All-take, All-drop}
 use Rattle.std.specs.List.{AllByRecursion, reduce}
 use Rattle.rd_matrix.proofs.HeldLemmas.{among-within}
@@ -7,6 +7,7 @@ use Rattle.rd_matrix.specs.Blocks.{IsAmong, IsWithin}
 use Rattle.rd_matrix.specs.Entries.{EntryMeaning}
 use Rattle.rd_matrix.specs.Sources.{IsSource, SourceValues, rows_at}
 use Rattle.rd_matrix.specs.declared.block.Block.{Block}
+use Rattle.rd_reuse.proofs.Places.{within}
 use Rattle.rd_rows.specs.Shapes.{IsShape, ShapeValues}
 use Rattle.rd_start.proofs.Lists.{fold-keeps}
 use Rattle.rd_start.proofs.Positions.{OfRow, positions-each, rows-cover}
@@ -15,7 +16,6 @@ use Rattle.rd_start.specs.Starts.{is_in_view, start_of}
 use Rattle.rd_start.specs.declared.wanted.Wanted.{Wanted}
 use Rattle.rd_window.proofs.Starting.{start-named}
 use Rattle.rd_window.specs.Views.{start_row}
-use Rattle.rd_layout.specs.Laws.{StartLaws}
 
 -- ---- the blocks of a source
 
@@ -66,5 +66,5 @@ module _ (m : SourceValues) (shape : ShapeValues) (source : IsSource m) (is : Is
 
   -- ---- the start
 
-  pub chosen-anchor : StartLaws → (w : Wanted) → Inside w.point → Inside (chosen_of m shape w).anchor.pos
-  chosen-anchor laws w at = laws.anchor m shape (chosen_of m shape w).anchor (start_row m shape w) source (start-named m shape w (laws.row m shape w source is at))
+  pub chosen-anchor : (w : Wanted) → start_row m shape w < length (rows_at m shape) → Inside (chosen_of m shape w).anchor.pos
+  chosen-anchor w low = within m shape (chosen_of m shape w).anchor (start_row m shape w) source (start-named m shape w low)

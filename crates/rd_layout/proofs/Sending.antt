@@ -18,6 +18,7 @@ use Rattle.rd_base.specs.declared.settings.Anchor.{Anchor}
 use Rattle.rd_matrix.specs.Blocks.{IsWithin}
 use Rattle.rd_matrix.specs.Sources.{IsSource, SourceValues, rows_at}
 use Rattle.rd_matrix.specs.declared.matrix.Entry.{Entry}
+use Rattle.rd_objects.proofs.Soundness.{extends_itself}
 use Rattle.rd_objects.specs.Sound.{IsClosed, Extends}
 use Rattle.rd_objects.specs.Things.{ObjectLists}
 use Rattle.rd_props.specs.Buffers as props
@@ -65,7 +66,6 @@ pub record SendLaws : Type 0 where
       → AreWithin (length target.rows) bands → IsSound target → IsSound (shifted_update current target bands limit).screen
   pub rows : (m : SourceValues) (shape : ShapeValues) (rows : List Entry) (first height : ℕ) → shown_entries rows ≡ take height (drop first (rows_at m shape)) → AreRowsAt m shape rows
   pub grown : (s : props.BufferValue) (made objects : ObjectLists) → IsClosed made → AreMade s made → Extends made objects → LeadsTo s made s objects none
-  pub itself : (o : ObjectLists) → Extends o o
   pub stand : (last : Option Layout) (m : SourceValues) (shape : ShapeValues) (w : Wanted) (new : Layout) → IsSource m → IsShape shape → IsWithin w.point m.blocks → IsLaidOut last m shape w new → Stands m (chosen_of m shape w).anchor new
 
 -- ---- the new current screen
@@ -150,7 +150,7 @@ module _ (laws : SendLaws) (files : Data) (s : StateValue) (valid : IsValid s) w
             (laws.stand last m shape (wanted_of s x p) l (laws.views.source (seen (shown_content s x)) s.objects files content.text) (is-shape s valid p.number x p at)
             (point-within laws.views files s valid x window) laid);
         leads = subst₂ (λ (c : ContentValue) (change : Change). LeadsTo (seen (shown_content s x)) s.objects (seen c) s.objects change) (sym here) (sym anew)
-            (laws.grown (seen (shown_content s x)) s.objects s.objects valid.closed content.names (laws.itself s.objects));
+            (laws.grown (seen (shown_content s x)) s.objects s.objects valid.closed content.names (extends_itself s.objects));
       }
 
 -- ---- the session

@@ -67,7 +67,7 @@ module _ (laws : ViewLaws) (files : Data) (s : StateValue) (valid : IsValid s) w
       let source = laws.source (seen (shown_content s w)) s.objects files text in
       let is = is-shape s valid number w place there in
       let point = point-within w window in
-      let first = accessible laws files.classes (seen (shown_content s w)) _ text (chosen-anchor m shape source is laws.start wanted point) in
+      let first = accessible laws files.classes (seen (shown_content s w)) _ text (chosen-anchor m shape source is wanted (laws.start m shape wanted source is point)) in
       let second = accessible laws files.classes (seen (shown_content s w)) _ text (chosen-point m shape source is wanted point) in
       (first, second)
 

@@ -1,10 +1,9 @@
 -- What several proofs of this crate take from the laws of the layers below; what one alone takes stands beside it. And `LeadLaw`, the one
 -- clause of the law of redisplays, which proofs of crates above take.
-use Rattle.std.specs.Prelude.{◌≡◌, ℕ, ◌+◌, ◌^◌, ◌<◌, ◌≤◌, Bool, List, Option, Some, length, slice_get, IsTrue}
+use Rattle.std.specs.Prelude.{◌≡◌, ℕ, ◌+◌, ◌^◌, ◌<◌, ◌≤◌, Bool, List, Option, length, IsTrue}
 use Rattle.std.specs.List.{All}
 use Rattle.rd_base.specs.Chars.{is_code}
 use Rattle.rd_base.specs.Faces.{plain}
-use Rattle.rd_base.specs.declared.settings.Anchor.{Anchor}
 use Rattle.rd_blocks.specs.Sources.{text_source}
 use Rattle.rd_glyphs.specs.Lines.{plain_cells}
 use Rattle.rd_items.specs.Blocks.{AreListed}
@@ -19,7 +18,6 @@ use Rattle.rd_modeline.specs.declared.piece.Piece.{Piece}
 use Rattle.rd_objects.specs.Sound.{AreCodes, AreObjects}
 use Rattle.rd_objects.specs.Things.{ObjectLists}
 use Rattle.rd_props.specs.Buffers as props
-use Rattle.rd_reuse.specs.Views.{Names}
 use Rattle.rd_rows.specs.Shapes.{IsShape, ShapeValues}
 use Rattle.rd_rows.specs.Whole.{IsWhole}
 use Rattle.rd_rows.specs.declared.begin.Begin.{Begin}
@@ -33,17 +31,12 @@ use Rattle.rd_layout.specs.Redisplays.{IsSent}
 use Rattle.rd_layout.specs.Sessions.{SessionValue}
 use Rattle.rd_layout.specs.Since.{IsSession}
 
--- of the start that is chosen for a window
-pub record StartLaws : Type 0 where
-  pub row : (m : SourceValues) (shape : ShapeValues) (w : Wanted) → IsSource m → IsShape shape → IsWithin w.point m.blocks → start_of w (places_of m shape w) < length (rows_at m shape)
-  pub anchor : (m : SourceValues) (shape : ShapeValues) (anchor : Anchor) (place : ℕ) → IsSource m → Names anchor (rows_at m shape) place → IsWithin anchor.pos m.blocks
-
 -- of what a window shows
 pub record ViewLaws : Type 0 where
   pub source : (s : props.BufferValue) (objects : ObjectLists) (files : Data) → IsText s.text → IsSource (text_source s objects files)
   pub within : (s : props.BufferValue) (objects : ObjectLists) (files : Data) (pos : ℕ) → IsAccessible s.text pos → IsWithin pos (text_source s objects files).blocks
   pub listed : (s : props.BufferValue) → s.text.begin ≤ s.text.end → AreListed s
-  pub start : StartLaws
+  pub start : (m : SourceValues) (shape : ShapeValues) (w : Wanted) → IsSource m → IsShape shape → IsWithin w.point m.blocks → start_of w (places_of m shape w) < length (rows_at m shape)
 
 -- of the sizes of what windows show
 pub record FitLaws : Type 0 where

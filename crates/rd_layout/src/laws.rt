@@ -38,8 +38,7 @@ use rd_items::blocks_are_listed;
 use rd_lineshift::{shift_law, shifted_updates_keep_screens_sound};
 use rd_margins::margins_are_whole;
 use rd_modeline::mode_lines_are_whole;
-use rd_objects::extensions_keep_objects;
-use rd_reuse::{an_anchor_of_a_row_is_within, joined_with_all, joined_with_none};
+use rd_reuse::{joined_with_all, joined_with_none};
 use rd_start::a_start_is_a_row;
 use rd_state::{ops_leave_the_rest, steps_keep_states};
 use rd_visual::items_begin_in_the_window;
@@ -87,7 +86,6 @@ pub fn redisplays_lead_on()
     ensures { LeadLaw }
 {
     changes_lead_on();
-    extensions_keep_objects();
     kept_rows_are_fresh();
     new_layouts_stand();
     shift_law();
@@ -143,7 +141,6 @@ fn view_laws()
 {
     a_start_is_a_row();
     accessible_positions_lie_in_blocks();
-    an_anchor_of_a_row_is_within();
     blocks_are_listed();
     buffers_are_sources();
 }

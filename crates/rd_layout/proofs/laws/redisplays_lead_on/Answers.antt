@@ -9,7 +9,6 @@ returns c =
       sound = c.shifted_updates_keep_screens_sound.ensures.sound;
       rows = c.kept_rows_are_fresh.ensures.rows;
       grown = c.changes_lead_on.ensures.grown;
-      itself = c.extensions_keep_objects.ensures.more.itself;
       stand = c.new_layouts_stand.ensures;
     } in
     let target = c.targets_are_sound.ensures in
