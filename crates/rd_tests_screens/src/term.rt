@@ -1,4 +1,5 @@
 //! The terminal and the screen on worked streams.
+use crate::claims::assert_at;
 use rd_base::{Cell, Face, Glyph, Memory};
 use rd_term::{Screen, Terminal};
 use std::alloc::Global;
@@ -34,7 +35,8 @@ fn points_at(terminal: &Terminal, place: Option<(u32, u32)>) -> bool {
 /// Asserts that letters stand at these places.
 fn assert_letters(rt: &impl Abort, terminal: &Terminal, letters: &[(u32, u32, u8)]) {
     for (row, column, code) in letters {
-        assert!(rt; shows_letter(terminal, *row, *column, *code));
+        let shown = shows_letter(terminal, *row, *column, *code);
+        assert_at(rt, *row, *column, shown);
     }
 }
 
@@ -94,7 +96,7 @@ fn red(glyph: Glyph) -> Option<Cell> {
 /// Asserts that these cells stand in the first row of a terminal.
 fn assert_cells(rt: &impl Abort, terminal: &Terminal, cells: &[(u32, Option<Cell>)]) {
     for (column, cell) in cells {
-        assert!(rt; shows(terminal, 0, *column, *cell));
+        assert_at(rt, 0, *column, shows(terminal, 0, *column, *cell));
     }
 }
 
