@@ -34,22 +34,16 @@ room-told : (g : given.Over) (c : After-has_room g) (b : Bool) → c.has_room.re
 room-told g c b is =
     sym (walk-fits c.args.self.now c.loop-filling.self _ _ c.loop-filling.filling c.loop-filling.invariant c.self.inside.cutting.shape c.has_room.result c.in_ok-element.element (shape-inside g c) c.has_room.ensures) ∙ is
 
-pub leave-requires-clause-sound : goal.leave-requires-clause-sound
-leave-requires-clause-sound g c = waiting-sound c.args.self.now c.loop-filling.self c.take.new.self _ _ _ c.loop-filling.filling c.in_ok-element.element c.loop-filling.invariant c.in_ok-element.ensures.next
-
-pub leave-requires-clause-on : goal.leave-requires-clause-on
-leave-requires-clause-on g c =
-    waiting-on c.args.self.now c.loop-filling.self c.take.new.self _ _ c.loop-filling.filling c.loop-filling.invariant c.in_ok-element.element
-    (room-told g (goal.at.leave-requires-clause-on g c).After-has_room _ c.if-not-has_room.true) c.in_ok-element.ensures.making.on
-
-pub leave-requires-clause-few : goal.leave-requires-clause-few
-leave-requires-clause-few g c =
-    waiting-few c.args.self.now c.loop-filling.self c.take.new.self _ _ c.loop-filling.filling c.loop-filling.invariant c.in_ok-element.element
-    (room-told g (goal.at.leave-requires-clause-few g c).After-has_room _ c.if-not-has_room.true) c.in_ok-element.ensures.less
-
-pub leave-requires-clause-cells : goal.leave-requires-clause-cells
-leave-requires-clause-cells g c =
-    walk-cells c.args.self.now c.loop-filling.self _ _ c.loop-filling.filling c.take.new.self.cutting.shape c.loop-filling.invariant (shape-kept g (goal.at.leave-requires-clause-cells g c).After-has_room)
+pub leave-requires : goal.leave-requires
+leave-requires g c =
+    let at = (goal.at.leave-requires g c).After-has_room in
+    let full = room-told g at _ c.if-not-has_room.true in
+    record {
+      sound = waiting-sound c.args.self.now c.loop-filling.self c.take.new.self _ _ _ c.loop-filling.filling c.in_ok-element.element c.loop-filling.invariant c.in_ok-element.ensures.next;
+      on = waiting-on c.args.self.now c.loop-filling.self c.take.new.self _ _ c.loop-filling.filling c.loop-filling.invariant c.in_ok-element.element full c.in_ok-element.ensures.making.on;
+      few = waiting-few c.args.self.now c.loop-filling.self c.take.new.self _ _ c.loop-filling.filling c.loop-filling.invariant c.in_ok-element.element full c.in_ok-element.ensures.less;
+      cells = walk-cells c.args.self.now c.loop-filling.self _ _ c.loop-filling.filling c.take.new.self.cutting.shape c.loop-filling.invariant (shape-kept g at);
+    }
 
 pub returns-then-not-has_room : goal.returns-then-not-has_room
 returns-then-not-has_room g c =
