@@ -30,7 +30,7 @@ as-long fs n g size =
 pub in-place : (result : Result Step Memory) (fs : List Frame) (n : ℕ) (few : List Element) (f g : Frame) → length fs ≡ suc n → f ≡ slice_index_or fs n f
     → IfOk result (λ step. IsStep step few (frame_left f) (frame_left g)) → IfOk result (λ step. StepsInnermost step few fs (slice_set fs n g))
 in-place (Ok step) fs n few f g size here first = record {
-  outer = take n fs;
+  below = take n fs;
   before = f;
   after = g;
   was = sym (take_all (n + 1) fs (omega arith)) ∙ take_more fs n f (omega arith) ∙ ap (λ x. take n fs ++ x ∷ []) (sym here);
@@ -49,28 +49,28 @@ module _ (step : Step) (few : List Element) (old new : List Frame) (stands : Ste
   takes : (known : Step) → step ≡ known → IsStep known few before after
   takes known is = subst (λ (x : Step). IsStep x few before after) is stands.takes
 
-  left-before : frames_left old ≡ before ++ frames_left stands.outer
-  left-before = ap frames_left stands.was ∙ innermost-first stands.outer stands.before
+  left-before : frames_left old ≡ before ++ frames_left stands.below
+  left-before = ap frames_left stands.was ∙ innermost-first stands.below stands.before
 
-  left-after : frames_left new ≡ after ++ frames_left stands.outer
-  left-after = ap frames_left stands.is ∙ innermost-first stands.outer stands.after
+  left-after : frames_left new ≡ after ++ frames_left stands.below
+  left-after = ap frames_left stands.is ∙ innermost-first stands.below stands.after
 
   -- the steps of the frames begin with what the innermost gives
-  begins : (gives : List Element) (inner : List (List Element)) → before ≡ gives ∷ (inner ++ after) → frames_left old ≡ gives ∷ (inner ++ frames_left new)
-  begins gives inner first =
-      let rest = frames_left stands.outer in
+  begins : (gives : List Element) (string : List (List Element)) → before ≡ gives ∷ (string ++ after) → frames_left old ≡ gives ∷ (string ++ frames_left new)
+  begins gives string first =
+      let rest = frames_left stands.below in
       left-before
       ∙ ap (λ l. l ++ rest) first
-      ∙ ap (λ l. gives ∷ l) (append_assoc inner after rest ∙ sym (ap (λ l. inner ++ l) left-after))
+      ∙ ap (λ l. gives ∷ l) (append_assoc string after rest ∙ sym (ap (λ l. string ++ l) left-after))
 
   -- there is less work where a step is taken, though a string is entered for it
-  less : (gives : List Element) (inner : List (List Element)) (more : List Frame) → before ≡ gives ∷ (inner ++ after) → frames_left more ≡ inner ++ frames_left new
+  less : (gives : List Element) (string : List (List Element)) (more : List Frame) → before ≡ gives ∷ (string ++ after) → frames_left more ≡ string ++ frames_left new
       → length more ≤ length new + 1 → work more < work old
-  less gives inner more first left few-more =
-      let one : length (frames_left old) ≡ suc (length inner + length (frames_left new)) = ap length (begins gives inner first) ∙ ap (λ n. suc n) (length-append inner (frames_left new)) in
-      let same : length (frames_left more) ≡ length inner + length (frames_left new) = ap length left ∙ length-append inner (frames_left new) in
-      let these : length old ≡ length stands.outer + 1 = ap length stands.was ∙ length-append stands.outer (stands.before ∷ []) in
-      let those : length new ≡ length stands.outer + 1 = ap length stands.is ∙ length-append stands.outer (stands.after ∷ []) in
+  less gives string more first left few-more =
+      let one : length (frames_left old) ≡ suc (length string + length (frames_left new)) = ap length (begins gives string first) ∙ ap (λ n. suc n) (length-append string (frames_left new)) in
+      let same : length (frames_left more) ≡ length string + length (frames_left new) = ap length left ∙ length-append string (frames_left new) in
+      let these : length old ≡ length stands.below + 1 = ap length stands.was ∙ length-append stands.below (stands.before ∷ []) in
+      let those : length new ≡ length stands.below + 1 = ap length stands.is ∙ length-append stands.below (stands.after ∷ []) in
       omega arith
 
   pub gives-left : (e : Element) → step ≡ Gives e → elements_in (frames_left old) ≡ e ∷ walk_left few new
@@ -85,21 +85,21 @@ module _ (step : Step) (few : List Element) (old new : List Frame) (stands : Ste
   pub lists-less : step ≡ Lists → work new < work old
   lists-less is = less few [] new (takes Lists is) refl (omega arith)
 
-  pub enters-left : (inner : List (List Element)) (few-now : List Element) (more : List Frame) → step ≡ Enters inner → few-now ≡ few → frames_left more ≡ inner ++ frames_left new
+  pub enters-left : (string : List (List Element)) (few-now : List Element) (more : List Frame) → step ≡ Enters string → few-now ≡ few → frames_left more ≡ string ++ frames_left new
       → elements_in (frames_left old) ≡ walk_left few-now more
-  enters-left inner few-now more is same left =
-      ap elements_in (begins few inner (takes (Enters inner) is))
+  enters-left string few-now more is same left =
+      ap elements_in (begins few string (takes (Enters string) is))
       ∙ sym (ap₂ (λ es steps. es ++ elements_in steps) same left)
 
-  pub enters-less : (inner : List (List Element)) (more : List Frame) → step ≡ Enters inner → frames_left more ≡ inner ++ frames_left new
+  pub enters-less : (string : List (List Element)) (more : List Frame) → step ≡ Enters string → frames_left more ≡ string ++ frames_left new
       → length more ≤ length new + 1 → work more < work old
-  enters-less inner more is left few-more = less few inner more (takes (Enters inner) is) left few-more
+  enters-less string more is left few-more = less few string more (takes (Enters string) is) left few-more
 
-  outer-is : (fewer : List Frame) → fewer ≡ take (length new - 1) new → fewer ≡ stands.outer
-  outer-is fewer cut = cut ∙ subst (λ (l : List Frame). take (length l - 1) l ≡ stands.outer) (sym stands.is) (all-but-last stands.outer stands.after)
+  below-is : (fewer : List Frame) → fewer ≡ take (length new - 1) new → fewer ≡ stands.below
+  below-is fewer cut = cut ∙ subst (λ (l : List Frame). take (length l - 1) l ≡ stands.below) (sym stands.is) (all-but-last stands.below stands.after)
 
   ends-same : (fewer : List Frame) → step ≡ Ends → fewer ≡ take (length new - 1) new → frames_left old ≡ frames_left fewer
-  ends-same fewer is cut = left-before ∙ ap (λ l. l ++ frames_left stands.outer) (takes Ends is).0 ∙ sym (ap frames_left (outer-is fewer cut))
+  ends-same fewer is cut = left-before ∙ ap (λ l. l ++ frames_left stands.below) (takes Ends is).0 ∙ sym (ap frames_left (below-is fewer cut))
 
   pub ends-left : (few-now : List Element) (fewer : List Frame) → step ≡ Ends → few-now ≡ few → fewer ≡ take (length new - 1) new
       → elements_in (frames_left old) ≡ walk_left few-now fewer
@@ -109,10 +109,10 @@ module _ (step : Step) (few : List Element) (old new : List Frame) (stands : Ste
   pub ends-less : (fewer : List Frame) → step ≡ Ends → fewer ≡ take (length new - 1) new → work fewer < work old
   ends-less fewer is cut =
       let same : length (frames_left old) ≡ length (frames_left fewer) = ap length (ends-same fewer is cut) in
-      let one : length old ≡ length stands.outer + 1 = ap length stands.was ∙ length-append stands.outer (stands.before ∷ []) in
-      let less-by-one : length fewer ≡ length stands.outer = ap length (outer-is fewer cut) in
+      let one : length old ≡ length stands.below + 1 = ap length stands.was ∙ length-append stands.below (stands.before ∷ []) in
+      let less-by-one : length fewer ≡ length stands.below = ap length (below-is fewer cut) in
       omega arith
 
 -- the string that was opened
-pub opened : (found : Option (List (List Element))) (all inner : List (List Element)) → unwrap_or found [] ≡ all → found ≡ Some inner → inner ≡ all
-opened found all inner made is = ap (λ f. unwrap_or f []) (sym is) ∙ made
+pub opened : (found : Option (List (List Element))) (all string : List (List Element)) → unwrap_or found [] ≡ all → found ≡ Some string → string ≡ all
+opened found all string made is = ap (λ f. unwrap_or f []) (sym is) ∙ made

@@ -16,7 +16,7 @@ given step = []
 
 -- the steps of the string that a step enters
 abbrev pub entered : Step → List (List Element)
-entered (Enters inner) = inner
+entered (Enters string) = string
 entered step = []
 
 -- a step is the first of the steps that are left: the element that it gives alone, the few that it lists, and then those of a string
@@ -50,11 +50,11 @@ pub record IsLine (line es : List Element) : Type 0 where
 
 -- a step of the last of the frames
 pub record StepsInnermost (step : Step) (few : List Element) (old new : List Frame) : Type 0 where
-  pub outer : List Frame
+  pub below : List Frame
   pub before : Frame
   pub after : Frame
-  pub was : old ≡ outer ++ before ∷ []
-  pub is : new ≡ outer ++ after ∷ []
+  pub was : old ≡ below ++ before ∷ []
+  pub is : new ≡ below ++ after ∷ []
   pub takes : IsStep step few (frame_left before) (frame_left after)
 
 -- how often frames can still be stepped
