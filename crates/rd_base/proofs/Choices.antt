@@ -1,4 +1,4 @@
--- What follows from a test, from an option, from a result, and of the one of two that is chosen.
+-- What follows from a test, from an option, from a result, of the one of two that is chosen, and from where a number stands to a range.
 use Rattle.std.proofs.Common.{◌≡◌, ◌≢◌, ℕ, ◌<◌, ◌≤◌, ◌⊎◌, inl, inr, Bool, true, false, not, ◌||◌, if◌then◌else◌, Option, None, Some, Result, Ok, Err, IfSome, is_some, refl, sym, ap, ◌∙◌, arith, IsSome}
 use Rattle.std.specs.Option.{option_map, option_or, unwrap_or}
 use Rattle.std.proofs.Math.Bool.{not-not}

@@ -11,7 +11,7 @@ use Rattle.rd_props.specs.Seen.{Seen}
 use Rattle.rd_rows.specs.Laws.{seen_rows}
 use Rattle.rd_rows.specs.Rows.{LaidRow, RowMeaning}
 use Rattle.rd_rows.specs.Shapes.{ShapeValues, IsShape}
-use Rattle.rd_rows.specs.Whole.{IsWhole, AreWhole, IsMeasuredPrefix, RowLaws}
+use Rattle.rd_rows.specs.Whole.{IsWhole, AreWhole, IsMeasuredPrefix, WholeLaws}
 use Rattle.rd_stack.specs.Lines.{line_elements}
 use Rattle.rd_stack.specs.Shown.{prefix, AreInside, AreOfOneRow, AreColoured}
 use Rattle.rd_blocks.specs.Rows.{line_prefix_of, wrap_prefix_of, prefix_elements, line_prefix, wrap_prefix, truncation_mark, continuation_mark, block_cutting, block_rows}
@@ -34,7 +34,7 @@ pub record PrefixLaws : Type 0 where
   pub inside : (scene : Scene) (base number : ℕ) → AreObjects scene.objects → AreSoundParts scene.parts → AreInside (prefix scene base number)
   pub row : (scene : Scene) (base number : ℕ) → AreOfOneRow (prefix scene base number)
 
-module _ (laws : PrefixLaws) (rows : RowLaws) (scene : Scene) (base : ℕ) (sound : AreObjects scene.objects) (parts : AreSoundParts scene.parts) where
+module _ (laws : PrefixLaws) (rows : WholeLaws) (scene : Scene) (base : ℕ) (sound : AreObjects scene.objects) (parts : AreSoundParts scene.parts) where
   prefix-measured : (number : Option ℕ) → IsMeasuredPrefix (prefix_elements scene base number)
   prefix-measured None = record { prefix = record { sound = λ k d inside. absurd (omega arith); on = refl }; measured = λ k d inside. absurd (omega arith) }
   prefix-measured (Some number) =

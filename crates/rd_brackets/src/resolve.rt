@@ -17,8 +17,7 @@ use std::alloc::Global;
 /// bracket. The sequence's indexes ascend and lie within the line.
 ///
 /// U+2329 and U+232A count as U+3008 and U+3009. Where a bracket opens while 63 stand open, the sequence has no pairs at all, which
-/// is a choice of this project. Want of memory leaves the line as it was, and may come only where a bracket stands in the sequence. The
-/// cost is linear in the sequence.
+/// is a choice of this project. Want of memory leaves the line as it was. The cost is linear in the sequence.
 pub fn pair(
     alloc: Global,
     line: &mut Line,

@@ -35,12 +35,12 @@ abbrev pub place_text : Option (ℕ × ℕ) → List ℕ
 place_text None = codes "none\n"
 place_text (Some place) = concat (decimal place.0 ∷ codes "," ∷ decimal place.1 ∷ newline ∷ [])
 
--- numbers, each behind a label, before other pieces
+-- numbers, each behind its label, and other pieces behind them
 abbrev pub labelled : List (List ℕ × ℕ) → List (List ℕ) → List (List ℕ)
 labelled [] texts = texts
-labelled (number ∷ numbers) texts = number.0 ∷ decimal number.1 ∷ labelled numbers texts
+labelled (entry ∷ entries) texts = entry.0 ∷ decimal entry.1 ∷ labelled entries texts
 
--- a window's number, its place and size, its start and its point
+-- a window's number, its place (row, column) and size (columns, rows), its start (position, row) and its point, each behind its label
 abbrev pub window_numbers : WindowFacts → List (List ℕ × ℕ)
 window_numbers w =
     (codes "window ", w.window)

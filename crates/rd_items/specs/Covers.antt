@@ -33,7 +33,8 @@ EndOnce [] = ⊥
 EndOnce (x ∷ []) = IsEnder x
 EndOnce (x ∷ y ∷ xs) = (is_ender_kind x.kind ≡ false) × EndOnce (y ∷ xs)
 
--- items that cover each offset from one to another once, and of which the ender is the last
+-- items that cover each offset from one to another, that one not included, once; an item covers any exactly where it is no overlay's
+-- string and gives an element; the last is the ender, and no other is
 pub record CoverBlock (scene : Scene) (since to : ℕ) (items : List Item) : Type 0 where
   pub tile : Tile since to items
   pub give : CoverWhereTheyGive scene items

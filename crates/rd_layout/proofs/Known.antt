@@ -19,7 +19,7 @@ use Rattle.rd_matrix.specs.Entries.{shown_entries}
 use Rattle.rd_script.specs.Forms.{IsInForm}
 use Rattle.rd_script.specs.declared.op.Op.{Op}
 use Rattle.rd_script.specs.declared.op.Op.TheVariants as ops
-use Rattle.rd_state.specs.Changes.{Outcome}
+use Rattle.rd_state.specs.Changes.{LeavesTheRest}
 use Rattle.rd_state.specs.Effects.{effect_of}
 use Rattle.rd_state.specs.States.{BufferValue, ContentValue, StateValue, opening, seen}
 use Rattle.rd_state.specs.Steps.{in_window, step}
@@ -54,7 +54,7 @@ use Rattle.rd_layout.proofs.Standing.{Moves, moved}
 -- what the layers below say
 pub record StepLaws : Type 0 where
   pub valid : (s t : StateValue) (op : Op) → IsValid s → IsInForm op → step s op ≡ Ok t → IsValid t
-  pub left : (s t : StateValue) (op : Op) → IsValid s → IsInForm op → step s op ≡ Ok t → Outcome s t (effect_of s op)
+  pub left : (s t : StateValue) (op : Op) → IsValid s → IsInForm op → step s op ≡ Ok t → LeavesTheRest s t (effect_of s op)
   pub joined : (first second third : props.BufferValue) (a b c : ObjectLists) (change later : Change) → LeadsTo first a second b change → LeadsTo second b third c later → LeadsTo first a third c (join change later)
   pub last_all : (c : Change) → join c all ≡ all
   pub over : OverLaws

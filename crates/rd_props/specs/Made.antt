@@ -45,7 +45,7 @@ pub record SeesMade (objects : ObjectLists) (seen : Seen) : Type 0 where
   pub wrap_prefix : IfSome seen.appearance.wrap_prefix (λ number. number < length objects.strings)
   pub strings : All (λ number. number < length objects.strings) seen.strings
 
--- a buffer names only objects that were made, after edits and after more objects were made
+-- a buffer that names made objects alone still does after an edit which names no other one, and after more objects were made
 pub record MadeLaws : Type 0 where
   pub inserted : (old new : BufferValue) (objects : ObjectLists) (place : ℕ) (chars : List ℕ) → AreMade old objects → SettingsMade objects new.settings → IsInsertion old new place chars → AreMade new objects
   pub deleted : (old new : BufferValue) (objects : ObjectLists) (from to : ℕ) → AreMade old objects → SettingsMade objects new.settings → IsDeletion old new from to → AreMade new objects

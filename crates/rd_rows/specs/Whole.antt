@@ -45,9 +45,9 @@ pub record IsMeasuredCutting (c : Cutting) : Type 0 where
   pub truncation : IsMark c.truncation
   pub continuation : IsMark c.continuation
 
--- prefixes and marks that are measured give such a cutting, and it cuts sound and measured elements into rows in which each glyph
--- stands whole
-pub record RowLaws : Type 0 where
+-- in a window of at least two columns and at most a frame's, measured prefixes and marks of one column give a measured cutting; and a
+-- measured cutting cuts sound and measured elements into rows of the window's columns, in which each glyph stands whole
+pub record WholeLaws : Type 0 where
   pub cutting : (shape : ShapeValues) (base : ℕ) (first wrap : List Element) (truncation continuation : Glyph)
       → 2 ≤ shape.width → shape.width ≤ FRAME_COLUMNS → IsMeasuredPrefix first → IsMeasuredPrefix wrap → IsMark truncation → IsMark continuation
       → IsMeasuredCutting (cutting_of shape base first wrap truncation continuation)

@@ -10,7 +10,7 @@ ghost use Rattle.rd_rows.specs.Prefixes.{IsPrefix};
 ghost use Rattle.rd_rows.specs.Rows.{cutting_of, rows_of};
 ghost use Rattle.rd_rows.specs.Shapes.{ShapeValues};
 ghost use Rattle.rd_rows.specs.Laws.{seen_rows, ends_last, begins_of, range_of, ranges_of, IsPlacedOnce};
-ghost use Rattle.rd_rows.specs.Whole.{RowLaws};
+ghost use Rattle.rd_rows.specs.Whole.{WholeLaws};
 
 use rd_base::limits::FRAME_COLUMNS;
 
@@ -39,7 +39,7 @@ pub fn prefixes_stand_before_lines()
 /// In the rows of sound and measured elements, with measured prefixes and marks of one column, each glyph stands whole, and each
 /// row has the window's columns, whichever edge it is read from. The call does nothing.
 pub fn rows_are_whole()
-    ensures { RowLaws }
+    ensures { WholeLaws }
 {}
 
 /// In the rows of elements whose faces have their colours in range, behind prefixes of such elements, each cell has its colours in

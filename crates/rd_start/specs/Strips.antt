@@ -224,13 +224,14 @@ pub record IsUnsuited (m : SourceValues) (window : Window) : Type 0 where
   pub laid : IsLaidOut m window false
   pub home : suits window.wanted (places_of m window.strip.sweep.shape window.wanted) (first_row m window.strip + window.strip.home) ≡ false
 
--- what suits as the start among rows, as a place of a window's strip
+-- the first of these rows that suits as the start, as a place of a window's strip, and None exactly where none suits
 abbrev pub Finds : SourceValues → Window → Option ℕ → List ℕ → Type 0
 Finds m window o rows =
     option_map (λ place. first_row m window.strip + place) o
     ≡ find (suits window.wanted (places_of m window.strip.sweep.shape window.wanted)) rows
 
--- the same among the rows near the anchor's, the nearest first
+-- the same of the rows at most as far from the anchor's as the start may be moved, the nearest first, and the lesser first where two
+-- are equally near
 abbrev pub FindsNear : SourceValues → Window → Option ℕ → Type 0
 FindsNear m window o = Finds m window o (around (first_row m window.strip + window.strip.home) window.wanted.conservatively)
 

@@ -27,7 +27,7 @@ use Rattle.rd_state.specs.declared.window.WindowState.{WindowState}
 use Rattle.rd_state.specs.States.{BufferValue, ContentValue, StateValue, opening_window, new_buffer, number_of}
 use Rattle.rd_state.specs.Valid.{IsValid}
 use Rattle.rd_state.specs.Windows.{window_of, with_entry, selected_window, NumberedWindow}
-use Rattle.rd_state.specs.Changes.{Stays, StaysWhole, Leaves, Outcome}
+use Rattle.rd_state.specs.Changes.{Stays, StaysWhole, Leaves, LeavesTheRest}
 use Rattle.rd_state.specs.Edits.{insertion, deletion, narrowing, widening, property_putting, overlay_making, overlay_moving, overlay_dropping, overlay_putting, margin_putting, setting_putting}
 use Rattle.rd_state.specs.Effects.{overlay_in, inserted_effect, covered_effect, moved_effect, effect_of}
 use Rattle.rd_state.specs.Making.{unless_fault, run_of, spec_of, table_of}
@@ -81,7 +81,7 @@ extends-kept s t is = subst (Extends s.objects) (sym is) (extends_itself s.objec
 -- the same buffers and objects, by an effect that leaves all that is seen
 kept : (s t : StateValue) (effect : Effect)
     → ((k : ℕ) (b c : BufferValue) → StaysWhole b.content s.objects c.content t.objects → Leaves effect k b.content s.objects c.content t.objects)
-    → t.buffers ≡ s.buffers → t.objects ≡ s.objects → Show s t effect → Outcome s t effect
+    → t.buffers ≡ s.buffers → t.objects ≡ s.objects → Show s t effect → LeavesTheRest s t effect
 kept s t effect leaves buffers objects show = record {
   contents = λ k b c hb hc. leaves k b c
       (subst (StaysWhole b.content s.objects c.content) (sym objects) (same-whole s k b c hb (ap (λ (bs : List BufferValue). slice_get bs k) (sym buffers) ∙ hc)));
@@ -92,7 +92,7 @@ kept s t effect leaves buffers objects show = record {
 
 -- a state to which an op leads that changes nothing that is shown
 abbrev Quiet : StateValue → StateValue → Type 0
-Quiet s t = Outcome s t Nothing
+Quiet s t = LeavesTheRest s t Nothing
 
 quiet : (s t : StateValue) → t.buffers ≡ s.buffers → t.objects ≡ s.objects → Show s t Nothing → Quiet s t
 quiet s t = kept s t Nothing (λ k b c h. h)
@@ -122,7 +122,7 @@ edited_moving-is s name how edit =
     edited_moving-if (Edited s i edit ws) s name how edit (λ b c at is. edit-of s i edit b c ws at is)
 
 edit-outcome : (s t : StateValue) (i : ℕ) (edit : ContentValue → Result ContentValue Refused) (effect : Effect) → IsEditOf s t i edit
-    → ((k : ℕ) (b c : BufferValue) → slice_get s.buffers k ≡ Some b → slice_get t.buffers k ≡ Some c → Leaves effect k b.content s.objects c.content t.objects) → Show s t effect → Outcome s t effect
+    → ((k : ℕ) (b c : BufferValue) → slice_get s.buffers k ≡ Some b → slice_get t.buffers k ≡ Some c → Leaves effect k b.content s.objects c.content t.objects) → Show s t effect → LeavesTheRest s t effect
 edit-outcome s t i edit effect e contents show = record {
   contents = contents;
   objects = extends-kept s t (sym (ap (λ (x : StateValue). x.objects) e.is));
@@ -133,12 +133,12 @@ edit-outcome s t i edit effect e contents show = record {
 -- an edit of a range
 range-outcome : (s t : StateValue) (i from removed added : ℕ) (edit : ContentValue → Result ContentValue Refused) → IsEditOf s t i edit
     → ((b : BufferValue) (d : ContentValue) → slice_get s.buffers i ≡ Some b → edit b.content ≡ Ok d → Stays b.content s.objects d s.objects from (from + added + 1) (pos added -ℤ pos removed))
-    → Show s t (Edit i from removed added) → Outcome s t (Edit i from removed added)
+    → Show s t (Edit i from removed added) → LeavesTheRest s t (Edit i from removed added)
 range-outcome s t i from removed added edit e stays show =
     edit-outcome s t i edit (Edit i from removed added) e (part-stays s t i from (from + added + 1) (pos added -ℤ pos removed) edit e stays) show
 
 -- an edit of all that shows a buffer
-all-outcome : (s t : StateValue) (i : ℕ) (edit : ContentValue → Result ContentValue Refused) → IsEditOf s t i edit → Show s t (All i) → Outcome s t (All i)
+all-outcome : (s t : StateValue) (i : ℕ) (edit : ContentValue → Result ContentValue Refused) → IsEditOf s t i edit → Show s t (All i) → LeavesTheRest s t (All i)
 all-outcome s t i edit e show = edit-outcome s t i edit (All i) e (λ k b c hb hc ne. others-whole s t i k edit b c e hb hc ne) show
 
 -- an overlay in a buffer that is there
@@ -151,12 +151,12 @@ around-outcome : (s t : StateValue) (name : List ℕ) (number : ℕ) (edit : Con
     → IsEditOf s t (number_of name s.buffers) edit
     → ((b : BufferValue) (d : ContentValue) → slice_get s.buffers (number_of name s.buffers) ≡ Some b → edit b.content ≡ Ok d
     → (o : Overlay) × (overlay_at b.content.overlays number ≡ Some o) × P o b.content d)
-    → ((o : Overlay) → ((b : BufferValue) (d : ContentValue) → slice_get s.buffers (number_of name s.buffers) ≡ Some b → edit b.content ≡ Ok d → P o b.content d) → Outcome s t (effect (Some o)))
-    → Outcome s t (effect (overlay_in s name number))
+    → ((o : Overlay) → ((b : BufferValue) (d : ContentValue) → slice_get s.buffers (number_of name s.buffers) ≡ Some b → edit b.content ≡ Ok d → P o b.content d) → LeavesTheRest s t (effect (Some o)))
+    → LeavesTheRest s t (effect (overlay_in s name number))
 around-outcome s t name number edit effect P e stays done =
     let there = stays e.buffer e.content e.at e.gives in
     let is : overlay_in s name number ≡ Some there.0 = found-overlay s name number e.buffer there.0 e.at there.1 in
-    subst (λ (o : Option Overlay). Outcome s t (effect o)) (sym is)
+    subst (λ (o : Option Overlay). LeavesTheRest s t (effect o)) (sym is)
     (done there.0 (λ b d at gives.
     let here = stays b d at gives in
     let same : here.0 ≡ there.0 = one-value (overlay_in s name number) here.0 there.0 (found-overlay s name number b here.0 at here.1) is in
@@ -166,7 +166,7 @@ around-outcome s t name number edit effect P e stays done =
 overlay-outcome : (s t : StateValue) (name : List ℕ) (number : ℕ) (edit : ContentValue → Result ContentValue Refused)
     → IsEditOf s t (number_of name s.buffers) edit × (t.windows ≡ s.windows)
     → ((b : BufferValue) (d : ContentValue) → slice_get s.buffers (number_of name s.buffers) ≡ Some b → edit b.content ≡ Ok d → AroundOverlay s.objects number b.content d)
-    → Outcome s t (covered_effect (number_of name s.buffers) (overlay_in s name number))
+    → LeavesTheRest s t (covered_effect (number_of name s.buffers) (overlay_in s name number))
 overlay-outcome s t name number edit e stays =
     let i = number_of name s.buffers in
     around-outcome s t name number edit (covered_effect i) (λ o. StaysAround s.objects o.from o.to) e.0 stays
@@ -175,7 +175,7 @@ overlay-outcome s t name number edit e stays =
 -- both ranges of an overlay that is moved
 moved-outcome : (s t : StateValue) (name : List ℕ) (number from to : ℕ) → IsValid s
     → IsEditOf s t (number_of name s.buffers) (overlay_moving number from to) × (t.windows ≡ s.windows)
-    → Outcome s t (moved_effect (number_of name s.buffers) from to (overlay_in s name number))
+    → LeavesTheRest s t (moved_effect (number_of name s.buffers) from to (overlay_in s name number))
 moved-outcome s t name number from to v e =
     let i = number_of name s.buffers in
     let edit = overlay_moving number from to in
@@ -185,7 +185,7 @@ moved-outcome s t name number from to v e =
     edit-outcome s t i edit effect e.0 (part-stays s t i (min o.from from) (max o.to to + 1) (pos 0) edit e.0 all) (show-same s t effect e.1))
 
 -- a margin string changes nothing that is seen
-margin-outcome : (s t : StateValue) (i number : ℕ) (string : Option ℕ) → IsEditOf s t i (margin_putting s.objects number string) × (t.windows ≡ s.windows) → Outcome s t Nothing
+margin-outcome : (s t : StateValue) (i number : ℕ) (string : Option ℕ) → IsEditOf s t i (margin_putting s.objects number string) × (t.windows ≡ s.windows) → LeavesTheRest s t Nothing
 margin-outcome s t i number string e =
     let edit = margin_putting s.objects number string in
     edit-outcome s t i edit Nothing e.0
@@ -230,22 +230,22 @@ tree-outcome : (s : StateValue) (n : ℕ) (f : WindowState → WindowState) (r :
 tree-outcome s n f r keep = treed-if (Quiet s) s r n f (λ d is. quiet s _ refl refl (show-with Nothing n f s.windows keep))
 
 typing-outcome : (s : StateValue) (new : List ℕ) → IsValid s
-    → IfOk (typing s new) (λ t. Outcome s t (inserted_effect (selected_window s).buffer (selected_window s).point new))
+    → IfOk (typing s new) (λ t. LeavesTheRest s t (inserted_effect (selected_window s).buffer (selected_window s).point new))
 typing-outcome s new v =
-    typing-if (λ t. Outcome s t (inserted_effect (selected_window s).buffer (selected_window s).point new)) s new
+    typing-if (λ t. LeavesTheRest s t (inserted_effect (selected_window s).buffer (selected_window s).point new)) s new
     (λ w b c lives at is.
     let i = w.buffer in
     let f : WindowState → WindowState = λ old. record old { point = w.point + length new } in
     let ws = with_entry s.selected f (map (moved_in i (Inserted w.point (length new))) s.windows) in
     let edit = insertion w.point new in
     let t : StateValue = record (with_content s i b c) { windows = ws } in
-    subst (λ (o : Option WindowState). Outcome s t (inserted_effect (unwrap_or o opening_window).buffer (unwrap_or o opening_window).point new)) (sym lives)
+    subst (λ (o : Option WindowState). LeavesTheRest s t (inserted_effect (unwrap_or o opening_window).buffer (unwrap_or o opening_window).point new)) (sym lives)
     (range-outcome s t i w.point 0 (length new) edit (edit-of s i edit b c ws at is).0
     (λ x d there gives. stays-inserted s.objects w.point new x.content d (v.buffers.contents i x there) gives)
     (show-typed (Edit i w.point 0 (length new)) i (Inserted w.point (length new)) s.selected f s.windows (λ x. refl))))
 
 inserted-outcome : (s : StateValue) (name : List ℕ) (place : ℕ) (text : List ℕ) → IsValid s
-    → IfOk (inserting s name place text) (λ t. Outcome s t (inserted_effect (number_of name s.buffers) place text))
+    → IfOk (inserting s name place text) (λ t. LeavesTheRest s t (inserted_effect (number_of name s.buffers) place text))
 inserted-outcome s name place text v =
     let i = number_of name s.buffers in
     let n = length text in
@@ -256,7 +256,7 @@ inserted-outcome s name place text v =
 
 -- ---- all ops
 
-pub outcome : (s : StateValue) (op : Op) → IsValid s → IsInForm op → IfOk (step s op) (λ t. Outcome s t (effect_of s op))
+pub outcome : (s : StateValue) (op : Op) → IsValid s → IsInForm op → IfOk (step s op) (λ t. LeavesTheRest s t (effect_of s op))
 unfolding step effect_of
 outcome s (ops.Frame width height) v form = tree-if (Quiet s) (resize_tree s.tree width (height - 1)) _ (λ d is. unseen s _ refl refl refl)
 outcome s (ops.Buffer name) v form = making-outcome s name
@@ -321,8 +321,8 @@ outcome s (ops.Remove window) v form =
     (λ d is. quiet s _ refl refl (each-without (Shows Nothing) (λ number x ne. refl) window s.windows v.windows.apart)))
 outcome s (ops.Select window) v form = found (Quiet s) _ (window_of window s.windows) _ (λ w lives. unseen s (record s { selected = window }) refl refl refl)
 outcome s (ops.Show window name) v form =
-    found (λ t. Outcome s t (Window window)) _ (window_of window s.windows) _
-    (λ w lives. found (λ t. Outcome s t (Window window)) _ (slice_get s.buffers (number_of name s.buffers)) _
+    found (λ t. LeavesTheRest s t (Window window)) _ (window_of window s.windows) _
+    (λ w lives. found (λ t. LeavesTheRest s t (Window window)) _ (slice_get s.buffers (number_of name s.buffers)) _
     (λ b at. kept s _ (Window window) (λ k x c h. h) refl refl
     (each-with (Shows (Window window)) (λ number x ne. refl) window _ s.windows (λ x ne. absurd (ne refl)))))
 outcome s (ops.Point window place) v form = placing-if (Quiet s) s window place _ (λ w b lives at yes. changed-outcome s window _ (λ x. refl))

@@ -33,8 +33,8 @@ Leaves (Moved i before after) k old old_objects new new_objects =
 Leaves (All i) k old old_objects new new_objects = k ≢ i → StaysWhole old old_objects new new_objects
 Leaves (Window window) k old old_objects new new_objects = StaysWhole old old_objects new new_objects
 
--- what an op that led from one state to another left, by its effect
-pub record Outcome (s t : StateValue) (effect : Effect) : Type 0 where
+-- what an op that led from one state to another left of buffers, of objects and of the buffers that windows show, by its effect
+pub record LeavesTheRest (s t : StateValue) (effect : Effect) : Type 0 where
   pub contents : (k : ℕ) (b c : BufferValue) → slice_get s.buffers k ≡ Some b → slice_get t.buffers k ≡ Some c → Leaves effect k b.content s.objects c.content t.objects
   pub objects : Extends s.objects t.objects
   pub buffers : length s.buffers ≤ length t.buffers

@@ -13,7 +13,7 @@ ghost use Rattle.rd_state.specs.Windows.{window_of, leaf_at};
 ghost use Rattle.rd_state.specs.Valid.{IsValid, IsWindow};
 ghost use Rattle.rd_state.specs.Steps.{step, settled};
 ghost use Rattle.rd_state.specs.Effects.{effect_of};
-ghost use Rattle.rd_state.specs.Changes.{Outcome};
+ghost use Rattle.rd_state.specs.Changes.{LeavesTheRest};
 
 /// The opening is a valid state, and an op in form leads from a valid state to a valid one. The call does nothing.
 pub fn steps_keep_states()
@@ -30,7 +30,7 @@ pub fn settling_keeps_states()
 /// for `modified` and `read_only`; objects were only made, and no buffer was taken away. A window that lives before and behind the op
 /// shows the same buffer, unless the effect names it. The call does nothing.
 pub fn ops_leave_the_rest()
-    ensures { (s t : StateValue) (op : Op) → IsValid s → IsInForm op → step s op ≡ Ok t → Outcome s t (effect_of s op) }
+    ensures { (s t : StateValue) (op : Op) → IsValid s → IsInForm op → step s op ≡ Ok t → LeavesTheRest s t (effect_of s op) }
 {}
 
 /// What a window tree says of a window is what its placed windows say, and each window that lives is valid. The call does nothing.

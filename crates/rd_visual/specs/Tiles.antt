@@ -10,7 +10,7 @@ use Rattle.rd_items.specs.Readings.{reading}
 use Rattle.rd_matrix.specs.declared.block.Block.{Block}
 use Rattle.rd_visual.specs.Order.{block_items}
 
--- the items of a block tile it, and end with the ender
+-- the items of a block cover it as `CoverBlock` says
 pub record IsTiled (s : BufferValue) (objects : ObjectLists) (files : Data) (b : Block) : Type 0 where
   pub size : b.start + length (reading s objects b.start) ≡ b.end
   pub items : CoverBlock (scene_in s.settings objects files) 0 (length (reading s objects b.start)) (block_items s objects files b)
