@@ -1,5 +1,5 @@
 -- The frames of a walk, step by step.
-use Rattle.std.proofs.Common.{◌≡◌, ℕ, suc, ◌+◌, ◌-◌, ◌<◌, ◌≤◌, List, [], ◌∷◌, ◌++◌, length, take, refl, sym, subst, ap, ap₂, ◌∙◌, append_assoc, append-nil, length-append, arith}
+use Rattle.std.proofs.Common.{◌≡◌, ℕ, suc, ◌+◌, ◌-◌, ◌<◌, ◌≤◌, List, [], ◌∷◌, ◌++◌, length, take, refl, sym, subst, ap, ◌∙◌, append_assoc, append-nil, length-append, arith}
 use Rattle.std.proofs.lemmas.List.{take_all, take_more, take_more_set, length-set}
 use Rattle.std.proofs.lemmas.Grind.{common_steps}
 use Rattle.std.specs.Prelude.{slice_index_or, slice_set, unwrap_or, Option, Some, Result, Ok, Err, IfOk}
@@ -55,63 +55,43 @@ module _ (step : Step) (few : List Element) (old new : List Frame) (stands : Ste
   left-after : frames_left new ≡ after ++ frames_left stands.below
   left-after = ap frames_left stands.is ∙ innermost-first stands.below stands.after
 
-  -- the steps of the frames begin with what the innermost gives
-  begins : (gives : List Element) (string : List (List Element)) → before ≡ gives ∷ (string ++ after) → frames_left old ≡ gives ∷ (string ++ frames_left new)
-  begins gives string first =
-      let rest = frames_left stands.below in
-      left-before
-      ∙ ap (λ l. l ++ rest) first
-      ∙ ap (λ l. gives ∷ l) (append_assoc string after rest ∙ sym (ap (λ l. string ++ l) left-after))
+  -- the elements of the frames begin with these, which the innermost gives, and there is less work, though a string is entered for it
+  taken : (these : List Element) (string : List (List Element)) (more : List Frame) → before ≡ these ∷ (string ++ after)
+      → frames_left more ≡ string ++ frames_left new → length more ≤ length new + 1
+      → (elements_in (frames_left old) ≡ these ++ elements_in (frames_left more)) × (work more < work old)
+  taken these string more first left few-more =
+      let begins : frames_left old ≡ these ∷ frames_left more =
+      left-before ∙ ap (λ l. l ++ frames_left stands.below) first
+      ∙ ap (λ l. these ∷ l) (append_assoc string after (frames_left stands.below) ∙ sym (left ∙ ap (λ l. string ++ l) left-after)) in
+      let one : length (frames_left old) ≡ suc (length (frames_left more)) = ap length begins in
+      let old-size : length old ≡ length stands.below + 1 = ap length stands.was ∙ length-append stands.below (stands.before ∷ []) in
+      let new-size : length new ≡ length stands.below + 1 = ap length stands.is ∙ length-append stands.below (stands.after ∷ []) in
+      (ap elements_in begins, omega (arith, one, old-size, new-size, few-more))
 
-  -- there is less work where a step is taken, though a string is entered for it
-  less : (gives : List Element) (string : List (List Element)) (more : List Frame) → before ≡ gives ∷ (string ++ after) → frames_left more ≡ string ++ frames_left new
-      → length more ≤ length new + 1 → work more < work old
-  less gives string more first left few-more =
-      let one : length (frames_left old) ≡ suc (length string + length (frames_left new)) = ap length (begins gives string first) ∙ ap (λ n. suc n) (length-append string (frames_left new)) in
-      let same : length (frames_left more) ≡ length string + length (frames_left new) = ap length left ∙ length-append string (frames_left new) in
-      let these : length old ≡ length stands.below + 1 = ap length stands.was ∙ length-append stands.below (stands.before ∷ []) in
-      let those : length new ≡ length stands.below + 1 = ap length stands.is ∙ length-append stands.below (stands.after ∷ []) in
-      omega arith
+  pub gives : (e : Element) → step ≡ Gives e → (elements_in (frames_left old) ≡ e ∷ walk_left few new) × (work new < work old)
+  gives e is = taken (e ∷ few) [] new (takes (Gives e) is) refl (omega arith)
 
-  pub gives-left : (e : Element) → step ≡ Gives e → elements_in (frames_left old) ≡ e ∷ walk_left few new
-  gives-left e is = ap elements_in (begins (e ∷ few) [] (takes (Gives e) is))
+  pub lists : step ≡ Lists → (elements_in (frames_left old) ≡ walk_left few new) × (work new < work old)
+  lists is = taken few [] new (takes Lists is) refl (omega arith)
 
-  pub gives-less : (e : Element) → step ≡ Gives e → work new < work old
-  gives-less e is = less (e ∷ few) [] new (takes (Gives e) is) refl (omega arith)
+  pub enters : (string : List (List Element)) (few-now : List Element) (more : List Frame) → step ≡ Enters string → few-now ≡ few
+      → frames_left more ≡ string ++ frames_left new → length more ≤ length new + 1
+      → (elements_in (frames_left old) ≡ walk_left few-now more) × (work more < work old)
+  enters string few-now more is same left few-more =
+      let both = taken few string more (takes (Enters string) is) left few-more in
+      (both.0 ∙ sym (ap (λ es. walk_left es more) same), both.1)
 
-  pub lists-left : step ≡ Lists → elements_in (frames_left old) ≡ walk_left few new
-  lists-left is = ap elements_in (begins few [] (takes Lists is))
-
-  pub lists-less : step ≡ Lists → work new < work old
-  lists-less is = less few [] new (takes Lists is) refl (omega arith)
-
-  pub enters-left : (string : List (List Element)) (few-now : List Element) (more : List Frame) → step ≡ Enters string → few-now ≡ few → frames_left more ≡ string ++ frames_left new
-      → elements_in (frames_left old) ≡ walk_left few-now more
-  enters-left string few-now more is same left =
-      ap elements_in (begins few string (takes (Enters string) is))
-      ∙ sym (ap₂ (λ es steps. es ++ elements_in steps) same left)
-
-  pub enters-less : (string : List (List Element)) (more : List Frame) → step ≡ Enters string → frames_left more ≡ string ++ frames_left new
-      → length more ≤ length new + 1 → work more < work old
-  enters-less string more is left few-more = less few string more (takes (Enters string) is) left few-more
-
-  below-is : (fewer : List Frame) → fewer ≡ take (length new - 1) new → fewer ≡ stands.below
-  below-is fewer cut = cut ∙ subst (λ (l : List Frame). take (length l - 1) l ≡ stands.below) (sym stands.is) (all-but-last stands.below stands.after)
-
-  ends-same : (fewer : List Frame) → step ≡ Ends → fewer ≡ take (length new - 1) new → frames_left old ≡ frames_left fewer
-  ends-same fewer is cut = left-before ∙ ap (λ l. l ++ frames_left stands.below) (takes Ends is).0 ∙ sym (ap frames_left (below-is fewer cut))
-
-  pub ends-left : (few-now : List Element) (fewer : List Frame) → step ≡ Ends → few-now ≡ few → fewer ≡ take (length new - 1) new
-      → elements_in (frames_left old) ≡ walk_left few-now fewer
-  ends-left few-now fewer is same cut =
-      ap elements_in (ends-same fewer is cut) ∙ sym (ap (λ es. walk_left es fewer) (same ∙ (takes Ends is).1))
-
-  pub ends-less : (fewer : List Frame) → step ≡ Ends → fewer ≡ take (length new - 1) new → work fewer < work old
-  ends-less fewer is cut =
-      let same : length (frames_left old) ≡ length (frames_left fewer) = ap length (ends-same fewer is cut) in
+  pub ends : (few-now : List Element) (fewer : List Frame) → step ≡ Ends → few-now ≡ few → fewer ≡ take (length new - 1) new
+      → (elements_in (frames_left old) ≡ walk_left few-now fewer) × (work fewer < work old)
+  ends few-now fewer is same cut =
+      let lower : fewer ≡ stands.below =
+      cut ∙ subst (λ (l : List Frame). take (length l - 1) l ≡ stands.below) (sym stands.is) (all-but-last stands.below stands.after) in
+      let left : frames_left old ≡ frames_left fewer =
+      left-before ∙ ap (λ l. l ++ frames_left stands.below) (takes Ends is).0 ∙ sym (ap frames_left lower) in
+      let same-steps : length (frames_left old) ≡ length (frames_left fewer) = ap length left in
       let one : length old ≡ length stands.below + 1 = ap length stands.was ∙ length-append stands.below (stands.before ∷ []) in
-      let less-by-one : length fewer ≡ length stands.below = ap length (below-is fewer cut) in
-      omega arith
+      let less-by-one : length fewer ≡ length stands.below = ap length lower in
+      (ap elements_in left ∙ sym (ap (λ es. walk_left es fewer) (same ∙ (takes Ends is).1)), omega (arith, same-steps, one, less-by-one))
 
 -- the string that was opened
 pub opened : (found : Option (List (List Element))) (all string : List (List Element)) → unwrap_or found [] ≡ all → found ≡ Some string → string ≡ all

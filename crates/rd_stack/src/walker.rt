@@ -163,8 +163,8 @@ impl<'a> Walker<'a> {
         ensures left { OnOk result (frames_left self.new.frames.items ≡ entrance.now ++ frames_left self.old.frames.items) }
         ensures count { OnOk result (length self.new.frames.items ≤ length self.old.frames.items + 1) }
     {
-        if let Some(inner) = entrance.open(alloc)? {
-            self.frames.push(Frame::Text(inner))?;
+        if let Some(string) = entrance.open(alloc)? {
+            self.frames.push(Frame::Text(string))?;
         }
         Ok(())
     }

@@ -8,5 +8,5 @@ pub returns-in_ok-push-clause-left : goal.returns-in_ok-push-clause-left
 returns-in_ok-push-clause-left c =
     let fs = c.args.self.now.frames.items in
     ap frames_left c.in_ok-push.ensures.ok
-    ∙ innermost-first fs (frame.Text c.in-Some.inner)
-    ∙ ap (λ l. l ++ frames_left fs) (opened c.in_ok-inner.field-0 c.args.entrance.now c.in-Some.inner c.in_ok-inner.ensures c.in-Some.is)
+    ∙ innermost-first fs (frame.Text c.in-Some.string)
+    ∙ ap (λ l. l ++ frames_left fs) (opened c.in_ok-string.field-0 c.args.entrance.now c.in-Some.string c.in_ok-string.ensures c.in-Some.is)
