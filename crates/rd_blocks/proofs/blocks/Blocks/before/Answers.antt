@@ -6,7 +6,7 @@ use Rattle.rd_items.specs.Blocks.{IsBlock}
 use Rattle.rd_matrix.specs.Blocks.{block_before}
 use Rattle.rd_matrix.specs.declared.block.Block.{Block}
 use Rattle.rd_blocks.specs.Sources.{source_of}
-use Rattle.rd_blocks.proofs.Listed.{IsBehindNewline, newline-before, prev-block, prev-none}
+use Rattle.rd_blocks.proofs.Listed.{newline-before, prev-block, prev-none}
 use Rattle.rd_blocks.proofs.blocks.Blocks.before.Goals as goal
 
 pub returns-then-end-begin-clause-prev : goal.returns-then-end-begin-clause-prev
@@ -18,20 +18,11 @@ returns-then-end-begin-clause-prev c =
     (prev-none x.classes.now s (c.blocks_are_listed.ensures s c.begin.ensures.right.ordered) b (c.if-end-begin.true ∙ c.begin.ensures.value))
 
 -- the block does not begin the text, so that a newline is shown before it
-newline : (c : goal.Else-end-begin) → IsBehindNewline (meaning c.self.inside.view.state.now) c.args.block.now.start
-newline c =
+pub block_before-requires : goal.block_before-requires
+block_before-requires c =
     let b = c.args.block.now in
     let block = subst (λ (w : View). IsBlock (meaning w.state.now) b.start b.end) (sym c.self.view_is) c.stands.ensures.block in
     newline-before (meaning c.self.inside.view.state.now) b.start b.end block (λ h. c.if-end-begin.false (h ∙ sym c.begin.ensures.value))
-
-pub block_before-requires-clause-first : goal.block_before-requires-clause-first
-block_before-requires-clause-first c = (newline c).0
-
-pub block_before-requires-clause-last : goal.block_before-requires-clause-last
-block_before-requires-clause-last c = (newline c).1
-
-pub block_before-requires-clause-newline : goal.block_before-requires-clause-newline
-block_before-requires-clause-newline c = (newline c).2
 
 pub returns-clause-prev : goal.returns-clause-prev
 returns-clause-prev c =

@@ -1,9 +1,8 @@
 use Rattle.std.proofs.Common.{◌≡◌, ◌+◌, ℕ, None, Some, refl, sym, subst, arith}
 use Rattle.std.specs.Prelude.{slice_get}
-use Rattle.rd_text.specs.Texts.{IsAccessible}
 use Rattle.rd_props.specs.Buffers.{meaning}
 use Rattle.rd_props.specs.declared.state.View.{View}
-use Rattle.rd_items.specs.Blocks.{IsBlock, StartsBlock}
+use Rattle.rd_items.specs.Blocks.{IsBlock}
 use Rattle.rd_matrix.specs.declared.block.Block.{Block}
 use Rattle.rd_blocks.specs.Sources.{source_of}
 use Rattle.rd_blocks.proofs.Listed.{starts-behind, next-block, next-none}
@@ -21,19 +20,13 @@ returns-then-end-start-clause-next c =
     (next-none x.classes.now s (c.blocks_are_listed.ensures s right.ordered) b (omega (arith, value, past)))
 
 -- the block ends before the end of the text, so that another starts there
-starts : (c : goal.Else-end-start) → let s = meaning c.self.inside.view.state.now in IsAccessible s.text c.args.block.now.end × StartsBlock s c.args.block.now.end
-starts c =
+pub block_from-requires : goal.block_from-requires
+block_from-requires c =
     let b = c.args.block.now in
     let block = subst (λ (w : View). IsBlock (meaning w.state.now) b.start b.end) (sym c.self.view_is) c.stands.ensures.block in
     let value = c.end.ensures.value in
     let within = c.if-end-start.false in
     starts-behind (meaning c.self.inside.view.state.now) b.start b.end block (omega (arith, value, within))
-
-pub block_from-requires-clause-accessible : goal.block_from-requires-clause-accessible
-block_from-requires-clause-accessible c = (starts c).0
-
-pub block_from-requires-clause-start : goal.block_from-requires-clause-start
-block_from-requires-clause-start c = (starts c).1
 
 pub returns-clause-next : goal.returns-clause-next
 returns-clause-next c =
