@@ -64,21 +64,15 @@ returns-in_err-chosen-clause-steps g c =
     let steps = at-source (λ (x : SourceValues). c.choose.new.steps ≤ c.args.steps.now + 2 * near_costs x c.args.shape c.args.wanted) (kept_source (g.B.BlockSource.meaning c.args.source) c.args.old.now c.args.change c.args.shape) _ (same g (goal.at.returns-in_err-chosen-clause-steps g c).After-new-remembered) c.choose.ensures.steps in
     omega (arith, steps)
 
-pub relay-requires-clause-right : goal.relay-requires-clause-right
-relay-requires-clause-right g c =
-    let begun = start g (goal.at.relay-requires-clause-right g c).After-hand_out in
-    back-at-source (λ (x : SourceValues). AreRight x c.args.old.now c.args.change c.args.shape) _ _ begun.same c.requires.right
-
-pub relay-requires-clause-within : goal.relay-requires-clause-within
-relay-requires-clause-within g c =
-    let begun = start g (goal.at.relay-requires-clause-within g c).After-hand_out in
-    back-at-source (λ (x : SourceValues). IsWithin c.in_ok-chosen.chosen.anchor.pos x.blocks) _ _ begun.same begun.within
-
-pub relay-requires-clause-row : goal.relay-requires-clause-row
-relay-requires-clause-row g c =
-    let begun = start g (goal.at.relay-requires-clause-row g c).After-hand_out in
-    back-at-source (λ (x : SourceValues). (place : ℕ) × Names c.in_ok-chosen.chosen.anchor (rows_at x c.args.shape) place) _ _ begun.same
-    (start_row (kept_source (g.B.BlockSource.meaning c.args.source) c.args.old.now c.args.change c.args.shape) c.args.shape c.args.wanted, begun.named)
+pub relay-requires : goal.relay-requires
+relay-requires g c =
+    let begun = start g (goal.at.relay-requires g c).After-hand_out in
+    record {
+      right = back-at-source (λ (x : SourceValues). AreRight x c.args.old.now c.args.change c.args.shape) _ _ begun.same c.requires.right;
+      within = back-at-source (λ (x : SourceValues). IsWithin c.in_ok-chosen.chosen.anchor.pos x.blocks) _ _ begun.same begun.within;
+      row = back-at-source (λ (x : SourceValues). (place : ℕ) × Names c.in_ok-chosen.chosen.anchor (rows_at x c.args.shape) place) _ _ begun.same
+          (start_row (kept_source (g.B.BlockSource.meaning c.args.source) c.args.old.now c.args.change c.args.shape) c.args.shape c.args.wanted, begun.named);
+    }
 
 pub returns-in_err-matrix-clause-steps : goal.returns-in_err-matrix-clause-steps
 returns-in_err-matrix-clause-steps g c = let at = goal.at.returns-in_err-matrix-clause-steps g c in steps g at.After-relay (start g at.After-hand_out)
@@ -91,55 +85,40 @@ is_first_row-requires g c =
 pub returns-in_err-top-clause-steps : goal.returns-in_err-top-clause-steps
 returns-in_err-top-clause-steps g c = let at = goal.at.returns-in_err-top-clause-steps g c in steps g at.After-relay (start g at.After-hand_out)
 
-pub has_last_row-requires-clause-source : goal.has_last_row-requires-clause-source
-has_last_row-requires-clause-source g c =
-    let begun = start g (goal.at.has_last_row-requires-clause-source g c).After-hand_out in
-    back-at-source IsSource _ _ (c.is_first_row.ensures.stays ∙ (c.relay.ensures.stays ∙ begun.same)) (at-source IsSource (kept_source (g.B.BlockSource.meaning c.args.source) c.args.old.now c.args.change c.args.shape) _ (same g (goal.at.has_last_row-requires-clause-source g c).After-new-remembered) c.choose.ensures.source)
-
-pub has_last_row-requires-clause-some : goal.has_last_row-requires-clause-some
-has_last_row-requires-clause-some g c =
-    let at = goal.at.has_last_row-requires-clause-some g c in
-    let begun = start g at.After-hand_out in
-    some-laid (kept_source (g.B.BlockSource.meaning c.args.source) c.args.old.now c.args.change c.args.shape) c.args.shape c.args.wanted c.in_ok-matrix.matrix c.requires.height begun.low (rows g at.In_ok-matrix begun)
-
-pub has_last_row-requires-clause-rows : goal.has_last_row-requires-clause-rows
-has_last_row-requires-clause-rows g c =
+pub has_last_row-requires : goal.has_last_row-requires
+has_last_row-requires g c =
+    let m = kept_source (g.B.BlockSource.meaning c.args.source) c.args.old.now c.args.change c.args.shape in
     let w = c.args.wanted in
-    let at = goal.at.has_last_row-requires-clause-rows g c in
+    let at = goal.at.has_last_row-requires g c in
     let begun = start g at.After-hand_out in
-    back-at-source (λ (x : SourceValues). (shape : ShapeValues) × IsShape shape × ((place : ℕ) × (shown_entries c.in_ok-matrix.matrix ≡ take w.height (drop place (rows_at x shape))))) _ _
-    (c.is_first_row.ensures.stays ∙ (c.relay.ensures.stays ∙ begun.same)) (c.args.shape, begun.shaped, (start_row (kept_source (g.B.BlockSource.meaning c.args.source) c.args.old.now c.args.change c.args.shape) c.args.shape w, rows g at.In_ok-matrix begun))
+    let laid = rows g at.In_ok-matrix begun in
+    let stays = c.is_first_row.ensures.stays ∙ (c.relay.ensures.stays ∙ begun.same) in
+    record {
+      source = back-at-source IsSource _ _ stays (at-source IsSource m _ (same g at.After-new-remembered) c.choose.ensures.source);
+      some = some-laid m c.args.shape w c.in_ok-matrix.matrix c.requires.height begun.low laid;
+      rows = back-at-source (λ (x : SourceValues). (shape : ShapeValues) × IsShape shape × ((place : ℕ) × (shown_entries c.in_ok-matrix.matrix ≡ take w.height (drop place (rows_at x shape))))) _ _
+          stays (c.args.shape, begun.shaped, (start_row m c.args.shape w, laid));
+    }
 
 pub returns-in_err-bottom-clause-steps : goal.returns-in_err-bottom-clause-steps
 returns-in_err-bottom-clause-steps g c = let at = goal.at.returns-in_err-bottom-clause-steps g c in steps g at.After-relay (start g at.After-hand_out)
 
-pub returns-clause-chosen : goal.returns-clause-chosen
-returns-clause-chosen g c =
-    at-source (λ (x : SourceValues). c.in_ok-chosen.chosen ≡ chosen_of x c.args.shape c.args.wanted) (kept_source (g.B.BlockSource.meaning c.args.source) c.args.old.now c.args.change c.args.shape) _ (same g (goal.at.returns-clause-chosen g c).After-new-remembered) c.in_ok-chosen.ensures.value
-
-pub returns-clause-rows : goal.returns-clause-rows
-returns-clause-rows g c = let at = goal.at.returns-clause-rows g c in rows g at.In_ok-matrix (start g at.After-hand_out)
-
-pub returns-clause-top : goal.returns-clause-top
-returns-clause-top g c =
-    let place = start_row (kept_source (g.B.BlockSource.meaning c.args.source) c.args.old.now c.args.change c.args.shape) c.args.shape c.args.wanted in
-    let begun = start g (goal.at.returns-clause-top g c).After-hand_out in
-    c.in_ok-top.ensures.value c.args.shape place begun.shaped
-    (back-at-source (λ (x : SourceValues). Names c.in_ok-chosen.chosen.anchor (rows_at x c.args.shape) place) _ _ (c.relay.ensures.stays ∙ begun.same) begun.named)
-
-pub returns-clause-bottom : goal.returns-clause-bottom
-returns-clause-bottom g c =
+pub returns : goal.returns
+returns g c =
+    let m = kept_source (g.B.BlockSource.meaning c.args.source) c.args.old.now c.args.change c.args.shape in
     let w = c.args.wanted in
-    let at = goal.at.returns-clause-bottom g c in
+    let at = goal.at.returns g c in
     let begun = start g at.After-hand_out in
-    at-source (λ (x : SourceValues). (shape : ShapeValues) (place : ℕ) → IsShape shape → shown_entries c.in_ok-matrix.matrix ≡ take w.height (drop place (rows_at x shape))
-    → c.in_ok-bottom.bottom ≡ leb (length (rows_at x shape)) (place + w.height)) _ _ (c.is_first_row.ensures.stays ∙ (c.relay.ensures.stays ∙ begun.same)) c.in_ok-bottom.ensures.value
-    c.args.shape (start_row (kept_source (g.B.BlockSource.meaning c.args.source) c.args.old.now c.args.change c.args.shape) c.args.shape w) begun.shaped (rows g at.In_ok-matrix begun)
-
-pub returns-clause-copies : goal.returns-clause-copies
-returns-clause-copies g c =
-    let begun = start g (goal.at.returns-clause-copies g c).After-hand_out in
-    at-source (λ (x : SourceValues). All (IsCopied c.args.old.now c.args.change x.blocks) c.in_ok-matrix.matrix) _ _ begun.same c.in_ok-matrix.ensures.copies
-
-pub returns-clause-steps : goal.returns-clause-steps
-returns-clause-steps g c = let at = goal.at.returns-clause-steps g c in steps g at.After-relay (start g at.After-hand_out)
+    let place = start_row m c.args.shape w in
+    let laid = rows g at.In_ok-matrix begun in
+    record {
+      chosen = at-source (λ (x : SourceValues). c.in_ok-chosen.chosen ≡ chosen_of x c.args.shape w) m _ (same g at.After-new-remembered) c.in_ok-chosen.ensures.value;
+      rows = laid;
+      top = c.in_ok-top.ensures.value c.args.shape place begun.shaped
+          (back-at-source (λ (x : SourceValues). Names c.in_ok-chosen.chosen.anchor (rows_at x c.args.shape) place) _ _ (c.relay.ensures.stays ∙ begun.same) begun.named);
+      bottom = at-source (λ (x : SourceValues). (shape : ShapeValues) (place : ℕ) → IsShape shape → shown_entries c.in_ok-matrix.matrix ≡ take w.height (drop place (rows_at x shape))
+          → c.in_ok-bottom.bottom ≡ leb (length (rows_at x shape)) (place + w.height)) _ _ (c.is_first_row.ensures.stays ∙ (c.relay.ensures.stays ∙ begun.same)) c.in_ok-bottom.ensures.value
+          c.args.shape place begun.shaped laid;
+      copies = at-source (λ (x : SourceValues). All (IsCopied c.args.old.now c.args.change x.blocks) c.in_ok-matrix.matrix) _ _ begun.same c.in_ok-matrix.ensures.copies;
+      steps = steps g at.After-relay begun;
+    }
