@@ -2,6 +2,7 @@
 ghost use Rattle.std.specs.Prelude.{IfOk, IsTrue};
 ghost use Rattle.rd_objects.specs.Tables.{is_slot_glyph};
 
+use crate::claims::assert_of;
 use crate::texts::characters;
 use rd_base::{Cell, Ch, Element, Extent, Face, Glyph, Look, Origin, Settings};
 use rd_glyphs::{Parts, expand, plain_line};
@@ -164,7 +165,12 @@ const SPELLED: [(char, &'static str); 4] = [
 ];
 
 /// Characters that are shown as one blank column.
-const BLANKS: [char; 4] = ['\u{AD}', '\u{202B}', '\u{61C}', '\u{200E}'];
+const BLANKS: [(&'static str, char); 4] = [
+    ("a soft hyphen", '\u{AD}'),
+    ("an embedding", '\u{202B}'),
+    ("an Arabic letter mark", '\u{61C}'),
+    ("a left-to-right mark", '\u{200E}'),
+];
 
 /// Asserts that each character of a table, which may stand at an odd level, is shown as the text beside it.
 fn assert_spelled(
@@ -175,15 +181,15 @@ fn assert_spelled(
     table: &[(char, &str)],
 ) {
     for (c, text) in table {
-        assert!(rt; spells(alloc, parts, Ch::scalar(*c), odd, text));
+        assert_of(rt, text, spells(alloc, parts, Ch::scalar(*c), odd, text));
     }
 }
 
 /// Asserts which characters are shown as one element.
 fn assert_given(rt: &impl Abort, alloc: Global, parts: &Parts) {
-    for c in &BLANKS {
+    for (name, c) in &BLANKS {
         let blank = element(Extent::Fixed(1), Look::Blank);
-        assert!(rt; gives(alloc, parts, Ch::scalar(*c), blank));
+        assert_of(rt, name, gives(alloc, parts, Ch::scalar(*c), blank));
     }
     let tab = element(Extent::Tab(8), Look::Blank);
     assert!(rt; gives(alloc, parts, Ch::scalar('\t'), tab));
@@ -323,7 +329,7 @@ fn is_line(alloc: Global, text: &str, classes: &Classes, width: u32, signs: &str
 /// Asserts that each text of a table is the plain line beside it.
 fn assert_lines(rt: &impl Abort, alloc: Global, classes: &Classes, table: &[(&str, u32, &str)]) {
     for (text, width, signs) in table {
-        assert!(rt; is_line(alloc, text, classes, *width, signs));
+        assert_of(rt, signs, is_line(alloc, text, classes, *width, signs));
     }
 }
 

@@ -1,4 +1,5 @@
 //! Margins with ample memory.
+use crate::claims::assert_of;
 use crate::modeline::are_cells;
 use crate::texts::characters;
 use rd_base::{Ch, Face, Memory};
@@ -9,27 +10,27 @@ use std::process::Abort;
 use std::test::Fail;
 
 /// Whether a line's number is shown so, in as many columns.
-fn is_number(alloc: Global, line: Option<u32>, wanted: &[u8]) -> bool {
+fn is_number(alloc: Global, line: Option<u32>, wanted: &str) -> bool {
     match numbers(alloc, line, wanted.len().min(400) as u32) {
-        Ok(shown) => are_cells(shown.as_slice(), wanted, Face::PLAIN),
+        Ok(shown) => are_cells(shown.as_slice(), wanted.as_bytes(), Face::PLAIN),
         Err(_) => false,
     }
 }
 
 /// Whether margins of three columns each are shown so beside a row of line 12.
-fn are_shown(alloc: Global, classes: &Classes, row: u32, string: &[Ch], wanted: &[u8]) -> bool {
+fn are_shown(alloc: Global, classes: &Classes, row: u32, string: &[Ch], wanted: &str) -> bool {
     let widths = Widths {
         numbers: 3,
         strings: 3,
     };
     match row_margin(alloc, classes, widths, row, 12, string) {
-        Ok(shown) => are_cells(shown.as_slice(), wanted, Face::PLAIN),
+        Ok(shown) => are_cells(shown.as_slice(), wanted.as_bytes(), Face::PLAIN),
         Err(_) => false,
     }
 }
 
 /// The same of a string that is told as a text.
-fn are_margins(alloc: Global, classes: &Classes, row: u32, string: &str, wanted: &[u8]) -> bool {
+fn are_margins(alloc: Global, classes: &Classes, row: u32, string: &str, wanted: &str) -> bool {
     match characters(alloc, string) {
         Ok(string) => are_shown(alloc, classes, row, string.as_slice(), wanted),
         Err(_) => false,
@@ -54,32 +55,33 @@ fn are_kept(alloc: Global) -> bool {
 }
 
 /// Numbers of lines, and how they are shown.
-const NUMBERS: [(Option<u32>, &'static [u8]); 5] = [
-    (Some(1), b"  1 "),
-    (Some(207), b"207 "),
-    (Some(1000), b"+++ "),
-    (Some(7), b" "),
-    (None, b"    "),
+const NUMBERS: [(Option<u32>, &'static str); 5] = [
+    (Some(1), "  1 "),
+    (Some(207), "207 "),
+    (Some(1000), "+++ "),
+    (Some(7), " "),
+    (None, "    "),
 ];
 
 /// Rows of a line, strings, and the margins beside the row.
-const MARGINS: [(u32, &'static str, &'static [u8]); 3] = [
-    (0, ">>", b"12 >> "),
-    (0, "todo", b"12 tod"),
-    (1, ">>", b"      "),
+const MARGINS: [(u32, &'static str, &'static str); 3] = [
+    (0, ">>", "12 >> "),
+    (0, "todo", "12 tod"),
+    (1, ">>", "      "),
 ];
 
 /// Asserts how margins are shown.
 fn assert_margins(rt: &impl Abort, alloc: Global, classes: &Classes) {
     for (row, string, wanted) in &MARGINS {
-        assert!(rt; are_margins(alloc, classes, *row, string, wanted));
+        let shown = are_margins(alloc, classes, *row, string, wanted);
+        assert_of(rt, wanted, shown);
     }
 }
 
 #[test]
 fn margins_are_shown(rt: HostRuntime) -> Result<(), Fail> {
     for (line, wanted) in &NUMBERS {
-        assert!(rt; is_number(rt.alloc(), *line, wanted));
+        assert_of(&rt, wanted, is_number(rt.alloc(), *line, wanted));
     }
     assert!(rt; are_kept(rt.alloc()));
     let classes = Classes::read(rt.alloc(), b"")?;

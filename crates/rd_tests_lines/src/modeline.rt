@@ -1,4 +1,5 @@
 //! Mode lines with ample memory.
+use crate::claims::assert_of;
 use crate::texts::characters;
 use rd_base::{Cell, Ch, Face, Glyph};
 use rd_modeline::{Facts, format};
@@ -71,7 +72,7 @@ const LINES: [(&'static str, &'static [u8]); 4] = [
 /// Asserts which lines formats give.
 fn assert_lines(rt: &impl Abort, alloc: Global, classes: &Classes, name: &[Ch]) {
     for (code, line) in &LINES {
-        assert!(rt; is_line(alloc, classes, name, code, line));
+        assert_of(rt, code, is_line(alloc, classes, name, code, line));
     }
 }
 
