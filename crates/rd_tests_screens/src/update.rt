@@ -2,6 +2,7 @@
 ghost use Rattle.std.specs.Prelude.{IfOk};
 ghost use Rattle.rd_update.specs.Laws.{IsSound};
 
+use crate::claims::assert_of;
 use rd_base::{Cell, Face, Glyph, Memory};
 use rd_io::MemSink;
 use rd_term::Screen;
@@ -66,58 +67,42 @@ fn is_filled(cell: Cell) -> bool {
     }
 }
 
+/// The bytes of both rows and the cursor.
+const WHOLE: &[u8] = b"\x1b[0m\x1b[2J\x1b[1;1Ha\x1b[2;1Hb\x1b[1;1H";
+
 /// A limit of rows, and the rows that are sent, whether the target is reached, and the bytes.
-const LIMITS: [(Option<u32>, u32, bool, &'static [u8]); 5] = [
-    (Some(0), 0, false, b"\x1b[0m\x1b[2J"),
-    (Some(1), 1, false, b"\x1b[0m\x1b[2J\x1b[1;1Ha"),
-    (
-        Some(2),
-        2,
-        true,
-        b"\x1b[0m\x1b[2J\x1b[1;1Ha\x1b[2;1Hb\x1b[1;1H",
-    ),
-    (
-        Some(3),
-        2,
-        true,
-        b"\x1b[0m\x1b[2J\x1b[1;1Ha\x1b[2;1Hb\x1b[1;1H",
-    ),
-    (
-        None,
-        2,
-        true,
-        b"\x1b[0m\x1b[2J\x1b[1;1Ha\x1b[2;1Hb\x1b[1;1H",
-    ),
+const LIMITS: [(&'static str, Option<u32>, u32, bool, &'static [u8]); 5] = [
+    ("no row", Some(0), 0, false, b"\x1b[0m\x1b[2J"),
+    ("one row", Some(1), 1, false, b"\x1b[0m\x1b[2J\x1b[1;1Ha"),
+    ("all rows", Some(2), 2, true, WHOLE),
+    ("more than all rows", Some(3), 2, true, WHOLE),
+    ("no limit", None, 2, true, WHOLE),
 ];
 
-/// Asserts what was sent, and the bytes that the sink has.
-fn assert_sent(rt: &impl Abort, trace: &Trace, sent: Result<Sent, WriteFault>, bytes: &[u8]) {
-    assert!(rt; trace.sent == sent);
-    assert!(rt; trace.sink.bytes() == bytes);
-}
-
-/// Asserts the same of two letters that are sent to an unknown screen, into a sink of so much room, where so many rows are allowed.
+/// Asserts what is sent of two letters to an unknown screen, and the bytes that the sink then has, where it has so much room and so
+/// many rows are allowed.
 fn assert_within(
     rt: &impl Abort,
     alloc: Global,
+    name: &str,
     room: u64,
     limit: Option<u32>,
     sent: Result<Sent, WriteFault>,
     bytes: &[u8],
 ) -> Result<(), Memory> {
     let trace = sent_within(alloc, room, limit)?;
-    assert_sent(rt, &trace, sent, bytes);
+    assert_of(rt, name, trace.sent == sent && trace.sink.bytes() == bytes);
     Ok(())
 }
 
 #[test]
 fn an_update_stops_after_so_many_rows(rt: HostRuntime) -> Result<(), Fail> {
-    for (limit, rows, done, bytes) in &LIMITS {
+    for (name, limit, rows, done, bytes) in &LIMITS {
         let sent = Sent {
             rows: *rows,
             done: *done,
         };
-        assert_within(&rt, rt.alloc(), 64, *limit, Ok(sent), bytes)?;
+        assert_within(&rt, rt.alloc(), name, 64, *limit, Ok(sent), bytes)?;
     }
     Ok(())
 }
@@ -129,22 +114,23 @@ fn fills(alloc: Global, limit: u32, filled: (bool, bool)) -> Result<bool, Memory
 }
 
 /// A limit of rows, and whether the first two rows begin with a character then.
-const FILLED: [(u32, (bool, bool)); 3] = [
-    (0, (false, false)),
-    (1, (true, false)),
-    (2, (true, true)),
+const FILLED: [(&'static str, u32, (bool, bool)); 3] = [
+    ("no row", 0, (false, false)),
+    ("one row", 1, (true, false)),
+    ("all rows", 2, (true, true)),
 ];
 
 #[test]
 fn rows_that_were_not_sent_stay_blank(rt: HostRuntime) -> Result<(), Fail> {
-    for (limit, filled) in &FILLED {
-        assert!(rt; fills(rt.alloc(), *limit, *filled)?);
+    for (name, limit, filled) in &FILLED {
+        assert_of(&rt, name, fills(rt.alloc(), *limit, *filled)?);
     }
     Ok(())
 }
 
 #[test]
 fn a_sink_without_room_is_a_fault(rt: HostRuntime) -> Result<(), Fail> {
+    let name = "a front of the bytes";
     let bytes = b"\x1b[0m\x1b[2J\x1b[";
-    Ok(assert_within(&rt, rt.alloc(), 10, None, Err(WriteFault), bytes)?)
+    Ok(assert_within(&rt, rt.alloc(), name, 10, None, Err(WriteFault), bytes)?)
 }
