@@ -13,48 +13,58 @@ use rd_session::Session;
 use rd_ucd::{Brackets, Classes, Mirrors};
 use std::alloc::Global;
 use std::marker::Brand;
+use std::process::Abort;
 use std::sync::ledger::{Blank, Ledger};
 use std::test::Fail;
 
-/// Scripts, line by line. Behind a redisplay stands how often each row of each window was copied, in a digit each: a row that nothing
-/// changed stays as it is where its whole window rests, and has a copy more where only other rows changed. A row that is laid out anew
-/// was not copied.
-const SCRIPTS: [&'static [&'static [u8]]; 3] = [
-    &[
-        br#"{"op":"frame","width":12,"height":4}"#,
-        br#"{"op":"insert","buffer":"main","pos":1,"text":"a\nb\nc"}"#,
-        br#"{"op":"redisplay"}"#,
-        b"000",
-        br#"{"op":"redisplay"}"#,
-        b"000",
-        br#"{"op":"insert","buffer":"main","pos":5,"text":"x"}"#,
-        br#"{"op":"redisplay"}"#,
-        b"110",
-    ],
-    &[
-        br#"{"op":"frame","width":12,"height":8}"#,
-        br#"{"op":"insert","buffer":"main","pos":1,"text":"a\nb\nc\nd\ne\n\nf"}"#,
-        br#"{"op":"redisplay"}"#,
-        b"0000000",
-        br#"{"op":"insert","buffer":"main","pos":1,"text":"\u05d0"}"#,
-        br#"{"op":"redisplay"}"#,
-        b"0000001",
-    ],
-    &[
-        br#"{"op":"frame","width":24,"height":5}"#,
-        br#"{"op":"insert","buffer":"main","pos":1,"text":"1\n2\n3\n4\n5\n6\n7\n8"}"#,
-        br#"{"op":"mode_line","window":0,"format":"%b %l %p"}"#,
-        br#"{"op":"split","window":0,"side":"right","size":12}"#,
-        br#"{"op":"start","window":0,"pos":5,"row":0}"#,
-        br#"{"op":"start","window":1,"pos":5,"row":0}"#,
-        br#"{"op":"point","window":0,"pos":5}"#,
-        br#"{"op":"point","window":1,"pos":5}"#,
-        br#"{"op":"redisplay"}"#,
-        b"000",
-        br#"{"op":"insert","buffer":"main","pos":1,"text":"0\n"}"#,
-        br#"{"op":"redisplay"}"#,
-        b"111",
-    ],
+/// Scripts by what changes, line by line. Behind a redisplay stands how often each row of each window was copied, in a digit each: a row
+/// that nothing changed stays as it is where its whole window rests, and has a copy more where only other rows changed. A row that is
+/// laid out anew was not copied.
+const SCRIPTS: [(&'static str, &'static [&'static [u8]]); 3] = [
+    (
+        "a letter in the last row",
+        &[
+            br#"{"op":"frame","width":12,"height":4}"#,
+            br#"{"op":"insert","buffer":"main","pos":1,"text":"a\nb\nc"}"#,
+            br#"{"op":"redisplay"}"#,
+            b"000",
+            br#"{"op":"redisplay"}"#,
+            b"000",
+            br#"{"op":"insert","buffer":"main","pos":5,"text":"x"}"#,
+            br#"{"op":"redisplay"}"#,
+            b"110",
+        ],
+    ),
+    (
+        "a letter of the other direction at the start",
+        &[
+            br#"{"op":"frame","width":12,"height":8}"#,
+            br#"{"op":"insert","buffer":"main","pos":1,"text":"a\nb\nc\nd\ne\n\nf"}"#,
+            br#"{"op":"redisplay"}"#,
+            b"0000000",
+            br#"{"op":"insert","buffer":"main","pos":1,"text":"\u05d0"}"#,
+            br#"{"op":"redisplay"}"#,
+            b"0000001",
+        ],
+    ),
+    (
+        "a line before what two windows show",
+        &[
+            br#"{"op":"frame","width":24,"height":5}"#,
+            br#"{"op":"insert","buffer":"main","pos":1,"text":"1\n2\n3\n4\n5\n6\n7\n8"}"#,
+            br#"{"op":"mode_line","window":0,"format":"%b %l %p"}"#,
+            br#"{"op":"split","window":0,"side":"right","size":12}"#,
+            br#"{"op":"start","window":0,"pos":5,"row":0}"#,
+            br#"{"op":"start","window":1,"pos":5,"row":0}"#,
+            br#"{"op":"point","window":0,"pos":5}"#,
+            br#"{"op":"point","window":1,"pos":5}"#,
+            br#"{"op":"redisplay"}"#,
+            b"000",
+            br#"{"op":"insert","buffer":"main","pos":1,"text":"0\n"}"#,
+            br#"{"op":"redisplay"}"#,
+            b"111",
+        ],
+    ),
 ];
 
 /// A session of no op.
@@ -159,10 +169,15 @@ fn is_kept(alloc: Global, script: &[&[u8]]) -> Result<bool, Fail> {
     keeps::<Brand>(Blank::new(1), alloc, script)
 }
 
+/// Asserts what is to hold of a case of this name.
+fn assert_of(rt: &impl Abort, name: &str, holds: bool) {
+    assert!(rt; holds, "{name}");
+}
+
 #[test]
 fn rows_that_nothing_changed_are_kept(rt: HostRuntime) -> Result<(), Fail> {
-    for script in &SCRIPTS {
-        assert!(rt; is_kept(rt.alloc(), script)?);
+    for (name, script) in &SCRIPTS {
+        assert_of(&rt, name, is_kept(rt.alloc(), script)?);
     }
     Ok(())
 }

@@ -66,11 +66,21 @@ fn the_first_fault_is_told(rt: HostRuntime) {
 
 #[test]
 fn bytes_are_utf_8(rt: HostRuntime) {
-    for line in [
-        b"{\"op\":\"type\",\"text\":\"\xff\"}",
-        b"{\"op\":\"type\",\"text\":\"\x80\"}",
-        b"{\"op\":\"type\",\"text\":\"\xc3\"}",
+    for (name, line) in [
+        (
+            "a byte of no character",
+            b"{\"op\":\"type\",\"text\":\"\xff\"}",
+        ),
+        (
+            "a byte that goes on",
+            b"{\"op\":\"type\",\"text\":\"\x80\"}",
+        ),
+        ("a first byte alone", b"{\"op\":\"type\",\"text\":\"\xc3\"}"),
     ] {
-        assert!(rt; has_fault(rt.alloc(), line.as_slice(), "NotJson", ""));
+        assert_of(
+            &rt,
+            name,
+            has_fault(rt.alloc(), line.as_slice(), "NotJson", ""),
+        );
     }
 }
