@@ -143,7 +143,7 @@ pub enum Op {
         window: u64,
         pos: u64,
     },
-    /// Lets a window's view start at a row, counted from 0, of the line that begins at a position.
+    /// Forces a window's start: it is at a row, counted from 0, of the block that holds a position.
     Start {
         window: u64,
         pos: u64,

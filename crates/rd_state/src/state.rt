@@ -94,8 +94,8 @@ impl State {
         self.parts.apply(op)
     }
 
-    /// Sets where a window's view begins and its point, as a layout found them; nothing waits to be scrolled then, and no op has asked
-    /// for this beginning. The window lives, and both positions are in the accessible part of the buffer that it shows.
+    /// Sets a window's anchor and its point, as a layout found them; no rows are pending then, and the start is not forced. The window
+    /// lives, and both positions are in the accessible part of the buffer that it shows.
     pub fn settle(&mut self, w: u32, anchor: Anchor, point: Pos)
         requires live { IsSome (window_of w self.old.windows) }
         requires anchor { IsShownAt self.old w anchor.pos }

@@ -66,7 +66,7 @@ impl StateParts {
         Ok(Effect::Nothing)
     }
 
-    /// Lets a window's view start at a row of the line that begins at a position.
+    /// Forces a window's start: its anchor names a row of the block that holds a position.
     #[tactic(auto, unfolding(crate::specs::Steps::step, crate::specs::Effects::effect_of))]
     pub(crate) fn start(&mut self, window: u64, pos: u64, row: u32) -> Result<Effect, Refused>
         requires valid { IsValid self.old }
@@ -159,7 +159,7 @@ impl StateParts {
     }
 }
 
-/// The rows that wait to be scrolled, of which there are at most 1,000,000,000 up or down.
+/// The pending rows, which wait to be scrolled: at most 1,000,000,000 up or down.
 fn held(rows: i64) -> i64
     ensures { result ≡ held rows }
 {

@@ -1,9 +1,10 @@
 //! `WindowState`, a window: what it shows, and from where on.
 use rd_base::{Anchor, Ch, ListOf, Pos, Wrap};
 
-/// A window: the number of its buffer, its point there, and where its view begins; whether that was asked for by an op, and how many
-/// rows wait to be scrolled, up where the number is below 0; how many columns it is scrolled sideways, and what becomes of lines that
-/// are longer than a row; the format of its mode line, where it has one; and the columns of its line numbers and of its margin strings.
+/// A window: the number of its buffer, its point there, and the anchor of its start; whether that start is forced, which is that an op
+/// asked for it, and how many rows are pending, which wait to be scrolled, up where the number is below 0; how many columns it is scrolled
+/// sideways, and what becomes of lines that are longer than a row; the format of its mode line, where it has one; and the columns of its
+/// line numbers and of its margin strings.
 #[derive(Drop)]
 pub struct WindowState {
     pub buffer: u32,
