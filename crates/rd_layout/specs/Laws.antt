@@ -1,5 +1,5 @@
 -- What several proofs of this crate take from the laws of the layers below; what one alone takes stands beside it. And `LeadLaw`, the one
--- clause of the law of redisplays, which proofs of crates above take.
+-- clause of `redisplays_lead_on`, which proofs of crates above take.
 use Rattle.std.specs.Prelude.{◌≡◌, ℕ, ◌+◌, ◌^◌, ◌<◌, ◌≤◌, Bool, List, Option, length, IsTrue}
 use Rattle.std.specs.List.{All}
 use Rattle.rd_base.specs.Chars.{is_code}

@@ -145,7 +145,7 @@ fn view_laws()
     buffers_are_sources();
 }
 
-/// The same of the sizes of what windows show. The call does nothing.
+/// What the proofs here take from the laws below of the sizes of what windows show. The call does nothing.
 fn fit_laws()
     ensures { FitLaws }
 {

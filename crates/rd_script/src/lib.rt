@@ -1,4 +1,4 @@
-//! The ops of a script, one line an op in JSON. The dump of what is shown, of rd_dump, is had under this name too, as was asked for.
+//! The ops of a script, one line an op in JSON. `WindowFacts` and `print_dump` of rd_dump are named here again.
 //!
 //! The rules are in docs/RULES.md, "Scripts".
 #![tactic(auto)]

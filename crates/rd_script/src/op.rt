@@ -143,7 +143,8 @@ pub enum Op {
         window: u64,
         pos: u64,
     },
-    /// Forces a window's start: it is at a row, counted from 0, of the block that holds a position.
+    /// Forces a window's start: it is at this row, counted from 0, of the block that starts at this position, or at its last row where it
+    /// has fewer; where no block starts there, at the first row of the block that holds it.
     Start {
         window: u64,
         pos: u64,
@@ -186,7 +187,7 @@ pub enum Op {
     Shift {
         on: bool,
     },
-    /// Moves a window's point to the next item as it is seen: to the right, or to the left.
+    /// Moves a window's point to the item beside it in visual order, on the right or on the left; it stays where there is none.
     Go {
         window: u64,
         right: bool,

@@ -143,7 +143,7 @@ placing s window place f = in_window s window (λ w. in_shown s w (λ b.
 abbrev pub setting : StateValue → ℕ → (WindowState → WindowState) → Result StateValue Refused
 setting s window f = in_window s window (λ w. changing window f (Ok s))
 
--- the rows that wait to be scrolled, of which there are at most 1,000,000,000 up or down
+-- the pending rows: at most 1,000,000,000 up or down
 abbrev pub held : ℤ → ℤ
 held rows = int_max (neg_ℤ (pos PENDING_ROWS)) (int_min (pos PENDING_ROWS) rows)
 

@@ -15,7 +15,7 @@ use rd_objects::{Objects, Run, Spec, Table};
 use rd_script::{OpRun, OpSpec};
 use std::alloc::Global;
 
-/// How many strings there can be, and display specs, of which there can be as many.
+/// How many strings there can be, and how many display specs.
 const MOST: u64 = STRINGS as u64;
 
 /// Makes a string with runs of faces and display specs.

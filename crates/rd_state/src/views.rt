@@ -66,7 +66,7 @@ impl StateParts {
         Ok(Effect::Nothing)
     }
 
-    /// Forces a window's start: its anchor names a row of the block that holds a position.
+    /// Forces a window's start: sets its anchor, and no rows are pending then.
     #[tactic(auto, unfolding(crate::specs::Steps::step, crate::specs::Effects::effect_of))]
     pub(crate) fn start(&mut self, window: u64, pos: u64, row: u32) -> Result<Effect, Refused>
         requires valid { IsValid self.old }
@@ -144,7 +144,7 @@ impl StateParts {
         }
     }
 
-    /// Sets where the view of a window that lives begins and its point, as a layout found them.
+    /// Sets the anchor and the point of a window that lives, as a layout found them; no rows are pending then, and the start is not forced.
     pub(crate) fn settle(&mut self, window: u32, anchor: Anchor, point: Pos)
         requires live { IsSome (window_of window self.old.windows) }
         ensures { self.new ≡ settled self.old window anchor point }

@@ -58,7 +58,7 @@ impl Views {
         Ok(pos)
     }
 
-    /// The position of the item beside the point of a window that lives, or its point where there is none.
+    /// The least position of the item beside that which covers the point of a valid window, and point itself where there is none.
     fn stepped_to(&self, window: &WindowState, to_the_right: bool) -> Result<Pos, Memory>
         requires { IsWindow self.now.state.buffers window.now }
         ensures { IfOk result (λ pos. pos ≡ stepped_to self.now.files self.now.state window.now to_the_right) }
