@@ -14,7 +14,7 @@ use Rattle.rd_base.specs.declared.settings.Direction.TheVariants.{Auto, Left, Ri
 use Rattle.rd_ucd.specs.declared.spans.Span.{Span}
 use Rattle.rd_ucd.specs.Lookup.{class_of}
 use Rattle.rd_text.specs.Texts.{TextValue, between, is_newline, is_separator}
-use Rattle.rd_para.specs.Paragraphs.{line_level, decided, level_by, levels_of, text_level, base_at}
+use Rattle.rd_para.specs.Paragraphs.{p2_p3_level_of_line, decided, level_by, levels_of, text_level, base_at}
 use Rattle.rd_props.specs.Buffers.{BufferValue}
 use Rattle.rd_blocks.specs.Bases.{block_base}
 
@@ -35,8 +35,8 @@ first_strong-low depth (c ∷ cs) =
 decided-low : (classes : List Span) (lines : List (List ℕ)) → IfSome (decided classes lines) IsLow
 decided-low classes [] = tt
 decided-low classes (line ∷ lines) =
-    cond_both (is_separator line) None (option_or (line_level classes line) (decided classes lines)) (λ o. IfSome o IsLow) (λ _. tt)
-    (λ _. if-or IsLow (line_level classes line) (decided classes lines) (first_strong-low 0 (map (class_of classes) line)) (decided-low classes lines))
+    cond_both (is_separator line) None (option_or (p2_p3_level_of_line classes line) (decided classes lines)) (λ o. IfSome o IsLow) (λ _. tt)
+    (λ _. if-or IsLow (p2_p3_level_of_line classes line) (decided classes lines) (first_strong-low 0 (map (class_of classes) line)) (decided-low classes lines))
 
 levels-low : (classes : List Span) (last : ℕ) (inside : Bool) (lines : List (List ℕ)) → last ≤ 1 → All IsLow (levels_of classes last inside lines)
 levels-low classes last inside [] h = All-nil IsLow

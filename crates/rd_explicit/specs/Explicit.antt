@@ -26,41 +26,41 @@ abbrev pub is_valid : ℕ → State → Bool
 is_valid level s = nat_le level 125 && (s.overflow_isolates == 0 && s.overflow_embeddings == 0)
 
 -- for X2 to X5, an embedding, or an override, at a level
-abbrev pub embedded : ℕ → Option Class → State → State
-embedded level direction s =
+abbrev pub x2_to_x5_embed : ℕ → Option Class → State → State
+x2_to_x5_embed level direction s =
     if is_valid level s then record s { stack = record { level = level; direction = direction; isolate = false } ∷ s.stack }
     else if s.overflow_isolates == 0 then record s { overflow_embeddings = s.overflow_embeddings + 1 }
     else s
 
 -- X2: RLE opens an embedding at the next odd level
 abbrev pub x2_right_to_left_embedding : State → State
-x2_right_to_left_embedding s = embedded (level_above 1 (top s.stack).level) None s
+x2_right_to_left_embedding s = x2_to_x5_embed (level_above 1 (top s.stack).level) None s
 
 -- X3: LRE opens an embedding at the next even level
 abbrev pub x3_left_to_right_embedding : State → State
-x3_left_to_right_embedding s = embedded (level_above 0 (top s.stack).level) None s
+x3_left_to_right_embedding s = x2_to_x5_embed (level_above 0 (top s.stack).level) None s
 
 -- X4: RLO opens an override to R at the next odd level
 abbrev pub x4_right_to_left_override : State → State
-x4_right_to_left_override s = embedded (level_above 1 (top s.stack).level) (Some R) s
+x4_right_to_left_override s = x2_to_x5_embed (level_above 1 (top s.stack).level) (Some R) s
 
 -- X5: LRO opens an override to L at the next even level
 abbrev pub x5_left_to_right_override : State → State
-x5_left_to_right_override s = embedded (level_above 0 (top s.stack).level) (Some L) s
+x5_left_to_right_override s = x2_to_x5_embed (level_above 0 (top s.stack).level) (Some L) s
 
 -- for X5a to X5c, an isolate at a level
-abbrev pub isolated : ℕ → State → State
-isolated level s =
+abbrev pub x5a_to_x5c_isolate : ℕ → State → State
+x5a_to_x5c_isolate level s =
     if is_valid level s then record s { stack = record { level = level; direction = None; isolate = true } ∷ s.stack; valid_isolates = s.valid_isolates + 1 }
     else record s { overflow_isolates = s.overflow_isolates + 1 }
 
 -- X5a: RLI opens an isolate at the next odd level
 abbrev pub x5a_right_to_left_isolate : State → State
-x5a_right_to_left_isolate s = isolated (level_above 1 (top s.stack).level) s
+x5a_right_to_left_isolate s = x5a_to_x5c_isolate (level_above 1 (top s.stack).level) s
 
 -- X5b: LRI opens an isolate at the next even level
 abbrev pub x5b_left_to_right_isolate : State → State
-x5b_left_to_right_isolate s = isolated (level_above 0 (top s.stack).level) s
+x5b_left_to_right_isolate s = x5a_to_x5c_isolate (level_above 0 (top s.stack).level) s
 
 -- for X5c, whether P2 and P3 found a level, and it is 1
 abbrev pub is_level_one : Option ℕ → Bool

@@ -1,7 +1,7 @@
 //! Rules X1 to X8 of UAX 9, each a method of the state that the rules keep, a function, or an arm of the step that says which rule a
 //! class takes.
 ghost use Rattle.std.specs.Prelude.{◌≡◌, ◌<◌, ◌≤◌, ◌^◌, ◌∷◌, length, if◌then◌else◌};
-ghost use Rattle.rd_explicit.specs.Explicit.{x1_start, top, level_above, is_valid, embedded, isolated, x5c_first_strong_isolate, x6_level_and_override, x6a_pop_directional_isolate, x7_pop_directional_format, x8_paragraph_separator, x9_removed, after, given, Rises, IsReady, GoesOn};
+ghost use Rattle.rd_explicit.specs.Explicit.{x1_start, top, level_above, is_valid, x2_to_x5_embed, x5a_to_x5c_isolate, x5c_first_strong_isolate, x6_level_and_override, x6a_pop_directional_isolate, x7_pop_directional_format, x8_paragraph_separator, x9_removed, after, given, Rises, IsReady, GoesOn};
 
 use crate::isolate::x5c_starts_right;
 use crate::stack::{DirectionalStatus, Stack};
@@ -66,7 +66,7 @@ impl State {
     fn x2_to_x5_embed(&mut self, level: u8, direction: Option<Class>)
         requires above { (top self.old.stack).level < level }
         requires ready { IsReady 4294967294 self.old }
-        ensures state { self.new ≡ embedded level direction self.old }
+        ensures state { self.new ≡ x2_to_x5_embed level direction self.old }
         ensures leaves { GoesOn self.old self.new }
     {
         if !self.push_valid(level, direction, false) && self.overflow_isolates == 0 {
@@ -78,7 +78,7 @@ impl State {
     fn x5a_to_x5c_isolate(&mut self, level: u8)
         requires above { (top self.old.stack).level < level }
         requires ready { IsReady 4294967294 self.old }
-        ensures state { self.new ≡ isolated level self.old }
+        ensures state { self.new ≡ x5a_to_x5c_isolate level self.old }
         ensures leaves { GoesOn self.old self.new }
     {
         if self.push_valid(level, None, true) {

@@ -106,16 +106,16 @@ spec_piece s (Width n) face p to = piece S (Some (kind.Space (Width n))) face tr
 spec_piece s (Align n) face p to = piece S (Some (kind.Space (Align n))) face true p to
 
 -- a separator of paragraphs inside a block counts as one of segments
-abbrev pub inner_class : Class → Class
-inner_class B = S
-inner_class c = c
+abbrev pub class_in_line : Class → Class
+class_in_line B = S
+class_in_line c = c
 
 abbrev pub has_element : MarkRole → Bool
 has_element role.Empty = false
 has_element j = true
 
 abbrev pub char_by : MarkRole → Class → Attributes → ℕ → ℕ → Piece
-char_by j class face c p = record (piece (inner_class class) (Some (kind.Char c)) face (has_element j) p (p + 1)) { base = base_of j; mark = mark_of j }
+char_by j class face c p = record (piece (class_in_line class) (Some (kind.Char c)) face (has_element j) p (p + 1)) { base = base_of j; mark = mark_of j }
 
 abbrev pub char_piece : Scene → Attributes → ℕ → ℕ → Piece
 char_piece s face c p = char_by (mark_role_of s.parts c) (class_of s.parts.classes c) face c p

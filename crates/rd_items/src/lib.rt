@@ -46,5 +46,5 @@ pub use laws::{
     blocks_are_listed, blocks_are_read_whole, items_are_measured, items_cover_their_block,
     made_objects_alone_are_read, objects_that_are_made_change_no_item,
 };
-pub use piece::{inner_class, parts_of, spec_in};
+pub use piece::{class_in_line, parts_of, spec_in};
 pub use showing::same_spec;

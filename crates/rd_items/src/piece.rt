@@ -1,6 +1,6 @@
 //! What positions give before marks join and ranges are handed on.
 ghost use Rattle.std.specs.Prelude.{◌≡◌, ◌<◌, option_map, slice_get};
-ghost use Rattle.rd_items.specs.Pieces.{scene_of, table_in, spec_in, gives_element, give_elements, string_gives, ellipsis_gives, inner_class, has_element, char_by, spec_piece, open_piece, piece_at};
+ghost use Rattle.rd_items.specs.Pieces.{scene_of, table_in, spec_in, gives_element, give_elements, string_gives, ellipsis_gives, class_in_line, has_element, char_by, spec_piece, open_piece, piece_at};
 
 use crate::item::ItemKind;
 use crate::showing::Showing;
@@ -158,8 +158,8 @@ fn spec_piece(view: &View, spec: Spec, face: Face, at: u32, to: u32) -> Piece
 }
 
 /// The class of a character inside a line.
-pub fn inner_class(class: Class) -> Class
-    ensures { result ≡ inner_class class }
+pub fn class_in_line(class: Class) -> Class
+    ensures { result ≡ class_in_line class }
 {
     match class {
         Class::B => Class::S,
@@ -179,7 +179,7 @@ fn char_by(role: MarkRole, class: Class, face: Face, ch: Ch, at: u32) -> Piece
     requires { at < 4294967295 }
     ensures { result ≡ char_by role class face ch at }
 {
-    let (class, kind) = (inner_class(class), Some(ItemKind::Char(ch)));
+    let (class, kind) = (class_in_line(class), Some(ItemKind::Char(ch)));
     Piece {
         base: role.base(),
         mark: role.mark(),

@@ -10,7 +10,7 @@ use Rattle.rd_base.proofs.Lists.{range-from}
 use Rattle.rd_text.specs.Texts.{TextValue, IsText, between, is_newline, next_newline}
 use Rattle.rd_ucd.specs.declared.spans.Span.{Span}
 use Rattle.rd_text.specs.Texts.{is_separator}
-use Rattle.rd_para.specs.Paragraphs.{line_level, decided, level_by, levels_of}
+use Rattle.rd_para.specs.Paragraphs.{p2_p3_level_of_line, decided, level_by, levels_of}
 
 -- what is known of the line that begins at a position
 pub record IsCut (t : TextValue) (from to : ℕ) : Type 0 where
@@ -67,9 +67,9 @@ levels_next classes last inside line lines pieces n cut high =
 
 -- what the first line says of the level of a paragraph
 pub decided_from : (classes : List Span) (line : List ℕ) (lines pieces : List (List ℕ)) (blank : Bool) (level : Option ℕ) → pieces ≡ line ∷ lines
-    → is_separator line ≡ blank → level ≡ line_level classes line → decided classes pieces ≡ (if blank then None else option_or level (decided classes lines))
+    → is_separator line ≡ blank → level ≡ p2_p3_level_of_line classes line → decided classes pieces ≡ (if blank then None else option_or level (decided classes lines))
 decided_from classes line lines pieces blank level cut is found =
-    ap (decided classes) cut ∙ ap (λ (v : Bool). if v then None else option_or (line_level classes line) (decided classes lines)) is
+    ap (decided classes) cut ∙ ap (λ (v : Bool). if v then None else option_or (p2_p3_level_of_line classes line) (decided classes lines)) is
     ∙ ap (λ (o : Option ℕ). if blank then None else option_or o (decided classes lines)) (sym found)
 
 -- there is a first line

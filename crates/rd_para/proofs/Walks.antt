@@ -10,7 +10,7 @@ use Rattle.rd_text.proofs.Characters.{clash, blank_else, blank_not_ink, newline_
 use Rattle.rd_text.proofs.Searches.{next_bound, next_before, next_at, ink_after, ink_at, prev_ink_bound, between_at, between_size, all_blank, some_ink, blank_at}
 use Rattle.rd_ucd.specs.declared.spans.Span.{Span}
 use Rattle.rd_para.specs.Known.{IsKnown}
-use Rattle.rd_para.specs.Paragraphs.{line_level, decided, level_by, levels_of, text_level}
+use Rattle.rd_para.specs.Paragraphs.{p2_p3_level_of_line, decided, level_by, levels_of, text_level}
 use Rattle.rd_para.specs.declared.paragraph.Paragraph.{Paragraph}
 use Rattle.rd_para.proofs.Cuts.{line_cut, some_line, levels_here, levels_next}
 
@@ -274,7 +274,7 @@ module _ (classes : List Span) (t : TextValue) (right : IsText t) where
               let nothing : f.last ≡ 0 = f.none (no_text blank) in
               ap (λ (b : Bool). if b || false then f.last else unwrap_or (decided classes (text ∷ lines)) 0) blank ∙ nothing
               ∙ sym (ap (λ (ls : List (List ℕ)). unwrap_or (decided classes ls) 0) cut
-              ∙ ap (λ (b : Bool). unwrap_or (if b then None else option_or (line_level classes text) (decided classes lines)) 0) blank)
+              ∙ ap (λ (b : Bool). unwrap_or (if b then None else option_or (p2_p3_level_of_line classes text) (decided classes lines)) 0) blank)
         ])
         (λ more next next_kind. stays t.end (to + 1) p whole (not (is_separator text)) (omega arith) (omega arith) next (omega arith) p_high next_kind)
 

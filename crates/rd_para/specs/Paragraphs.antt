@@ -11,13 +11,13 @@ use Rattle.rd_ucd.specs.declared.spans.Span.{Span}
 use Rattle.rd_ucd.specs.Lookup.{class_of}
 
 -- the level that rules P2 and P3 find in a line
-abbrev pub line_level : List Span → List ℕ → Option ℕ
-line_level classes line = first_strong 0 (map (class_of classes) line)
+abbrev pub p2_p3_level_of_line : List Span → List ℕ → Option ℕ
+p2_p3_level_of_line classes line = first_strong 0 (map (class_of classes) line)
 
 -- the level that the first deciding line of a paragraph gives, from its first line on
 abbrev pub decided : List Span → List (List ℕ) → Option ℕ
 decided classes [] = None
-decided classes (line ∷ lines) = if is_separator line then None else option_or (line_level classes line) (decided classes lines)
+decided classes (line ∷ lines) = if is_separator line then None else option_or (p2_p3_level_of_line classes line) (decided classes lines)
 
 -- the base level of a line, by that of the line before, whether that is one of a paragraph, and the lines from here on: a
 -- separator and a later line of a paragraph have that of the line before, and the first line of a paragraph has the

@@ -1,7 +1,7 @@
 //! What one line of a text says of its paragraph.
 ghost use Rattle.std.specs.Prelude.{◌≡◌, ◌≤◌, ◌+◌, ◌-◌, length, slice_index};
 ghost use Rattle.rd_text.specs.Texts.{IsText, IsAccessible, between, is_separator, next_newline};
-ghost use Rattle.rd_para.specs.Paragraphs.{line_level};
+ghost use Rattle.rd_para.specs.Paragraphs.{p2_p3_level_of_line};
 
 use rd_base::{Ch, Pos};
 use rd_text::Buffer;
@@ -23,7 +23,7 @@ pub fn p2_p3_level_of_line(text: &Buffer, classes: &Classes, from: Pos, to: Pos)
     requires first { 1 ≤ from }
     requires order { from ≤ to }
     requires last { to ≤ length text.now.text + 1 }
-    ensures { result ≡ line_level classes.now (between text.now from to) }
+    ensures { result ≡ p2_p3_level_of_line classes.now (between text.now from to) }
 {
     let mut pos = from;
     let mut depth = 0;

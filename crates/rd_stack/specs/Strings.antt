@@ -12,7 +12,7 @@ use Rattle.rd_objects.specs.declared.run.Spec.TheVariants.{Text}
 use Rattle.rd_glyphs.specs.MarkRoles.{mark_role_of, base_of, mark_of}
 use Rattle.rd_glyphs.specs.Marks.{Joins, marks_joined}
 use Rattle.rd_glyphs.specs.declared.mark_role.MarkRole.TheVariants as role
-use Rattle.rd_items.specs.Pieces.{Scene, spec_in, inner_class, same_spec}
+use Rattle.rd_items.specs.Pieces.{Scene, spec_in, class_in_line, same_spec}
 use Rattle.rd_items.specs.Items.{bracket_code}
 use Rattle.rd_items.specs.declared.item.ItemKind.{ItemKind}
 use Rattle.rd_items.specs.declared.item.ItemKind.TheVariants as kind
@@ -58,7 +58,7 @@ spec_kind space = kind.Space space
 abbrev pub part_by : Scene → Option Spec → Place → Part
 part_by s (Some spec) p = record { class = spec_class spec; kind = spec_kind spec; face = p.face; role = role.Alone }
 part_by s None p = record {
-  class = inner_class (class_of s.parts.classes p.ch);
+  class = class_in_line (class_of s.parts.classes p.ch);
   kind = kind.Char p.ch;
   face = p.face;
   role = mark_role_of s.parts p.ch;

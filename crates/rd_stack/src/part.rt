@@ -5,7 +5,7 @@ ghost use Rattle.rd_stack.specs.Strings.{place_of, ends_row, spec_class, spec_ki
 
 use rd_base::{Ch, Class, Face};
 use rd_glyphs::MarkRole;
-use rd_items::{ItemKind, inner_class, parts_of, spec_in};
+use rd_items::{ItemKind, class_in_line, parts_of, spec_in};
 use rd_objects::{Spec, Text};
 use rd_props::View;
 
@@ -90,7 +90,7 @@ pub fn part_of(view: &View, place: &Place) -> Part
     }
     let parts = parts_of(view);
     Part {
-        class: inner_class(parts.classes.class(place.ch)),
+        class: class_in_line(parts.classes.class(place.ch)),
         kind: ItemKind::Char(place.ch),
         face: place.face,
         role: parts.mark_role(place.ch),

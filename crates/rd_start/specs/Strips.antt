@@ -31,10 +31,10 @@ span_of [] = None
 span_of (p ∷ ps) = Some (record { first = fold min p ps; last = fold max p ps })
 
 -- that of the positions of both
-abbrev pub joined_spans : Option Span → Option Span → Option Span
-joined_spans None b = b
-joined_spans (Some a) None = Some a
-joined_spans (Some a) (Some b) = Some (record { first = min a.first b.first; last = max a.last b.last })
+abbrev pub span_of_both : Option Span → Option Span → Option Span
+span_of_both None b = b
+span_of_both (Some a) None = Some a
+span_of_both (Some a) (Some b) = Some (record { first = min a.first b.first; last = max a.last b.last })
 
 -- what is kept of a row
 abbrev pub strip_row_of : ℕ → EntryMeaning → StripRow

@@ -2,7 +2,7 @@
 ghost use Rattle.std.specs.Prelude.{◌≡◌};
 ghost use Rattle.std.specs.List.{flat_map};
 ghost use Rattle.rd_start.specs.Chosen.{first_covered};
-ghost use Rattle.rd_start.specs.Strips.{joined_spans, span_of};
+ghost use Rattle.rd_start.specs.Strips.{span_of_both, span_of};
 
 use rd_base::Pos;
 use rd_rows::Begin;
@@ -15,8 +15,8 @@ pub(crate) struct Span {
 }
 
 /// The span of the positions of both.
-pub(crate) fn joined_spans(a: Option<Span>, b: Option<Span>) -> Option<Span>
-    ensures { result ≡ joined_spans a b }
+pub(crate) fn span_of_both(a: Option<Span>, b: Option<Span>) -> Option<Span>
+    ensures { result ≡ span_of_both a b }
 {
     match (a, b) {
         (None, b) => b,
@@ -34,7 +34,7 @@ pub(crate) fn span_of(start: Pos, begins: &[Begin]) -> Option<Span>
 {
     let mut span = None;
     for begin in begins {
-        span = joined_spans(span, first_covered(start, begin));
+        span = span_of_both(span, first_covered(start, begin));
     }
     span
 }

@@ -4,7 +4,7 @@ ghost use Rattle.std.specs.List.{list_any};
 ghost use Rattle.rd_matrix.specs.Columns.{covers};
 ghost use Rattle.rd_start.specs.Strips.{strip_row_of};
 
-use crate::span::{Span, joined_spans, span_of};
+use crate::span::{Span, span_of, span_of_both};
 use crate::wanted::Wanted;
 use rd_base::{Anchor, Memory, Pos, Steps};
 use rd_matrix::{Block, BlockSource, covers};
@@ -335,7 +335,7 @@ impl Strip {
     {
         let mut span = None;
         for place in from..to {
-            span = joined_spans(span, self.strip_rows[place].span);
+            span = span_of_both(span, self.strip_rows[place].span);
         }
         span
     }

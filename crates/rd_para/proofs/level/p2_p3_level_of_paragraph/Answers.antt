@@ -2,7 +2,7 @@ use Rattle.std.proofs.Common.{◌≡◌, ◌+◌, ◌<◌, ℕ, Bool, true, fals
 use Rattle.std.specs.Prelude.{unwrap_or}
 use Rattle.std.specs.Option.{option_or}
 use Rattle.rd_text.specs.Texts.{between, is_separator}
-use Rattle.rd_para.specs.Paragraphs.{line_level, decided}
+use Rattle.rd_para.specs.Paragraphs.{p2_p3_level_of_line, decided}
 use Rattle.rd_para.proofs.Cuts.{IsCut, line_cut, some_line, decided_from}
 use Rattle.rd_para.proofs.Walks.{rows}
 use Rattle.rd_para.proofs.level.p2_p3_level_of_paragraph.Goals as goal
@@ -18,7 +18,7 @@ cut c =
 
 -- what the line says is the level of the whole paragraph
 told : (c : goal.After-next_newline-to) (lines : List (List ℕ)) (blank : Bool) (level : Option ℕ) → rows c.args.text.now c.lines.from ≡ line c ∷ lines → is_separator (line c) ≡ blank
-    → level ≡ line_level c.args.classes.now (line c) → unwrap_or (if blank then None else option_or level (decided c.args.classes.now lines)) 0 ≡ unwrap_or (decided c.args.classes.now (rows c.args.text.now c.args.from)) 0
+    → level ≡ p2_p3_level_of_line c.args.classes.now (line c) → unwrap_or (if blank then None else option_or level (decided c.args.classes.now lines)) 0 ≡ unwrap_or (decided c.args.classes.now (rows c.args.text.now c.args.from)) 0
 told c lines blank level is separates found =
     sym (ap (λ (o : Option ℕ). unwrap_or o 0) (decided_from c.args.classes.now (line c) lines (rows c.args.text.now c.lines.from) blank level is separates found)) ∙ c.lines.invariant.rest
 
@@ -26,7 +26,7 @@ pub returns-then-is_blank_line : goal.returns-then-is_blank_line
 returns-then-is_blank_line c =
     let at = (goal.at.returns-then-is_blank_line c).After-next_newline-to in
     let some = some_line c.args.text.now c.lines.from c.next_newline-to.result (cut at) in
-    told at some.0 true (line_level c.args.classes.now (line at)) some.1 (sym c.is_blank_line.ensures ∙ c.if-is_blank_line.true) refl
+    told at some.0 true (p2_p3_level_of_line c.args.classes.now (line at)) some.1 (sym c.is_blank_line.ensures ∙ c.if-is_blank_line.true) refl
 
 pub p2_p3_level_of_line-requires-clause-first : goal.p2_p3_level_of_line-requires-clause-first
 p2_p3_level_of_line-requires-clause-first c =
