@@ -1,12 +1,14 @@
 -- The gap moves, and what is kept of the stretches goes with it.
-use Rattle.std.proofs.Common.{◌≡◌, ℕ, ◌+◌, ◌-◌, ◌*◌, ◌<◌, ◌≤◌, List, ◌++◌, length, get_or, take, drop, sym, ap, subst, ◌∙◌, arith}
+use Rattle.std.proofs.Common.{◌≡◌, ℕ, ◌+◌, ◌-◌, ◌*◌, ◌<◌, ◌≤◌, List, ◌++◌, length, get_or, take, drop, refl, sym, ap, subst, ◌∙◌, arith}
 use Rattle.std.specs.Prelude.{IsTrue, slice_range}
+use Rattle.std.specs.Simd.Lanes.{put_chunk}
 use Rattle.std.proofs.lemmas.Bool.{cases_lt}
 use Rattle.std.proofs.Common.{inl, inr}
-use Rattle.std.proofs.lemmas.List.{ext_get_or, take_at, drop_at, drop-drop, length-take-le, length-append, append_assoc, get_or_append_left, get_or-append_right, get_or-take, get_or-drop}
+use Rattle.std.proofs.lemmas.List.{ext_get_or, take_at, drop_at, drop-drop, length-take-le}
+use Rattle.std.proofs.lemmas.Simd.{put_chunk_is, length-put_chunk, get_or-put_chunk_below, get_or-put_chunk_above}
+use Rattle.std.proofs.lemmas.Slice.{take-put_mid, drop-put_mid}
 use Rattle.rd_base.specs.Chars.{is_code}
 use Rattle.rd_base.proofs.Choices.{by-range}
-use Rattle.rd_base.proofs.Lists.{length-replaced}
 use Rattle.rd_text.specs.Stretches.{summary}
 use Rattle.rd_text.specs.Gaps.{IsGapped, IsCopied, IsRecounted}
 use Rattle.rd_text.specs.declared.stretch.Stretch.{Stretch}
@@ -135,41 +137,20 @@ module _ (old new : List ℕ) (olds news : List Stretch) (front back at first la
 -- a text is written into the gap
 module _ (old new : List ℕ) (olds news : List Stretch) (at back first last : ℕ) (text : List ℕ) (right : IsGapped old olds at back) (room : at + length text ≤ back)
     (is : new ≡ take at old ++ (text ++ drop (at + length text) old)) where
-  before_size : length (take at old) ≡ at
-  before_size =
-      let order = right.order in
-      let within = right.within in
-      length-take-le at old (omega arith)
+  put_is : new ≡ take at old ++ (text ++ drop (length text) (drop at old))
+  put_is = is ∙ ap (λ (xs : List ℕ). take at old ++ (text ++ xs)) (sym (drop-drop (length text) at old))
 
-  front_size : length (take at old ++ text) ≡ at + length text
-  front_size =
-      let a = before_size in
-      let b = length-append (take at old) text in
-      omega arith
-
-  split_behind_text : new ≡ (take at old ++ text) ++ drop (at + length text) old
-  split_behind_text = is ∙ sym (append_assoc (take at old) text (drop (at + length text) old))
-
-  behind_is : drop (at + length text) new ≡ drop (at + length text) old
-  behind_is = ap (drop (at + length text)) split_behind_text ∙ drop_at (take at old ++ text) (drop (at + length text) old) (at + length text) front_size
+  stored : new ≡ put_chunk at old text
+  stored = let within = right.within in put_is ∙ sym (put_chunk_is at old text (omega arith))
 
   pub written_size : length new ≡ length old
-  written_size =
-      let order = right.order in
-      let within = right.within in
-      ap length is ∙ length-replaced at (at + length text) text old ∙ omega arith
+  written_size = ap length stored ∙ length-put_chunk at old text
 
   written_below : (k : ℕ) → k < at → get_or new k 0 ≡ get_or old k 0
-  written_below k less =
-      let a = before_size in
-      ap (λ (xs : List ℕ). get_or xs k 0) is ∙ get_or_append_left (take at old) (text ++ drop (at + length text) old) 0 k (omega arith) ∙ get_or-take at old k 0 less
+  written_below k less = ap (λ (xs : List ℕ). get_or xs k 0) stored ∙ get_or-put_chunk_below at old text k 0 less
 
   written_from : (k : ℕ) → at + length text ≤ k → get_or new k 0 ≡ get_or old k 0
-  written_from k more =
-      ap (λ (xs : List ℕ). get_or xs k 0) split_behind_text
-      ∙ get_or-append_right (take at old ++ text) (drop (at + length text) old) (at + length text) k 0 front_size more
-      ∙ get_or-drop (at + length text) old (k - (at + length text)) 0
-      ∙ (let e : at + length text + (k - (at + length text)) ≡ k = omega arith in ap (λ (n : ℕ). get_or old n 0) e)
+  written_from k more = ap (λ (xs : List ℕ). get_or xs k 0) stored ∙ get_or-put_chunk_above at old text k 0 more
 
   pub put_right : ((k : ℕ) → IsTrue (is_code (get_or new k 0))) → IsRecounted new olds news first last → first * 1024 ≤ at → at < first * 1024 + 1024
       → last * 1024 ≤ at + length text → at + length text < last * 1024 + 1024 → IsGapped new news (at + length text) back
@@ -179,14 +160,14 @@ module _ (old new : List ℕ) (olds news : List Stretch) (at back first last : �
 
   pub put_text : (whole : List ℕ) → whole ≡ take at old ++ drop back old → take (at + length text) new ++ drop back new ≡ take at whole ++ text ++ drop at whole
   put_text whole e =
-      let past : at + length text + (back - (at + length text)) ≡ back = omega arith in
+      let order = right.order in
+      let within = right.within in
+      let size : length (take at old) ≡ at = length-take-le at old (omega arith) in
       let front : take (at + length text) new ≡ take at old ++ text
-      = ap (take (at + length text)) split_behind_text ∙ take_at (take at old ++ text) (drop (at + length text) old) (at + length text) front_size in
-      let rest : drop back new ≡ drop back old
-      = ap (λ (n : ℕ). drop n new) (sym past) ∙ sym (drop-drop (back - (at + length text)) (at + length text) new)
-      ∙ ap (drop (back - (at + length text))) behind_is ∙ drop-drop (back - (at + length text)) (at + length text) old ∙ ap (λ (n : ℕ). drop n old) past in
-      let fore : take at whole ≡ take at old = ap (take at) e ∙ take_at (take at old) (drop back old) at before_size in
-      let aft : drop at whole ≡ drop back old = ap (drop at) e ∙ drop_at (take at old) (drop back old) at before_size in
+      = ap (take (at + length text)) put_is ∙ take-put_mid at (length text) old text (at + length text) refl (omega arith) in
+      let rest : drop back new ≡ drop back old = ap (drop back) put_is ∙ drop-put_mid at (length text) old text back room (omega arith) refl in
+      let fore : take at whole ≡ take at old = ap (take at) e ∙ take_at (take at old) (drop back old) at size in
+      let aft : drop at whole ≡ drop back old = ap (drop at) e ∙ drop_at (take at old) (drop back old) at size in
       ap (λ (xs : List ℕ). xs ++ drop back new) front ∙ ap (λ (xs : List ℕ). take at old ++ text ++ xs) rest
       ∙ ap (λ (xs : List ℕ). xs ++ text ++ drop back old) (sym fore) ∙ ap (λ (xs : List ℕ). take at whole ++ text ++ xs) (sym aft)
 
