@@ -160,16 +160,12 @@ module _ (whole : List Class) where
 
   items-at : (i : ℕ) (cs : List Class) → drop i whole ≡ cs → are_leveled cs ≡ true → Each IsItemAt (all_items i cs)
   items-at i [] at h = tt
-  items-at i (BN ∷ cs) at h = items-at (i + 1) cs (drop-cons whole i BN cs at).1 h
-  items-at i (LRE ∷ cs) at h = absurd (cc)
-  items-at i (RLE ∷ cs) at h = absurd (cc)
-  items-at i (LRO ∷ cs) at h = absurd (cc)
-  items-at i (RLO ∷ cs) at h = absurd (cc)
-  items-at i (PDF ∷ cs) at h = absurd (cc)
   items-at i (c ∷ cs) at h =
       let parts = and_parts (is_leveled c) (are_leveled cs) h in
       let step = drop-cons whole i c cs at in
-      (subst IsItem (sym (get_or_from_slice_get whole i c L step.0)) (leveled-item c parts.0 refl), items-at (i + 1) cs step.1 parts.1)
+      let rest = items-at (i + 1) cs step.1 parts.1 in
+      cond_both (is_removed c) (all_items (i + 1) cs) (item_at 0 0 i c cs 0 (all_items (i + 1) cs) ∷ all_items (i + 1) cs) (Each IsItemAt)
+      (λ _. rest) (λ other. (subst IsItem (sym (get_or_from_slice_get whole i c L step.0)) (leveled-item c parts.0 other), rest))
 
   types-item : (xs : List Item) → Each IsItemAt xs → Each IsItem (types_at (indexes xs) whole)
   types-item [] qs = tt
@@ -258,11 +254,11 @@ module _ (entries : List BracketEntry) (cs : List Class) (codes : List ℕ) (lev
     types-size : (ts : List Class) → length (types_at is ts) ≡ length is
     types-size ts = length-map is (λ i. get_or ts i L)
 
-    weak-line-calm : Each IsCalm (types_at is weak_line)
-    weak-line-calm =
-        let size = weak-is-calm.0 in
-        let count = types-size cs in
-        types-each IsCalm refl is weak_line (λ j member. put-covers IsCalm refl is after_weak cs (omega arith) weak-is-calm.1 j (inr member))
+    put-calm : (ts new : List Class) → Stay IsCalm (types_at is ts) new → Each IsCalm (types_at is (put_at is new ts))
+    put-calm ts new calm =
+        let size = calm.0 in
+        let count = types-size ts in
+        types-each IsCalm refl is (put_at is new ts) (λ j member. put-covers IsCalm refl is new ts (omega arith) calm.1 j (inr member))
 
     embedding-left : embedding_of is zeros ≡ L
     embedding-left = ap direction_of (zero-at (length cs) x.index)
@@ -273,16 +269,10 @@ module _ (entries : List BracketEntry) (cs : List Class) (codes : List ℕ) (lev
     brackets-are-calm : Stay IsCalm (types_at is weak_line) after_brackets
     brackets-are-calm =
         subst (λ e. Stay IsCalm (types_at is weak_line) (n0_bracket_types entries e s.sos (types_at is cs) (codes_at is codes) (types_at is weak_line))) (sym embedding-left)
-        (n0_bracket_types-calm entries s.sos (types_at is cs) (codes_at is codes) (types_at is weak_line) weak-line-calm)
+        (n0_bracket_types-calm entries s.sos (types_at is cs) (codes_at is codes) (types_at is weak_line) (put-calm cs after_weak weak-is-calm))
 
     abbrev bracket_line : List Class
     bracket_line = put_at is after_brackets weak_line
-
-    bracket-line-calm : Each IsCalm (types_at is bracket_line)
-    bracket-line-calm =
-        let size = brackets-are-calm.0 in
-        let count = types-size weak_line in
-        types-each IsCalm refl is bracket_line (λ j member. put-covers IsCalm refl is after_brackets weak_line (omega arith) brackets-are-calm.1 j (inr member))
 
     abbrev after_neutral : List Class
     after_neutral = neutral_types s.sos s.eos (types_at is bracket_line) (levels_at is zeros)
@@ -290,7 +280,7 @@ module _ (entries : List BracketEntry) (cs : List Class) (codes : List ℕ) (lev
     neutral-is-left : after_neutral ≡ replicate (length (types_at is bracket_line)) L
     neutral-is-left =
         ap₂ (λ a b. neutral_types a b (types_at is bracket_line) (levels_at is zeros)) sos-left eos-left
-        ∙ neutral-left (types_at is bracket_line) (levels_at is zeros) bracket-line-calm
+        ∙ neutral-left (types_at is bracket_line) (levels_at is zeros) (put-calm weak_line after_brackets brackets-are-calm)
 
     start-covered : (j : ℕ) → IsFlat (get_or cs j L) ⊎ In j is
     start-covered j = elim (cases_lt j (length cs)) [
