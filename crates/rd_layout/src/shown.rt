@@ -1,16 +1,13 @@
 //! `ShownWindow`, what a window shows, as rd_views hands it to rd_paint.
-use rd_matrix::Matrix;
 use rd_start::Chosen;
+use rd_window::Layout;
 use std::marker::Model;
 
-/// What a window shows: the start and the point that were chosen for it, its rows in view, and whether these have the first row and the
-/// last one of its text.
+/// What a window shows: the start and the point that were chosen for it, and the layout that it then has.
 #[derive(Drop)]
 pub struct ShownWindow<'a> {
     pub chosen: Chosen,
-    pub matrix: &'a Matrix,
-    pub top: bool,
-    pub bottom: bool,
+    pub layout: &'a Layout,
 }
 
 impl<'a> Model for ShownWindow<'a> {
@@ -22,8 +19,8 @@ impl<'a> Model for ShownWindow<'a> {
     ghost view = { λ w. record {
       anchor = w.chosen.anchor;
       point = w.chosen.point;
-      rows = shown_entries w.matrix.now;
-      top = w.top;
-      bottom = w.bottom;
+      rows = shown_entries w.layout.now.matrix;
+      top = w.layout.now.top;
+      bottom = w.layout.now.bottom;
     } };
 }

@@ -96,7 +96,7 @@ fn cursor_of(state: &State, windows: &[ShownWindow<'_>], number: u32) -> Option<
     state.states_are_valid();
     for (i, shown) in windows.iter().enumerate() {
         if leaf_at(state, i as u32).place.number == number {
-            return shown.matrix.cursor(shown.chosen.point);
+            return shown.layout.matrix.cursor(shown.chosen.point);
         }
     }
     None

@@ -47,8 +47,8 @@ fn facts<'a>(name: &'a [Ch], content: &Content<'_>, shown: &ShownWindow<'_>) -> 
     Facts {
         name,
         line: text.line_of(shown.chosen.point),
-        top: shown.top,
-        bottom: shown.bottom,
+        top: shown.layout.top,
+        bottom: shown.layout.bottom,
         above: shown.chosen.anchor.pos - text.begin(),
         total: text.end() - text.begin(),
         modified: settings.modified,

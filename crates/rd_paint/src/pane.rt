@@ -47,7 +47,7 @@ pub(crate) fn paint_leaf(
         content,
         widths,
     };
-    let margins = margins.beside_rows(shown.matrix)?;
+    let margins = margins.beside_rows(&shown.layout.matrix)?;
     let mode_line = mode_line(
         alloc,
         classes,
@@ -57,7 +57,7 @@ pub(crate) fn paint_leaf(
         &window.format,
     )?;
     let pane = Pane {
-        matrix: shown.matrix,
+        matrix: &shown.layout.matrix,
         margins: &margins,
         border: border_cell(border_slot(objects, settings.table)),
         mode_line: mode_line.as_slice(),

@@ -101,12 +101,9 @@ impl Views {
         ensures { slice_get (views_taken self.now.layouts desired.now.windows desired.now.layouts.items) i ≡ Some result }
     {
         let window = desired.windows.at(i);
-        let layout = self.layout_at(desired, window, i);
         ShownWindow {
             chosen: window.chosen,
-            matrix: &layout.matrix,
-            top: layout.top,
-            bottom: layout.bottom,
+            layout: self.layout_at(desired, window, i),
         }
     }
 }

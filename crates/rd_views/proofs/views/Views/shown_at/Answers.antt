@@ -13,4 +13,4 @@ returns c =
     let x = c.at-window.result in
     let there : slice_get es i ≡ Some (get_or es i nobody) = slice_get-get_or es i nobody c.requires.layout in
     view-at c.args.self.now.layouts c.args.desired.now.windows es i x (get_or es i nobody) c.at-window.ensures there
-    ∙ ap (λ (l : Layout). Some (shown_by x l)) (sym (c.layout_at-layout.ensures (get_or es i nobody) there))
+    ∙ ap (λ (l : Layout). Some (shown_by x l)) (sym (c.layout_at.ensures (get_or es i nobody) there))
