@@ -1,11 +1,13 @@
 -- The numbers of a face, and the run that they stand in, read back.
-use Rattle.std.proofs.Common.{◌≡◌, ◌==◌, ℕ, ◌+◌, ◌<◌, ◌≤◌, ◌&&◌, not, Bool, true, false, if◌then◌else◌, Option, None, Some, option_and_then, decimal, List, [], ◌∷◌, ◌++◌, inl, inr, refl, ap, ap₂, subst, ◌∙◌, arith, append-nil, true≢false}
-use Rattle.std.proofs.lemmas.Bool.{and_from, and_parts, cases_eq}
+use Rattle.std.proofs.Common.{◌≡◌, ◌==◌, ℕ, ◌+◌, ◌<◌, ◌≤◌, ◌&&◌, not, Bool, true, false, if◌then◌else◌, Option, None, Some, option_and_then, option_to_list, nat_lt, decimal, List, [], ◌∷◌, ◌++◌, inl, inr, refl, sym, ap, ap₂, subst, ◌∙◌, arith, append-nil, true≢false}
+use Rattle.std.specs.List.{flat_map}
+use Rattle.std.proofs.lemmas.Bool.{and_from, and_parts, cases_eq, lt-ltb, ltb-true}
 use Rattle.std.proofs.lemmas.Bool.Decides.{nat_tests}
 use Rattle.rd_base.specs.Cells.{HasColours}
 use Rattle.rd_base.specs.Equals.{same_face}
 use Rattle.rd_base.specs.Faces.{Attributes, plain}
-use Rattle.rd_term.specs.Pens.{dressed, flag_number, colour_number, numbers_of_face}
+use Rattle.rd_term.specs.Pens.{dressed, is_rendition, flag_number, colour_number, numbers_of_face, pen_by}
+use Rattle.rd_update.proofs.Dressing.{face-worn}
 use Rattle.rd_dump.specs.Dumps.{numbers_behind, numbers_text}
 use Rattle.rd_audit.specs.Cuts.{pieces}
 use Rattle.rd_audit.specs.Numbers.{pair_of}
@@ -17,9 +19,7 @@ use Rattle.rd_audit.proofs.Lacking.{lacks, lacks-append, lacks-decimal, is_no_di
 
 -- the numbers that there are
 abbrev pub there : List (Option ℕ) → List ℕ
-there [] = []
-there (None ∷ ns) = there ns
-there (Some n ∷ ns) = n ∷ there ns
+there = flat_map option_to_list
 
 -- the text of numbers: this mark before the first, a semicolon before each other one
 abbrev pub marked : ℕ → List ℕ → List ℕ
@@ -47,105 +47,75 @@ marked-lacks byte mark (n ∷ ns) p q r =
 
 -- ---- the face of numbers
 
-abbrev AreSmall : List ℕ → Type 0
-AreSmall [] = Unit {0}
-AreSmall (n ∷ ns) = (n < 1000) × AreSmall ns
+-- numbers below 1,000, each behind the place of the one before it
+abbrev AreInOrder : ℕ → List ℕ → Type 0
+AreInOrder place [] = Unit {0}
+AreInOrder place (n ∷ ns) = (n < 1000) × (comes_behind place n ≡ true) × AreInOrder (place_of n) ns
 
--- a face with these numbers, where they stand in their order
-abbrev with_numbers : ℕ → Attributes → List ℕ → Option Attributes
-with_numbers place face [] = Some face
-with_numbers place face (n ∷ ns) = if comes_behind place n then with_numbers (place_of n) (dressed n face) ns else None
-
-numbered_at : (place n : ℕ) (face : Attributes) (texts : List (List ℕ)) (t : Bool)
-    → option_and_then (λ (next : ℕ × Attributes). face_from next.0 next.1 texts) (if t then Some (place_of n, dressed n face) else None) ≡ (if t then face_from (place_of n) (dressed n face) texts else None)
-numbered_at place n face texts true = refl
-numbered_at place n face texts false = refl
-
-numbered : (place n : ℕ) (face : Attributes) (texts : List (List ℕ)) → n < 1000
-    → face_from place face (decimal n ∷ texts) ≡ (if comes_behind place n then face_from (place_of n) (dressed n face) texts else None)
-numbered place n face texts small =
+numbered : (place n : ℕ) (face : Attributes) (texts : List (List ℕ)) → n < 1000 → comes_behind place n ≡ true → face_from place face (decimal n ∷ texts) ≡ face_from (place_of n) (dressed n face) texts
+numbered place n face texts small stands =
     ap (λ o. option_and_then (λ (next : ℕ × Attributes). face_from next.0 next.1 texts) (option_and_then (λ (m : ℕ). if comes_behind place m then Some (place_of m, dressed m face) else None) o)) (number-read n small)
-    ∙ numbered_at place n face texts (comes_behind place n)
+    ∙ ap (λ t. option_and_then (λ (next : ℕ × Attributes). face_from next.0 next.1 texts) (if t then Some (place_of n, dressed n face) else None)) stands
 
 -- the numbers behind a first one
-read-more : (place n : ℕ) (face : Attributes) (ns : List ℕ) → n < 1000 → AreSmall ns
-    → face_from place face (pieces 59 (decimal n ++ marked 59 ns)) ≡ with_numbers place face (n ∷ ns)
-read-more place n face [] p q =
+read-more : (place n : ℕ) (face : Attributes) (ns : List ℕ) → AreInOrder place (n ∷ ns)
+    → face_from place face (pieces 59 (decimal n ++ marked 59 ns)) ≡ pen_by (n ∷ ns) (Some face)
+read-more place n face [] h =
     ap (face_from place face) (ap (pieces 59) (append-nil (decimal n)) ∙ pieces-one 59 (decimal n) (lacks-decimal 59 n refl))
-    ∙ numbered place n face [] p
-read-more place n face (m ∷ ns) p q =
+    ∙ numbered place n face [] h.0 h.1
+read-more place n face (m ∷ ns) h =
     ap (face_from place face) (pieces-seam 59 (decimal n) (decimal m ++ marked 59 ns) (lacks-decimal 59 n refl))
-    ∙ numbered place n face (pieces 59 (decimal m ++ marked 59 ns)) p
-    ∙ ap (λ o. if comes_behind place n then o else None) (read-more (place_of n) m (dressed n face) ns q.0 q.1)
+    ∙ numbered place n face (pieces 59 (decimal m ++ marked 59 ns)) h.0 h.1
+    ∙ read-more (place_of n) m (dressed n face) ns h.2
 
 -- ---- the numbers of a face
 
-background : (place : ℕ) (f : Attributes) (colour : ℕ) → f.bg ≡ 8 → place < 40 → colour ≤ 8
-    → with_numbers place f (there (colour_number colour 40 ∷ [])) ≡ Some (record f { bg = colour })
-background place f colour none behind range = elim (cases_eq colour 8) [
-  | inl same ↦ rw same (ap (λ c. Some (record f { bg = c })) none)
-  | inr other ↦
-      let t : (colour == 8) ≡ false = grind (arith, nat_tests) in
-      let stands : comes_behind place (40 + colour) ≡ true = grind (arith, nat_tests) in
-      let coloured : dressed (40 + colour) f ≡ record f { bg = colour } = grind (arith, nat_tests) in
-      rw (t, stands, coloured) refl
-]
+sooner : (p q : ℕ) (ns : List ℕ) → p ≤ q → AreInOrder q ns → AreInOrder p ns
+sooner p q [] le h = tt
+sooner p q (n ∷ ns) le h =
+    let both = and_parts (is_rendition n) (nat_lt q (place_of n)) h.1 in
+    let less = ltb-true q (place_of n) both.1 in
+    (h.0, and_from (is_rendition n) (nat_lt p (place_of n)) both.0 (lt-ltb p (place_of n) (omega (arith, le, less))), h.2)
 
-foreground : (place : ℕ) (f : Attributes) (colour other : ℕ) → f.fg ≡ 8 → f.bg ≡ 8 → place < 30 → colour ≤ 8 → other ≤ 8
-    → with_numbers place f (there (colour_number colour 30 ∷ colour_number other 40 ∷ [])) ≡ Some (record f { fg = colour; bg = other })
-foreground place f colour other none none_behind before range range_behind = elim (cases_eq colour 8) [
-  | inl same ↦ rw same (background place f other none_behind (omega arith) range_behind ∙ ap (λ c. Some (record f { fg = c; bg = other })) none)
-  | inr apart ↦
-      let t : (colour == 8) ≡ false = grind (arith, nat_tests) in
-      let stands : comes_behind place (30 + colour) ≡ true = grind (arith, nat_tests) in
-      let here : place_of (30 + colour) ≡ 30 = grind (arith, nat_tests) in
-      let coloured : dressed (30 + colour) f ≡ record f { fg = colour } = grind (arith, nat_tests) in
-      rw (t, stands, here, coloured) (background 30 (record f { fg = colour }) other none_behind (omega arith) range_behind)
-]
-
-abbrev face_by : Bool → Bool → Bool → ℕ → ℕ → Attributes
-face_by bold underline inverse fg bg = record { fg = fg; bg = bg; bold = bold; underline = underline; inverse = inverse }
-
-flags : (bold underline inverse : Bool) (fg bg : ℕ) → fg ≤ 8 → bg ≤ 8
-    → with_numbers 0 plain (there (numbers_of_face (face_by bold underline inverse fg bg))) ≡ Some (face_by bold underline inverse fg bg)
-flags false false false fg bg p q = foreground 0 plain fg bg refl refl (omega arith) p q
-flags false false true fg bg p q = foreground 7 (face_by false false true 8 8) fg bg refl refl (omega arith) p q
-flags false true false fg bg p q = foreground 4 (face_by false true false 8 8) fg bg refl refl (omega arith) p q
-flags false true true fg bg p q = foreground 7 (face_by false true true 8 8) fg bg refl refl (omega arith) p q
-flags true false false fg bg p q = foreground 1 (face_by true false false 8 8) fg bg refl refl (omega arith) p q
-flags true false true fg bg p q = foreground 7 (face_by true false true 8 8) fg bg refl refl (omega arith) p q
-flags true true false fg bg p q = foreground 4 (face_by true true false 8 8) fg bg refl refl (omega arith) p q
-flags true true true fg bg p q = foreground 7 (face_by true true true 8 8) fg bg refl refl (omega arith) p q
-
-all-small : (bold underline inverse : Bool) (fg bg : ℕ) → fg ≤ 8 → bg ≤ 8 → AreSmall (there (numbers_of_face (face_by bold underline inverse fg bg)))
-all-small bold underline inverse fg bg p q = flag-small bold 1 _ (omega arith) (flag-small underline 4 _ (omega arith) (flag-small inverse 7 _ (omega arith)
-    (colour-small fg 30 _ (omega arith) p (colour-small bg 40 [] (omega arith) q tt))))
+in-order : (f : Attributes) → HasColours f → AreInOrder 0 (there (numbers_of_face f))
+in-order f h =
+    let back : List (Option ℕ) = colour_number f.bg 40 ∷ [] in
+    let colours : List (Option ℕ) = colour_number f.fg 30 ∷ back in
+    let last : List (Option ℕ) = flag_number f.inverse 7 ∷ colours in
+    flag f.bold 1 0 (flag_number f.underline 4 ∷ last) (omega arith) refl (omega arith)
+    (flag f.underline 4 1 last (omega arith) refl (omega arith)
+    (flag f.inverse 7 4 colours (omega arith) refl (omega arith)
+    (colour f.fg 30 7 back h.fg (omega arith) (λ k less. (omega (arith, less), grind (arith, nat_tests), grind (arith, nat_tests)))
+    (colour f.bg 40 30 [] h.bg (omega arith) (λ k less. (omega (arith, less), grind (arith, nat_tests), grind (arith, nat_tests))) tt))))
   where
-    flag-small : (flag : Bool) (n : ℕ) (ns : List (Option ℕ)) → n < 1000 → AreSmall (there ns) → AreSmall (there (flag_number flag n ∷ ns))
-    flag-small true n ns less h = (less, h)
-    flag-small false n ns less h = h
+    flag : (set : Bool) (n place : ℕ) (ns : List (Option ℕ)) → n < 1000 → comes_behind place n ≡ true → place ≤ place_of n → AreInOrder (place_of n) (there ns) → AreInOrder place (there (flag_number set n ∷ ns))
+    flag true n place ns less stands le h = (less, stands, h)
+    flag false n place ns less stands le h = sooner place (place_of n) (there ns) le h
 
-    if-small : (t : Bool) (n : ℕ) (ns : List (Option ℕ)) → n < 1000 → AreSmall (there ns) → AreSmall (there ((if t then None else Some n) ∷ ns))
-    if-small true n ns less h = h
-    if-small false n ns less h = (less, h)
-
-    colour-small : (colour base : ℕ) (ns : List (Option ℕ)) → base < 100 → colour ≤ 8 → AreSmall (there ns) → AreSmall (there (colour_number colour base ∷ ns))
-    colour-small colour base ns less range h = if-small (colour == 8) (base + colour) ns (omega (arith, less, range)) h
+    colour : (c base place : ℕ) (ns : List (Option ℕ)) → c ≤ 8 → place ≤ base → ((k : ℕ) → k < 8 → (base + k < 1000) × (comes_behind place (base + k) ≡ true) × (place_of (base + k) ≡ base))
+        → AreInOrder base (there ns) → AreInOrder place (there (colour_number c base ∷ ns))
+    colour c base place ns most le stands h = elim (cases_eq c 8) [
+      | inl same ↦ rw same (sooner place base (there ns) le h)
+      | inr other ↦
+          let differ : (c == 8) ≡ false = grind (arith, nat_tests) in
+          let all = stands c (omega (arith, most, other)) in
+          rw differ (all.0, all.1, subst (λ p. AreInOrder p (there ns)) (sym all.2) h)
+    ]
 
 -- the text of numbers says their face
 abbrev Reads : Attributes → List ℕ → Type 0
 Reads f text = (codes : List ℕ) × (text ≡ 58 ∷ codes) × (face_of codes ≡ Some f)
 
-reads-by : (f : Attributes) (ns : List ℕ) → AreSmall ns → with_numbers 0 plain ns ≡ Some f → same_face f plain ≡ false → Reads f (marked 58 ns)
+reads-by : (f : Attributes) (ns : List ℕ) → AreInOrder 0 ns → pen_by ns (Some plain) ≡ Some f → same_face f plain ≡ false → Reads f (marked 58 ns)
 reads-by f [] small e other =
     let same : plain ≡ f = cc in
     absurd (true≢false (subst (λ g. true ≡ same_face g plain) same refl ∙ other))
-reads-by f (n ∷ ns) small e other = (decimal n ++ marked 59 ns, refl, read-more 0 n plain ns small.0 small.1 ∙ e)
+reads-by f (n ∷ ns) small e other = (decimal n ++ marked 59 ns, refl, read-more 0 n plain ns small ∙ e)
 
 numbers-read : (f : Attributes) → HasColours f → same_face f plain ≡ false → Reads f (numbers_text f)
 numbers-read f range other =
     let ns = there (numbers_of_face f) in
-    let h = reads-by f ns (all-small f.bold f.underline f.inverse f.fg f.bg range.fg range.bg) (flags f.bold f.underline f.inverse f.fg f.bg range.fg range.bg) other in
+    let h = reads-by f ns (in-order f range) (ap (λ w. w.1) (face-worn f range)) other in
     (h.0, behind-marked false (numbers_of_face f) ∙ h.1, h.2)
 
 -- ---- a run

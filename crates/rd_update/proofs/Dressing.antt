@@ -16,7 +16,7 @@ use Rattle.rd_base.proofs.Equals.{face-told}
 -- ---- the pen after the numbers of a face
 
 -- whether those numbers that there are change a pen, and the pen of this face behind them
-abbrev worn : List (Option ℕ) → Attributes → Bool × Option Attributes
+abbrev pub worn : List (Option ℕ) → Attributes → Bool × Option Attributes
 worn numbers f = (are_renditions (flat_map option_to_list numbers), pen_by (flat_map option_to_list numbers) (Some f))
 
 -- flags by themselves
@@ -48,7 +48,7 @@ colour-worn base n rest f with_colour le own changes = elim (cases_eq n 8) [
       rw (differ, changed.0, changed.1) refl
 ]
 
-face-worn : (f : Attributes) → HasColours f → worn (numbers_of_face f) plain ≡ (true, Some f)
+pub face-worn : (f : Attributes) → HasColours f → worn (numbers_of_face f) plain ≡ (true, Some f)
 face-worn f h =
     let flags : ℕ → ℕ → Attributes = λ fg bg. record { fg = fg; bg = bg; bold = f.bold; underline = f.underline; inverse = f.inverse } in
     flags-worn f.bold f.underline f.inverse (colour_number f.fg 30 ∷ colour_number f.bg 40 ∷ [])

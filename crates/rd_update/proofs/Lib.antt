@@ -1,5 +1,5 @@
 pub mod Comparing
-mod Dressing
+pub mod Dressing
 mod Feeding
 mod Intervals
 pub mod Parts
