@@ -15,8 +15,9 @@ use std::process::Abort;
 use std::sync::ledger::{Blank, Ledger};
 use std::test::Fail;
 
-/// A script, and what it sends, reports and answers.
+/// A script by what it is about, and what it sends, reports and answers.
 struct Case {
+    name: &'static str,
     script: &'static [u8],
     screen: &'static [u8],
     report: &'static [u8],
@@ -25,54 +26,63 @@ struct Case {
 
 const CASES: [Case; 9] = [
     Case {
+        name: "an empty text",
         script: b"{\"op\":\"frame\",\"width\":12,\"height\":2}\n{\"op\":\"redisplay\"}\n",
         screen: b"\x1b[0m\x1b[2J\x1b[1;1H",
         report: b"2: shown 0 rows\ndone 2 lines\n",
         code: 0,
     },
     Case {
+        name: "a redisplay of what is shown",
         script: b"{\"op\":\"frame\",\"width\":12,\"height\":2}\n{\"op\":\"insert\",\"buffer\":\"main\",\"pos\":1,\"text\":\"abc\"}\n{\"op\":\"redisplay\"}\n{\"op\":\"redisplay\"}\n",
         screen: b"\x1b[0m\x1b[2J\x1b[1;1Habc\x1b[1;1H\x1b[1;1H",
         report: b"3: shown 1 rows\n4: shown 0 rows\ndone 4 lines\n",
         code: 0,
     },
     Case {
+        name: "a row that is continued once it grows",
         script: b"{\"op\":\"frame\",\"width\":12,\"height\":4}\n{\"op\":\"wrap\",\"window\":0,\"mode\":\"continue\"}\n{\"op\":\"type\",\"text\":\"abcdefghijk\"}\n{\"op\":\"redisplay\"}\n{\"op\":\"type\",\"text\":\"l\"}\n{\"op\":\"redisplay\"}",
         screen: b"\x1b[0m\x1b[2J\x1b[1;1Habcdefghijk\x1b[1;12H\x1b[1;12H\\\x1b[2;1Hl\x1b[2;2H",
         report: b"4: shown 1 rows\n6: shown 2 rows\ndone 6 lines\n",
         code: 0,
     },
     Case {
+        name: "a row that is truncated",
         script: b"{\"op\":\"frame\",\"width\":12,\"height\":3}\n{\"op\":\"insert\",\"buffer\":\"main\",\"pos\":1,\"text\":\"abcdefghijkl\\nx\"}\n{\"op\":\"redisplay\"}\n",
         screen: b"\x1b[0m\x1b[2J\x1b[1;1Habcdefghijk$\x1b[2;1Hx\x1b[1;1H",
         report: b"3: shown 2 rows\ndone 3 lines\n",
         code: 0,
     },
     Case {
+        name: "a line break before a shown row",
         script: b"{\"op\":\"frame\",\"width\":12,\"height\":3}\n{\"op\":\"insert\",\"buffer\":\"main\",\"pos\":1,\"text\":\"abc\"}\n{\"op\":\"redisplay\"}\n{\"op\":\"insert\",\"buffer\":\"main\",\"pos\":1,\"text\":\"\\n\"}\n{\"op\":\"redisplay\"}\n",
         screen: b"\x1b[0m\x1b[2J\x1b[1;1Habc\x1b[1;1H\x1b[1;1H\x1b[K\x1b[2;1Habc\x1b[1;1H",
         report: b"3: shown 1 rows\n5: shown 2 rows\ndone 5 lines\n",
         code: 0,
     },
     Case {
+        name: "a point below the rows that fit",
         script: b"{\"op\":\"frame\",\"width\":12,\"height\":5}\n{\"op\":\"insert\",\"buffer\":\"main\",\"pos\":1,\"text\":\"a\\nb\\nc\\nd\\ne\\nf\\ng\\nh\\ni\\nj\"}\n{\"op\":\"point\",\"window\":0,\"pos\":19}\n{\"op\":\"redisplay\"}\n",
         screen: b"\x1b[0m\x1b[2J\x1b[1;1Hh\x1b[2;1Hi\x1b[3;1Hj\x1b[3;1H",
         report: b"4: shown 3 rows\ndone 4 lines\n",
         code: 0,
     },
     Case {
+        name: "a text that is narrowed and widened",
         script: b"{\"op\":\"frame\",\"width\":12,\"height\":3}\n{\"op\":\"insert\",\"buffer\":\"main\",\"pos\":1,\"text\":\"ab\\ncd\"}\n{\"op\":\"narrow\",\"buffer\":\"main\",\"from\":2,\"to\":5}\n{\"op\":\"redisplay\"}\n{\"op\":\"widen\",\"buffer\":\"main\"}\n{\"op\":\"redisplay\"}\n",
         screen: b"\x1b[0m\x1b[2J\x1b[1;1Hb\x1b[2;1Hc\x1b[1;1H\x1b[1;1Hab\x1b[2;2Hd\x1b[1;2H",
         report: b"4: shown 2 rows\n6: shown 2 rows\ndone 6 lines\n",
         code: 0,
     },
     Case {
+        name: "an update that stops after two rows",
         script: b"{\"op\":\"frame\",\"width\":12,\"height\":6}\n{\"op\":\"insert\",\"buffer\":\"main\",\"pos\":1,\"text\":\"a\\nb\\nc\\nd\\ne\"}\n{\"op\":\"redisplay\",\"stop\":2}\n{\"op\":\"insert\",\"buffer\":\"main\",\"pos\":1,\"text\":\"X\"}\n{\"op\":\"redisplay\"}\n",
         screen: b"\x1b[0m\x1b[2J\x1b[1;1Ha\x1b[2;1Hb\x1b[1;1HXa\x1b[3;1Hc\x1b[4;1Hd\x1b[5;1He\x1b[1;1H",
         report: b"3: stopped 2 rows\n5: shown 4 rows\ndone 5 lines\n",
         code: 0,
     },
     Case {
+        name: "a script of no line",
         script: b"",
         screen: b"",
         report: b"done 0 lines\n",
@@ -80,62 +90,76 @@ const CASES: [Case; 9] = [
     },
 ];
 
-/// Scripts that are refused before they show anything, and the report.
-const REFUSED: [(&'static [u8], &'static [u8]); 15] = [
+/// Scripts by what is refused before they show anything, and the report.
+const REFUSED: [(&'static str, &'static [u8], &'static [u8]); 15] = [
     (
+        "an insertion behind the end of the text",
         b"{\"op\":\"insert\",\"buffer\":\"main\",\"pos\":2,\"text\":\"a\"}",
         b"script:1: OutOfRange\n",
     ),
     (
+        "an unknown construct of a mode line",
         b"{\"op\":\"mode_line\",\"window\":0,\"format\":\"a%q\"}",
         b"script:1: BadFormat 1\n",
     ),
     (
+        "a hit in a window that was not shown",
         b"{\"op\":\"hit\",\"window\":0,\"row\":0,\"column\":0}",
         b"script:1: NotShown\n",
     ),
     (
+        "a hit in a window that is not there",
         b"{\"op\":\"hit\",\"window\":1,\"row\":0,\"column\":0}",
         b"script:1: NoWindow\n",
     ),
     (
+        "a step in a window that is not there",
         b"{\"op\":\"go\",\"window\":1,\"side\":\"left\"}",
         b"script:1: NoWindow\n",
     ),
     (
+        "a name that a buffer has",
         b"{\"op\":\"buffer\",\"name\":\"main\"}",
         b"script:1: NameTaken\n",
     ),
     (
+        "a buffer that is not there",
         b"{\"op\":\"show\",\"window\":0,\"buffer\":\"x\"}",
         b"script:1: NoBuffer\n",
     ),
     (
+        "a deletion up to the largest number of 64 bits",
         b"{\"op\":\"delete\",\"buffer\":\"main\",\"from\":1,\"to\":18446744073709551615}",
         b"script:1: OutOfRange\n",
     ),
     (
+        "a position of more than 64 bits",
         b"{\"op\":\"point\",\"window\":0,\"pos\":18446744073709551616}",
         b"script:1: BadField pos\n",
     ),
     (
+        "a last line that is cut off",
         b" \t\r\n\n{\"op\":\"widen\",\"buffer\":\"main\"}\n{\"op\":\"redi",
         b"script:4: NotJson\n",
     ),
     (
+        "a deletion in an empty text",
         b"{\"op\":\"delete\",\"buffer\":\"main\",\"from\":1,\"to\":2}",
         b"script:1: OutOfRange\n",
     ),
     (
+        "a key that is missing",
         b"{\"op\":\"point\",\"window\":0}",
         b"script:1: Missing pos\n",
     ),
     (
+        "a key that the op does not have",
         b"{\"op\":\"widen\",\"buffer\":\"main\",\"x\":1}",
         b"script:1: Extra x\n",
     ),
-    (b"[]", b"script:1: NotObject\n"),
+    ("a line that is no object", b"[]", b"script:1: NotObject\n"),
     (
+        "a removal of the last window",
         b"{\"op\":\"remove\",\"window\":0}",
         b"script:1: LastWindow\n",
     ),
@@ -322,22 +346,27 @@ fn answered<L: Ledger, S: Source>(
     status.code()
 }
 
-/// Asserts what a run left.
-fn assert_trace(rt: &impl Abort, run: &Trace, screen: &[u8], report: &[u8], code: u8) {
-    assert_eq!(rt; run.report.bytes(), report);
-    assert_eq!(rt; run.screen.bytes(), screen);
-    assert_eq!(rt; run.code, code);
+/// Asserts what is to hold of a case of this name. The message is made here alone, since its proof is long.
+fn assert_of(rt: &impl Abort, name: &str, holds: bool) {
+    assert!(rt; holds, "{name}");
+}
+
+/// Asserts what a run of this name left.
+fn assert_trace(rt: &impl Abort, name: &str, run: &Trace, screen: &[u8], report: &[u8], code: u8) {
+    assert_of(rt, name, run.report.bytes() == report);
+    assert_of(rt, name, run.screen.bytes() == screen);
+    assert_of(rt, name, run.code == code);
 }
 
 #[test]
 fn scripts_are_run(rt: HostRuntime) -> Result<(), Fail> {
     for case in &CASES {
         let run = played(rt.alloc(), &[], case.script, NONE)?;
-        assert_trace(&rt, &run, case.screen, case.report, case.code);
+        assert_trace(&rt, case.name, &run, case.screen, case.report, case.code);
     }
-    for (script, report) in &REFUSED {
+    for (name, script, report) in &REFUSED {
         let run = played(rt.alloc(), &[], script, NONE)?;
-        assert_trace(&rt, &run, b"", report, 4);
+        assert_trace(&rt, name, &run, b"", report, 4);
     }
     Ok(())
 }
@@ -353,18 +382,18 @@ fn with_letters(alloc: Global, front: &[u8], count: usize, back: &[u8]) -> Resul
 }
 
 /// Asserts that a key of so many letters, which the op does not have, is told whole.
-fn assert_key(rt: &impl Abort, alloc: Global, count: usize) -> Result<(), Fail> {
+fn assert_key(rt: &impl Abort, alloc: Global, name: &str, count: usize) -> Result<(), Fail> {
     let script = with_letters(alloc, b"{\"op\":\"redisplay\",\"", count, b"\":1}\n")?;
     let told = with_letters(alloc, b"script:1: Extra ", count, b"\n")?;
     let run = played(alloc, &[], script.as_slice(), NONE)?;
-    assert_trace(rt, &run, b"", told.as_slice(), 4);
+    assert_trace(rt, name, &run, b"", told.as_slice(), 4);
     Ok(())
 }
 
 #[test]
 fn a_key_may_be_longer_than_a_piece(rt: HostRuntime) -> Result<(), Fail> {
-    assert_key(&rt, rt.alloc(), 8_175)?;
-    assert_key(&rt, rt.alloc(), 8_176)
+    assert_key(&rt, rt.alloc(), "8,175 letters", 8_175)?;
+    assert_key(&rt, rt.alloc(), "8,176 letters", 8_176)
 }
 
 /// Runs a script that comes byte by byte.
@@ -377,13 +406,14 @@ fn played_slowly(alloc: Global, script: &[u8]) -> Result<Trace, Fail> {
 fn a_script_may_come_byte_by_byte(rt: HostRuntime) -> Result<(), Fail> {
     for case in &CASES {
         let run = played_slowly(rt.alloc(), case.script)?;
-        assert_trace(&rt, &run, case.screen, case.report, case.code);
+        assert_trace(&rt, case.name, &run, case.screen, case.report, case.code);
     }
     Ok(())
 }
 
-/// Words behind those that name the data files, and what the first script then sends, reports and answers.
+/// Words behind those that name the data files, by what they ask for, and what the first script then sends, reports and answers.
 struct Words {
+    name: &'static str,
     words: &'static [&'static str],
     sent: &'static [u8],
     told: &'static [u8],
@@ -392,24 +422,28 @@ struct Words {
 
 const WORDS: [Words; 4] = [
     Words {
+        name: "the usage",
         words: &["--help"],
         sent: b"",
         told: b"usage: redisplay --data FILE --mirror FILE [--brackets FILE] [--generate N] [--dump]\n",
         code: 2,
     },
     Words {
+        name: "a dump",
         words: &["--dump"],
         sent: b"\x1b[0m\x1b[2J\x1b[1;1H",
         told: b"2: shown 0 rows\nwindow 0 at 0,0 size 12x1 start 1.0 point 1 cursor 0,0\nrow 0 |            |\nrow 1 |            |\ncursor 0,0\ndone 2 lines\n",
         code: 0,
     },
     Words {
+        name: "a file of brackets that is not there",
         words: &["--brackets", "none"],
         sent: b"",
         told: b"read fault\n",
         code: 5,
     },
     Words {
+        name: "a file of brackets that has classes",
         words: &["--brackets", "D"],
         sent: b"",
         told: b"brackets:1: BadLine\n",
@@ -421,7 +455,7 @@ const WORDS: [Words; 4] = [
 fn words_are_known(rt: HostRuntime) -> Result<(), Fail> {
     for given in &WORDS {
         let run = played(rt.alloc(), given.words, CASES[0].script, NONE)?;
-        assert_trace(&rt, &run, given.sent, given.told, given.code);
+        assert_trace(&rt, given.name, &run, given.sent, given.told, given.code);
     }
     Ok(())
 }

@@ -15,46 +15,66 @@ const BOTH: &[u8] = b"\x1b[0m\x1b[2J\x1b[1;1Habc\x1b[1;1H\x1b[1;1H";
 /// What the second script reports where no call fails.
 const DONE: &[u8] = b"3: shown 1 rows\n4: shown 0 rows\ndone 4 lines\n";
 
-/// The number of the read that fails, and what the second script then sends, reports and answers.
-const READS: [(u64, &'static [u8], &'static [u8], u8); 3] = [
-    (1, b"", b"read fault\n", 5),
+/// The read that fails and its number, and what the second script then sends, reports and answers.
+const READS: [(&'static str, u64, &'static [u8], &'static [u8], u8); 3] = [
+    ("the first read", 1, b"", b"read fault\n", 5),
     (
+        "the read at the end",
         2,
         BOTH,
         b"3: shown 1 rows\n4: shown 0 rows\nread fault\n",
         5,
     ),
-    (3, BOTH, DONE, 0),
+    ("a read behind the end", 3, BOTH, DONE, 0),
 ];
 
-/// The number of the fetch that fails, and what the second script then sends, reports and answers.
-const FETCHES: [(u64, &'static [u8], &'static [u8], u8); 5] = [
-    (1, b"", b"read fault\n", 5),
-    (2, b"", b"read fault\n", 5),
-    (3, b"", b"read fault\n", 5),
-    (4, b"", b"read fault\n", 5),
-    (5, BOTH, DONE, 0),
+/// The fetch that fails and its number, and what the second script then sends, reports and answers.
+const FETCHES: [(&'static str, u64, &'static [u8], &'static [u8], u8); 5] = [
+    ("the classes", 1, b"", b"read fault\n", 5),
+    ("the end of the classes", 2, b"", b"read fault\n", 5),
+    ("the mirrors", 3, b"", b"read fault\n", 5),
+    ("the end of the mirrors", 4, b"", b"read fault\n", 5),
+    ("a fetch behind the mirrors", 5, BOTH, DONE, 0),
 ];
 
-/// The number of the screen's write that fails, and what the second script then sends, reports and answers.
-const SENDS: [(u64, &'static [u8], &'static [u8], u8); 3] = [
-    (1, b"", b"write fault\n", 6),
-    (2, FIRST, b"3: shown 1 rows\nwrite fault\n", 6),
-    (3, BOTH, DONE, 0),
-];
-
-/// The number of the report's write that fails, and what the second script then sends, reports and answers.
-const TELLS: [(u64, &'static [u8], &'static [u8], u8); 4] = [
-    (1, FIRST, b"", 6),
-    (2, BOTH, b"3: shown 1 rows\n", 6),
-    (3, BOTH, b"3: shown 1 rows\n4: shown 0 rows\n", 6),
-    (4, BOTH, DONE, 0),
-];
-
-/// The numbers of calls of two devices that fail in one run of the second script, and what it then sends, reports and answers: a
-/// report that fails at the last line turns every status into the write fault.
-const PAIRS: [(Calls, &'static [u8], &'static [u8], u8); 4] = [
+/// What the screen's write that fails is for and its number, and what the second script then sends, reports and answers.
+const SENDS: [(&'static str, u64, &'static [u8], &'static [u8], u8); 3] = [
+    ("the first redisplay", 1, b"", b"write fault\n", 6),
     (
+        "the second redisplay",
+        2,
+        FIRST,
+        b"3: shown 1 rows\nwrite fault\n",
+        6,
+    ),
+    ("a write behind both redisplays", 3, BOTH, DONE, 0),
+];
+
+/// What the report's write that fails is for and its number, and what the second script then sends, reports and answers.
+const TELLS: [(&'static str, u64, &'static [u8], &'static [u8], u8); 4] = [
+    ("the line of the first redisplay", 1, FIRST, b"", 6),
+    (
+        "the line of the second redisplay",
+        2,
+        BOTH,
+        b"3: shown 1 rows\n",
+        6,
+    ),
+    (
+        "the last line",
+        3,
+        BOTH,
+        b"3: shown 1 rows\n4: shown 0 rows\n",
+        6,
+    ),
+    ("a line behind the last", 4, BOTH, DONE, 0),
+];
+
+/// The calls of two devices that fail in one run of the second script and their numbers, and what it then sends, reports and answers: a
+/// report that fails at the last line turns every status into the write fault.
+const PAIRS: [(&'static str, Calls, &'static [u8], &'static [u8], u8); 4] = [
+    (
+        "the first fetch, and the line that tells it",
         Calls {
             source: 0,
             files: 1,
@@ -66,6 +86,7 @@ const PAIRS: [(Calls, &'static [u8], &'static [u8], u8); 4] = [
         6,
     ),
     (
+        "the read at the end, and the line that tells it",
         Calls {
             source: 2,
             files: 0,
@@ -77,6 +98,7 @@ const PAIRS: [(Calls, &'static [u8], &'static [u8], u8); 4] = [
         6,
     ),
     (
+        "the first redisplay, and the line that tells it",
         Calls {
             source: 0,
             files: 0,
@@ -88,6 +110,7 @@ const PAIRS: [(Calls, &'static [u8], &'static [u8], u8); 4] = [
         6,
     ),
     (
+        "the second redisplay, and the line that tells it",
         Calls {
             source: 0,
             files: 0,
@@ -102,45 +125,45 @@ const PAIRS: [(Calls, &'static [u8], &'static [u8], u8); 4] = [
 
 #[test]
 fn each_read_may_fail(rt: HostRuntime) -> Result<(), Fail> {
-    for (call, sent, told, code) in &READS {
+    for (name, call, sent, told, code) in &READS {
         let run = played(rt.alloc(), &[], CASES[1].script, read(*call))?;
-        assert_trace(&rt, &run, sent, told, *code);
+        assert_trace(&rt, name, &run, sent, told, *code);
     }
     Ok(())
 }
 
 #[test]
 fn each_fetch_may_fail(rt: HostRuntime) -> Result<(), Fail> {
-    for (call, sent, told, code) in &FETCHES {
+    for (name, call, sent, told, code) in &FETCHES {
         let run = played(rt.alloc(), &[], CASES[1].script, fetch(*call))?;
-        assert_trace(&rt, &run, sent, told, *code);
+        assert_trace(&rt, name, &run, sent, told, *code);
     }
     Ok(())
 }
 
 #[test]
 fn each_write_of_the_screen_may_fail(rt: HostRuntime) -> Result<(), Fail> {
-    for (call, sent, told, code) in &SENDS {
+    for (name, call, sent, told, code) in &SENDS {
         let run = played(rt.alloc(), &[], CASES[1].script, send(*call))?;
-        assert_trace(&rt, &run, sent, told, *code);
+        assert_trace(&rt, name, &run, sent, told, *code);
     }
     Ok(())
 }
 
 #[test]
 fn each_write_of_the_report_may_fail(rt: HostRuntime) -> Result<(), Fail> {
-    for (call, sent, told, code) in &TELLS {
+    for (name, call, sent, told, code) in &TELLS {
         let run = played(rt.alloc(), &[], CASES[1].script, tell(*call))?;
-        assert_trace(&rt, &run, sent, told, *code);
+        assert_trace(&rt, name, &run, sent, told, *code);
     }
     Ok(())
 }
 
 #[test]
 fn two_devices_may_fail(rt: HostRuntime) -> Result<(), Fail> {
-    for (calls, sent, told, code) in &PAIRS {
+    for (name, calls, sent, told, code) in &PAIRS {
         let run = played(rt.alloc(), &[], CASES[1].script, *calls)?;
-        assert_trace(&rt, &run, sent, told, *code);
+        assert_trace(&rt, name, &run, sent, told, *code);
     }
     Ok(())
 }
@@ -157,6 +180,13 @@ fn played_in(alloc: Global, script: &[u8], room: u64) -> Result<Trace, Fail> {
 #[test]
 fn a_screen_may_have_too_little_room(rt: HostRuntime) -> Result<(), Fail> {
     let run = played_in(rt.alloc(), CASES[7].script, 30)?;
-    assert_trace(&rt, &run, FITS, b"3: stopped 2 rows\nwrite fault\n", 6);
+    assert_trace(
+        &rt,
+        "room for 30 bytes",
+        &run,
+        FITS,
+        b"3: stopped 2 rows\nwrite fault\n",
+        6,
+    );
     Ok(())
 }

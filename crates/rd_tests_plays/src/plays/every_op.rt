@@ -272,7 +272,18 @@ fn run_up_to(alloc: Global, number: u64) -> Result<Trace, Fail> {
     played_from(alloc, &["--dump"], &mut OneByOne { source }, AMPLE, NONE)
 }
 
-/// Asserts that a run left what the first lines of the transcript write, this last line and this status.
+/// The line of the transcript behind so many.
+fn line_behind(lines: usize) -> &'static str {
+    for (before, line) in TRANSCRIPT.lines().enumerate() {
+        if before == lines {
+            return line;
+        }
+    }
+    "the end"
+}
+
+/// Asserts that a run left what the first lines of the transcript write, this last line and this status. The line behind them is the
+/// case's name.
 fn assert_lines(
     rt: &impl Abort,
     alloc: Global,
@@ -284,7 +295,14 @@ fn assert_lines(
     let sent = bytes_of(alloc, Device::Screen, lines)?;
     let mut told = bytes_of(alloc, Device::Report, lines)?;
     told.extend_from_slice(last)?;
-    assert_trace(rt, run, sent.as_slice(), told.as_slice(), code);
+    assert_trace(
+        rt,
+        line_behind(lines),
+        run,
+        sent.as_slice(),
+        told.as_slice(),
+        code,
+    );
     Ok(())
 }
 

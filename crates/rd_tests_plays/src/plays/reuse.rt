@@ -3,7 +3,7 @@
 ghost use Rattle.std.specs.Prelude.{◌≡◌, ◌<◌};
 ghost use Rattle.rd_script.specs.Forms.{IsInForm};
 
-use super::{AMPLE, CLASSES, MIRRORS, sink};
+use super::{AMPLE, CLASSES, MIRRORS, assert_of, sink};
 use rd_base::Steps;
 use rd_io::MemSink;
 use rd_layout::Outcome;
@@ -13,7 +13,6 @@ use rd_session::Session;
 use rd_ucd::{Brackets, Classes, Mirrors};
 use std::alloc::Global;
 use std::marker::Brand;
-use std::process::Abort;
 use std::sync::ledger::{Blank, Ledger};
 use std::test::Fail;
 
@@ -167,11 +166,6 @@ fn keeps<L: Ledger>(blank: Blank, alloc: Global, script: &[&[u8]]) -> Result<boo
 /// Whether each line of a script holds, over a new session and on a ledger of its own.
 fn is_kept(alloc: Global, script: &[&[u8]]) -> Result<bool, Fail> {
     keeps::<Brand>(Blank::new(1), alloc, script)
-}
-
-/// Asserts what is to hold of a case of this name.
-fn assert_of(rt: &impl Abort, name: &str, holds: bool) {
-    assert!(rt; holds, "{name}");
 }
 
 #[test]
