@@ -392,8 +392,8 @@ fn assert_key(rt: &impl Abort, alloc: Global, name: &str, count: usize) -> Resul
 
 #[test]
 fn a_key_may_be_longer_than_a_piece(rt: HostRuntime) -> Result<(), Fail> {
-    assert_key(&rt, rt.alloc(), "8,175 letters", 8_175)?;
-    assert_key(&rt, rt.alloc(), "8,176 letters", 8_176)
+    assert_key(&rt, rt.alloc(), "20,463 letters", 20_463)?;
+    assert_key(&rt, rt.alloc(), "20,464 letters", 20_464)
 }
 
 /// Runs a script that comes byte by byte.
