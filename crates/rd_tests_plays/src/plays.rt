@@ -214,7 +214,7 @@ fn tell(call: u64) -> Calls {
 }
 
 /// Room that is enough for the bytes of a screen or of a report here.
-const AMPLE: u64 = 16_384;
+const AMPLE: u64 = 32_768;
 
 /// What a run left.
 #[derive(Drop)]
