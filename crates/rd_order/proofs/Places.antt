@@ -1,7 +1,7 @@
 -- Maximal runs, and which index comes to which place.
 use Rattle.std.proofs.Common.{◌≡◌, ◌≢◌, ℕ, zero, suc, ◌+◌, ◌-◌, ◌<◌, ◌≤◌, inl, inr, refl, ap, subst, arith}
 use Rattle.std.proofs.lemmas.Bool.{cases_lt, cases_eq}
-use Rattle.rd_order.specs.Places.{AreHigh, BeginsLow, IsRun, Turns, Moves, Comes}
+use Rattle.rd_order.specs.Places.{AreHigh, BeginsLow, IsLevelRun, Reverses, Moves, Comes}
 
 -- each place of level k or above lies in a maximal run: where that ends, and, looking back, where it starts
 end_of : (f : ℕ → ℕ) (n k q left : ℕ) → suc q + left ≡ n → k ≤ f q
@@ -35,7 +35,7 @@ start_of f k q h =
     let turned : q - back.0 ≡ p = omega arith in subst (λ (x : ℕ). f x < k) turned (back.4 (omega arith)) in
     (suc q - back.0, omega arith, high, before)
 
-pub run_of : (f : ℕ → ℕ) (n k q : ℕ) → q < n → k ≤ f q → (a : ℕ) × (b : ℕ) × IsRun f n k a b × (a ≤ q) × (q < b)
+pub run_of : (f : ℕ → ℕ) (n k q : ℕ) → q < n → k ≤ f q → (a : ℕ) × (b : ℕ) × IsLevelRun f n k a b × (a ≤ q) × (q < b)
 run_of f n k q within h =
     let s = start_of f k q h in
     let e = end_of f n k q (n - suc q) (omega arith) h in
@@ -45,18 +45,18 @@ run_of f n k q within h =
       | inl less ↦ s.2 p a (omega arith)
       | inr more ↦ e.3 p more b
     ] in
-    let run : IsRun f n k s.0 e.0 = record { order = omega arith; within = e.2; high = high; before = s.3; after = e.4 } in
+    let run : IsLevelRun f n k s.0 e.0 = record { order = omega arith; within = e.2; high = high; before = s.3; after = e.4 } in
     (s.0, e.0, run, from, to)
 
 -- a high place stands neither just before a maximal run nor just behind it
-pub edges : (f : ℕ → ℕ) (n k a b q : ℕ) → IsRun f n k a b → q < n → k ≤ f q → (suc q ≢ a) × (q ≢ b)
+pub edges : (f : ℕ → ℕ) (n k a b q : ℕ) → IsLevelRun f n k a b → q < n → k ≤ f q → (suc q ≢ a) × (q ≢ b)
 edges f n k a b q run within high = (
   λ e. let low = run.before q e in absurd (omega arith),
   λ e. let low = run.after (omega arith) in let same = ap f e in absurd (omega arith),
 )
 
 -- a maximal run around a place goes no further than another
-run_within : (f : ℕ → ℕ) (n k a b c d q : ℕ) → IsRun f n k a b → IsRun f n k c d → a ≤ q → q < b → c ≤ q → q < d → (c ≤ a) × (b ≤ d)
+run_within : (f : ℕ → ℕ) (n k a b c d q : ℕ) → IsLevelRun f n k a b → IsLevelRun f n k c d → a ≤ q → q < b → c ≤ q → q < d → (c ≤ a) × (b ≤ d)
 run_within f n k a b c d q r s aq qb cq qd =
     let within = r.within in
     let ends_within = s.within in
@@ -71,7 +71,7 @@ run_within f n k a b c d q r s aq qb cq qd =
     (starts, ends)
 
 -- two maximal runs around a place are one
-pub same_run : (f : ℕ → ℕ) (n k a b c d q : ℕ) → IsRun f n k a b → IsRun f n k c d → a ≤ q → q < b → c ≤ q → q < d → (a ≡ c) × (b ≡ d)
+pub same_run : (f : ℕ → ℕ) (n k a b c d q : ℕ) → IsLevelRun f n k a b → IsLevelRun f n k c d → a ≤ q → q < b → c ≤ q → q < d → (a ≡ c) × (b ≡ d)
 same_run f n k a b c d q r s aq qb cq qd =
     let (c_low, b_low) = run_within f n k a b c d q r s aq qb cq qd in
     let (a_low, d_low) = run_within f n k c d a b q s r cq qd aq qb in
@@ -84,7 +84,7 @@ moves_of f n k q within = elim (cases_lt (f q) k) [
   | inr high ↦
       let found = run_of f n k q within high in
       let to : q < found.1 = found.4 in
-      let t : Turns f n k q (found.0 + found.1 - suc q) = record { a = found.0; b = found.1; run = found.2; from = found.3; to = to; image = omega arith } in
+      let t : Reverses f n k q (found.0 + found.1 - suc q) = record { a = found.0; b = found.1; run = found.2; from = found.3; to = to; image = omega arith } in
       (found.0 + found.1 - suc q, inr t)
 ]
 
@@ -112,8 +112,8 @@ comes_of f n base (suc m) p within =
 abbrev pub Agree : (ℕ → ℕ) → (ℕ → ℕ) → ℕ → ℕ → Type 0
 Agree f g n most = (k p : ℕ) → k ≤ most → p < n → (k ≤ f p → k ≤ g p) × (f p < k → g p < k)
 
-pub IsRun-agree : (f g : ℕ → ℕ) (n most k a b : ℕ) → Agree f g n most → k ≤ most → IsRun f n k a b → IsRun g n k a b
-IsRun-agree f g n most k a b agree below run =
+pub IsLevelRun-agree : (f g : ℕ → ℕ) (n most k a b : ℕ) → Agree f g n most → k ≤ most → IsLevelRun f n k a b → IsLevelRun g n k a b
+IsLevelRun-agree f g n most k a b agree below run =
     let order = run.order in
     let within = run.within in
     let high : AreHigh g k a b = λ q from to. (agree k q below (omega arith)).0 (run.high q from to) in
@@ -123,7 +123,7 @@ IsRun-agree f g n most k a b agree below run =
 pub Moves-agree : (f g : ℕ → ℕ) (n most k q r : ℕ) → Agree f g n most → k ≤ most → q < n → Moves f n k q r → Moves g n k q r
 Moves-agree f g n most k q r agree below within (inl low) = inl ((agree k q below within).1 low.0, low.1)
 Moves-agree f g n most k q r agree below within (inr t) =
-    inr (record { a = t.a; b = t.b; run = IsRun-agree f g n most k t.a t.b agree below t.run; from = t.from; to = t.to; image = t.image })
+    inr (record { a = t.a; b = t.b; run = IsLevelRun-agree f g n most k t.a t.b agree below t.run; from = t.from; to = t.to; image = t.image })
 
 pub Comes-agree : (f g : ℕ → ℕ) (n most base m p q : ℕ) → Agree f g n most → base + m ≤ most → p < n → Comes f n base m p q → Comes g n base m p q
 Comes-agree f g n most base zero p q agree below within c = c

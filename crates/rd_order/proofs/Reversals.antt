@@ -9,7 +9,7 @@ use mathlib.Core.List.{reverse}
 use Rattle.rd_base.proofs.Lists.{total-ones}
 use Rattle.rd_order.specs.Order.{l2_reversed, l2_reversed_down, highest, l2_visual_order}
 use Rattle.rd_order.proofs.Once.{total-l2_reversed, total-order}
-use Rattle.rd_order.specs.Places.{AreHigh, BeginsLow, IsRun, Moves, Comes}
+use Rattle.rd_order.specs.Places.{AreHigh, BeginsLow, IsLevelRun, Moves, Comes}
 use Rattle.rd_order.proofs.Places.{Agree, Comes-agree, Comes-within, moves_of, same_run}
 
 -- the level of what stands at a place of a list of indexes
@@ -36,7 +36,7 @@ held run back q r e =
 first_run : (f : ℕ → ℕ) (n k l q r : ℕ) → AreHigh f k 0 l → l ≤ n → (l < n → f l < k) → q < l → Moves f n k q r → suc (q + r) ≡ l
 first_run f n k l q r high within low q_in (inl still) = let h = high q (omega arith) q_in in let s = still.0 in absurd (omega arith)
 first_run f n k l q r high within low q_in (inr t) =
-    let run : IsRun f n k 0 l = record { order = omega arith; within = within; high = high; before = λ p e. absurd (omega arith); after = low } in
+    let run : IsLevelRun f n k 0 l = record { order = omega arith; within = within; high = high; before = λ p e. absurd (omega arith); after = low } in
     let (begins, ends) = same_run f n k 0 l t.a t.b q run t.run (omega arith) q_in t.from t.to in
     let image = t.image in
     omega arith
@@ -58,7 +58,7 @@ shifted f g n m k l q r same low size (inr t) =
     let high : AreHigh g k a b = λ p pa pb. subst (λ (x : ℕ). k ≤ x) (same p) (t.run.high (l + suc p) (omega arith) (omega arith)) in
     let before : BeginsLow g k a = λ p e. subst (λ (x : ℕ). x < k) (same p) (t.run.before (l + suc p) (omega arith)) in
     let after : b < m → g b < k = λ less. subst (λ (x : ℕ). x < k) (same b) (subst (λ (x : ℕ). f x < k) (sym at_b) (t.run.after (omega arith))) in
-    let run : IsRun g m k a b = record { order = omega arith; within = omega arith; high = high; before = before; after = after } in
+    let run : IsLevelRun g m k a b = record { order = omega arith; within = omega arith; high = high; before = before; after = after } in
     let s = r - suc l in
     let is : r ≡ l + suc s = omega arith in
     (s, is, inr (record { a = a; b = b; run = run; from = omega arith; to = omega arith; image = omega arith }))

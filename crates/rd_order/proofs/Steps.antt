@@ -5,7 +5,7 @@ use Rattle.std.proofs.lemmas.Bool.{cases_lt, cases_eq}
 use Rattle.std.proofs.lemmas.Bool.Decides.{nat_tests}
 use Rattle.std.proofs.lemmas.Option.{slice_get_within, slice_get-get_or, slice_get_past}
 use Rattle.rd_order.specs.Order.{highest, l2_visual_order}
-use Rattle.rd_order.specs.Places.{AreHigh, BeginsLow, IsRun, Comes, IsNextTo, IsBeside}
+use Rattle.rd_order.specs.Places.{AreHigh, BeginsLow, IsLevelRun, Comes, IsNextTo, IsBeside}
 use Rattle.rd_order.proofs.Places.{edges, same_run, comes_of, Comes-within}
 use Rattle.rd_order.proofs.Reversals.{l2_visual_order-length, l2_visual_order-comes, highest-bounds}
 
@@ -115,16 +115,16 @@ pub record IsTurnedBy (j a b q r : ℕ) : Type 0 where
   pub odd : j % 2 ≡ 1 → suc (q + r) ≡ a + b
 
 abbrev pub AreRuns : (ℕ → ℕ) → ℕ → ℕ → ℕ → ℕ → ℕ → ℕ → Type 0
-AreRuns f n base m j a b = (i : ℕ) → m < i → i ≤ m + j → IsRun f n (base + i) a b
+AreRuns f n base m j a b = (i : ℕ) → m < i → i ≤ m + j → IsLevelRun f n (base + i) a b
 
 -- one turn back
-came : (f : ℕ → ℕ) (n k a b q : ℕ) → IsRun f n k a b → a ≤ q → q < b → (base m p : ℕ) → base + suc m ≡ k → Comes f n base (suc m) p q
+came : (f : ℕ → ℕ) (n k a b q : ℕ) → IsLevelRun f n k a b → a ≤ q → q < b → (base m p : ℕ) → base + suc m ≡ k → Comes f n base (suc m) p q
     → Comes f n base m p (a + b - suc q)
 came f n k a b q run from to base m p e (r, c, inl still) =
     let high = run.high q from to in let low = still.0 in let e' = ap f still.1 in absurd (omega arith)
 came f n k a b q run from to base m p e (r, c, inr t) =
     let t_from = t.from in let t_to = t.to in let image = t.image in
-    let t_run : IsRun f n k t.a t.b = subst (λ (l : ℕ). IsRun f n l t.a t.b) e t.run in
+    let t_run : IsLevelRun f n k t.a t.b = subst (λ (l : ℕ). IsLevelRun f n l t.a t.b) e t.run in
     let one = same_run f n k a b t.a t.b q run t_run from to (omega arith) (omega arith) in
     let e1 = one.0 in let e2 = one.1 in
     Comes-equal f n base p refl (omega arith) c
@@ -143,7 +143,7 @@ across f n base m (suc j) p q r a b runs from to turn =
     let before : IsTurnedBy j a b q s = record { even = λ e. omega arith; odd = λ e. omega arith } in
     let below = across f n base m j p q s a b (λ i more less. runs i more (omega arith)) from to before in
     let all : suc (j + m) ≡ suc j + m = omega arith in
-    let run : IsRun f n (base + suc (j + m)) a b = runs (suc (j + m)) (omega arith) (omega arith) in (
+    let run : IsLevelRun f n (base + suc (j + m)) a b = runs (suc (j + m)) (omega arith) (omega arith) in (
       λ c. Comes-equal f n base p all refl (s, below.0 c, inr (record { a = a; b = b; run = run; from = omega arith; to = omega arith; image = omega arith })),
       λ c. below.1 (came f n (base + suc (j + m)) a b r run r_from r_to base (j + m) p refl (Comes-equal f n base p (sym all) refl c)),
     )

@@ -10,7 +10,7 @@ abbrev pub BeginsLow : (ℕ → ℕ) → ℕ → ℕ → Type 0
 BeginsLow level k a = (q : ℕ) → suc q ≡ a → level q < k
 
 -- from a to b - 1 stands a maximal run, among n places, of levels of at least k
-pub record IsRun (level : ℕ → ℕ) (n k a b : ℕ) : Type 0 where
+pub record IsLevelRun (level : ℕ → ℕ) (n k a b : ℕ) : Type 0 where
   pub order : a < b
   pub within : b ≤ n
   pub high : AreHigh level k a b
@@ -18,17 +18,17 @@ pub record IsRun (level : ℕ → ℕ) (n k a b : ℕ) : Type 0 where
   pub after : b < n → level b < k
 
 -- q lies in a maximal run, and r is its image where the run is turned round
-pub record Turns (level : ℕ → ℕ) (n k q r : ℕ) : Type 0 where
+pub record Reverses (level : ℕ → ℕ) (n k q r : ℕ) : Type 0 where
   pub a : ℕ
   pub b : ℕ
-  pub run : IsRun level n k a b
+  pub run : IsLevelRun level n k a b
   pub from : a ≤ q
   pub to : q < b
   pub image : suc (q + r) ≡ a + b
 
 -- a reversal at level k brings what stands at r to q
 abbrev pub Moves : (ℕ → ℕ) → ℕ → ℕ → ℕ → ℕ → Type 0
-Moves level n k q r = ((level q < k) × (r ≡ q)) ⊎ Turns level n k q r
+Moves level n k q r = ((level q < k) × (r ≡ q)) ⊎ Reverses level n k q r
 
 -- what stands at place p of the whole order stands at q after the reversals of the levels above base + m alone
 abbrev pub Comes : (ℕ → ℕ) → ℕ → ℕ → ℕ → ℕ → ℕ → Type 0

@@ -1,6 +1,6 @@
 //! Maximal runs of indexes at a level or above, which rule L2 of UAX 9 reverses.
 ghost use Rattle.std.specs.Prelude.{◌≡◌, ◌+◌, ◌-◌, ◌<◌, ◌≤◌, ◌%◌, ◌==◌, if◌then◌else◌, length, slice_index};
-ghost use Rattle.rd_order.specs.Places.{IsRun, AreHigh};
+ghost use Rattle.rd_order.specs.Places.{IsLevelRun, AreHigh};
 
 /// A run that L2 reverses: the indexes from `start` to `end - 1`, none of which has a level below `lowest`.
 #[derive(Clone, Copy)]
@@ -30,7 +30,7 @@ impl ReversedRun {
 pub fn l2_run_around(levels: &[u8], level: u8, place: usize) -> ReversedRun
     requires place { place < length levels.now }
     requires level { level ≤ slice_index levels.now place }
-    ensures run { IsRun (slice_index levels.now) (length levels.now) level result.start result.end }
+    ensures run { IsLevelRun (slice_index levels.now) (length levels.now) level result.start result.end }
     ensures lowest { AreHigh (slice_index levels.now) result.lowest result.start result.end }
     ensures up { level ≤ result.lowest }
     ensures from { result.start ≤ place }

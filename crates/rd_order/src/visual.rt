@@ -73,9 +73,9 @@ fn l2_following(levels: &[u8], base: u8, index: usize) -> Option<usize>
             return None;
         }
         let run = l2_run_around(levels, level, place);
-        let outer = highest_beside(levels, base, &run);
-        place = run.turned(place, level - outer);
-        level = outer;
+        let beside_run = highest_beside(levels, base, &run);
+        place = run.turned(place, level - beside_run);
+        level = beside_run;
     }
 }
 

@@ -25,7 +25,7 @@ use Rattle.rd_tree.specs.declared.placed.Placed.{Placed}
 use Rattle.rd_window.specs.Views.{WindowView}
 use Rattle.rd_layout.specs.Screens.{frame_in, pane_at}
 use Rattle.rd_layout.specs.Windows.{view_in}
-use Rattle.rd_paint.specs.Laws.{TurnLaws}
+use Rattle.rd_paint.specs.Laws.{PaintLaws}
 use Rattle.rd_paint.specs.Shown.{AreShown, IsLeaf, IsViewOf, of_classes, pane_in}
 use Rattle.rd_paint.proofs.Leaves.{view-at}
 use Rattle.rd_paint.proofs.Panes.{pane-here}
@@ -40,11 +40,11 @@ pub all-painted : (f : FrameValues) (i : ℕ) (first rows : List (List Cell)) �
 all-painted f i first rows end h = h ∙ ap (λ (ps : List Placed). painted (rows_of f) ps rows) (drop_all i (placed f.tree.windows (frame_of f.tree)) end)
 
 -- the turn of the window at a place of the leaf order
-pub turn-here : TurnLaws → (s : StateValue) → IsValid s → (i : ℕ) (place : Placed) (w : WindowState) (content : BufferValue) → IsLeaf s i place w content → (rows : List (List Cell)) → HasSize s.tree.width (s.tree.height + 1) rows
+pub turn-here : PaintLaws → (s : StateValue) → IsValid s → (i : ℕ) (place : Placed) (w : WindowState) (content : BufferValue) → IsLeaf s i place w content → (rows : List (List Cell)) → HasSize s.tree.width (s.tree.height + 1) rows
     → (files : Data) → IsPaintedNext (frame_in files s) i place rows
 turn-here laws s valid i place w content leaf rows size files = laws.turn (frame_in files s) i place.number place rows (laws.fits files s valid) size leaf.placed leaf.listed
 
-module _ (laws : TurnLaws) (s : StateValue) (valid : IsValid s) (classes : List Span) (views : List WindowView) (i : ℕ) (place : Placed) (w : WindowState) (content : BufferValue) (leaf : IsLeaf s i place w content) (v : WindowView)
+module _ (laws : PaintLaws) (s : StateValue) (valid : IsValid s) (classes : List Span) (views : List WindowView) (i : ℕ) (place : Placed) (w : WindowState) (content : BufferValue) (leaf : IsLeaf s i place w content) (v : WindowView)
     (at : slice_get views i ≡ Some v) (rows : List (List Cell)) (size : HasSize s.tree.width (s.tree.height + 1) rows) where
   -- the view of the window
   view-is : (files : Data) → AreShown files classes s views → v ≡ view_in files s w place

@@ -24,7 +24,7 @@ abbrev pub ListedLaw : Type 0
 ListedLaw = (s : props.BufferValue) → s.text.begin ≤ s.text.end → AreListed s
 
 -- of a window that is painted in its turn
-pub record TurnLaws : Type 0 where
+pub record PaintLaws : Type 0 where
   pub listed : ListedLaw
   pub fits : (files : Data) (s : StateValue) → IsValid s → FitsFrame (frame_in files s)
   pub turn : (f : FrameValues) (i number : ℕ) (window : Placed) (rows : List (List Cell)) → FitsFrame f → HasSize f.tree.width (f.tree.height + 1) rows → window_at number f.tree.windows (frame_of f.tree) ≡ Some window

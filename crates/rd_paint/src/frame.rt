@@ -9,7 +9,7 @@ ghost use Rattle.rd_tree.specs.Compositions.{HasSize};
 ghost use Rattle.rd_ucd.specs.Data.{Data};
 ghost use Rattle.rd_paint.specs.Shown.{AreShown};
 
-use crate::laws::turn_laws;
+use crate::laws::paint_laws;
 use crate::leaf::leaf_at;
 use crate::pane::paint_leaf;
 use rd_base::{Face, Memory};
@@ -64,7 +64,7 @@ fn paint_windows(
     ensures painted { OnOk result ((files : Data) → AreShown files classes.now state.now windows.now → screen.new ≡ record screen.old { rows = painted (rows_of (frame_in files state.now)) (places state.now) screen.old.rows }) }
 {
     state.states_are_valid();
-    turn_laws();
+    paint_laws();
     for (i, shown) in windows.iter().enumerate() {
         let leaf = leaf_at(state, i as u32);
         paint_leaf(screen, alloc, classes, state.objects(), &leaf, shown)?;

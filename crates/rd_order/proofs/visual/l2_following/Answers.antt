@@ -31,27 +31,27 @@ loop-beside-preserved c =
     let inv = c.loop-beside.invariant in
     let run = c.l2_run_around-run.result in
     let facts = c.l2_run_around-run.ensures in
-    let outer = c.highest_beside-outer.result in
-    let beside_it = c.highest_beside-outer.ensures in
-    let turn = turned_by (c.loop-beside.level - outer) run.start run.end c.loop-beside.place c.turned-place.result facts.from facts.to c.turned-place.ensures in
+    let beside_run = c.highest_beside-beside_run.result in
+    let beside_it = c.highest_beside-beside_run.ensures in
+    let turn = turned_by (c.loop-beside.level - beside_run) run.start run.end c.loop-beside.place c.turned-place.result facts.from facts.to c.turned-place.ensures in
     let from = turn.1 in
     let to = turn.2 in
     let within = facts.run.within in
     let base = inv.base in
-    let fall : outer < c.loop-beside.level = elim beside_it.known [
+    let fall : beside_run < c.loop-beside.level = elim beside_it.known [
       | inl same ↦ omega arith
       | inr rest ↦ elim rest [
         | inl before ↦ let low = facts.run.before before.0 before.1 in let e = before.2 in omega arith
         | inr after ↦ let low = facts.run.after after.0 in let e = after.1 in omega arith
       ]
     ] in
-    let before : BeginsLow (slice_index c.args.levels.now) (outer + 1) run.start = λ q e. let h = beside_it.before q e in omega arith in
+    let before : BeginsLow (slice_index c.args.levels.now) (beside_run + 1) run.start = λ q e. let h = beside_it.before q e in omega arith in
     let up = beside_it.base in
-    let back : IsTurnedBy (c.loop-beside.level - outer) run.start run.end c.turned-place.result c.loop-beside.place = record { even = λ e. sym (turn.0.even e); odd = λ e. let h = turn.0.odd e in omega (arith, h) } in
+    let back : IsTurnedBy (c.loop-beside.level - beside_run) run.start run.end c.turned-place.result c.loop-beside.place = record { even = λ e. sym (turn.0.even e); odd = λ e. let h = turn.0.odd e in omega (arith, h) } in
     record {
       base = up;
       place = omega arith;
       high = λ _. let h = facts.run.high c.turned-place.result from to in omega arith;
-      comes = λ p at. (between (slice_index c.args.levels.now) (length c.args.levels.now) c.args.base outer c.loop-beside.level run.start run.end p
+      comes = λ p at. (between (slice_index c.args.levels.now) (length c.args.levels.now) c.args.base beside_run c.loop-beside.level run.start run.end p
           c.turned-place.result c.loop-beside.place up fall facts.run.order facts.run.within facts.run.high before (λ less. let h = beside_it.after less in omega arith) from to back).1 (inv.comes p at);
     }

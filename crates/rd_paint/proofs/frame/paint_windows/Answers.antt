@@ -33,7 +33,7 @@ viewed c = slice_get-get_or c.args.windows.now c.loop-i.i c.index-windows-i.resu
 turned : (c : goal.After-leaf_at-leaf) (files : Data) → IsPaintedNext (frame_in files c.args.state.now) c.loop-i.i c.leaf_at-leaf.result.place c.loop-i.screen.rows
 turned c =
     let leaf = c.leaf_at-leaf.result in
-    turn-here c.turn_laws.ensures c.args.state.now c.states_are_valid.ensures c.loop-i.i leaf.place leaf.window.now leaf.content c.leaf_at-leaf.ensures c.loop-i.screen.rows c.loop-i.invariant.size
+    turn-here c.paint_laws.ensures c.args.state.now c.states_are_valid.ensures c.loop-i.i leaf.place leaf.window.now leaf.content c.leaf_at-leaf.ensures c.loop-i.screen.rows c.loop-i.invariant.size
 
 pub paint_leaf-requires-clause-stands : goal.paint_leaf-requires-clause-stands
 paint_leaf-requires-clause-stands c = (turned (goal.at.paint_leaf-requires-clause-stands c).After-leaf_at-leaf c.requires.shown.0).stands
@@ -44,14 +44,14 @@ paint_leaf-requires-clause-fits c =
     let v = c.index-windows-i.result in
     let at = viewed (goal.at.paint_leaf-requires-clause-fits c).After-leaf_at-leaf in
     subst (λ (o : ObjectLists). FitsWindow (width_of c.loop-i.screen.rows) (pane_in (of_classes c.args.classes.now) o leaf.content leaf.window.now leaf.place.rect.width v) leaf.place) (sym c.objects.ensures)
-    (fits-here c.turn_laws.ensures c.args.state.now c.states_are_valid.ensures c.args.classes.now c.args.windows.now c.loop-i.i leaf.place leaf.window.now leaf.content c.leaf_at-leaf.ensures v at c.loop-i.screen.rows
+    (fits-here c.paint_laws.ensures c.args.state.now c.states_are_valid.ensures c.args.classes.now c.args.windows.now c.loop-i.i leaf.place leaf.window.now leaf.content c.leaf_at-leaf.ensures v at c.loop-i.screen.rows
     c.loop-i.invariant.size c.requires.shown.0 c.requires.shown.1)
 
 pub paint_leaf-requires-clause-view : goal.paint_leaf-requires-clause-view
 paint_leaf-requires-clause-view c =
     let leaf = c.leaf_at-leaf.result in
     let at = viewed (goal.at.paint_leaf-requires-clause-view c).After-leaf_at-leaf in
-    view-here c.turn_laws.ensures c.args.state.now c.states_are_valid.ensures c.args.classes.now c.args.windows.now c.loop-i.i leaf.place leaf.window.now leaf.content c.leaf_at-leaf.ensures c.index-windows-i.result at
+    view-here c.paint_laws.ensures c.args.state.now c.states_are_valid.ensures c.args.classes.now c.args.windows.now c.loop-i.i leaf.place leaf.window.now leaf.content c.leaf_at-leaf.ensures c.index-windows-i.result at
     c.loop-i.screen.rows c.loop-i.invariant.size c.requires.shown.0 c.requires.shown.1
 
 pub loop-i-preserved : goal.loop-i-preserved
@@ -63,7 +63,7 @@ loop-i-preserved c =
     let here = (goal.at.loop-i-preserved c).After-leaf_at-leaf in
     let painted = c.in_ok-paint_leaf.ensures.painted in
     let rows : (files : Data) → AreShown files c.args.classes.now s c.args.windows.now → new.rows ≡ with_window (frame_in files s) leaf.place old.rows = λ files shown.
-    rows-here c.turn_laws.ensures s c.states_are_valid.ensures c.args.classes.now c.args.windows.now c.loop-i.i leaf.place leaf.window.now leaf.content c.leaf_at-leaf.ensures c.index-windows-i.result (viewed here) old.rows
+    rows-here c.paint_laws.ensures s c.states_are_valid.ensures c.args.classes.now c.args.windows.now c.loop-i.i leaf.place leaf.window.now leaf.content c.leaf_at-leaf.ensures c.index-windows-i.result (viewed here) old.rows
     c.loop-i.invariant.size files shown c.objects.result.now c.objects.ensures new.rows (ap (λ (p : Picture). p.rows) painted) in
     record {
       size = subst (HasSize s.tree.width (s.tree.height + 1)) (sym (rows c.requires.shown.0 c.requires.shown.1)) (turned here c.requires.shown.0).size;

@@ -1,4 +1,4 @@
-use Rattle.rd_paint.proofs.laws.turn_laws.Goals as goal
+use Rattle.rd_paint.proofs.laws.paint_laws.Goals as goal
 
 pub returns : goal.returns
 returns c = record {
