@@ -22,7 +22,8 @@ pub block_before-requires : goal.block_before-requires
 block_before-requires c =
     let b = c.args.block.now in
     let block = subst (λ (w : View). IsBlock (meaning w.state.now) b.start b.end) (sym c.self.view_is) c.stands.ensures.block in
-    newline-before (meaning c.self.inside.view.state.now) b.start b.end block (λ h. c.if-end-begin.false (h ∙ sym c.begin.ensures.value))
+    let shown = newline-before (meaning c.self.inside.view.state.now) b.start b.end block (λ h. c.if-end-begin.false (h ∙ sym c.begin.ensures.value)) in
+    record { first = shown.0; last = shown.1; newline = shown.2 }
 
 pub returns-clause-prev : goal.returns-clause-prev
 returns-clause-prev c =

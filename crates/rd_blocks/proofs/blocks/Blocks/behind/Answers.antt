@@ -26,7 +26,8 @@ block_from-requires c =
     let block = subst (λ (w : View). IsBlock (meaning w.state.now) b.start b.end) (sym c.self.view_is) c.stands.ensures.block in
     let value = c.end.ensures.value in
     let within = c.if-end-start.false in
-    starts-behind (meaning c.self.inside.view.state.now) b.start b.end block (omega (arith, value, within))
+    let starts = starts-behind (meaning c.self.inside.view.state.now) b.start b.end block (omega (arith, value, within)) in
+    record { accessible = starts.0; start = starts.1 }
 
 pub returns-clause-next : goal.returns-clause-next
 returns-clause-next c =
