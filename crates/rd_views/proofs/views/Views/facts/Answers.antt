@@ -1,4 +1,6 @@
 use Rattle.std.proofs.Common.{◌≡◌, Some, None, subst, sym, ap, ◌∙◌}
+use Rattle.std.proofs.lemmas.Option.{none-some}
+use Rattle.rd_state.proofs.Leaves.{placed-window}
 use Rattle.rd_state.specs.Valid.{IsValid}
 use Rattle.rd_state.specs.Windows.{window_of}
 use Rattle.rd_layout.specs.Facts.{cursor_since, fact_of}
@@ -17,6 +19,16 @@ returns-in_err-place-clause-told c =
     let none : c.from_residual.result ≡ None = cc in
     let v = c.args.self.now in
     none ∙ sym (none-shown v.state (valid here) (fact_of v) c.args.i (sym c.in_err-place.ensures.place))
+
+-- a window that has a place lives
+pub returns-in_err-window-clause-told : goal.returns-in_err-window-clause-told
+returns-in_err-window-clause-told c =
+    let v = c.args.self.now in
+    let place = c.in_ok-place.place in
+    let here = (goal.at.returns-in_err-window-clause-told c).After-states_are_valid in
+    let lives = placed-window v.state place.number place (valid here) c.in_ok-place.ensures.found in
+    let none = subst (λ (v : SessionValue). window_of place.number v.state.windows ≡ None) c.self.view_is (sym c.in_err-window.ensures) in
+    absurd (none-some lives.0 (sym none ∙ lives.1))
 
 pub returns-clause-told : goal.returns-clause-told
 returns-clause-told c =
