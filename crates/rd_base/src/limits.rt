@@ -51,6 +51,12 @@ pub const INVISIBLE_ATOMS: u32 = 256;
 /// The greatest priority of an overlay; the least is as far below 0.
 pub const PRIORITY: i32 = 1_000_000;
 
+/// The greatest explicit level of a character: `max_depth` of UAX 9 (BD2).
+pub const MAX_DEPTH: u8 = 125;
+
+/// Entries of the stack of the explicit levels: two more than `MAX_DEPTH` (UAX 9, X1).
+pub const STACK_ENTRIES: usize = 127;
+
 /// Windows that live at one time.
 pub const WINDOWS: u32 = 64;
 

@@ -2,6 +2,7 @@
 use Rattle.std.proofs.Common.{◌≡◌, ℕ, ◌+◌, ◌<◌, ◌≤◌, List, ◌∷◌, ◌++◌, length, take, drop, set, map, slice_get, Some, All, refl, ap, sym, ◌∙◌, arith}
 use Rattle.std.proofs.lemmas.List.{take_more_set}
 use Rattle.std.proofs.lemmas.List.Elements.{All-push}
+use Rattle.rd_base.specs.declared.limits.TheConstants.{MAX_DEPTH}
 use Rattle.rd_base.specs.declared.class.Class.{Class}
 use Rattle.rd_explicit.specs.declared.state.State.{State}
 use Rattle.rd_explicit.specs.declared.state.Given.{Given}
@@ -24,5 +25,5 @@ module _ (base : ℕ) (s t : State) (cs : List Class) (i : ℕ) (c : Class) (g :
       (ap (λ gs. take i xs ++ map f gs) (sym step-is) ∙ before)
 
 -- a level of at most max_depth is added to such levels
-pub low-step : (ls : List ℕ) (i v : ℕ) → i < length ls → All (λ l. l ≤ 125) (take i ls) → v ≤ 125 → All (λ l. l ≤ 125) (take (i + 1) (set ls i v))
-low-step ls i v within all low = rw (take_more_set ls i v within) (All-push (λ l. l ≤ 125) (take i ls) v all low)
+pub low-step : (ls : List ℕ) (i v : ℕ) → i < length ls → All (λ l. l ≤ MAX_DEPTH) (take i ls) → v ≤ MAX_DEPTH → All (λ l. l ≤ MAX_DEPTH) (take (i + 1) (set ls i v))
+low-step ls i v within all low = rw (take_more_set ls i v within) (All-push (λ l. l ≤ MAX_DEPTH) (take i ls) v all low)

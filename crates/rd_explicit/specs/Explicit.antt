@@ -3,6 +3,7 @@ use Rattle.std.specs.Prelude.{ℕ, ◌+◌, ◌-◌, ◌%◌, ◌==◌, ◌<◌,
 use Rattle.rd_base.specs.Classes.{is_removed, first_strong}
 use Rattle.rd_base.specs.declared.class.Class.{Class}
 use Rattle.rd_base.specs.declared.class.Class.TheVariants.{L, R, B, LRE, LRO, RLE, RLO, PDF, LRI, RLI, FSI, PDI}
+use Rattle.rd_base.specs.declared.limits.TheConstants.{MAX_DEPTH}
 use Rattle.rd_explicit.specs.Isolates.{content}
 use Rattle.rd_explicit.specs.declared.stack.DirectionalStatus.{DirectionalStatus}
 use Rattle.rd_explicit.specs.declared.state.State.{State}
@@ -21,9 +22,9 @@ x1_start base = record { stack = record { level = base; direction = None; isolat
 abbrev pub level_above : ℕ → ℕ → ℕ
 level_above parity level = if level % 2 == parity then level + 2 else level + 1
 
--- at most max_depth (BD2), and nothing has overflowed
+-- at most MAX_DEPTH (BD2), and nothing has overflowed
 abbrev pub is_valid : ℕ → State → Bool
-is_valid level s = nat_le level 125 && (s.overflow_isolates == 0 && s.overflow_embeddings == 0)
+is_valid level s = nat_le level MAX_DEPTH && (s.overflow_isolates == 0 && s.overflow_embeddings == 0)
 
 -- for X2 to X5, an embedding, or an override, at a level
 abbrev pub x2_to_x5_embed : ℕ → Option Class → State → State
@@ -145,8 +146,8 @@ explicit_from base s [] = []
 explicit_from base s (c ∷ cs) = given base s c cs ∷ explicit_from base (after s c cs) cs
 
 -- X1 to X8 over a line
-abbrev pub explicit_of : ℕ → List Class → List Given
-explicit_of base cs = explicit_from base (x1_start base) cs
+abbrev pub explicit : ℕ → List Class → List Given
+explicit base cs = explicit_from base (x1_start base) cs
 
 abbrev pub levels_of : List Given → List ℕ
 levels_of gs = map (λ g. g.level) gs
@@ -154,10 +155,10 @@ levels_of gs = map (λ g. g.level) gs
 abbrev pub types_of : List Given → List Class
 types_of gs = map (λ g. g.class) gs
 
--- what keeps a stack within its bounds: an entry's level is at least the number of entries below it, and at most max_depth
+-- what keeps a stack within its bounds: an entry's level is at least the number of entries below it, and at most MAX_DEPTH
 abbrev pub Rises : List DirectionalStatus → Type 0
 Rises [] = Unit {0}
-Rises (e ∷ es) = (length es ≤ e.level) × (e.level ≤ 125) × Rises es
+Rises (e ∷ es) = (length es ≤ e.level) × (e.level ≤ MAX_DEPTH) × Rises es
 
 -- each counter is at most n
 pub record IsCounted (n : ℕ) (s : State) : Type 0 where

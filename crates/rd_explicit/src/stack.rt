@@ -3,6 +3,7 @@ ghost use Rattle.std.specs.Prelude.{◌≡◌, ◌<◌, ◌≤◌, ◌∷◌, []
 ghost use Rattle.rd_explicit.specs.Explicit.{top, x6a_below_isolate, x7_below_embedding};
 
 use rd_base::Class;
+use rd_base::limits::STACK_ENTRIES;
 use std::marker::Model;
 
 /// An entry of the stack: a level with the type that an override gives, where there is one, and whether an isolate made the entry.
@@ -16,19 +17,20 @@ pub struct DirectionalStatus {
 /// The stack, in the room of a fixed array. Contracts see the list of its entries, the last one first.
 #[derive(Drop)]
 pub struct Stack {
-    entries: [DirectionalStatus; 127],
+    entries: [DirectionalStatus; STACK_ENTRIES],
     depth: usize,
 }
 
 impl Model for Stack {
     ghost use Rattle.std.specs.Prelude.{◌≡◌, ◌<◌, ◌≤◌, List, length, take, reverse};
+    ghost use Rattle.rd_base.specs.declared.limits.TheConstants.{STACK_ENTRIES};
     ghost use Rattle.rd_explicit.specs.declared.stack.DirectionalStatus.{DirectionalStatus};
 
     ghost Value = { List DirectionalStatus };
 
     ghost view = { λ s. reverse (take s.depth s.entries) };
 
-    ghost invariant = { λ s. (0 < s.depth) × (s.depth ≤ 127) × (length s.entries ≡ 127) };
+    ghost invariant = { λ s. (0 < s.depth) × (s.depth ≤ STACK_ENTRIES) × (length s.entries ≡ STACK_ENTRIES) };
 }
 
 impl Stack {
@@ -37,7 +39,7 @@ impl Stack {
         ensures { result ≡ entry ∷ [] }
     {
         Stack {
-            entries: [entry; 127],
+            entries: [entry; STACK_ENTRIES],
             depth: 1,
         }
     }
@@ -59,7 +61,7 @@ impl Stack {
 
     /// Adds an entry.
     pub fn push(&mut self, entry: DirectionalStatus)
-        requires { length self.old < 127 }
+        requires { length self.old < STACK_ENTRIES }
         ensures { self.new ≡ entry ∷ self.old }
     {
         self.entries[self.depth] = entry;

@@ -6,6 +6,7 @@ ghost use Rattle.rd_explicit.specs.Explicit.{x1_start, top, level_above, is_vali
 use crate::isolate::x5c_starts_right;
 use crate::stack::{DirectionalStatus, Stack};
 use rd_base::Class;
+use rd_base::limits::MAX_DEPTH;
 
 /// The level and the type that the explicit rules give a character.
 #[derive(Clone, Copy)]
@@ -51,7 +52,7 @@ impl State {
         ensures state { self.new ≡ (if is_valid level self.old then record self.old { stack = record { level = level; direction = direction; isolate = isolate } ∷ self.old.stack } else self.old) }
         ensures rises { Rises self.new.stack }
     {
-        if level > 125 || self.overflow_isolates > 0 || self.overflow_embeddings > 0 {
+        if level > MAX_DEPTH || self.overflow_isolates > 0 || self.overflow_embeddings > 0 {
             return false;
         }
         self.stack.push(DirectionalStatus {
@@ -142,7 +143,7 @@ impl State {
         requires short { length rest.now < 2 ^ 32 }
         requires ready { IsReady 4294967294 self.old }
         ensures given { result ≡ given base self.old class rest.now }
-        ensures low { base ≤ 1 → result.level ≤ 125 }
+        ensures low { base ≤ 1 → result.level ≤ MAX_DEPTH }
         ensures state { self.new ≡ after self.old class rest.now }
         ensures leaves { GoesOn self.old self.new }
     {
@@ -179,7 +180,7 @@ impl State {
 
 /// The least level of a parity, 1 for odd and 0 for even, above another (X2 to X5c).
 fn level_above(parity: u8, level: u8) -> u8
-    requires { level ≤ 125 }
+    requires { level ≤ MAX_DEPTH }
     ensures value { result ≡ level_above parity level }
     ensures above { level < result }
 {

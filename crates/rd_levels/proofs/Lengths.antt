@@ -7,7 +7,7 @@ use Rattle.rd_base.specs.Classes.{is_removed}
 use Rattle.rd_base.specs.declared.class.Class.{Class}
 use Rattle.rd_base.specs.declared.class.Class.TheVariants.{B}
 use Rattle.rd_base.specs.declared.line.Seq.{Seq}
-use Rattle.rd_explicit.specs.Explicit.{explicit_from, explicit_of, levels_of, types_of, after, x1_start}
+use Rattle.rd_explicit.specs.Explicit.{explicit_from, explicit, levels_of, types_of, after, x1_start}
 use Rattle.rd_explicit.specs.declared.state.State.{State}
 use Rattle.rd_explicit.specs.declared.state.Given.{Given}
 use Rattle.rd_explicit.specs.Sequences.{sequences_of}
@@ -64,13 +64,13 @@ ended-length cs = length-append cs (B ∷ []) ∙ omega arith
 module _ (entries : List BracketEntry) (base : ℕ) where
   abbrev levels-before : List Class → List ℕ → List ℕ
   levels-before cs codes =
-      let ts = types_of (explicit_of base cs) in
-      let ls = levels_of (explicit_of base cs) in
+      let ts = types_of (explicit base cs) in
+      let ls = levels_of (explicit base cs) in
       kept base cs (i1_i2 (x10_resolved entries cs codes ls (sequences_of base cs ls) ts) ls)
 
   before-length : (cs : List Class) (codes : List ℕ) → length (levels-before cs codes) ≡ length cs
   before-length cs codes =
-      let gs = explicit_of base cs in
+      let gs = explicit base cs in
       let ts = types_of gs in
       let ls = levels_of gs in
       let found = sequences_of base cs ls in

@@ -5,7 +5,7 @@ use Rattle.rd_base.specs.declared.class.Class.{Class}
 use Rattle.rd_base.specs.declared.class.Class.TheVariants.{L, EN, ES, ET, CS, NSM, BN, B, S, WS, ON}
 use Rattle.rd_base.specs.declared.line.Seq.{Seq}
 use Rattle.rd_ucd.specs.declared.spans.BracketEntry.{BracketEntry}
-use Rattle.rd_explicit.specs.Explicit.{explicit_of, levels_of, types_of}
+use Rattle.rd_explicit.specs.Explicit.{explicit, levels_of, types_of}
 use Rattle.rd_explicit.specs.Sequences.{sequences_of}
 use Rattle.rd_resolve.specs.Places.{types_at, levels_at, put_at}
 use Rattle.rd_resolve.specs.Weak.{weak_types}
@@ -37,7 +37,7 @@ levels_from entries base cs codes ts levels =
 
 -- the level of each character of a line with a base level, by the brackets and the classes and codes of the characters
 abbrev pub line_levels : List BracketEntry → ℕ → List Class → List ℕ → List ℕ
-line_levels entries base cs codes = levels_from entries base cs codes (types_of (explicit_of base cs)) (levels_of (explicit_of base cs))
+line_levels entries base cs codes = levels_from entries base cs codes (types_of (explicit base cs)) (levels_of (explicit base cs))
 
 -- the classes and codes of a line and its base level: fewer than 2^32 characters, a code for each, and a base of 0 or 1
 pub record IsLine (classes : List Class) (characters : List ℕ) (level : ℕ) : Type 0 where

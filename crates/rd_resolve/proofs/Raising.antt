@@ -4,15 +4,16 @@ use Rattle.std.proofs.lemmas.List.{take_more_set, get_or-drop, append_assoc}
 use Rattle.std.proofs.lemmas.Option.{get_or_from_slice_get}
 use Rattle.rd_base.proofs.Lists.{drop-at}
 use Rattle.rd_base.specs.Classes.{is_removed}
+use Rattle.rd_base.specs.declared.limits.TheConstants.{MAX_DEPTH}
 use Rattle.rd_base.specs.declared.class.Class.{Class}
 use Rattle.rd_resolve.specs.Implicit.{raised, i1_i2, kept}
 
 front : (xs : List ℕ) (i : ℕ) → get_or (drop i xs) 0 0 ≡ get_or xs i 0
 front xs i = get_or-drop i xs 0 0 ∙ ap (λ j. get_or xs j 0) (add-zero i)
 
-pub bounded : (xs ys : List ℕ) (i r : ℕ) → All (λ l. l ≤ 125) ys → drop i xs ≡ drop i ys → i < length ys → slice_get xs i ≡ Some r → r ≤ 125
+pub bounded : (xs ys : List ℕ) (i r : ℕ) → All (λ l. l ≤ MAX_DEPTH) ys → drop i xs ≡ drop i ys → i < length ys → slice_get xs i ≡ Some r → r ≤ MAX_DEPTH
 bounded xs ys i r all same within read =
-    let low : get_or ys i 0 ≤ 125 = all i 0 within in
+    let low : get_or ys i 0 ≤ MAX_DEPTH = all i 0 within in
     let e : r ≡ get_or ys i 0 = sym (get_or_from_slice_get xs i r 0 read) ∙ sym (front xs i) ∙ ap (λ zs. get_or zs 0 0) same ∙ front ys i in
     omega arith
 

@@ -1,5 +1,6 @@
 //! Rules I1 and I2 of UAX 9 over a line, and the levels of what rule X9 took out.
 ghost use Rattle.std.specs.Prelude.{◌≡◌, ◌≤◌, All};
+ghost use Rattle.rd_base.specs.declared.limits.TheConstants.{MAX_DEPTH};
 ghost use Rattle.rd_base.specs.Lines.{KeepsClasses};
 ghost use Rattle.rd_resolve.specs.Implicit.{raised, i1_i2, kept, implicit_levels, i1_even_levels, i2_odd_levels};
 
@@ -8,11 +9,11 @@ use rd_base::{Class, Line};
 
 /// Gives the characters of a line their levels by the types that the rules before made (UAX 9, rules I1 and I2). What rule X9 took out
 /// takes the level of the nearest character before it that stayed, else the base. Then rule L1 sets separators, and white space
-/// before them and at the line's end, to the base, by the classes. No level is above 125 before.
+/// before them and at the line's end, to the base, by the classes. No level is above `MAX_DEPTH` before.
 ///
 /// Two walks; the cost is linear in the line.
 pub fn implicit(line: &mut Line)
-    requires { All (λ l. l ≤ 125) line.old.levels }
+    requires { All (λ l. l ≤ MAX_DEPTH) line.old.levels }
     ensures levels { line.new.levels ≡ implicit_levels line.old.base line.old.classes line.old.types line.old.levels }
     ensures types { line.new.types ≡ line.old.types }
     ensures rest { KeepsClasses line.old line.new }
@@ -23,7 +24,7 @@ pub fn implicit(line: &mut Line)
 
 /// Rules I1 and I2, and the levels of what X9 took out.
 fn raise(line: &mut Line)
-    requires { All (λ l. l ≤ 125) line.old.levels }
+    requires { All (λ l. l ≤ MAX_DEPTH) line.old.levels }
     ensures levels { line.new.levels ≡ kept line.old.base line.old.classes (i1_i2 line.old.types line.old.levels) }
     ensures types { line.new.types ≡ line.old.types }
     ensures rest { KeepsClasses line.old line.new }
@@ -38,7 +39,7 @@ fn raise(line: &mut Line)
 
 /// I1 at an even level, I2 at an odd one.
 fn raised(level: u8, class: Class) -> u8
-    requires { level ≤ 125 }
+    requires { level ≤ MAX_DEPTH }
     ensures { result ≡ raised level class }
 {
     if level % 2 == 0 {
@@ -50,7 +51,7 @@ fn raised(level: u8, class: Class) -> u8
 
 /// I1: at an even level, R goes up one level, and AN and EN go up two.
 fn i1_even_levels(level: u8, class: Class) -> u8
-    requires { level ≤ 125 }
+    requires { level ≤ MAX_DEPTH }
     ensures { result ≡ i1_even_levels level class }
 {
     match class {
@@ -62,7 +63,7 @@ fn i1_even_levels(level: u8, class: Class) -> u8
 
 /// I2: at an odd level, L, EN and AN go up one level.
 fn i2_odd_levels(level: u8, class: Class) -> u8
-    requires { level ≤ 125 }
+    requires { level ≤ MAX_DEPTH }
     ensures { result ≡ i2_odd_levels level class }
 {
     match class {
