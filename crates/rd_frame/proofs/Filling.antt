@@ -8,6 +8,7 @@ use Rattle.rd_base.proofs.Choices.{one-at-most}
 use Rattle.rd_base.specs.declared.cell.Cell.{Cell}
 use Rattle.rd_term.specs.Pictures.{blank, blank_row, width_of, IsOfSize}
 use Rattle.rd_term.proofs.Shapes.{grid-width}
+use Rattle.rd_tree.proofs.Standing.{all_room}
 use Rattle.rd_tree.specs.Calls.{frame_of}
 use Rattle.rd_tree.specs.Compositions.{composed, HasSize, FillTheirRectangles}
 use Rattle.rd_tree.specs.Places.{AllHaveRoom, StandsIn}
@@ -113,11 +114,11 @@ fill-each f [] room fits = tt
 fill-each f (window ∷ windows) room fits = (window-size f.tree.width (f.panes window) window room.0.0 room.0.1 fits.0, fill-each f windows room.1 fits.1)
 
 -- the rows of each window fill its rectangle
-pub frame-filled : (f : FrameValues) → AllHaveRoom (placed f.tree.windows (frame_of f.tree)) → FitsFrame f → FillTheirRectangles (rows_of f) (placed f.tree.windows (frame_of f.tree))
-frame-filled f room fits =
+pub frame-filled : (f : FrameValues) → FitsFrame f → FillTheirRectangles (rows_of f) (placed f.tree.windows (frame_of f.tree))
+frame-filled f fits =
     let windows = placed f.tree.windows (frame_of f.tree) in
     All-from_recursion (λ window. HasSize window.rect.width window.rect.height (rows_of f window)) windows
-    (fill-each f windows room (recursion_from_All (λ window. FitsWindow f.tree.width (f.panes window) window) windows fits.windows))
+    (fill-each f windows (all_room f.tree.windows (frame_of f.tree) fits.room) (recursion_from_All (λ window. FitsWindow f.tree.width (f.panes window) window) windows fits.windows))
 
 first-in-body : (width : ℕ) (window : Placed) → columns_for window.margins ≤ window.rect.width → rows_for window.mode ≤ window.rect.height → IsInBody width window (0, 0)
 first-in-body width window across down = record {

@@ -3,10 +3,10 @@ use Rattle.std.proofs.Common.{◌≡◌, ℕ, zero, suc, ◌+◌, ◌≤◌, Lis
 use Rattle.std.proofs.Math.Seq.{paste}
 use Rattle.std.specs.List.{AllByRecursion}
 use Rattle.std.proofs.lemmas.List.{append-nil, length-drop, drop_all}
-use Rattle.std.proofs.lemmas.List.Edits.{paste_all, paste-paste}
+use Rattle.std.proofs.lemmas.List.Edits.{length-paste, paste_all, paste-paste}
 use Rattle.std.proofs.lemmas.List.Elements.{recursion_from_All}
 use Rattle.std.proofs.lemmas.List.Sums.{fold-append}
-use Rattle.rd_base.proofs.Lists.{all-back, all-front, each-weaker, length-replaced}
+use Rattle.rd_base.proofs.Lists.{all-back, all-front, each-weaker}
 use Rattle.rd_base.specs.Cells.{row_at}
 use Rattle.rd_term.specs.Pictures.{with_cells, written_over}
 use Rattle.rd_tree.specs.declared.placed.Placed.{Placed}
@@ -38,11 +38,7 @@ written-behind column at first second row inside e =
 
 -- the columns of a row that is written over, where the cells have room
 pub written-length : {C : Type 0} (column : ℕ) (cells row : List C) → column + length cells ≤ length row → length (written_over column cells row) ≡ length row
-written-length column cells row room = length-replaced column (column + length cells) cells row ∙ omega arith
-
--- it gets no shorter
-pub written-at_least : {C : Type 0} (n column : ℕ) (cells row : List C) → n ≤ length row → n ≤ length (written_over column cells row)
-written-at_least n column cells row h = omega (arith, length-replaced column (column + length cells) cells row)
+written-length column cells row room = ap length (pasted column cells row) ∙ length-paste row column cells (length cells) room (omega arith)
 
 -- a whole row is written anew
 pub written-whole : {C : Type 0} (cells row : List C) → length row ≡ length cells → written_over 0 cells row ≡ cells
@@ -173,12 +169,15 @@ painted-composed rows_of (Split side size first second) rect rows h f wide =
     let a = first_part side size rect in
     let b = second_part side size rect in
     let within = parts_within side size first second rect h in
-    let laid = laid_at a.y a.x (composed rows_of first a) rows in
+    let news = composed rows_of first a in
+    let laid = laid_at a.y a.x news rows in
+    let fills = all-front (FillsItsRectangle rows_of) _ _ f in
+    let sized = recursion_from_All (λ new. length new ≡ a.width) news (composed-size rows_of first a h.0 fills).1 in
     fold-append _ rows (placed first a) (placed second b)
-    ∙ (ap (painted rows_of (placed second b)) (painted-composed rows_of first a rows h.0 (all-front (FillsItsRectangle rows_of) _ _ f) (narrower (rect.x + rect.width) (a.x + a.width) rows within.0.1 wide))
+    ∙ (ap (painted rows_of (placed second b)) (painted-composed rows_of first a rows h.0 fills (narrower (rect.x + rect.width) (a.x + a.width) rows within.0.1 wide))
     ∙ (painted-composed rows_of second b laid h.1 (all-back (FillsItsRectangle rows_of) _ _ f)
-    (at-each (λ row. b.x + b.width ≤ length row) (λ new. Unit {0}) a.x (λ new row any n. written-at_least (b.x + b.width) a.x new row n) a.y (composed rows_of first a) rows
-    (recursion_from_All (λ new. Unit {0}) (composed rows_of first a) (λ k d inside. tt)) (narrower (rect.x + rect.width) (b.x + b.width) rows within.1.1 wide))
+    (narrower (rect.x + rect.width) (b.x + b.width) laid within.1.1
+    (at-each (λ row. rect.x + rect.width ≤ length row) (λ new. length new ≡ a.width) a.x (λ new row n m. omega (arith, m, written-length a.x new row (omega (arith, n, m, within.0.1)))) a.y news rows sized wide))
     ∙ parts-laid rows_of side size first second rect rows h f (narrower (rect.x + rect.width) rect.x rows (omega arith) wide)))
 
 -- ---- a whole screen

@@ -6,10 +6,11 @@ use Rattle.std.proofs.lemmas.Option.{get_or_from_slice_get, slice_get_within}
 use Rattle.std.proofs.lemmas.List.Elements.{recursion_from_All, All-from_recursion}
 use Rattle.rd_base.specs.declared.cell.Cell.{Cell}
 use Rattle.rd_term.specs.Pictures.{width_of}
+use Rattle.rd_tree.proofs.Standing.{stands_in}
 use Rattle.rd_tree.specs.Calls.{frame, frame_of}
 use Rattle.rd_tree.specs.Compositions.{HasSize}
 use Rattle.rd_tree.specs.Places.{StandsIn}
-use Rattle.rd_tree.specs.Windows.{placed}
+use Rattle.rd_tree.specs.Windows.{placed, window_at}
 use Rattle.rd_tree.specs.declared.placed.Placed.{Placed}
 use Rattle.rd_frame.specs.Fits.{FitsWindow, FitsFrame, StandsOn}
 use Rattle.rd_frame.specs.Frames.{FrameValues, rows_of}
@@ -33,8 +34,9 @@ size-kept width height columns count y column news rows size new room = (
       (recursion_from_All (λ row. length row ≡ columns) news new.1) (recursion_from_All (λ row. length row ≡ width) rows size.1)),
 )
 
-pub painted-turn : (f : FrameValues) (i : ℕ) (window : Placed) (rows : List (List Cell)) → FitsFrame f → HasSize f.tree.width (f.tree.height + 1) rows → StandsIn window (frame_of f.tree) → slice_get (placed f.tree.windows (frame_of f.tree)) i ≡ Some window → IsPaintedNext f i window rows
-painted-turn f i window rows frame size stands here =
+pub painted-turn : (f : FrameValues) (i number : ℕ) (window : Placed) (rows : List (List Cell)) → FitsFrame f → HasSize f.tree.width (f.tree.height + 1) rows → window_at number f.tree.windows (frame_of f.tree) ≡ Some window → slice_get (placed f.tree.windows (frame_of f.tree)) i ≡ Some window → IsPaintedNext f i window rows
+painted-turn f i number window rows frame size found here =
+    let stands = stands_in number f.tree.windows (frame_of f.tree) window frame.room found in
     let windows = placed f.tree.windows (frame_of f.tree) in
     let inside = slice_get_within windows i window here in
     let there = get_or_from_slice_get windows i window window here in

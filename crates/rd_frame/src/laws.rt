@@ -20,8 +20,6 @@ ghost use Rattle.rd_frame.specs.Fits.{FitsWindow, FitsFrame, EachPart, IsWholeFr
 ghost use Rattle.rd_frame.specs.Paints.{with_rectangle, painted, with_echo};
 ghost use Rattle.rd_frame.specs.Turns.{IsPaintedNext};
 
-use rd_tree::{frames_are_composed, windows_tile_their_rectangle};
-
 /// The rows of a window fill its rectangle, where what it shows has the rectangle's sizes. In each row each glyph stands whole where
 /// each does in the parts, and each colour is in its range where each is in the parts. The call does nothing.
 pub fn windows_fill_their_rectangles()
@@ -44,10 +42,7 @@ pub fn frames_are_pictures()
     ensures size { (f : FrameValues) → FitsFrame f → IsOfSize f.tree.width (f.tree.height + 1) (frame_picture f) }
     ensures whole { (f : FrameValues) → FitsFrame f → IsWholeFrame f → IsWellFormed (frame_picture f) }
     ensures coloured { (f : FrameValues) → IsColouredFrame f → AreColoured (frame_rows f) }
-{
-    frames_are_composed();
-    windows_tile_their_rectangle();
-}
+{}
 
 /// Windows that are painted one after the other, in their order, over the rows of a screen show there what they compose. Where they
 /// fill all of its rows but the last, and the echo area is painted too, the screen is that of the frame, whatever it was before. The
@@ -55,17 +50,13 @@ pub fn frames_are_pictures()
 pub fn windows_are_painted_in_order()
     ensures composed { (rows_of : Placed → List (List Cell)) (windows : Windows) (rect : Rect) (width : ℕ) (rows : List (List Cell)) → HasRoom windows rect → FillTheirRectangles rows_of (placed windows rect) → IsGrid width rows → rect.x + rect.width ≤ width → painted rows_of (placed windows rect) rows ≡ with_rectangle rect (composed rows_of windows rect) rows }
     ensures rows { (f : FrameValues) (rows : List (List Cell)) → FitsFrame f → HasSize f.tree.width (f.tree.height + 1) rows → with_echo f.echo (painted (rows_of f) (placed f.tree.windows (frame_of f.tree)) rows) ≡ frame_rows f }
-{
-    windows_tile_their_rectangle();
-}
+{}
 
 /// Where some windows of a frame are still to be painted over the rows of a screen, from a place of their order on, the window at that
 /// place can be painted, and leaves those behind it. The call does nothing.
 pub fn windows_are_painted_in_turn()
     ensures { (f : FrameValues) (i number : ℕ) (window : Placed) (rows : List (List Cell)) → FitsFrame f → HasSize f.tree.width (f.tree.height + 1) rows → window_at number f.tree.windows (frame_of f.tree) ≡ Some window → slice_get (placed f.tree.windows (frame_of f.tree)) i ≡ Some window → IsPaintedNext f i window rows }
-{
-    windows_tile_their_rectangle();
-}
+{}
 
 /// The glyph rows of a matrix are those of what is seen of its rows, where a list has the margins of each, and where the rows have no
 /// margins and there is no list. The call does nothing.

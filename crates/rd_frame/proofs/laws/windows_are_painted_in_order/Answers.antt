@@ -24,5 +24,4 @@ returns c = record { composed = in-order; rows = rows } where
 
   rows : (f : FrameValues) (rows : List (List Cell)) → FitsFrame f → HasSize f.tree.width (f.tree.height + 1) rows → with_echo f.echo (painted (rows_of f) (placed f.tree.windows (frame_of f.tree)) rows) ≡ frame_rows f
   rows f old fits size =
-      let filled = frame-filled f (c.windows_tile_their_rectangle.ensures.room f.tree.windows (frame_of f.tree) fits.room) fits in
-      painted-whole (rows_of f) f.tree.windows f.tree.width f.tree.height f.echo old fits.room filled size
+      painted-whole (rows_of f) f.tree.windows f.tree.width f.tree.height f.echo old fits.room (frame-filled f fits) size
