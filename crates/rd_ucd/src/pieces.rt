@@ -40,13 +40,7 @@ pub fn field(line: &[u8], index: usize) -> Option<&[u8]>
 pub fn without_return(line: &[u8]) -> &[u8]
     ensures { result.now ≡ strip_carriage_return line.now }
 {
-    if line.is_empty() {
-        return line;
-    }
-    if line[line.len() - 1] != b'\r' {
-        return line;
-    }
-    line.split_at(line.len() - 1).0
+    line.strip_suffix(b"\r").unwrap_or(line)
 }
 
 /// What stands before the first `#`.
