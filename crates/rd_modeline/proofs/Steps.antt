@@ -1,57 +1,41 @@
--- What one more character makes of the pieces of a format.
-use Rattle.std.proofs.Common.{◌≡◌, ◌+◌, ◌++◌, ℕ, List, [], ◌∷◌, Option, None, Some, Result, Ok, Err, option_to_list, drop, IsErrAnd, refl, sym, ap, ◌∙◌, subst}
-use Rattle.std.proofs.lemmas.List.{append_assoc, append-nil}
+-- What one more piece makes of the pieces of a format that were read.
+use Rattle.std.proofs.Common.{arith, ◌≡◌, ◌++◌, ℕ, ◌+◌, ◌≤◌, Option, drop, List, [], ◌∷◌, Result, Ok, Err, length, sym, ap, ◌∙◌, refl, subst, IsErrAnd, Some}
+use Rattle.std.proofs.lemmas.List.{append_assoc}
 use Rattle.rd_modeline.specs.declared.fault.FormatFault.{FormatFault}
 use Rattle.rd_modeline.specs.declared.fault.FormatFault.TheVariants.{BadFormat, Memory}
 use Rattle.rd_modeline.specs.declared.piece.Piece.{Piece}
 use Rattle.rd_modeline.specs.declared.reading.Begun.{Begun}
-use Rattle.rd_modeline.specs.Formats.{before, behind_all, fault_in, pieces_from, pieces_of, Checks, ReadsOn}
+use Rattle.rd_modeline.specs.Formats.{before, behind_all, pieces_from, pieces_at, pieces_of, ReadsOn, IsNext}
 
--- what was read before is no fault
-pub fault-all : (ps : List Piece) (r : Result (List Piece) ℕ) → fault_in (behind_all ps r) ≡ fault_in r
-fault-all ps (Ok qs) = refl
-fault-all ps (Err place) = refl
+-- these pieces were read of a format up to a place
+pub record AreRead (text : List ℕ) (place : ℕ) (ps : List Piece) : Type 0 where
+  pub bound : place ≤ length text
+  pub rest : behind_all ps (pieces_at text place) ≡ pieces_of text
 
 all-before : (ps : List Piece) (p : Piece) (r : Result (List Piece) ℕ) → behind_all ps (before p r) ≡ behind_all (ps ++ p ∷ []) r
 all-before ps p (Ok qs) = ap Ok (sym (append_assoc ps (p ∷ []) qs))
 all-before ps p (Err place) = refl
 
--- a step changes no fault
-pub step-fault : (b after : Begun) (piece : Option Piece) (place c : ℕ) (cs : List ℕ) →
-    ReadsOn (Ok (after, piece)) b place c → fault_in (pieces_from b place (c ∷ cs)) ≡ fault_in (pieces_from after (place + 1) cs)
-step-fault b after None place c cs reads = ap fault_in (reads cs)
-step-fault b after (Some p) place c cs reads = ap fault_in (reads cs) ∙ fault-all (p ∷ []) (pieces_from after (place + 1) cs)
+behind-none : (r : Result (List Piece) ℕ) → behind_all [] r ≡ r
+behind-none (Ok ps) = refl
+behind-none (Err place) = refl
 
--- a step adds its piece
-pub step-pieces : (b after : Begun) (piece : Option Piece) (place c : ℕ) (cs : List ℕ) (ps : List Piece) →
-    ReadsOn (Ok (after, piece)) b place c →
-    behind_all ps (pieces_from b place (c ∷ cs)) ≡ behind_all (ps ++ option_to_list piece) (pieces_from after (place + 1) cs)
-step-pieces b after None place c cs ps reads = ap (behind_all ps) (reads cs) ∙ ap (λ qs. behind_all qs (pieces_from after (place + 1) cs)) (sym (append-nil ps))
-step-pieces b after (Some p) place c cs ps reads = ap (behind_all ps) (reads cs) ∙ all-before ps p (pieces_from after (place + 1) cs)
+-- before the first piece none is read
+pub begun-reading : (text : List ℕ) → AreRead text 0 []
+begun-reading text = record { bound = omega arith; rest = behind-none (pieces_of text) }
 
--- where a code is bad, its percent sign is the fault
-pub step-bad : (fault : FormatFault) (b : Begun) (place c : ℕ) (cs : List ℕ) (whole : Result (List Piece) ℕ) →
-    ReadsOn (Err fault) b place c → fault_in (pieces_from b place (c ∷ cs)) ≡ fault_in whole → Checks {A = Unit {0}} (Err fault) whole
-step-bad (BadFormat start) b place c cs whole reads same = sym same ∙ ap fault_in (reads cs)
-step-bad Memory b place c cs whole reads same = tt
+-- one piece more is read
+pub one-more : (text : List ℕ) (place behind : ℕ) (ps : List Piece) (p : Piece) (step : Option (Piece × ℕ)) →
+    AreRead text place ps → step ≡ Some (p, behind) → IsNext (Ok step) text place → AreRead text behind (ps ++ p ∷ [])
+one-more text place behind ps p step read is found = let next = subst (λ o. IsNext (Ok o) text place) is found in record {
+  bound = next.1;
+  rest = sym (all-before ps p (pieces_at text behind)) ∙ ap (behind_all ps) (sym next.2) ∙ read.rest;
+}
 
--- pieces of the same fault are checked alike
-pub same-checks : {A : Type 0} (result : Result A FormatFault) (rest whole : Result (List Piece) ℕ) →
-    Checks result rest → fault_in rest ≡ fault_in whole → Checks result whole
-same-checks (Ok a) rest whole checks same = sym same ∙ checks
-same-checks (Err (BadFormat place)) rest whole checks same = sym same ∙ checks
-same-checks (Err Memory) rest whole checks same = tt
-
--- a fault that is handed on says the same
-pub handed-on : {A : Type 0} (result : Result A FormatFault) (fault : FormatFault) (whole : Result (List Piece) ℕ) →
-    IsErrAnd result (λ f. f ≡ fault) → Checks {A = Unit {0}} (Err fault) whole → Checks result whole
-handed-on (Ok a) fault whole is checks = absurd is
-handed-on (Err (BadFormat place)) fault whole is checks = subst (λ f. Checks {A = Unit {0}} (Err f) whole) (sym is) checks
-handed-on (Err Memory) fault whole is checks = tt
-
--- a format of which the next character is bad answers that fault
-pub refused-at : {A : Type 0} (result : Result A FormatFault) (fault : FormatFault) (b : Begun) (place c : ℕ) (text : List ℕ) → IsErrAnd result (λ f. f ≡ fault) → ReadsOn (Err fault) b place c
-    → drop place text ≡ c ∷ drop (place + 1) text → fault_in (pieces_from b place (drop place text)) ≡ fault_in (pieces_of text) → Checks result (pieces_of text)
-refused-at result fault b place c text is reads split same =
-    handed-on result fault (pieces_of text) is
-    (step-bad fault b place c (drop (place + 1) text) (pieces_of text) reads (ap (λ l. fault_in (pieces_from b place l)) (sym split) ∙ same))
+-- where the next character is bad the rest is
+pub bad-next : (result : Result (Option (Piece × ℕ)) FormatFault) (fault : FormatFault) (b : Begun) (text : List ℕ) (from place c : ℕ) → IsErrAnd result (λ f. f ≡ fault) → ReadsOn (Err fault) b place c →
+    pieces_at text from ≡ pieces_from b place (drop place text) → drop place text ≡ c ∷ drop (place + 1) text → IsNext result text from
+bad-next (Err f) (BadFormat start) b text from place c is reads same split =
+    subst (λ (g : FormatFault). IsNext (Err g) text from) (sym is) (same ∙ ap (pieces_from b place) split ∙ reads (drop (place + 1) text))
+bad-next (Err f) Memory b text from place c is reads same split = subst (λ (g : FormatFault). IsNext (Err g) text from) (sym is) tt
+bad-next (Ok a) fault b text from place c is reads same split = absurd is

@@ -1,5 +1,5 @@
 -- The grammar of a format: characters that stand for themselves, and codes that begin with a percent sign.
-use Rattle.std.specs.Prelude.{ℕ, ◌+◌, ◌-◌, ◌*◌, ◌==◌, ◌&&◌, ◌≤◌, ◌≡◌, nat_lt, if◌then◌else◌, List, [], ◌∷◌, ◌++◌, Option, None, Some, Result, Ok, Err}
+use Rattle.std.specs.Prelude.{ℕ, ◌+◌, ◌-◌, ◌*◌, ◌==◌, ◌&&◌, ◌≤◌, ◌<◌, ◌≡◌, nat_lt, if◌then◌else◌, List, [], ◌∷◌, ◌++◌, drop, length, Option, None, Some, Result, Ok, Err}
 use Rattle.std.specs.Char.{is_ascii_digit}
 use Rattle.rd_modeline.specs.declared.fault.FormatFault.{FormatFault}
 use Rattle.rd_modeline.specs.declared.fault.FormatFault.TheVariants.{BadFormat, Memory}
@@ -9,6 +9,8 @@ use Rattle.rd_modeline.specs.declared.piece.Piece.{Piece}
 use Rattle.rd_modeline.specs.declared.piece.Piece.TheVariants.{Literal, Value, Dashes}
 use Rattle.rd_modeline.specs.declared.reading.Begun.{Begun}
 use Rattle.rd_modeline.specs.declared.reading.Begun.TheVariants.{Text, Percent}
+use Rattle.rd_modeline.specs.declared.reading.Step.{Step}
+use Rattle.rd_modeline.specs.declared.reading.Step.TheVariants.{On, Ends}
 
 -- the value that a letter asks for: b, l, p, *, + and n
 abbrev pub field_of : ℕ → Option Field
@@ -87,9 +89,25 @@ abbrev pub IsBegun : Begun → Type 0
 IsBegun Text = Unit {0}
 IsBegun (Percent start digits width) = HasDigits digits width
 
--- what the next character makes of the rest, where it leaves this begun and ends a piece or none, and where it is bad
-abbrev pub ReadsOn : Result (Begun × Option Piece) FormatFault → Begun → ℕ → ℕ → Type 0
+-- the same of what is begun behind a character
+abbrev pub IsBegunBehind : Step → Type 0
+IsBegunBehind (On after) = IsBegun after
+IsBegunBehind (Ends p) = Unit {0}
+
+-- what the next character makes of the rest, where it goes on with a code or ends a piece, and where it is bad
+abbrev pub ReadsOn : Result Step FormatFault → Begun → ℕ → ℕ → Type 0
 ReadsOn (Err (BadFormat start)) b place c = (cs : List ℕ) → pieces_from b place (c ∷ cs) ≡ Err start
 ReadsOn (Err Memory) b place c = Unit {0}
-ReadsOn (Ok (after, None)) b place c = (cs : List ℕ) → pieces_from b place (c ∷ cs) ≡ pieces_from after (place + 1) cs
-ReadsOn (Ok (after, Some p)) b place c = (cs : List ℕ) → pieces_from b place (c ∷ cs) ≡ before p (pieces_from after (place + 1) cs)
+ReadsOn (Ok (On after)) b place c = (cs : List ℕ) → pieces_from b place (c ∷ cs) ≡ pieces_from after (place + 1) cs
+ReadsOn (Ok (Ends p)) b place c = (cs : List ℕ) → pieces_from b place (c ∷ cs) ≡ before p (pieces_from Text (place + 1) cs)
+
+-- the pieces from a place on, where no code is begun
+abbrev pub pieces_at : List ℕ → ℕ → Result (List Piece) ℕ
+pieces_at text place = pieces_from Text place (drop place text)
+
+-- the piece at a place with the place behind it, the end of the pieces, or where they are bad
+abbrev pub IsNext : Result (Option (Piece × ℕ)) FormatFault → List ℕ → ℕ → Type 0
+IsNext (Err (BadFormat start)) text place = pieces_at text place ≡ Err start
+IsNext (Err Memory) text place = Unit {0}
+IsNext (Ok None) text place = pieces_at text place ≡ Ok []
+IsNext (Ok (Some (p, behind))) text place = (place < behind) × (behind ≤ length text) × (pieces_at text place ≡ before p (pieces_at text behind))

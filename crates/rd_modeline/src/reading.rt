@@ -1,8 +1,7 @@
 //! Reading a format, character by character.
-ghost use Rattle.std.specs.Prelude.{◌≡◌, ◌≢◌, ◌+◌, IfErr, IfOk, Ok, [], ℕ};
+ghost use Rattle.std.specs.Prelude.{◌≡◌, ◌≢◌, ◌≤◌, IfErr, IfOk, Ok, length};
 ghost use Rattle.rd_modeline.specs.declared.fault.FormatFault.TheVariants as fault;
-ghost use Rattle.rd_modeline.specs.Formats.{pieces_from, pieces_of, Checks, IsBegun, ReadsOn};
-ghost use Rattle.rd_modeline.specs.declared.reading.Begun.TheVariants.{Text};
+ghost use Rattle.rd_modeline.specs.Formats.{pieces_of, Checks, IsBegun, IsBegunBehind, ReadsOn, IsNext};
 
 use crate::fault::FormatFault;
 use crate::piece::{Piece, piece_of};
@@ -16,6 +15,13 @@ pub enum Begun {
     Percent(u64, u8, u32),
 }
 
+/// What a character does behind what is begun: it goes on with a code, or it ends a piece.
+#[derive(Clone, Copy, Debug, PartialEq, Eq)]
+pub enum Step {
+    On(Begun),
+    Ends(Piece),
+}
+
 /// Whether a format is good, which takes no memory.
 ///
 /// # Errors
@@ -25,12 +31,11 @@ pub fn check(text: &[Ch]) -> Result<(), FormatFault>
     ensures checks { Checks result (pieces_of text.now) }
     ensures named { IfErr result (λ f. f ≢ fault.Memory) }
 {
-    let mut begun = Begun::Text;
-    for (place, ch) in text.iter().enumerate() {
-        let (after, _piece) = read_on(begun, place as u64, *ch)?;
-        begun = after;
+    let mut place = 0;
+    while let Some((_piece, behind)) = next_piece(text, place)? {
+        place = behind;
     }
-    ended(begun)
+    Ok(())
 }
 
 /// The pieces of a format.
@@ -39,46 +44,51 @@ pub(crate) fn read(alloc: Global, text: &[Ch]) -> Result<ListOf<Piece>, FormatFa
     ensures checks { Checks result (pieces_of text.now) }
 {
     let mut pieces = ListOf::new(alloc);
-    let mut begun = Begun::Text;
-    for (place, ch) in text.iter().enumerate() {
-        let (after, piece) = read_on(begun, place as u64, *ch)?;
-        pieces.push_some(piece)?;
-        begun = after;
+    let mut place = 0;
+    while let Some((piece, behind)) = next_piece(text, place)? {
+        pieces.push(piece)?;
+        place = behind;
     }
-    ended(begun)?;
     Ok(pieces)
 }
 
-/// Whether a format can end here: behind a percent sign a code is wanting.
-fn ended(begun: Begun) -> Result<(), FormatFault>
-    ensures checks { (place : ℕ) → Checks result (pieces_from begun place []) }
+/// The next piece of a format from a place on, where no code is begun, with the place behind it; or none at the format's end.
+fn next_piece(text: &[Ch], from: usize) -> Result<Option<(Piece, usize)>, FormatFault>
+    requires { from ≤ length text.now }
+    ensures next { IsNext result text.now from }
     ensures named { IfErr result (λ f. f ≢ fault.Memory) }
-    ensures ends { IfOk result (λ _. begun ≡ Text) }
 {
+    let mut begun = Begun::Text;
+    for place in from..text.len() {
+        match read_on(begun, place as u64, text[place])? {
+            Step::On(after) => begun = after,
+            Step::Ends(piece) => return Ok(Some((piece, place + 1))),
+        }
+    }
     match begun {
-        Begun::Text => Ok(()),
+        Begun::Text => Ok(None),
         Begun::Percent(start, _digits, _width) => Err(FormatFault::BadFormat(start)),
     }
 }
 
-/// What is begun behind a character, and the piece that it ends. The fault is the place of a percent sign where no code is spelled so.
-fn read_on(begun: Begun, place: u64, ch: Ch) -> Result<(Begun, Option<Piece>), FormatFault>
+/// What a character does behind what is begun. The fault is the place of a percent sign where no code is spelled so.
+fn read_on(begun: Begun, place: u64, ch: Ch) -> Result<Step, FormatFault>
     requires { IsBegun begun }
     ensures reads { ReadsOn result begun place ch }
     ensures named { IfErr result (λ f. f ≢ fault.Memory) }
-    ensures begun { IfOk result (λ r. IsBegun r.0) }
+    ensures begun { IfOk result (λ step. IsBegunBehind step) }
 {
     // 37 is the percent sign, and 48 to 57 are the digits.
     let code = ch.code();
     match begun {
-        Begun::Text if code == 37 => Ok((Begun::Percent(place, 0, 0), None)),
-        Begun::Text => Ok((Begun::Text, Some(Piece::Literal(ch)))),
+        Begun::Text if code == 37 => Ok(Step::On(Begun::Percent(place, 0, 0))),
+        Begun::Text => Ok(Step::Ends(Piece::Literal(ch))),
         Begun::Percent(start, digits, width) if 48 <= code && code <= 57 && digits < 3 => {
             let longer = Begun::Percent(start, digits + 1, 10 * width + (code - 48));
-            Ok((longer, None))
+            Ok(Step::On(longer))
         }
         Begun::Percent(start, digits, width) => match piece_of(digits, width, ch) {
-            Some(piece) => Ok((Begun::Text, Some(piece))),
+            Some(piece) => Ok(Step::Ends(piece)),
             None => Err(FormatFault::BadFormat(start)),
         },
     }

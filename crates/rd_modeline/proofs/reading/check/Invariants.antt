@@ -1,7 +1,10 @@
-use Rattle.std.proofs.Common.{◌≡◌, drop}
-use Rattle.rd_modeline.specs.Formats.{fault_in, pieces_from, pieces_of, IsBegun}
+use Rattle.std.proofs.Common.{◌-◌, length, List}
+use Rattle.rd_modeline.specs.declared.piece.Piece.{Piece}
+use Rattle.rd_modeline.proofs.Steps.{AreRead}
 use Rattle.rd_modeline.proofs.reading.check.Given as goal
 
-abbrev pub invariant-loop-place : goal.invariant-loop-place
-invariant-loop-place l =
-    (fault_in (pieces_from l.begun l.place (drop l.place l.text)) ≡ fault_in (pieces_of l.text)) × IsBegun l.begun
+abbrev pub invariant-loop-piece : goal.invariant-loop-piece
+invariant-loop-piece l = (ps : List Piece) × AreRead l.text l.place ps
+
+abbrev pub decreases-loop-piece : goal.decreases-loop-piece
+decreases-loop-piece l = length l.text - l.place

@@ -1,7 +1,9 @@
-use Rattle.std.proofs.Common.{◌≡◌, drop}
-use Rattle.rd_modeline.specs.Formats.{behind_all, pieces_from, pieces_of, IsBegun}
+use Rattle.std.proofs.Common.{◌-◌, length}
+use Rattle.rd_modeline.proofs.Steps.{AreRead}
 use Rattle.rd_modeline.proofs.reading.read.Given as goal
 
-abbrev pub invariant-loop-place : goal.invariant-loop-place
-invariant-loop-place l =
-    (behind_all l.pieces (pieces_from l.begun l.place (drop l.place l.text)) ≡ pieces_of l.text) × IsBegun l.begun
+abbrev pub invariant-loop-pieces : goal.invariant-loop-pieces
+invariant-loop-pieces l = AreRead l.text l.place l.pieces
+
+abbrev pub decreases-loop-pieces : goal.decreases-loop-pieces
+decreases-loop-pieces l = length l.text - l.place
