@@ -3,4 +3,4 @@ mod Holding
 pub mod Joined
 pub mod Measures
 mod Sums
-mod Wholeness
+pub mod Wholeness

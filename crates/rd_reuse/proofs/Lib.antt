@@ -1,5 +1,5 @@
 pub mod Changes
-mod Joining
+pub mod Joining
 mod Lists
 pub mod Places
 mod Placing

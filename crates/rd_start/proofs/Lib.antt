@@ -11,7 +11,7 @@ mod Rows
 mod Choosing
 mod Costs
 mod Growth
-mod Inside
+pub mod Inside
 mod Moving
 pub mod NearRows
 mod Places
