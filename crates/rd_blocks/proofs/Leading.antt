@@ -12,13 +12,13 @@ use Rattle.rd_props.specs.Made.{AreMade}
 use Rattle.rd_base.specs.Settings.{without_flags}
 use Rattle.rd_reuse.specs.Changes.{all, change_of, edit, is_all, is_small, join, moved, none}
 use Rattle.rd_reuse.specs.declared.change.Change.{Change}
+use Rattle.rd_reuse.proofs.Joining.{all-last}
 use Rattle.rd_blocks.specs.Leads.{Leads, LeadsTo}
 
 -- what is known of changes
-pub record ChangeLaws : Type 0 where
-  pub joins : (old middle new : BufferValue) (a b c : ObjectLists) (head later_head tail later_tail joined : ℕ) (added later_added : ℤ) → Unchanged old a middle b head tail added → Unchanged middle b new c later_head later_tail later_added
-      → (pos middle.text.begin +ℤ later_added) ≤ℤ pos (max middle.text.begin later_tail) → (pos tail +ℤ later_added) ≤ℤ pos joined → later_tail ≤ joined → Unchanged old a new c (min head later_head) joined (added +ℤ later_added)
-  pub last_all : (c : Change) → join c all ≡ all
+abbrev pub ChangeLaw : Type 0
+ChangeLaw = (old middle new : BufferValue) (a b c : ObjectLists) (head later_head tail later_tail joined : ℕ) (added later_added : ℤ) → Unchanged old a middle b head tail added → Unchanged middle b new c later_head later_tail later_added
+    → (pos middle.text.begin +ℤ later_added) ≤ℤ pos (max middle.text.begin later_tail) → (pos tail +ℤ later_added) ≤ℤ pos joined → later_tail ≤ joined → Unchanged old a new c (min head later_head) joined (added +ℤ later_added)
 
 -- a change of a range, or of all where it is none
 pub leads-ranged : (old new : BufferValue) (made objects : ObjectLists) (head tail : ℕ) (added : ℤ) → IsClosed made → AreMade old made → without_flags new.settings ≡ without_flags old.settings → Extends made objects
@@ -50,7 +50,7 @@ both-inside : (begin next : ℕ) (tail later_tail moved_tail : ℕ) (d e : ℤ) 
     → (pos begin +ℤ (d +ℤ e)) ≤ℤ pos (max begin (max moved_tail later_tail))
 both-inside begin next tail later_tail moved_tail d e same first last least = omega (arith, ints)
 
-module _ (laws : ChangeLaws) (first second third : BufferValue) (a b c : ObjectLists) (change later : Change) where
+module _ (joins : ChangeLaw) (first second third : BufferValue) (a b c : ObjectLists) (change later : Change) where
   both-lead : Leads first a second b change → Leads second b third c later → LeadsTo first a third c (join change later)
   both-lead one two =
       let least = moved-least later.added change.tail in
@@ -58,11 +58,11 @@ module _ (laws : ChangeLaws) (first second third : BufferValue) (a b c : ObjectL
       either (LeadsTo first a third c) (is_all change || is_all later) _ _ (inl refl)
       (leads-ranged first third a c (min change.head later.head) (max (moved later.added change.tail) later.tail) (change.added +ℤ later.added) one.follows.closed one.follows.named
       (two.follows.settings ∙ one.follows.settings) (extends_further a b c one.follows.extends two.follows.extends)
-      (laws.joins first second third a b c change.head later.head change.tail later.tail (max (moved later.added change.tail) later.tail) change.added later.added one.follows.unchanged two.follows.unchanged last
+      (joins first second third a b c change.head later.head change.tail later.tail (max (moved later.added change.tail) later.tail) change.added later.added one.follows.unchanged two.follows.unchanged last
       (omega (arith, ints, least)) (omega arith))
       (both-inside first.text.begin second.text.begin change.tail later.tail (moved later.added change.tail) change.added later.added one.follows.unchanged.begin one.inside last least))
 
   pub leads-joined : LeadsTo first a second b change → LeadsTo second b third c later → LeadsTo first a third c (join change later)
   leads-joined (inl any) two = inl (ap (λ (x : Change). join x later) any)
-  leads-joined (inr one) (inl any) = inl (ap (λ (x : Change). join change x) any ∙ laws.last_all change)
+  leads-joined (inr one) (inl any) = inl (ap (λ (x : Change). join change x) any ∙ all-last change)
   leads-joined (inr one) (inr two) = both-lead one two

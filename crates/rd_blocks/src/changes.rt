@@ -12,7 +12,6 @@ ghost use Rattle.rd_reuse.specs.declared.change.Change.{Change};
 ghost use Rattle.rd_blocks.specs.Leads.{LeadsTo};
 
 use rd_props::{changes_join, new_objects_leave_all, settings_leave_all};
-use rd_reuse::joined_with_all;
 
 /// The change of an edit leads from the state before it to that behind it, and no change leads to a state with more objects or with other
 /// flags. A change that leads to a state, joined with one that leads on from there, leads on too. The call does nothing.
@@ -29,5 +28,4 @@ pub fn changes_lead_on()
     changes_join();
     new_objects_leave_all();
     settings_leave_all();
-    joined_with_all();
 }

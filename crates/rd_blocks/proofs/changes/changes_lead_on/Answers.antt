@@ -15,4 +15,4 @@ returns-clause-flagged c = λ old new objects closed named settings same.
     leads-none old new objects objects closed named settings (extends_itself objects) (c.settings_leave_all.ensures old new objects 4294967295 0 same)
 
 pub returns-clause-joined : goal.returns-clause-joined
-returns-clause-joined c = leads-joined (record { joins = c.changes_join.ensures; last_all = c.joined_with_all.ensures.last })
+returns-clause-joined c = leads-joined c.changes_join.ensures
