@@ -1,11 +1,10 @@
 -- A strip of one block.
-use Rattle.std.proofs.Common.{◌≡◌, ℕ, ◌+◌, ◌-◌, ◌^◌, ◌<◌, ◌≤◌, inl, inr, Bool, true, false, ◌&&◌, leb, ltb, List, [], ◌∷◌, ◌++◌, length, map, take, drop, refl, sym, ap, subst, ◌∙◌, arith}
+use Rattle.std.proofs.Common.{◌≡◌, ℕ, ◌+◌, ◌-◌, ◌^◌, ◌<◌, ◌≤◌, inl, inr, Bool, true, List, [], ◌∷◌, ◌++◌, length, map, take, drop, refl, sym, ap, subst, ◌∙◌, arith}
 use Rattle.std.proofs.lemmas.List.{append-nil, length-map, take-append-drop}
 use Rattle.std.specs.List.{list_any, position_or_len, range_with_len}
 use Rattle.rd_base.proofs.Lists.{drop-at}
 use Rattle.rd_matrix.proofs.Counting.{all-append, any-range, length-numbered, some-row}
 use Rattle.rd_matrix.proofs.Covering.{Fit, whole-fit}
-use Rattle.rd_matrix.proofs.Passing.{first-inside}
 use Rattle.rd_matrix.specs.Blocks.{HoldsPosition, IsWithin, StandFrom, end_from, first_start}
 use Rattle.rd_matrix.specs.Entries.{all_rows, entries_of, numbered}
 use Rattle.rd_matrix.specs.Sources.{IsSource, SourceValues}
@@ -18,11 +17,9 @@ use Rattle.rd_start.specs.declared.strip.Edge.TheVariants.{Bottom}
 use Rattle.rd_start.specs.declared.strip.StripRow.{StripRow}
 use Rattle.rd_start.specs.declared.strip.Strip.{Strip}
 use Rattle.rd_start.specs.declared.strip.Sweep.{Sweep}
-use Rattle.rd_start.proofs.Blocks.{anchor-skips, any-block, any-fit, fit-back, fit-front, row-below}
+use Rattle.rd_start.proofs.Blocks.{anchor-skips, any-block, any-fit, first-row, fit-back, fit-front, row-below}
 use Rattle.rd_start.proofs.Costs.{costs-piece}
-use Rattle.rd_start.proofs.Lists.{first-among, first-behind}
 use Rattle.rd_start.proofs.Reaching.{paid-same, strip-same}
-use Rattle.rd_start.proofs.Tests.{above-range, in-range}
 
 -- the block that holds a position, and those before and behind it
 pub record Around (m : SourceValues) (sweep : Sweep) (b : Block) : Type 0 where
@@ -77,22 +74,17 @@ point-in-block : (m : SourceValues) (sweep : Sweep) (b : Block) (a : Around m sw
 point-in-block m sweep b a same low high =
     let rows = λ (x : Block). rows_in m sweep x in
     let p = sweep.point in
-    let begins = begins_item p in
     let start = first_start m.blocks in
-    let front = all_rows rows a.before in
-    let back = all_rows rows a.after in
-    let fit_front = fit-front rows start a.before (b ∷ a.after) a.fit in
+    let end = end_from start a.before in
     let fit_back = fit-back rows start a.before (b ∷ a.after) a.fit in
     let begin = fit_back.0 in
-    let t : (leb start p && ltb p (end_from start a.before)) ≡ false = above-range start (end_from start a.before) p (omega (arith, begin, low)) in
-    let u : (leb b.start p && ltb p b.end) ≡ true = in-range b.start b.end p low high in
-    let none = any-fit rows start p a.before fit_front ∙ t in
-    let some = any-block p b.start b.end (rows b) fit_back.2 ∙ u in
+    let in_front = any-fit rows start p a.before (fit-front rows start a.before (b ∷ a.after) a.fit) in
+    let in_block = any-block p b.start b.end (rows b) fit_back.2 in
+    let first = first-row p start end b.start b.end (all_rows rows a.before) (entries_of rows b) (all_rows rows a.after) in_front in_block (omega (arith, begin, low)) low high in
     let whole = ap (all_rows rows) a.pieces ∙ all-append rows a.before (b ∷ a.after) in
-    let place = ap (position_or_len begins) whole ∙ (first-behind begins front (entries_of rows b ++ back) none ∙ ap (λ n. length front + n) (first-among begins (entries_of rows b) back some)) in
-    let inside = first-inside begins (entries_of rows b) some in
+    let place = ap (position_or_len (begins_item p)) whole ∙ first.place in
     let size = length-numbered b.start 0 (rows b) in
-    (omega (arith, place), omega (arith, place, inside, size))
+    (omega (arith, place), omega (arith, place, first.inside, size))
 
 have-around : (kind : ℕ → Bool) (m : SourceValues) (sweep : Sweep) (b : Block) (a : Around m sweep b) → HoldsPosition sweep.anchor.pos m.blocks b → IsAsked kind m sweep
     → list_any kind (range_with_len (length (all_rows (rows_in m sweep) a.before)) (length (rows_in m sweep b))) ≡ true

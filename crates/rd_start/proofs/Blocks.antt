@@ -2,12 +2,13 @@
 use Rattle.std.proofs.Common.{◌≡◌, ℕ, ◌+◌, ◌-◌, ◌<◌, ◌≤◌, Bool, true, false, cond, not, ◌||◌, ◌&&◌, ◌==◌, leb, ltb, min, List, [], ◌∷◌, ◌++◌, length, refl, sym, ap, ◌∙◌, subst, arith, zero-add}
 use Rattle.std.proofs.lemmas.Bool.{le-ltb, lt-ltb}
 use Rattle.std.proofs.lemmas.Bool.Decides.{nat_tests}
-use Rattle.std.specs.List.{list_any}
+use Rattle.std.specs.List.{list_any, position_or_len}
 use Rattle.rd_base.proofs.Lists.{get-second, none_counted}
 use Rattle.rd_base.specs.declared.settings.Anchor.{Anchor}
 use Rattle.rd_matrix.proofs.Counting.{count-cons}
 use Rattle.rd_matrix.proofs.Covering.{Fit, count-block, count-fit, count_at, covering, whole-fit}
 use Rattle.rd_matrix.proofs.HeldLemmas.{end-any, later-start}
+use Rattle.rd_matrix.proofs.Passing.{first-inside}
 use Rattle.rd_matrix.specs.Blocks.{IsWithin, StandFrom, end_from, first_start}
 use Rattle.rd_matrix.specs.Columns.{covers}
 use Rattle.rd_matrix.specs.Entries.{EntryMeaning, all_rows, numbered}
@@ -16,7 +17,8 @@ use Rattle.rd_matrix.specs.declared.block.Block.{Block}
 use Rattle.rd_rows.specs.Rows.{RowMeaning}
 use Rattle.rd_rows.specs.Shapes.{IsShape, ShapeValues}
 use Rattle.rd_start.specs.Chosen.{anchor_row, begins_item, row_in_block}
-use Rattle.rd_start.proofs.Tests.{in-range}
+use Rattle.rd_start.proofs.Lists.{first-among, first-behind}
+use Rattle.rd_start.proofs.Tests.{above-range, in-range}
 
 pub fit-front : (rows : Block → List RowMeaning) (from : ℕ) (xs ys : List Block) → Fit rows from (xs ++ ys) → Fit rows from xs
 fit-front rows from [] ys h = tt
@@ -47,6 +49,23 @@ any-block point start end rows h = any-told point (numbered start 0 rows) (leb s
 pub any-fit : (rows : Block → List RowMeaning) (from point : ℕ) (bs : List Block) → Fit rows from bs
     → list_any (begins_item point) (all_rows rows bs) ≡ (leb from point && ltb point (end_from from bs))
 any-fit rows from point bs h = any-told point (all_rows rows bs) (leb from point && ltb point (end_from from bs)) (count-fit rows from point bs h)
+
+-- the row in which an item that covers a position begins, among rows of blocks up to the position, of those that hold it, and of others
+pub record FirstRow (point : ℕ) (front middle back : List EntryMeaning) : Type 0 where
+  pub some : list_any (begins_item point) middle ≡ true
+  pub place : position_or_len (begins_item point) (front ++ (middle ++ back)) ≡ length front + position_or_len (begins_item point) middle
+  pub inside : position_or_len (begins_item point) middle < length middle
+
+pub first-row : (point start end from to : ℕ) (front middle back : List EntryMeaning) → list_any (begins_item point) front ≡ (leb start point && ltb point end)
+    → list_any (begins_item point) middle ≡ (leb from point && ltb point to) → end ≤ point → from ≤ point → point < to → FirstRow point front middle back
+first-row point start end from to front middle back in_front in_middle above low high =
+    let begins = begins_item point in
+    let some = in_middle ∙ in-range from to point low high in
+    record {
+      some = some;
+      place = first-behind begins front (middle ++ back) (in_front ∙ above-range start end point above) ∙ ap (λ n. length front + n) (first-among begins middle back some);
+      inside = first-inside begins middle some;
+    }
 
 -- an item that covers a position of a source begins in one of its rows
 pub some-begins : (m : SourceValues) (shape : ShapeValues) (point : ℕ) → IsSource m → IsShape shape → IsWithin point m.blocks → list_any (begins_item point) (rows_at m shape) ≡ true

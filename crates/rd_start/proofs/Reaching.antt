@@ -3,7 +3,7 @@ use Rattle.std.proofs.Common.{◌≡◌, ℕ, ◌+◌, ◌-◌, ◌<◌, ◌≤�
 use Rattle.std.proofs.lemmas.List.{append_assoc, length-append, length-map}
 use Rattle.std.proofs.lemmas.Result.{MatchResult-from_err}
 use Rattle.std.specs.List.{slice_get}
-use Rattle.std.specs.Prelude.{IfOk, IsErr, MatchResult}
+use Rattle.std.specs.Prelude.{IfOk, IsErr}
 use Rattle.rd_base.proofs.Lists.{drop-at, get-second, none-left}
 use Rattle.rd_base.specs.declared.memory.Memory.{Memory}
 use Rattle.rd_matrix.proofs.Counting.{count-append, count-last}
@@ -12,7 +12,7 @@ use Rattle.rd_matrix.specs.Entries.{all_rows, entries_of, numbered}
 use Rattle.rd_matrix.specs.Sources.{SourceValues}
 use Rattle.rd_matrix.specs.declared.block.Block.{Block}
 use Rattle.rd_rows.specs.Rows.{RowMeaning}
-use Rattle.rd_start.specs.Strips.{IsBeyond, IsPaid, IsPaidOf, IsPushed, IsStrip, IsStripOf, AsksAt, GrowsAt, StandsBeyond, all_costs, cost_in, count_in, extent, first_row, home_row, lists_joined_at, strip_row_of, moved_at, rows_in}
+use Rattle.rd_start.specs.Strips.{IsBeyond, IsPaid, IsPaidOf, IsPushed, IsStrip, IsStripOf, AsksAt, GrowsAt, PaysOn, StandsBeyond, all_costs, cost_in, count_in, extent, first_row, home_row, lists_joined_at, strip_row_of, moved_at, rows_in}
 use Rattle.rd_start.specs.declared.strip.Edge.{Edge}
 use Rattle.rd_start.specs.declared.strip.Edge.TheVariants.{Bottom, Top}
 use Rattle.rd_start.specs.declared.strip.StripRow.{StripRow}
@@ -225,7 +225,7 @@ grown-fails edge m old s n steps more count b grown asked low = λ kind base pai
     omega arith
 
 pub edge-failed : {T E : Type 0} (edge : Edge) (r : Result T E) (m : SourceValues) (old new : Strip) (n steps count : ℕ) → IsErr r → EdgeFails edge m old n steps count
-    → (kind : ℕ → Bool) (base : ℕ) → IsPaid kind base m old n → AsksAt edge kind m old count → MatchResult r (λ _. IsPaid kind base m new steps) (λ _. steps ≤ base + all_costs kind m old.sweep)
+    → PaysOn m (λ kind. AsksAt edge kind m old count) old new n steps r
 edge-failed edge r m old new n steps count err fails = λ kind base paid asks.
     MatchResult-from_err r (λ _. IsPaid kind base m new steps) (λ _. steps ≤ base + all_costs kind m old.sweep) err (λ _. fails kind base paid asks)
 

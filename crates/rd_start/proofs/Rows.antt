@@ -20,7 +20,7 @@ use Rattle.rd_start.specs.Strips.{IsStrip, IsStripOf, count_in, first_row, home_
 use Rattle.rd_start.specs.declared.strip.StripRow.{StripRow}
 use Rattle.rd_start.specs.declared.strip.Strip.{Strip}
 use Rattle.rd_start.specs.declared.strip.Sweep.{Sweep}
-use Rattle.rd_start.proofs.Blocks.{any-fit, fit-back, fit-front}
+use Rattle.rd_start.proofs.Blocks.{any-fit, first-row, fit-back, fit-front}
 use Rattle.rd_start.proofs.Tests.{above-range, below-range, in-range}
 use Rattle.rd_start.proofs.Lists.{first-among, first-behind, position-mapped, position-none, position-some}
 
@@ -190,15 +190,12 @@ whereabouts m sweep bs ls at h =
         | inl here ↦
             let low = leb-true w.first p from in
             let high = ltb-true p w.last here in
-            let t = above-range w.start (end_from w.start h.before) p (omega (arith, low, e1)) in
-            let u = in-range w.first (end_from w.first bs) p low (omega (arith, high, e2)) in
-            let some = in_middle ∙ u in
-            let place = row ∙ (first-behind begins z.front (z.middle ++ z.back) (in_front ∙ t) ∙ ap (λ n. length z.front + n) (first-among begins z.middle z.back some)) in
-            let inside = first-inside begins z.middle some in
+            let first = first-row p w.start (end_from w.start h.before) w.first (end_from w.first bs) z.front z.middle z.back in_front in_middle (omega (arith, low, e1)) low (omega (arith, high, e2)) in
+            let place = row ∙ first.place in
             inr (inl (record {
               row = position_or_len begins z.middle;
-              here = ap find_point h.strip_rows ∙ found p z.middle some;
-              inside = omega (arith, inside, size);
+              here = ap find_point h.strip_rows ∙ found p z.middle first.some;
+              inside = omega (arith, first.inside, size);
               place = omega (arith, place, z.from);
             }))
         | inr after ↦

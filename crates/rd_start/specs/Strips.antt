@@ -1,6 +1,6 @@
 -- Words for what the code holds while it chooses: a strip of rows that were laid out. The crate's public contract does not name
 -- them.
-use Rattle.std.specs.Prelude.{◌≡◌, ℕ, ◌+◌, ◌-◌, ◌*◌, ◌^◌, ◌<◌, ◌≤◌, ◌⊎◌, min, max, nat_lt, Bool, true, false, if◌then◌else◌, List, [], ◌∷◌, ◌++◌, length, map, slice_get, ℤ, Option, None, Some}
+use Rattle.std.specs.Prelude.{◌≡◌, ℕ, ◌+◌, ◌-◌, ◌*◌, ◌^◌, ◌<◌, ◌≤◌, ◌⊎◌, min, max, nat_lt, Bool, true, false, if◌then◌else◌, List, [], ◌∷◌, ◌++◌, length, map, slice_get, ℤ, Option, None, Some, Result, MatchResult}
 use Rattle.std.specs.List.{AllByRecursion, find, fold, list_any, position, range_with_len}
 use Rattle.std.specs.Option.{option_map}
 use Rattle.rd_matrix.specs.Blocks.{IsAmong, IsWithin}
@@ -142,6 +142,13 @@ IsAsked kind m sweep =
 abbrev pub AsksAt : Edge → (ℕ → Bool) → SourceValues → Strip → ℕ → Type 0
 AsksAt Top kind m s count = Between kind (home_row m s.sweep - count) (first_row m s)
 AsksAt Bottom kind m s count = Between kind (first_row m s + length s.strip_rows.items) (min (first_row m s + count) (count_in m s.sweep m.blocks))
+
+-- the steps of a call that lays out rows beyond a strip, for each kind of rows of which it asks for no others: the strip stays paid, and
+-- where memory is wanting no more steps were taken than the blocks cost that have such a row
+abbrev pub PaysOn : {T E : Type 0} → SourceValues → ((ℕ → Bool) → Type 0) → Strip → Strip → ℕ → ℕ → Result T E → Type 0
+PaysOn m Asks old new before after result =
+    (kind : ℕ → Bool) (base : ℕ) → IsPaid kind base m old before → Asks kind
+    → MatchResult result (λ _. IsPaid kind base m new after) (λ _. after ≤ base + all_costs kind m old.sweep)
 
 -- a list to which more was added at an edge, and the place of one of its elements behind so many
 abbrev pub lists_joined_at : {X : Type 0} → Edge → List X → List X → List X

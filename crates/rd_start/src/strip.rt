@@ -83,7 +83,7 @@ impl Strip {
     ghost use Rattle.rd_matrix.specs.Sources.{SourceValues, IsSource};
     ghost use Rattle.rd_rows.specs.Copies.{shown_rows};
     ghost use Rattle.rd_start.specs.Chosen.{anchor_at, first_positions};
-    ghost use Rattle.rd_start.specs.Strips.{IsStrip, IsPaid, IsAsked, HasPoint, IsPushed, IsBeyond, GrowsAt, ReachesAt, AsksAt, Between, extent, rows_in, home_row, first_row, moved_row, side_in, all_costs, span_of};
+    ghost use Rattle.rd_start.specs.Strips.{IsStrip, IsPaid, IsAsked, PaysOn, HasPoint, IsPushed, IsBeyond, GrowsAt, ReachesAt, AsksAt, Between, extent, rows_in, home_row, first_row, moved_row, side_in, all_costs, span_of};
     ghost use Rattle.rd_start.specs.declared.strip.Edge.TheVariants.{Bottom, Top};
     ghost use Rattle.rd_start.specs.declared.strip.StripRow.{StripRow};
 
@@ -238,10 +238,7 @@ impl Strip {
         ensures sweep { OnOk result (self.new.sweep ≡ self.old.sweep) }
         ensures grows { OnOk result (GrowsAt edge self.old self.new) }
         ensures reached { OnOk result (ReachesAt edge (B.meaning source.old) self.new count) }
-        ensures paid { (kind : ℕ → Bool) (base : ℕ) → IsPaid kind base (B.meaning source.old) self.old steps.old
-            → AsksAt edge kind (B.meaning source.old) self.old count
-            → MatchResult result (λ _. IsPaid kind base (B.meaning source.old) self.new steps.new)
-            (λ _. steps.new ≤ base + all_costs kind (B.meaning source.old) self.old.sweep) }
+        ensures paid { PaysOn (B.meaning source.old) (λ kind. AsksAt edge kind (B.meaning source.old) self.old count) self.old self.new steps.old steps.new result }
     {
         'growing: while self.extent(edge) < count {
             let Some(block) = self.beyond(alloc, source, edge)? else {
@@ -267,11 +264,10 @@ impl Strip {
         ensures strip { OnOk result (IsStrip (B.meaning source.old) self.new) }
         ensures sweep { OnOk result (self.new.sweep ≡ self.old.sweep) }
         ensures place { IfOk result (λ place. (place < length self.new.strip_rows.items) × (first_row (B.meaning source.old) self.new + place ≡ moved_row (B.meaning source.old) self.old.sweep wanted.pending)) }
-        ensures paid { (kind : ℕ → Bool) (base : ℕ) → IsPaid kind base (B.meaning source.old) self.old steps.old
-            → Between kind (min (home_row (B.meaning source.old) self.old.sweep) (moved_row (B.meaning source.old) self.old.sweep wanted.pending))
-            (max (home_row (B.meaning source.old) self.old.sweep) (moved_row (B.meaning source.old) self.old.sweep wanted.pending) + 1)
-            → MatchResult result (λ _. IsPaid kind base (B.meaning source.old) self.new steps.new)
-            (λ _. steps.new ≤ base + all_costs kind (B.meaning source.old) self.old.sweep) }
+        ensures paid { PaysOn (B.meaning source.old) (λ kind. Between kind
+            (min (home_row (B.meaning source.old) self.old.sweep) (moved_row (B.meaning source.old) self.old.sweep wanted.pending))
+            (max (home_row (B.meaning source.old) self.old.sweep) (moved_row (B.meaning source.old) self.old.sweep wanted.pending) + 1))
+            self.old self.new steps.old steps.new result }
     {
         let rows = wanted.pending.unsigned_abs() as usize;
         if wanted.pending.is_negative() {

@@ -33,42 +33,32 @@ pub returns-in_err-push_below-clause-paid : goal.returns-in_err-push_below-claus
 returns-in_err-push_below-clause-paid g c =
     failed g (goal.at.returns-in_err-push_below-clause-paid g c).After-rows c.from_residual-in_err-push_below.result c.from_residual-in_err-push_below.ensures.0
 
-empty : (g : given.Over) → goal.After-drop-rows-2 g → Strip
-empty g c = record { sweep = c.args.sweep; blocks = c.new.result; strip_rows = c.new-2.result; home = c.row_in_block.result }
-
-made : (g : given.Over) → (c : goal.After-drop-rows-2 g) → Made (g.B.BlockSource.meaning c.args.source.now) c.args.sweep c.in_ok-block.block (empty g c) c.push_below.new.self (shown_rows c.as_slice.result.now)
-unfolding empty
-made g c =
+pub returns : goal.returns
+returns g c =
     let m = g.B.BlockSource.meaning c.args.source.now in
     let sweep = c.args.sweep in
     let b = c.in_ok-block.block in
+    let rows = shown_rows c.as_slice.result.now in
+    let new = c.push_below.new.self in
+    let empty : Strip = record { sweep = sweep; blocks = c.new.result; strip_rows = c.new-2.result; home = c.row_in_block.result } in
     let count = c.len.ensures ∙ (sym c.as_slice.ensures.len ∙ sym (count-shown c.as_slice.result.now)) in
-    record {
+    let cost = cost-same m (g.B.BlockSource.meaning c.block_of.new.self) sweep b c.rows.new.steps c.args.steps.now c.block_of.ensures.stays c.rows.ensures.steps in
+    let made : Made m sweep b empty new rows = record {
       source = c.block_of.ensures.source;
       shape = record { least = omega arith; most = omega arith };
       point = c.requires.point;
       holds = c.in_ok-block.ensures.found;
-      same = rows-same m (g.B.BlockSource.meaning c.block_of.new.self) sweep b (shown_rows c.as_slice.result.now) c.block_of.ensures.stays (ap shown_rows c.as_slice.ensures.value ∙ c.in_ok-rows.ensures.rows);
+      same = rows-same m (g.B.BlockSource.meaning c.block_of.new.self) sweep b rows c.block_of.ensures.stays (ap shown_rows c.as_slice.ensures.value ∙ c.in_ok-rows.ensures.rows);
       sweep_is = refl;
       blocks = c.new.ensures.items;
       strip_rows = c.new-2.ensures.items;
       home = c.row_in_block.ensures ∙ ap (λ n. cond (sweep.anchor.pos == b.start) (min sweep.anchor.row (n - 1)) 0) count;
       below = c.in_ok-push_below.ensures;
+    } in
+    record {
+      stays = c.rows.ensures.stays ∙ c.block_of.ensures.stays;
+      source = c.block_of.ensures.source;
+      strip = (made-strip m sweep b empty new rows made, made-sweep m sweep b empty new rows made);
+      point = made-point m sweep b empty new rows made;
+      paid = λ kind asked. made-paid kind c.args.steps.now m sweep b empty new rows c.rows.new.steps made asked cost;
     }
-
-pub returns-clause-strip : goal.returns-clause-strip
-returns-clause-strip g c =
-    let m = g.B.BlockSource.meaning c.args.source.now in (
-      made-strip m c.args.sweep c.in_ok-block.block (empty g c) c.push_below.new.self (shown_rows c.as_slice.result.now) (made g c),
-      made-sweep m c.args.sweep c.in_ok-block.block (empty g c) c.push_below.new.self (shown_rows c.as_slice.result.now) (made g c),
-    )
-
-pub returns-clause-point : goal.returns-clause-point
-returns-clause-point g c =
-    made-point (g.B.BlockSource.meaning c.args.source.now) c.args.sweep c.in_ok-block.block (empty g c) c.push_below.new.self (shown_rows c.as_slice.result.now) (made g c)
-
-pub returns-clause-paid : goal.returns-clause-paid
-returns-clause-paid g c = λ kind asked.
-    let m = g.B.BlockSource.meaning c.args.source.now in
-    let cost = cost-same m (g.B.BlockSource.meaning c.block_of.new.self) c.args.sweep c.in_ok-block.block c.rows.new.steps c.args.steps.now c.block_of.ensures.stays c.rows.ensures.steps in
-    made-paid kind c.args.steps.now m c.args.sweep c.in_ok-block.block (empty g c) c.push_below.new.self (shown_rows c.as_slice.result.now) c.rows.new.steps (made g c) asked cost
