@@ -119,3 +119,6 @@ pub const FILE_BYTES: u32 = 8_388_608;
 
 /// Bytes in a recorded stream that the auditor judges.
 pub const STREAM_BYTES: u32 = 16_777_216;
+
+/// The greatest number of a generated script.
+pub const GENERATED_NUMBER: u32 = 2_147_483_647;

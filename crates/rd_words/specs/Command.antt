@@ -9,6 +9,7 @@ use Rattle.clap.specs.declared.builder.value_parser.ValueParser.{ValueParser}
 use Rattle.clap.specs.declared.builder.value_parser.ValueParser.TheVariants.{Unsigned}
 use Rattle.clap.specs.declared.error.kind.ErrorKind.{ErrorKind}
 use Rattle.clap.specs.declared.error.kind.ErrorKind.TheVariants.{OutOfMemory}
+use Rattle.rd_base.specs.declared.limits.TheConstants.{GENERATED_NUMBER}
 use Rattle.rd_words.specs.Words.{Text, Setting, class_file, mirror_file, bracket_file, generate, dump, settings, name_of, is_true, WordValues, values_by}
 use Rattle.rd_words.specs.declared.words.Words.{Words}
 use Rattle.rd_words.specs.declared.words.WordsFault.{WordsFault}
@@ -24,7 +25,7 @@ action_for dump = SetTrue
 action_for s = Set
 
 abbrev pub parser_for : Setting → Option ValueParser
-parser_for generate = Some (Unsigned 0 2147483647)
+parser_for generate = Some (Unsigned 0 GENERATED_NUMBER)
 parser_for s = None
 
 -- an option of a name that takes a value

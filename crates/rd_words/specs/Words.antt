@@ -6,6 +6,7 @@ use Rattle.std.specs.Str.{bytes_eq, chars}
 use Rattle.std.specs.Str.Parse.{digits_value, without_leading_plus}
 use Rattle.clap.specs.Lexer.{long_of, strip_byte}
 use Rattle.clap.specs.ValueTests.{is_unsigned_in}
+use Rattle.rd_base.specs.declared.limits.TheConstants.{GENERATED_NUMBER}
 
 abbrev pub Text : Type 0
 Text = List ℕ
@@ -69,9 +70,9 @@ uses_from None (word ∷ words) =
     then last words
     else option_and_then (λ p. begun (named p.0) p.1 (uses_from None words) (λ s. uses_from (Some s) words)) (long_of word)
 
--- the number of a generated script: decimal digits, before which a plus may stand, of at most 2,147,483,647
+-- the number of a generated script: decimal digits, before which a plus may stand, of at most so much
 abbrev pub is_number : Text → Bool
-is_number text = is_unsigned_in 0 2147483647 text
+is_number text = is_unsigned_in 0 GENERATED_NUMBER text
 
 abbrev pub number_of : Text → Option ℕ
 number_of text = if is_number text then Some (digits_value 10 (without_leading_plus text)) else None

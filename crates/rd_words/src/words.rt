@@ -7,6 +7,7 @@ ghost use Rattle.rd_words.specs.Command.{ReadsWords, command, fault_of, option_o
 use clap::builder::ValueParser;
 use clap::error::ErrorKind;
 use clap::{Arg, ArgAction, ArgMatches, Command};
+use rd_base::limits::GENERATED_NUMBER;
 use std::alloc::{AllocError, Global};
 use thiserror::Error;
 
@@ -19,7 +20,7 @@ pub struct Words<'a> {
     pub mirror_file: &'a str,
     /// The name of the bracket file, where there is one.
     pub bracket_file: Option<&'a str>,
-    /// The number of the generated script that takes the script's place, at most 2,147,483,647.
+    /// The number of the generated script that takes the script's place, at most `GENERATED_NUMBER`.
     pub generate: Option<u32>,
     /// Whether dumps are asked for.
     pub dumps: bool,
@@ -47,13 +48,10 @@ impl From<AllocError> for WordsFault {
     }
 }
 
-/// The greatest number of a generated script.
-const MOST: u64 = 2_147_483_647;
-
 /// Reads the words behind the program's name: `--data FILE` and `--mirror FILE`, and where they are wanted `--brackets FILE`,
 /// `--generate N` and `--dump`, in any order and each at most once. A value may be joined to its name by `=`; a value that is a
-/// word of its own is no flag, so it begins with no hyphen but where it is the hyphen alone. N is 0 to 2,147,483,647 in decimal
-/// digits, before which a plus may stand. A last word `--` says nothing.
+/// word of its own is no flag, so it begins with no hyphen but where it is the hyphen alone. N is 0 to `GENERATED_NUMBER` in
+/// decimal digits, before which a plus may stand. A last word `--` says nothing.
 ///
 /// `Usage` comes exactly for other words, `--help` among them: where `clap` refuses the words of this command. Memory may be
 /// answered at any time, whatever the words are.
@@ -87,7 +85,10 @@ fn command<'a>(alloc: Global) -> Result<Command<'a>, AllocError>
         .arg(option(alloc, "data").required(true))?
         .arg(option(alloc, "mirror").required(true))?
         .arg(option(alloc, "brackets"))?
-        .arg(option(alloc, "generate").value_parser(ValueParser::unsigned(0, MOST)))?
+        .arg(option(alloc, "generate").value_parser(ValueParser::unsigned(
+            0,
+            GENERATED_NUMBER as u64,
+        )))?
         .arg(
             Arg::new(alloc, "dump")
                 .long("dump")
@@ -134,7 +135,7 @@ fn number_of(text: &str) -> Option<u32>
     ensures { result ≡ number_of text.now }
 {
     match text.parse::<u32>() {
-        Ok(number) if number as u64 > MOST => None,
+        Ok(number) if number > GENERATED_NUMBER => None,
         Ok(number) => Some(number),
         Err(_) => None,
     }
