@@ -5,6 +5,7 @@ use Rattle.rd_base.specs.declared.limits.TheConstants.{OVERLAYS}
 use Rattle.rd_overlays.specs.declared.fault.OverlayFault.{OverlayFault}
 use Rattle.rd_overlays.specs.declared.fault.OverlayFault.TheVariants.{NoOverlay, OutOfRange, TooMany, Memory}
 use Rattle.rd_overlays.specs.declared.overlay.Overlay.{Overlay}
+use Rattle.rd_overlays.specs.declared.overlay.Living.{Living}
 use Rattle.rd_overlays.specs.declared.overlay.Kind.{Kind}
 use Rattle.rd_overlays.specs.declared.overlay.Kind.TheVariants.{Face, Display, Invisible, LinePrefix, WrapPrefix, Before, After}
 use Rattle.rd_overlays.specs.declared.overlay.Meeting.{Meeting}
@@ -20,6 +21,10 @@ live None = None
 -- the overlay of a number where it lives
 abbrev pub overlay_at : List (Option Overlay) → ℕ → Option Overlay
 overlay_at slots number = live (slice_get slots number)
+
+-- an overlay lives and has this number
+abbrev pub IsLiving : List (Option Overlay) → Living → Type 0
+IsLiving slots living = (living.number < length slots) × (overlay_at slots living.number ≡ Some living.overlay)
 
 abbrev pub new_overlay : ℕ → ℕ → ℤ → Bool → Bool → Overlay
 new_overlay from to priority front rear =

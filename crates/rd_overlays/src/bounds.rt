@@ -57,7 +57,8 @@ pub(crate) fn bounds_shrunk(from: Pos, to: Pos, bounds: Bounds) -> Bounds
     }
 }
 
-/// Whether none of the overlays within the bounds has an edge on the way from a position that is nearer than the nearest so far.
+/// Whether a search for the nearest edge on the way from a position can pass over the overlays within the bounds: none of them has
+/// an edge there that is nearer than `nearest`, the one that the search has found so far.
 pub(crate) fn has_no_nearer_edge(bounds: Bounds, way: Way, pos: Pos, nearest: Option<Pos>) -> bool
     ensures { IsTrue result → (slot : Option Overlay) → SlotHolds bounds slot → nearer way nearest (slot_edge way pos slot) ≡ nearest }
 {

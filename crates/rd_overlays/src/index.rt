@@ -83,7 +83,8 @@ impl Index {
         place
     }
 
-    /// The place up to which a search for an edge that is nearer to a position than the nearest so far can go at once.
+    /// The place up to which a search for the nearest edge on the way from a position can go at once, where `nearest` is the one
+    /// that it has found so far: no overlay passed over has a nearer one.
     pub(crate) fn skip_edges(&self, place: usize, way: Way, pos: Pos, nearest: Option<Pos>) -> usize
         requires { length self.now.order ≤ length self.now.bounds * 256 }
         ensures low { place ≤ result }

@@ -22,7 +22,7 @@ pub use fault::OverlayFault;
 pub use laws::{
     edits_keep_starts_before_ends, last_values_are_the_greatest_overlays, listings_are_exact,
 };
-pub use overlay::{Kind, Overlay, after_deletion};
+pub use overlay::{Kind, Living, Overlay, after_deletion};
 pub use overlays::Overlays;
 pub use values::last_given;
 pub use way::Way;

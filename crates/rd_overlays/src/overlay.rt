@@ -29,6 +29,13 @@ pub struct Overlay {
     pub values: [Option<u32>; 7],
 }
 
+/// An overlay that lives, with its number: what a search found, for the calls that change it.
+#[derive(Clone, Copy, Debug, PartialEq, Eq)]
+pub struct Living {
+    pub number: u32,
+    pub overlay: Overlay,
+}
+
 /// How an overlay can stand to a position.
 #[derive(Clone, Copy, Debug, PartialEq, Eq)]
 pub(crate) enum Meeting {
@@ -106,9 +113,5 @@ pub(crate) fn overlay_at(slots: &[Option<Overlay>], number: u32) -> Option<Overl
     ensures value { result ≡ overlay_at slots.now number }
     ensures bound { OnSome result (number < length slots.now) }
 {
-    if (number as usize) < slots.len() {
-        slots[number as usize]
-    } else {
-        None
-    }
+    *slots.get(number as usize)?
 }

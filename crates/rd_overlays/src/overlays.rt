@@ -3,7 +3,7 @@ use crate::edges::nearest_edge;
 use crate::fault::OverlayFault;
 use crate::listing::listed;
 use crate::moves::Edit;
-use crate::overlay::{Kind, Meeting, Overlay, overlay_at};
+use crate::overlay::{Kind, Living, Meeting, Overlay, overlay_at};
 use crate::store::Store;
 use crate::way::Way;
 use rd_base::limits::OVERLAYS;
@@ -38,10 +38,10 @@ impl Model for Overlays {
 }
 
 impl Overlays {
-    ghost use Rattle.std.specs.Prelude.{◌≡◌, ◌≤◌, ◌<◌, [], length, map, Some, None, IfOk, MatchOption, MatchResult};
+    ghost use Rattle.std.specs.Prelude.{◌≡◌, ◌≤◌, ◌<◌, [], length, map, Some, None, IfOk, OnOk, OnErr, MatchOption, MatchResult};
     ghost use Rattle.rd_base.specs.declared.limits.TheConstants.{OVERLAYS};
     ghost use Rattle.rd_overlays.specs.declared.fault.OverlayFault.TheVariants.{NoOverlay};
-    ghost use Rattle.rd_overlays.specs.Overlays.{overlay_at, new_overlay, make_fault, number_fault, move_fault, dropped, moved, given, Makes, Moves, Answers, covering, starting, ending, next_edge, last_edge, AllFit, slot_grown, slot_shrunk};
+    ghost use Rattle.rd_overlays.specs.Overlays.{overlay_at, IsLiving, new_overlay, make_fault, number_fault, move_fault, dropped, moved, given, Makes, Moves, Answers, covering, starting, ending, next_edge, last_edge, AllFit, slot_grown, slot_shrunk};
 
     /// No overlay.
     pub fn new(alloc: Global) -> Result<Overlays, Memory>
@@ -101,17 +101,11 @@ impl Overlays {
     pub fn move_to(&mut self, number: u32, from: Pos, to: Pos) -> Result<(), OverlayFault>
         ensures { Moves result (move_fault self.old number from to) self.old self.new (moved self.old number from to) }
     {
-        let overlay = self.living(number)?;
+        let living = self.find(number)?;
         if to < from {
             return Err(OverlayFault::OutOfRange);
         }
-        self.slots.settle()?;
-        let moved = Overlay {
-            from,
-            to,
-            ..overlay
-        };
-        self.slots.put(number, Some(moved));
+        self.move_living(living, from, to)?;
         Ok(())
     }
 
@@ -120,8 +114,8 @@ impl Overlays {
     pub fn drop_one(&mut self, number: u32) -> Result<(), OverlayFault>
         ensures { Answers result (number_fault self.old number) self.old self.new (dropped self.old number) }
     {
-        let _overlay = self.living(number)?;
-        self.slots.put(number, None);
+        let living = self.find(number)?;
+        self.drop_living(living);
         Ok(())
     }
 
@@ -130,28 +124,59 @@ impl Overlays {
     pub fn set(&mut self, number: u32, kind: Kind, value: Option<u32>) -> Result<(), OverlayFault>
         ensures { Answers result (number_fault self.old number) self.old self.new (given self.old number kind value) }
     {
-        let mut overlay = self.living(number)?;
-        overlay.values[kind as usize] = value;
-        self.slots.put(number, Some(overlay));
+        let living = self.find(number)?;
+        self.set_living(living, kind, value);
         Ok(())
     }
 
-    /// The overlay of a number, which must live.
-    fn living(&self, number: u32) -> Result<Overlay, OverlayFault>
-        ensures { MatchResult result (λ overlay. (overlay_at self.now number ≡ Some overlay) × (number < length self.now)) (λ fault. (fault ≡ NoOverlay) × (overlay_at self.now number ≡ None)) }
+    /// The overlay of a number with it. NoOverlay comes exactly where it does not live. Costs one step.
+    pub fn find(&self, number: u32) -> Result<Living, OverlayFault>
+        ensures { MatchResult result (λ living. (living.number ≡ number) × IsLiving self.now living) (λ fault. (fault ≡ NoOverlay) × (overlay_at self.now number ≡ None)) }
     {
-        overlay_at(self.slots.as_slice(), number).ok_or(OverlayFault::NoOverlay)
+        let overlay = overlay_at(self.slots.as_slice(), number).ok_or(OverlayFault::NoOverlay)?;
+        Ok(Living { number, overlay })
+    }
+
+    /// Moves an overlay that was found, as `move_to` does. Where memory is wanting nothing changes.
+    pub fn move_living(&mut self, living: Living, from: Pos, to: Pos) -> Result<(), Memory>
+        requires living { IsLiving self.old living }
+        requires order { from ≤ to }
+        ensures ok { OnOk result (self.new ≡ moved self.old living.number from to) }
+        ensures err { OnErr result (self.new ≡ self.old) }
+    {
+        self.slots.settle()?;
+        let moved = Overlay {
+            from,
+            to,
+            ..living.overlay
+        };
+        self.slots.put(living.number, Some(moved));
+        Ok(())
+    }
+
+    /// Takes an overlay away that was found.
+    pub fn drop_living(&mut self, living: Living)
+        requires { IsLiving self.old living }
+        ensures { self.new ≡ dropped self.old living.number }
+    {
+        self.slots.put(living.number, None);
+    }
+
+    /// Gives an overlay that was found a value of a kind, or takes it away.
+    pub fn set_living(&mut self, living: Living, kind: Kind, value: Option<u32>)
+        requires { IsLiving self.old living }
+        ensures { self.new ≡ given self.old living.number kind value }
+    {
+        let mut overlay = living.overlay;
+        overlay.values[kind as usize] = value;
+        self.slots.put(living.number, Some(overlay));
     }
 
     /// The overlay of a number, and None exactly where it does not live. Costs one step.
     pub fn get(&self, number: u32) -> Option<&Overlay>
         ensures { MatchOption result (overlay_at self.now number ≡ None) (λ overlay. overlay_at self.now number ≡ Some overlay.now) }
     {
-        if (number as usize) < self.slots.len() {
-            self.slots.get(number as usize).as_ref()
-        } else {
-            None
-        }
+        self.slots.as_slice().get(number as usize)?.as_ref()
     }
 
     /// The numbers of the overlays that cover a position, `from <= pos < to`, in increasing order of priority and number.

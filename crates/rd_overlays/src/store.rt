@@ -28,7 +28,7 @@ impl Model for Store {
 }
 
 impl Store {
-    ghost use Rattle.std.specs.Prelude.{◌≡◌, ◌≤◌, ◌<◌, ◌++◌, ◌∷◌, [], length, map, Option, Some, OnOk, OnErr, slice_set, slice_get};
+    ghost use Rattle.std.specs.Prelude.{◌≡◌, ◌≤◌, ◌<◌, ◌++◌, ◌∷◌, [], length, map, Option, Some, OnOk, OnErr, slice_set};
     ghost use Rattle.rd_overlays.specs.Bounds.{IsIndex};
     ghost use Rattle.rd_overlays.specs.Moves.{slot_moved, IsEdit, AllFollow};
 
@@ -58,14 +58,6 @@ impl Store {
         ensures { IsIndex self.now result.now.order result.now.bounds }
     {
         &self.index
-    }
-
-    /// What stands at a number.
-    pub(crate) fn get(&self, number: usize) -> &Option<Overlay>
-        requires { number < length self.now }
-        ensures { slice_get self.now number ≡ Some result.now }
-    {
-        self.slots.get(number)
     }
 
     /// Puts something else at a number. Costs a pass over the order where the range of an overlay changes.
