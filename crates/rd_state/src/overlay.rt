@@ -1,6 +1,6 @@
 //! The ops on the overlays of a buffer, as methods of `Content`, with the refusals of each in order.
 ghost use Rattle.std.specs.Prelude.{◌≡◌, ◌≢◌, ◌+◌, ◌<◌, ◌≤◌, true, None, Some, IfOk, IsSome, OnOk, length};
-ghost use Rattle.rd_overlays.specs.Overlays.{overlay_at};
+ghost use Rattle.rd_overlays.specs.Overlays.{overlay_at, IsLiving};
 ghost use Rattle.rd_objects.specs.Sound.{AreObjects};
 ghost use Rattle.rd_script.specs.Forms.{IsPropertyValue};
 ghost use Rattle.rd_state.specs.Edits.{is_range_of_all, overlay_making, overlay_moving, overlay_dropping, overlay_putting, margin_putting};
@@ -12,7 +12,7 @@ use crate::made::made_value;
 use crate::refused::Refused;
 use rd_base::limits::{OVERLAYS, TEXT_CHARACTERS};
 use rd_objects::Objects;
-use rd_overlays::{Kind, Overlay, Overlays};
+use rd_overlays::{Kind, Living, Overlay, Overlays};
 use rd_text::Buffer;
 
 /// How many overlays can be made in a buffer.
@@ -51,14 +51,14 @@ impl Content {
         ensures before { IfOk result (λ overlay. overlay_at self.old.overlays number ≡ Some overlay) }
         ensures small { OnOk result ((from < 4294967296) × (to < 4294967296)) }
     {
-        let overlay = find_overlay(&self.state.overlays, number)?;
+        let living = find_overlay(&self.state.overlays, number)?;
         if !is_range_of_all(&self.state.text, from, to) {
             return Err(Refused::OutOfRange);
         }
         self.state
             .overlays
-            .move_to(number as u32, from as u32, to as u32)?;
-        Ok(overlay)
+            .move_living(living, from as u32, to as u32)?;
+        Ok(living.overlay)
     }
 
     /// Takes an overlay away, and answers it.
@@ -67,9 +67,9 @@ impl Content {
         ensures before { IfOk result (λ overlay. overlay_at self.old.overlays number ≡ Some overlay) }
         ensures free { result ≢ Err Refused.Memory }
     {
-        let overlay = find_overlay(&self.state.overlays, number)?;
-        self.state.overlays.drop_one(number as u32)?;
-        Ok(overlay)
+        let living = find_overlay(&self.state.overlays, number)?;
+        self.state.overlays.drop_living(living);
+        Ok(living.overlay)
     }
 
     /// Gives an overlay another value of a kind, or takes its value away, and answers it as it was.
@@ -86,10 +86,10 @@ impl Content {
         ensures before { IfOk result (λ overlay. overlay_at self.old.overlays number ≡ Some overlay) }
         ensures free { result ≢ Err Refused.Memory }
     {
-        let overlay = find_overlay(&self.state.overlays, number)?;
+        let living = find_overlay(&self.state.overlays, number)?;
         let value = made_value(objects, kind, value)?;
-        self.state.overlays.set(number as u32, kind, value)?;
-        Ok(overlay)
+        self.state.overlays.set_living(living, kind, value);
+        Ok(living.overlay)
     }
 
     /// Gives an overlay another margin string, or takes its string away. A margin string is named as one before an overlay is.
@@ -103,25 +103,22 @@ impl Content {
         ensures changes { Answers result (margin_putting objects.now number string self.old) self.old self.new }
         ensures free { result ≡ Err Refused.Memory → IsSome string }
     {
-        find_overlay(&self.state.overlays, number)?;
+        let living = find_overlay(&self.state.overlays, number)?;
         let string = made_value(objects, Kind::Before, string)?;
-        self.marks.set(number as u32, string)?;
+        self.marks.set(living.number, string)?;
         Ok(())
     }
 }
 
 /// The overlay with a number, which is refused where none lives.
-fn find_overlay(overlays: &Overlays, number: u64) -> Result<Overlay, Refused>
+fn find_overlay(overlays: &Overlays, number: u64) -> Result<Living, Refused>
     requires { length overlays.now ≤ OVERLAYS }
-    ensures { Finds result (λ overlay. (overlay_at overlays.now number ≡ Some overlay) × (number < OVERLAYS)) (overlay_at overlays.now number ≡ None) NoOverlay }
+    ensures { Finds result (λ living. (living.number ≡ number) × IsLiving overlays.now living) (overlay_at overlays.now number ≡ None) NoOverlay }
 {
     if MOST_OVERLAYS <= number {
         return Err(Refused::NoOverlay);
     }
-    match overlays.get(number as u32) {
-        Some(overlay) => Ok(*overlay),
-        None => Err(Refused::NoOverlay),
-    }
+    Ok(overlays.find(number as u32)?)
 }
 
 /// Whether a range lies in the whole text.
