@@ -34,7 +34,7 @@ use Rattle.rd_script.specs.declared.name.ScreenOp.TheVariants as screens
 use Rattle.rd_overlays.specs.declared.overlay.Kind.{Kind}
 use Rattle.rd_overlays.specs.declared.overlay.Kind.TheVariants as kinds
 use Rattle.rd_script.specs.Forms.{is_buffer_name, is_text, is_plain_text, is_text_kind, IsRawByte, IsFormat, IsPropertyValue, is_glyph_text, is_slot, IsWhole, IsStop, IsNumber, IsInvisible, IsSettingInForm, IsSpecInForm, IsRunInForm, IsEntryInForm, IsSlot, IsEllipsis, IsInForm}
-use Rattle.rd_script.specs.Fields.{Fields, kept_if, within, whole, signed, text, plain_text, items_of, buffer_name, word, items_count, consed, each_item, list_of, two_items_of, two_items, four_items_of, four_items, or_bad, required_of, present, optional_of, required, optional, defaulted, and_then, both, made, then_by}
+use Rattle.rd_script.specs.Fields.{Fields, kept_if, within, whole, signed, text, plain_text, items_of, buffer_name, word, items_count, consed, each_item, list_of, two_items_of, two_items, four_items_of, four_items, or_bad, required_of, present, optional_of, required, optional, defaulted, and_then, both, made, then_by, value_key}
 use Rattle.rd_script.specs.Numbers.{is_near_zero}
 use Rattle.rd_script.specs.Objects.{run_kinds, run_of, run, spec_names as spec_words, spec_value, face_of, glyph_text, only, slot, entry_of, entry, slot_field}
 use Rattle.rd_script.specs.Settings.{setting_names as setting_words, direction_names, invisible_by, invisible, value_of as value_of_setting}
@@ -285,22 +285,22 @@ invisible-finds = record { found = λ d x e. invisible-some (as_bool d) (list_of
 any-gives : {T : Type 0} (key : List ℕ) (kind : Data → Option T) → Gives (required key kind) (λ x. Unit {0})
 any-gives key kind = required-gives key kind _ (any-finds kind)
 
-value-gives : (n : SettingName) → Gives (value_of_setting n) IsSettingInForm
-value-gives setting_names.TabWidth = made-as _ _ _ IsSettingInForm (required-gives (codes "value") (within 1 TAB_COLUMNS) _ (within-finds 1 TAB_COLUMNS)) (λ n h. h)
-value-gives setting_names.CtlArrow = made-as _ _ _ IsSettingInForm (any-gives (codes "value") as_bool) (λ x h. h)
-value-gives setting_names.Direction = made-as _ _ _ IsSettingInForm (any-gives (codes "value") (word direction_names)) (λ x h. h)
-value-gives setting_names.Reorder = made-as _ _ _ IsSettingInForm (any-gives (codes "value") as_bool) (λ x h. h)
-value-gives setting_names.Table = made-as _ _ _ IsSettingInForm (number-gives (codes "value")) (λ x h. h)
-value-gives setting_names.Invisible = made-as _ _ _ IsSettingInForm (required-gives (codes "value") invisible _ invisible-finds) (λ x h. h)
-value-gives setting_names.LinePrefix = made-as _ _ _ IsSettingInForm (number-gives (codes "value")) (λ x h. h)
-value-gives setting_names.WrapPrefix = made-as _ _ _ IsSettingInForm (number-gives (codes "value")) (λ x h. h)
-value-gives setting_names.Modified = made-as _ _ _ IsSettingInForm (any-gives (codes "value") as_bool) (λ x h. h)
-value-gives setting_names.ReadOnly = made-as _ _ _ IsSettingInForm (any-gives (codes "value") as_bool) (λ x h. h)
+value-gives : (n : SettingName) (key : List ℕ) → Gives (value_of_setting n key) IsSettingInForm
+value-gives setting_names.TabWidth key = made-as _ _ _ IsSettingInForm (required-gives key (within 1 TAB_COLUMNS) _ (within-finds 1 TAB_COLUMNS)) (λ n h. h)
+value-gives setting_names.CtlArrow key = made-as _ _ _ IsSettingInForm (any-gives key as_bool) (λ x h. h)
+value-gives setting_names.Direction key = made-as _ _ _ IsSettingInForm (any-gives key (word direction_names)) (λ x h. h)
+value-gives setting_names.Reorder key = made-as _ _ _ IsSettingInForm (any-gives key as_bool) (λ x h. h)
+value-gives setting_names.Table key = made-as _ _ _ IsSettingInForm (number-gives key) (λ x h. h)
+value-gives setting_names.Invisible key = made-as _ _ _ IsSettingInForm (required-gives key invisible _ invisible-finds) (λ x h. h)
+value-gives setting_names.LinePrefix key = made-as _ _ _ IsSettingInForm (number-gives key) (λ x h. h)
+value-gives setting_names.WrapPrefix key = made-as _ _ _ IsSettingInForm (number-gives key) (λ x h. h)
+value-gives setting_names.Modified key = made-as _ _ _ IsSettingInForm (any-gives key as_bool) (λ x h. h)
+value-gives setting_names.ReadOnly key = made-as _ _ _ IsSettingInForm (any-gives key as_bool) (λ x h. h)
 
-spec-gives : (n : SpecName) → Gives (spec_value n) IsSpecInForm
-spec-gives spec_names.Text = made-as _ _ _ IsSpecInForm (whole_field (codes "value")) (λ n h. h)
-spec-gives spec_names.Width = made-as _ _ _ IsSpecInForm (range_field (codes "value") 0 SPACE_COLUMNS) (λ n h. h.1)
-spec-gives spec_names.Align = made-as _ _ _ IsSpecInForm (range_field (codes "value") 0 SPACE_COLUMNS) (λ n h. h.1)
+spec-gives : (n : SpecName) (key : List ℕ) → Gives (spec_value n key) IsSpecInForm
+spec-gives spec_names.Text key = made-as _ _ _ IsSpecInForm (whole_field key) (λ n h. h)
+spec-gives spec_names.Width key = made-as _ _ _ IsSpecInForm (range_field key 0 SPACE_COLUMNS) (λ n h. h.1)
+spec-gives spec_names.Align key = made-as _ _ _ IsSpecInForm (range_field key 0 SPACE_COLUMNS) (λ n h. h.1)
 
 colour-gives : (key : List ℕ) → Gives (defaulted 8 key (within 0 7)) (λ n. n ≤ 8)
 colour-gives key = defaulted-gives 8 key (within 0 7) (λ n. n ≤ 8)
@@ -336,14 +336,14 @@ property_value-form kind (Some n) h = h n refl
 abbrev AtMost : ℕ → Option ℕ → Type 0
 AtMost most o = (n : ℕ) → o ≡ Some n → n ≤ most
 
-value-at_most : (most : ℕ) → Gives (optional (codes "value") (within 0 most)) (AtMost most)
-value-at_most most = optional-gives (codes "value") (within 0 most) (λ n. n ≤ most) (AtMost most)
+value-at_most : (key : List ℕ) (most : ℕ) → Gives (optional key (within 0 most)) (AtMost most)
+value-at_most key most = optional-gives key (within 0 most) (λ n. n ≤ most) (AtMost most)
     (record { found = λ d n e. ((within-finds 0 most).found d n e).1 }) (λ n e. absurd (none-some n e)) (λ y h n e. subst (λ z. z ≤ most) (ap (λ o. unwrap_or o y) e) h)
 
 -- a kind and its value
 property-gives : (of : Data → Option Kind) (P : Kind → Type 0) → Finds of P → Gives (property of) (λ x. P x.0 × IsPropertyValue x.0 x.1)
-property-gives of P finds = then_by-gives _ _ property_value P (λ x. P x.0 × IsPropertyValue x.0 x.1) (required-gives (codes "kind") of P finds)
-    (λ kind h. made-as _ _ (AtMost (greatest_value kind)) _ (value-at_most (greatest_value kind)) (λ value most. (h, property_value-form kind value most)))
+property-gives of P finds = then_by-gives _ _ (λ kind. property_value kind value_key) P (λ x. P x.0 × IsPropertyValue x.0 x.1) (required-gives (codes "kind") of P finds)
+    (λ kind h. made-as _ _ (AtMost (greatest_value kind)) _ (value-at_most value_key (greatest_value kind)) (λ value most. (h, property_value-form kind value most)))
 
 text_kind-finds : Finds text_kind (λ kind. IsTrue (is_text_kind kind))
 text_kind-finds = record { found = λ d kind e. kept_if-found is_text_kind (overlay_kind d) kind e }
@@ -379,14 +379,14 @@ properties-give properties.OverlayPut = made-gives _ _ _
 properties-give properties.MarginPut = made-gives _ _ _
     (both-gives _ _ _ _ (name_field (codes "buffer")) (both-gives _ _ _ _ (whole_field (codes "overlay")) (number-gives (codes "string")))) (λ x h. (h.0, h.1.0, h.1.1))
 properties-give properties.Setting = made-gives _ _ _
-    (both-gives _ _ _ _ (name_field (codes "buffer")) (then_by-gives _ _ value_of_setting _ IsSettingInForm (any-gives (codes "name") (word setting_words)) (λ n any. value-gives n)))
+    (both-gives _ _ _ _ (name_field (codes "buffer")) (then_by-gives _ _ (λ n. value_of_setting n value_key) _ IsSettingInForm (any-gives (codes "name") (word setting_words)) (λ n any. value-gives n value_key)))
     (λ x h. (h.0, h.1))
 
 object-gives : (op : ObjectOp) → Gives (object_row op) IsInForm
 object-gives objects.String = made-gives _ _ _
     (both-gives _ _ _ _ (text_field (codes "text")) (defaulted-gives [] (codes "runs") (list_of STRING_RUNS run) _ (list-finds STRING_RUNS run IsRunInForm run-finds) (omega arith, All-nil _)))
     (λ x h. (h.0, h.1.0, h.1.1))
-object-gives objects.Spec = made-gives _ _ _ (then_by-gives _ _ spec_value _ IsSpecInForm (any-gives (codes "kind") (word spec_words)) (λ n any. spec-gives n)) (λ x h. h)
+object-gives objects.Spec = made-gives _ _ _ (then_by-gives _ _ (λ n. spec_value n value_key) _ IsSpecInForm (any-gives (codes "kind") (word spec_words)) (λ n any. spec-gives n value_key)) (λ x h. h)
 object-gives objects.Face = made-gives _ _ _
     (made-as face_of _ _ (λ f. (f.fg ≤ 8) × (f.bg ≤ 8)) (both-gives _ _ _ _ (colour-gives (codes "fg")) (both-gives _ _ _ _ (colour-gives (codes "bg"))
     (both-gives _ _ _ _ (flag-gives (codes "bold")) (both-gives _ _ _ _ (flag-gives (codes "underline")) (flag-gives (codes "inverse"))))))

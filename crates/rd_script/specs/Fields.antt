@@ -1,5 +1,5 @@
 -- Fields of an object: which keys are asked for, and what is read of their values.
-use Rattle.std.specs.Prelude.{ℕ, zero, suc, ◌≡◌, ◌&&◌, Bool, ℤ, nat_le, bytes_eq, if◌then◌else◌, List, [], ◌∷◌, ◌++◌, Option, None, Some, option_and_then, option_map, is_some, unwrap_or, ok_or, Result, Ok, Err, OnOk, String}
+use Rattle.std.specs.Prelude.{ℕ, zero, suc, ◌≡◌, ◌&&◌, Bool, ℤ, nat_le, bytes_eq, if◌then◌else◌, List, [], ◌∷◌, ◌++◌, Option, None, Some, option_and_then, option_map, is_some, unwrap_or, ok_or, Result, Ok, Err, OnOk, String, codes}
 use Rattle.std.specs.Option.{option_zip}
 use Rattle.std.specs.Str.{chars}
 use Rattle.std.specs.declared.alloc.Global.{Global}
@@ -133,19 +133,24 @@ made f fields = record { keys = fields.keys; taken = λ ms. and_then (λ a. Ok (
 abbrev pub defaulted : {T : Type 0} → T → List ℕ → (Data → Option T) → Fields T
 defaulted default key kind = made (λ found. unwrap_or found default) (optional key kind)
 
--- fields and then others
-abbrev pub both : {A B : Type 0} → Fields A → Fields B → Fields (A × B)
-both first second = record {
-  keys = first.keys ++ second.keys;
-  taken = λ ms. and_then (λ a. and_then (λ b. Ok (a, b)) (second.taken ms)) (first.taken ms);
-}
-
--- fields, and then others of these keys that depend on what was read
+-- fields, and then others of these keys, which may depend on what was read
 abbrev pub then_by : {A B : Type 0} → Fields A → List (List ℕ) → (A → Fields B) → Fields B
 then_by first keys second = record {
   keys = first.keys ++ keys;
   taken = λ ms. and_then (λ a. (second a).taken ms) (first.taken ms);
 }
+
+-- fields and then others
+abbrev pub both : {A B : Type 0} → Fields A → Fields B → Fields (A × B)
+both first second = then_by first second.keys (λ a. made (λ b. (a, b)) second)
+
+-- the key of a value whose form depends on the field before it
+abbrev pub value_key : List ℕ
+value_key = codes "value"
+
+-- a field, and then the value at that key, of a form that depends on what the field says
+abbrev pub then_value : {A B : Type 0} → Fields A → (A → List ℕ → Fields B) → Fields B
+then_value first form = then_by first (value_key ∷ []) (λ a. form a value_key)
 
 -- ---- answers
 

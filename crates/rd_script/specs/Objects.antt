@@ -13,7 +13,7 @@ use Rattle.rd_script.specs.declared.object.OpSpec.{OpSpec}
 use Rattle.rd_script.specs.declared.object.OpSpec.TheVariants as specs
 use Rattle.rd_script.specs.declared.object.SpecName.{SpecName}
 use Rattle.rd_script.specs.declared.object.SpecName.TheVariants as names
-use Rattle.rd_script.specs.Fields.{Fields, kept_if, whole, within, word, two_items, four_items, required, optional, defaulted, both, made, then_by}
+use Rattle.rd_script.specs.Fields.{Fields, kept_if, whole, within, word, two_items, four_items, required, optional, defaulted, both, made, then_value}
 use Rattle.rd_script.specs.Forms.{is_glyph_text, is_slot}
 
 -- ---- strings
@@ -33,14 +33,15 @@ run d = option_map run_of (four_items whole whole (word run_kinds) whole d)
 abbrev pub spec_names : List (List ℕ × SpecName)
 spec_names = (codes "string", names.Text) ∷ (codes "width", names.Width) ∷ (codes "align", names.Align) ∷ []
 
-abbrev pub spec_value : SpecName → Fields OpSpec
-spec_value names.Text = made specs.Text (required (codes "value") whole)
-spec_value names.Width = made specs.Width (required (codes "value") (within 0 SPACE_COLUMNS))
-spec_value names.Align = made specs.Align (required (codes "value") (within 0 SPACE_COLUMNS))
+-- the string or the columns of a spec, at a key
+abbrev pub spec_value : SpecName → List ℕ → Fields OpSpec
+spec_value names.Text key = made specs.Text (required key whole)
+spec_value names.Width key = made specs.Width (required key (within 0 SPACE_COLUMNS))
+spec_value names.Align key = made specs.Align (required key (within 0 SPACE_COLUMNS))
 
 -- what a spec is, and then its string or its columns
 abbrev pub spec : Fields OpSpec
-spec = then_by (required (codes "kind") (word spec_names)) (codes "value" ∷ []) spec_value
+spec = then_value (required (codes "kind") (word spec_names)) spec_value
 
 -- ---- faces
 

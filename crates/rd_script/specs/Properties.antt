@@ -4,7 +4,7 @@ use Rattle.serde_json.specs.Data.{Data}
 use Rattle.rd_base.specs.declared.limits.TheConstants.{ATOMS}
 use Rattle.rd_overlays.specs.declared.overlay.Kind.{Kind}
 use Rattle.rd_overlays.specs.declared.overlay.Kind.TheVariants as kinds
-use Rattle.rd_script.specs.Fields.{Fields, kept_if, within, word, required, optional, made, then_by}
+use Rattle.rd_script.specs.Fields.{Fields, kept_if, within, word, required, optional, made, then_value}
 use Rattle.rd_script.specs.Forms.{is_text_kind}
 
 abbrev pub kind_names : List (List ℕ × Kind)
@@ -25,10 +25,10 @@ abbrev pub greatest_value : Kind → ℕ
 greatest_value kinds.Invisible = ATOMS
 greatest_value kind = 18446744073709551615
 
--- a kind with its value, which is none where it is absent or null
-abbrev pub property_value : Kind → Fields (Kind × Option ℕ)
-property_value kind = made (λ value. (kind, value)) (optional (codes "value") (within 0 (greatest_value kind)))
+-- a kind with its value at a key, which is none where it is absent or null
+abbrev pub property_value : Kind → List ℕ → Fields (Kind × Option ℕ)
+property_value kind key = made (λ value. (kind, value)) (optional key (within 0 (greatest_value kind)))
 
 -- a kind and its value
 abbrev pub property : (Data → Option Kind) → Fields (Kind × Option ℕ)
-property of = then_by (required (codes "kind") of) (codes "value" ∷ []) property_value
+property of = then_value (required (codes "kind") of) property_value

@@ -11,7 +11,7 @@ use Rattle.rd_script.specs.declared.setting.Setting.{Setting}
 use Rattle.rd_script.specs.declared.setting.Setting.TheVariants as settings
 use Rattle.rd_script.specs.declared.setting.SettingName.{SettingName}
 use Rattle.rd_script.specs.declared.setting.SettingName.TheVariants as names
-use Rattle.rd_script.specs.Fields.{Fields, whole, within, word, two_items, list_of, required, optional, made, then_by}
+use Rattle.rd_script.specs.Fields.{Fields, whole, within, word, two_items, list_of, required, optional, made, then_value}
 
 abbrev pub setting_names : List (List ℕ × SettingName)
 setting_names = (codes "tab_width", names.TabWidth)
@@ -38,19 +38,19 @@ invisible_by None pairs = option_map Listed pairs
 abbrev pub invisible : Data → Option Invisible
 invisible d = invisible_by (as_bool d) (list_of INVISIBLE_ATOMS (two_items (within 0 ATOMS) as_bool) d)
 
--- the value of each setting
-abbrev pub value_of : SettingName → Fields Setting
-value_of names.TabWidth = made settings.TabWidth (required (codes "value") (within 1 TAB_COLUMNS))
-value_of names.CtlArrow = made settings.CtlArrow (required (codes "value") as_bool)
-value_of names.Direction = made settings.Direction (required (codes "value") (word direction_names))
-value_of names.Reorder = made settings.Reorder (required (codes "value") as_bool)
-value_of names.Table = made settings.Table (optional (codes "value") whole)
-value_of names.Invisible = made settings.Invisible (required (codes "value") invisible)
-value_of names.LinePrefix = made settings.LinePrefix (optional (codes "value") whole)
-value_of names.WrapPrefix = made settings.WrapPrefix (optional (codes "value") whole)
-value_of names.Modified = made settings.Modified (required (codes "value") as_bool)
-value_of names.ReadOnly = made settings.ReadOnly (required (codes "value") as_bool)
+-- the value of each setting, at a key
+abbrev pub value_of : SettingName → List ℕ → Fields Setting
+value_of names.TabWidth key = made settings.TabWidth (required key (within 1 TAB_COLUMNS))
+value_of names.CtlArrow key = made settings.CtlArrow (required key as_bool)
+value_of names.Direction key = made settings.Direction (required key (word direction_names))
+value_of names.Reorder key = made settings.Reorder (required key as_bool)
+value_of names.Table key = made settings.Table (optional key whole)
+value_of names.Invisible key = made settings.Invisible (required key invisible)
+value_of names.LinePrefix key = made settings.LinePrefix (optional key whole)
+value_of names.WrapPrefix key = made settings.WrapPrefix (optional key whole)
+value_of names.Modified key = made settings.Modified (required key as_bool)
+value_of names.ReadOnly key = made settings.ReadOnly (required key as_bool)
 
 -- a setting's name, and then its value
 abbrev pub setting : Fields Setting
-setting = then_by (required (codes "name") (word setting_names)) (codes "value" ∷ []) value_of
+setting = then_value (required (codes "name") (word setting_names)) value_of

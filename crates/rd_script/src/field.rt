@@ -14,6 +14,9 @@ use rd_base::{Memory, characters};
 use serde_json::Value;
 use std::alloc::Global;
 
+/// The key of a value whose form depends on a field before it.
+pub const VALUE: &'static str = "value";
+
 /// What a member says that is asked for.
 pub fn required<F: Form>(
     alloc: Global,

@@ -1,5 +1,5 @@
 //! The ops that make objects: their fields.
-ghost use Rattle.std.specs.Prelude.{◌≡◌, ◌≤◌, ◌∷◌, [], IfOk, OnOk, codes, false};
+ghost use Rattle.std.specs.Prelude.{◌≡◌, ◌≤◌, ◌∷◌, [], IfOk, OnOk, false};
 ghost use Rattle.serde_json.specs.Find.{as_bool};
 ghost use Rattle.serde_json.specs.View.{members_view};
 ghost use Rattle.rd_script.specs.Fields.{list_of, within, defaulted, asked_too, IsRead, IsTaken};
@@ -9,7 +9,7 @@ ghost use Rattle.rd_script.specs.declared.name.ObjectOp.TheVariants as objects;
 
 use crate::asked::Asked;
 use crate::fault::OpFault;
-use crate::field::{defaulted, named, number, optional, required};
+use crate::field::{VALUE, defaulted, named, number, optional, required};
 use crate::form::{Flag, Form, Within};
 use crate::item::AtMost;
 use crate::name::ObjectOp;
@@ -81,15 +81,19 @@ fn spec(alloc: Global, asked: &mut Asked) -> Result<OpSpec, OpFault>
     ensures { IsTaken result spec asked.old asked.new }
 {
     let name = named(alloc, asked, "kind")?;
-    spec_value(alloc, asked, name)
+    spec_value(alloc, asked, name, VALUE)
 }
 
-/// The string or the columns of a display spec.
-fn spec_value(alloc: Global, asked: &mut Asked, name: SpecName) -> Result<OpSpec, OpFault>
-    ensures value { IsRead result ((spec_value name).taken (members_view asked.old.members)) }
-    ensures keys { OnOk result (asked.new ≡ asked_too (codes "value" ∷ []) asked.old) }
+/// The string or the columns of a display spec, at a key.
+fn spec_value(
+    alloc: Global,
+    asked: &mut Asked,
+    name: SpecName,
+    key: &'static str,
+) -> Result<OpSpec, OpFault>
+    ensures value { IsRead result ((spec_value name key.now).taken (members_view asked.old.members)) }
+    ensures keys { OnOk result (asked.new ≡ asked_too (key.now ∷ []) asked.old) }
 {
-    let key = "value";
     match name {
         SpecName::Text => Ok(OpSpec::Text(number(alloc, asked, key)?)),
         SpecName::Width => Ok(OpSpec::Width(within(alloc, asked, key, 0, SPACE_COLUMNS)?)),

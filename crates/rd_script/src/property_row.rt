@@ -8,7 +8,7 @@ ghost use Rattle.rd_script.specs.declared.name.PropertyOp.TheVariants as propert
 
 use crate::asked::Asked;
 use crate::fault::OpFault;
-use crate::field::{bad, defaulted, named, number, optional};
+use crate::field::{VALUE, bad, defaulted, named, number, optional};
 use crate::form::{Flag, Signed, Whole};
 use crate::name::PropertyOp;
 use crate::op::Op;
@@ -60,7 +60,7 @@ fn read_put(alloc: Global, asked: &mut Asked) -> Result<Op, OpFault>
 {
     let (buffer, (from, to)) = stretch(alloc, asked)?;
     let kind = text_kind(alloc, asked)?;
-    let value = optional(alloc, asked, "value", &Property { kind })?;
+    let value = optional(alloc, asked, VALUE, &Property { kind })?;
     Ok(Op::Put {
         buffer,
         from,
@@ -116,7 +116,7 @@ fn read_overlay_put(alloc: Global, asked: &mut Asked) -> Result<Op, OpFault>
     let buffer = buffer(alloc, asked)?;
     let overlay = number(alloc, asked, "overlay")?;
     let kind = named(alloc, asked, "kind")?;
-    let value = optional(alloc, asked, "value", &Property { kind })?;
+    let value = optional(alloc, asked, VALUE, &Property { kind })?;
     Ok(Op::OverlayPut {
         buffer,
         overlay,

@@ -1,12 +1,12 @@
 //! The fields that say a setting.
-ghost use Rattle.std.specs.Prelude.{◌≡◌, ◌∷◌, [], OnOk, codes};
+ghost use Rattle.std.specs.Prelude.{◌≡◌, ◌∷◌, [], OnOk};
 ghost use Rattle.serde_json.specs.View.{members_view};
 ghost use Rattle.rd_script.specs.Fields.{within, required, asked_too, IsRead, IsTaken};
 ghost use Rattle.rd_script.specs.Settings.{setting, value_of};
 
 use crate::asked::Asked;
 use crate::fault::OpFault;
-use crate::field::{named, optional, required};
+use crate::field::{VALUE, named, optional, required};
 use crate::form::{Flag, Form, Whole, Within};
 use crate::item::{AtMost, Two};
 use crate::place_field::within;
@@ -21,15 +21,19 @@ pub fn setting(alloc: Global, asked: &mut Asked) -> Result<Setting, OpFault>
     ensures { IsTaken result setting asked.old asked.new }
 {
     let name = named(alloc, asked, "name")?;
-    value_of(alloc, asked, name)
+    value_of(alloc, asked, name, VALUE)
 }
 
-/// The value of a setting.
-fn value_of(alloc: Global, asked: &mut Asked, name: SettingName) -> Result<Setting, OpFault>
-    ensures value { IsRead result ((value_of name).taken (members_view asked.old.members)) }
-    ensures keys { OnOk result (asked.new ≡ asked_too (codes "value" ∷ []) asked.old) }
+/// The value of a setting, at a key.
+fn value_of(
+    alloc: Global,
+    asked: &mut Asked,
+    name: SettingName,
+    key: &'static str,
+) -> Result<Setting, OpFault>
+    ensures value { IsRead result ((value_of name key.now).taken (members_view asked.old.members)) }
+    ensures keys { OnOk result (asked.new ≡ asked_too (key.now ∷ []) asked.old) }
 {
-    let key = "value";
     match name {
         SettingName::TabWidth => Ok(Setting::TabWidth(tab_width(alloc, asked, key)?)),
         SettingName::CtlArrow => Ok(Setting::CtlArrow(required(alloc, asked, key, &Flag)?)),
