@@ -9,14 +9,10 @@ ghost use Rattle.rd_state.specs.Making.{unless_fault, string_making, spec_making
 
 use crate::made::narrow;
 use crate::refused::Refused;
-use rd_base::limits::STRINGS;
 use rd_base::{Ch, Face, mapped};
 use rd_objects::{Objects, Run, Spec, Table};
 use rd_script::{OpRun, OpSpec};
 use std::alloc::Global;
-
-/// How many strings there can be, and how many display specs.
-const MOST: u64 = STRINGS as u64;
 
 /// Makes a string with runs of faces and display specs.
 pub(crate) fn add_string(
@@ -72,12 +68,7 @@ pub(crate) fn add_spec(objects: &mut Objects, spec: OpSpec) -> Result<(), Refuse
     ensures { Answers result (spec_making objects.old spec) objects.old objects.new }
 {
     let spec = match spec {
-        OpSpec::Text(number) => {
-            if MOST <= number {
-                return Err(Refused::NoObject);
-            }
-            Spec::Text(number as u32)
-        }
+        OpSpec::Text(number) => Spec::Text(narrow(number)),
         OpSpec::Width(columns) => Spec::Width(columns),
         OpSpec::Align(column) => Spec::Align(column),
     };
