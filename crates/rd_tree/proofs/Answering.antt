@@ -7,7 +7,7 @@ use Rattle.rd_tree.specs.declared.side.Side.{Side}
 use Rattle.rd_tree.specs.declared.placed.Placed.{Placed}
 use Rattle.rd_tree.specs.declared.fault.TreeFault.{TreeFault}
 use Rattle.rd_tree.specs.declared.fault.TreeFault.TheVariants.{NoWindow, TooSmall, TooMany}
-use Rattle.rd_tree.specs.Windows.{Windows, Window, Split, HasRoom, fits, leaves, placed, window_at, holds, halves, split_at, dressed}
+use Rattle.rd_tree.specs.Windows.{Windows, Window, Split, HasRoom, fits, leaves, placed, window_at, holds, replaced, halves, split_at, dressed}
 use Rattle.rd_tree.specs.Calls.{Configuration, frame_of, is_full, split_tree, changed_to, mode_tree, margins_tree, rect_of, Answers}
 use Rattle.rd_tree.proofs.Keeping.{found_held, replaced_fits, replaced_found}
 use Rattle.rd_tree.proofs.Rooms.{found_number}
@@ -22,6 +22,13 @@ found_is_held c w window e = sym (found_held w c.windows (frame_of c)) ∙ ap is
 -- whether a split leaves room, by the window that was found
 pub split_room : (c : Configuration) (w : ℕ) (side : Side) (size : ℕ) (window : Placed) → HasRoom c.windows (frame_of c) → window_at w c.windows (frame_of c) ≡ Some window → fits (split_at w side size c.made c.windows) (frame_of c) ≡ fits (Split side size (Window window.number window.mode window.margins) (Window 0 window.mode window.margins)) window.rect
 split_room c w side size window room e = replaced_fits w (halves w side size c.made) c.windows (frame_of c) window room e
+
+-- a window that was found, in two, stands in its place as a split says
+pub split_replaced : (c : Configuration) (w : ℕ) (side : Side) (size new : ℕ) (window : Placed) (other : Windows) → window_at w c.windows (frame_of c) ≡ Some window
+    → other ≡ halves window.number side size new window.mode window.margins → replaced w (λ _ _. other) c.windows ≡ split_at w side size new c.windows
+split_replaced c w side size new window other e is =
+    ap (λ (o : Windows). replaced w (λ _ _. o) c.windows) (is ∙ ap (λ (n : ℕ). halves n side size new window.mode window.margins) (found_number w (placed c.windows (frame_of c)) window e))
+    ∙ replaced_found w (halves w side size new) c.windows (frame_of c) window e
 
 pub split_unknown : (c : Configuration) (w : ℕ) (side : Side) (size : ℕ) → window_at w c.windows (frame_of c) ≡ None → split_tree c w side size ≡ Err NoWindow
 unfolding split_tree

@@ -1,6 +1,6 @@
 //! The nodes of a window tree.
-ghost use Rattle.std.specs.Prelude.{◌≡◌, ◌≤◌, false, length, slice_get, OnOk, OnErr};
-ghost use Rattle.rd_tree.specs.Windows.{HasRoom, InFrame, NeedsMet, FirstPartsFit, columns_needed, rows_needed, first_size, resized, leaves, window_at, holds, is_leaf_of, is_single, first_leaf, sibling, removed, split_at, dressed, Window};
+ghost use Rattle.std.specs.Prelude.{◌≡◌, ◌≤◌, false, length, slice_get, IfOk};
+ghost use Rattle.rd_tree.specs.Windows.{HasRoom, InFrame, NeedsMet, FirstPartsFit, columns_needed, rows_needed, first_size, resized, leaves, window_at, holds, is_leaf_of, is_single, first_leaf, sibling, removed, halves, replaced, Window};
 ghost use Rattle.rd_tree.specs.Shapes.{shape};
 
 use crate::placed::{Placed, rows_for};
@@ -51,6 +51,17 @@ fn first_size(side: Side, size: u32, second: &Node, rect: Rect) -> u32
 }
 
 impl Leaf {
+    /// The window without its rectangle.
+    fn of(window: Placed) -> Leaf
+        ensures { result ≡ record { number = window.number; mode = window.mode; margins = window.margins } }
+    {
+        Leaf {
+            number: window.number,
+            mode: window.mode,
+            margins: window.margins,
+        }
+    }
+
     /// The window where it has a rectangle.
     fn placed(&self, rect: Rect) -> Placed
         ensures { result ≡ record { number = self.now.number; mode = self.now.mode; margins = self.now.margins; rect = rect } }
@@ -226,42 +237,54 @@ impl Node {
         }
     }
 
-    /// Splits the window with a number: it keeps the first `size` rows or columns of its rectangle, and a new window gets the
-    /// rest.
-    pub(crate) fn split(
-        &mut self,
+    /// The node of one window.
+    pub(crate) fn leaf_of(window: Placed) -> Node
+        ensures { shape result ≡ Window window.number window.mode window.margins }
+    {
+        Node::Leaf(Leaf::of(window))
+    }
+
+    /// The node of a window that is split: it keeps the first `size` rows or columns of its rectangle, and a new window, which has its
+    /// mode line and its margins, gets the rest.
+    pub(crate) fn halves(
         alloc: Global,
-        window: u32,
+        window: Placed,
         side: Side,
         size: u32,
         new: u32,
-    ) -> Result<(), Memory>
-        ensures done { OnOk result (shape self.new ≡ split_at window side size new (shape self.old)) }
-        ensures same { OnErr result (shape self.new ≡ shape self.old) }
+    ) -> Result<Node, Memory>
+        ensures { IfOk result (λ node. shape node ≡ halves window.number side size new window.mode window.margins) }
+    {
+        let leaf = Leaf::of(window);
+        let first = Box::new(alloc, Node::Leaf(leaf))?;
+        let other = Leaf {
+            number: new,
+            ..leaf
+        };
+        let second = Box::new(alloc, Node::Leaf(other))?;
+        Ok(Node::Split {
+            side,
+            size,
+            first,
+            second,
+        })
+    }
+
+    /// Puts another node in place of the window with a number.
+    pub(crate) fn replace(&mut self, window: u32, other: Node)
+        ensures { shape self.new ≡ replaced window (λ _ _. shape other) (shape self.old) }
     {
         match self {
             Node::Leaf(leaf) => {
                 if leaf.number == window {
-                    let first = Box::new(alloc, Node::Leaf(*leaf))?;
-                    let other = Leaf {
-                        number: new,
-                        ..*leaf
-                    };
-                    let second = Box::new(alloc, Node::Leaf(other))?;
-                    *self = Node::Split {
-                        side,
-                        size,
-                        first,
-                        second,
-                    };
+                    *self = other;
                 }
-                Ok(())
             }
             Node::Split { first, second, .. } => {
                 if first.holds(window) {
-                    first.split(alloc, window, side, size, new)
+                    first.replace(window, other);
                 } else {
-                    second.split(alloc, window, side, size, new)
+                    second.replace(window, other);
                 }
             }
         }
@@ -306,27 +329,6 @@ impl Node {
                     first.remove(window, rect.first_part(*side, *size))
                 } else {
                     second.remove(window, rect.second_part(*side, *size))
-                }
-            }
-        }
-    }
-
-    /// Gives the window with the number of `window` its mode line and its margins.
-    pub(crate) fn dress(&mut self, window: Placed)
-        ensures { shape self.new ≡ dressed window (shape self.old) }
-    {
-        match self {
-            Node::Leaf(leaf) => {
-                if leaf.number == window.number {
-                    leaf.mode = window.mode;
-                    leaf.margins = window.margins;
-                }
-            }
-            Node::Split { first, second, .. } => {
-                if first.holds(window.number) {
-                    first.dress(window);
-                } else {
-                    second.dress(window);
                 }
             }
         }

@@ -80,7 +80,8 @@ impl Tree {
             return Err(TreeFault::TooMany);
         }
         let number = self.made;
-        self.root.split(self.alloc, window, side, size, number)?;
+        let halves = Node::halves(self.alloc, old, side, size, number)?;
+        self.root.replace(window, halves);
         self.made += 1;
         Ok(number)
     }
@@ -154,7 +155,7 @@ impl Tree {
         if !window.has_room() {
             return Err(TreeFault::TooSmall);
         }
-        self.root.dress(window);
+        self.root.replace(window.number, Node::leaf_of(window));
         Ok(())
     }
 

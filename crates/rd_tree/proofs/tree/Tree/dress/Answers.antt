@@ -22,11 +22,11 @@ returns-then-not-has_room c =
 pub invariant_of-self : goal.invariant_of-self
 invariant_of-self c =
     let t = rw (← c.self.view_is) at (taken (goal.at.invariant_of-self c).After-has_room) in
-    rw c.dress.ensures
+    rw (c.replace.ensures, c.leaf_of.ensures)
     (changed_valid (configuration_of c.self.inside) c.args.window.number (λ _ _. c.args.window.mode) (λ _ _. c.args.window.margins) c.self.invariant t.0 (t.1 ∙ c.if-not-has_room.false))
 
 pub returns : goal.returns
 returns c =
     let t = rw (← c.self.view_is) at (taken (goal.at.returns c).After-has_room) in
     let tree = configuration_of c.self.inside in
-    rw (← c.self.view_is, c.dress.ensures) (changed_done tree (dressed c.args.window tree.windows) (t.1 ∙ c.if-not-has_room.false))
+    rw (← c.self.view_is, c.replace.ensures, c.leaf_of.ensures) (changed_done tree (dressed c.args.window tree.windows) (t.1 ∙ c.if-not-has_room.false))
