@@ -22,7 +22,7 @@ use Rattle.rd_overlays.specs.Moves.{slot_moved, bounds_moved, IsEdit, SlotFollow
 use Rattle.rd_overlays.specs.declared.moves.Edit.{Edit}
 use Rattle.rd_overlays.specs.declared.moves.Edit.TheVariants.{Insertion, Deletion}
 use Rattle.rd_overlays.proofs.Slots.{overlay_at-map}
-use Rattle.rd_overlays.specs.Bounds.{Holds, SlotHolds, IsBounded, IsBoundedTo, IsWidened, IsIndex, IsAway, passed, bounds_grown, bounds_shrunk}
+use Rattle.rd_overlays.specs.Bounds.{Holds, SlotHolds, IsBounded, IsBoundedTo, IsWidened, IsIndex, IsAway, whole_order, bounds_grown, bounds_shrunk}
 
 low-after : (pos n low v : ℕ) (m : Bool) → low ≤ v → (if nat_lt pos low then min (low + n) 4294967295 else low) ≤ after_insertion pos n m v
 low-after pos n low v true p = grind (arith, nat_tests)
@@ -126,10 +126,10 @@ away pos b None h p = tt
 away pos b (Some o) h p = λ m. outside m pos o b h p
 
 -- what stands in the block of a place lies within its bounds
-pub passed-holds : (slots : List (Option Overlay)) (order : List ℕ) (bounds : List Bounds) (size block k number : ℕ) (b : Bounds) → IsBounded slots order bounds
-    → slice_get bounds block ≡ Some b → block * 256 ≤ k → k < block * 256 + 256 → k < length order → slice_get (passed order size) k ≡ Some number
+pub whole_order-holds : (slots : List (Option Overlay)) (order : List ℕ) (bounds : List Bounds) (size block k number : ℕ) (b : Bounds) → IsBounded slots order bounds
+    → slice_get bounds block ≡ Some b → block * 256 ≤ k → k < block * 256 + 256 → k < length order → slice_get (whole_order order size) k ≡ Some number
     → SlotHolds b (overlay_at slots number)
-passed-holds slots order bounds size block k number b h at low high inside here =
+whole_order-holds slots order bounds size block k number b h at low high inside here =
     let same : k / 256 ≡ block = omega arith in
     h.holds k number b (sym (get-first order (range_with_len (length order) (size - length order)) k inside) ∙ here) (ap (slice_get bounds) same ∙ at)
 

@@ -20,8 +20,8 @@ use Rattle.rd_overlays.specs.declared.overlay.Overlay.{Overlay}
 use Rattle.rd_overlays.specs.declared.listing.Rank.{Rank}
 use Rattle.rd_overlays.specs.Overlays.{live, overlay_at, precedes, placed, with_slot, ranked_from}
 use Rattle.rd_overlays.specs.Listings.{rank_of, rank_at, found_from, found_in}
-use Rattle.rd_overlays.specs.Bounds.{passed}
-use Rattle.rd_overlays.proofs.Passing.{passed-whole}
+use Rattle.rd_overlays.specs.Bounds.{whole_order}
+use Rattle.rd_overlays.proofs.Passing.{whole_order-whole}
 use Rattle.rd_overlays.proofs.Sorting.{AllAfter, Rises, rises-never_falls, sorted-never_falls, unique}
 
 order : IsTotalOrder (λ (a b : Rank). ordering_then (int_cmp a.priority b.priority) (nat_cmp a.number b.number))
@@ -264,10 +264,10 @@ found-by test all a (s ∷ rest) e =
 -- what was found is the listing once it is sorted
 pub sorted-is : (test : Overlay → Bool) (slots : List (Option Overlay)) (order : List ℕ) (sorted : List Rank) → length order ≤ length slots
     → IsPermutation (range_with_len 0 (length order)) order → IsSortedBy precedes sorted
-    → ((x : Rank) → filter (ties precedes x) sorted ≡ filter (ties precedes x) (found_in test slots (passed order (length slots)))) → sorted ≡ ranked_from test 0 slots
+    → ((x : Rank) → filter (ties precedes x) sorted ≡ filter (ties precedes x) (found_in test slots (whole_order order (length slots)))) → sorted ≡ ranked_from test 0 slots
 sorted-is test slots order sorted size whole rising stable =
     unique precedes weak sorted (ranked_from test 0 slots) (sorted-never_falls precedes weak sorted rising)
     (rises-never_falls precedes weak (ranked_from test 0 slots) (ranked-rises test 0 slots))
     (λ x. stable x
-    ∙ (same-ties test slots x (range_with_len 0 (length slots)) (passed order (length slots)) (passed-whole slots order size whole)
+    ∙ (same-ties test slots x (range_with_len 0 (length slots)) (whole_order order (length slots)) (whole_order-whole slots order size whole)
     ∙ (ap (filter (ties precedes x)) (found-by test slots 0 slots refl) ∙ sym (ranked-ties test 0 slots x))))

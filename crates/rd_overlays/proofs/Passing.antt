@@ -12,10 +12,10 @@ use Rattle.rd_overlays.specs.declared.bounds.Bounds.{Bounds}
 use Rattle.rd_overlays.specs.declared.way.Way.{Way}
 use Rattle.rd_overlays.specs.Overlays.{live, overlay_at, nearest_edge}
 use Rattle.rd_overlays.specs.Listings.{edge_in}
-use Rattle.rd_overlays.specs.Bounds.{passed, IsBounded, IsIndex}
+use Rattle.rd_overlays.specs.Bounds.{whole_order, IsBounded, IsIndex}
 use Rattle.rd_overlays.proofs.Nearest.{same-edge}
 
-pub number-back : (order : List ℕ) (size place : ℕ) → length order ≤ place → place < size → slice_get (passed order size) place ≡ Some place
+pub number-back : (order : List ℕ) (size place : ℕ) → length order ≤ place → place < size → slice_get (whole_order order size) place ≡ Some place
 number-back order size place low high =
     let m = length order in
     let k = place - m in
@@ -25,19 +25,19 @@ number-back order size place low high =
     let is : get_or more k 0 ≡ place = get_or-range_with_len m (size - m) k 0 (omega (arith, low, high)) ∙ sym e in
     get-second order more place k e ∙ (slice_get-get_or more k 0 inside ∙ ap Some is)
 
-pub passed-size : (order : List ℕ) (size : ℕ) → length order ≤ size → length (passed order size) ≡ size
-passed-size order size p =
+pub whole_order-size : (order : List ℕ) (size : ℕ) → length order ≤ size → length (whole_order order size) ≡ size
+whole_order-size order size p =
     let more = length-range_with_len (length order) (size - length order) in
     let both = length-append order (range_with_len (length order) (size - length order)) in
     omega (arith, more, both, p)
 
 -- each number stands among them once
-pub passed-whole : (slots : List (Option Overlay)) (order : List ℕ) → length order ≤ length slots → IsPermutation (range_with_len 0 (length order)) order
-    → IsPermutation (range_with_len 0 (length slots)) (passed order (length slots))
-passed-whole slots order size whole =
+pub whole_order-whole : (slots : List (Option Overlay)) (order : List ℕ) → length order ≤ length slots → IsPermutation (range_with_len 0 (length order)) order
+    → IsPermutation (range_with_len 0 (length slots)) (whole_order order (length slots))
+whole_order-whole slots order size whole =
     let m = length order in
     let n = length slots in
-    let P : List ℕ → Type 0 = λ xs. IsPermutation xs (passed order n) in
+    let P : List ℕ → Type 0 = λ xs. IsPermutation xs (whole_order order n) in
     let e : m + (n - m) ≡ n = omega (arith, size) in
     let first : m ≡ 0 + m = omega arith in
     let parts : range_with_len 0 m ++ range_with_len m (n - m) ≡ range_with_len 0 n
@@ -45,11 +45,11 @@ passed-whole slots order size whole =
     subst P parts (IsPermutation-append_left (range_with_len m (n - m)) (range_with_len 0 m) order whole)
 
 pub edge-of_all : (way : Way) (pos : ℕ) (slots : List (Option Overlay)) (order : List ℕ) → length order ≤ length slots → IsPermutation (range_with_len 0 (length order)) order
-    → edge_in way pos slots (passed order (length slots)) ≡ nearest_edge way pos slots
+    → edge_in way pos slots (whole_order order (length slots)) ≡ nearest_edge way pos slots
 edge-of_all way pos slots order size whole =
     let numbers = range_with_len 0 (length slots) in
-    let now = passed order (length slots) in
-    let shuffled = IsPermutation-map (overlay_at slots) numbers now (passed-whole slots order size whole) in
+    let now = whole_order order (length slots) in
+    let shuffled = IsPermutation-map (overlay_at slots) numbers now (whole_order-whole slots order size whole) in
     let all = fill_by_all (overlay_at slots) slots (length slots) None refl
     (λ k inside. sym (ap live (slice_get-get_or slots k None inside))) in
     same-edge way pos (map (overlay_at slots) numbers) (map (overlay_at slots) now) shuffled ∙ ap (nearest_edge way pos) (sym all)

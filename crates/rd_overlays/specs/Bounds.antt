@@ -1,10 +1,11 @@
--- What is kept beside the overlays: their numbers in another order, and bounds of the edges of each 256 that follow one another in it.
+-- What is kept beside the overlays: their numbers in another order, and bounds of the edges of each block of them.
 use Rattle.std.specs.Prelude.{◌≡◌, ℕ, ◌+◌, ◌-◌, ◌*◌, ◌/◌, ◌<◌, ◌≤◌, min, nat_lt, if◌then◌else◌, false, List, ◌++◌, length, slice_get, Option, None, Some, ⊤}
 use Rattle.std.specs.List.{range_with_len}
 use Rattle.std.specs.List.Sorted.{IsPermutation}
 use Rattle.rd_overlays.specs.declared.overlay.Overlay.{Overlay}
 use Rattle.rd_overlays.specs.declared.overlay.Meeting.{Meeting}
 use Rattle.rd_overlays.specs.declared.bounds.Bounds.{Bounds}
+use Rattle.rd_overlays.specs.declared.index.TheConstants.{BLOCK}
 use Rattle.rd_overlays.specs.Overlays.{overlay_at, meets, after_deletion}
 
 -- both edges of an overlay lie within bounds
@@ -20,19 +21,19 @@ SlotHolds b (Some o) = Holds b o
 
 -- each overlay of these numbers lies within the bounds of its block
 pub record IsBounded (slots : List (Option Overlay)) (order : List ℕ) (bounds : List Bounds) : Type 0 where
-  pub room : length order ≤ length bounds * 256
-  pub holds : (place number : ℕ) (b : Bounds) → slice_get order place ≡ Some number → slice_get bounds (place / 256) ≡ Some b → SlotHolds b (overlay_at slots number)
+  pub room : length order ≤ length bounds * BLOCK
+  pub holds : (place number : ℕ) (b : Bounds) → slice_get order place ≡ Some number → slice_get bounds (place / BLOCK) ≡ Some b → SlotHolds b (overlay_at slots number)
 
 -- the same of the numbers before a place alone
 pub record IsBoundedTo (place : ℕ) (slots : List (Option Overlay)) (order : List ℕ) (bounds : List Bounds) : Type 0 where
-  pub room : place ≤ length bounds * 256
-  pub holds : (k number : ℕ) (b : Bounds) → k < place → slice_get order k ≡ Some number → slice_get bounds (k / 256) ≡ Some b → SlotHolds b (overlay_at slots number)
+  pub room : place ≤ length bounds * BLOCK
+  pub holds : (k number : ℕ) (b : Bounds) → k < place → slice_get order k ≡ Some number → slice_get bounds (k / BLOCK) ≡ Some b → SlotHolds b (overlay_at slots number)
 
 -- each block of new bounds holds what it held, and the block of a place holds one more overlay
 pub record IsWidened (old new : List Bounds) (place : ℕ) (slot : Option Overlay) : Type 0 where
   pub size : length new ≡ length old
   pub kept : (block : ℕ) (b c : Bounds) (other : Option Overlay) → slice_get old block ≡ Some b → slice_get new block ≡ Some c → SlotHolds b other → SlotHolds c other
-  pub holds : (b : Bounds) → slice_get new (place / 256) ≡ Some b → SlotHolds b slot
+  pub holds : (b : Bounds) → slice_get new (place / BLOCK) ≡ Some b → SlotHolds b slot
 
 -- the first numbers, each once, in some order, with bounds
 pub record IsIndex (slots : List (Option Overlay)) (order : List ℕ) (bounds : List Bounds) : Type 0 where
@@ -41,8 +42,8 @@ pub record IsIndex (slots : List (Option Overlay)) (order : List ℕ) (bounds : 
   pub bounded : IsBounded slots order bounds
 
 -- all numbers in the order in which a look-up comes to them: behind those of an index those that were made since
-abbrev pub passed : List ℕ → ℕ → List ℕ
-passed order size = order ++ range_with_len (length order) (size - length order)
+abbrev pub whole_order : List ℕ → ℕ → List ℕ
+whole_order order size = order ++ range_with_len (length order) (size - length order)
 
 -- an overlay neither covers a position nor starts or ends there
 abbrev pub IsAway : ℕ → Option Overlay → Type 0

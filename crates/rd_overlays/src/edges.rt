@@ -1,7 +1,7 @@
 //! The nearest start or end of an overlay from a position.
 ghost use Rattle.std.specs.Prelude.{◌≡◌, ◌≤◌, length};
 ghost use Rattle.rd_overlays.specs.Overlays.{slot_edge, nearest_edge};
-ghost use Rattle.rd_overlays.specs.Bounds.{IsIndex, passed};
+ghost use Rattle.rd_overlays.specs.Bounds.{IsIndex, whole_order};
 ghost use Rattle.rd_overlays.specs.Listings.{edge_in};
 
 use crate::index::Index;
@@ -15,21 +15,19 @@ use rd_base::limits::OVERLAYS;
 fn slot_edge(way: Way, pos: Pos, slot: Option<Overlay>) -> Option<Pos>
     ensures { result ≡ slot_edge way pos slot }
 {
-    match slot {
-        None => None,
-        Some(overlay) => nearer(
-            way,
-            reached(way, pos, overlay.from),
-            reached(way, pos, overlay.to),
-        ),
-    }
+    let overlay = slot?;
+    nearer(
+        way,
+        reached(way, pos, overlay.from),
+        reached(way, pos, overlay.to),
+    )
 }
 
 /// The nearest edge of all overlays, along the order in which an index comes to them.
 fn nearest_edge_by(slots: &[Option<Overlay>], index: &Index, way: Way, pos: Pos) -> Option<Pos>
     requires size { length slots.now ≤ OVERLAYS }
     requires index { IsIndex slots.now index.now.order index.now.bounds }
-    ensures { result ≡ edge_in way pos slots.now (passed index.now.order (length slots.now)) }
+    ensures { result ≡ edge_in way pos slots.now (whole_order index.now.order (length slots.now)) }
 {
     let mut nearest = None;
     let mut place = 0;

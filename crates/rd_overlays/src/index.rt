@@ -4,6 +4,7 @@ ghost use Rattle.std.specs.List.{range_with_len};
 ghost use Rattle.std.specs.List.Sorted.{IsPermutation};
 ghost use Rattle.rd_overlays.specs.declared.overlay.Overlay.{Overlay};
 ghost use Rattle.rd_overlays.specs.declared.bounds.Bounds.{Bounds};
+ghost use Rattle.rd_overlays.specs.declared.index.TheConstants.{BLOCK};
 ghost use Rattle.rd_overlays.specs.Bounds.{SlotHolds, IsBounded, IsBoundedTo, IsIndex, IsWidened};
 
 use crate::bounds::{Bounds, has_no_nearer_edge, widened};
@@ -14,7 +15,7 @@ use rd_base::{ListOf, Memory, Pos};
 use std::alloc::{AllocError, Global};
 
 /// How many numbers that follow one another in the order have bounds together.
-const BLOCK: usize = 256;
+pub(crate) const BLOCK: usize = 256;
 
 /// The numbers of the overlays by the start that each had when they were put in order, without those made since; bounds of the
 /// edges of each block of them; and how many overlays were moved since.
@@ -28,8 +29,9 @@ pub(crate) struct Index {
 impl Index {
     ghost use Rattle.std.specs.Prelude.{◌≡◌, ℕ, ◌<◌, ◌≤◌, ◌*◌, [], List, Option, Some, length, slice_get};
     ghost use Rattle.rd_overlays.specs.declared.overlay.Overlay.{Overlay};
+    ghost use Rattle.rd_overlays.specs.declared.index.TheConstants.{BLOCK};
     ghost use Rattle.rd_overlays.specs.Overlays.{overlay_at, nearer, slot_edge};
-    ghost use Rattle.rd_overlays.specs.Bounds.{IsAway, IsBounded, passed};
+    ghost use Rattle.rd_overlays.specs.Bounds.{IsAway, IsBounded, whole_order};
 
     /// The index of no overlay.
     pub(crate) fn new(alloc: Global) -> Index
@@ -48,13 +50,13 @@ impl Index {
     pub(crate) fn is_stale(&self, size: usize) -> bool {
         let indexed = self.order.len();
         let made = size.saturating_sub(indexed);
-        made > 256 + indexed / 128 || self.moved > 16 + indexed / 1024
+        made > BLOCK + indexed / 128 || self.moved > 16 + indexed / 1024
     }
 
     /// The number at a place. Those that were made since the others were put in order come last.
     pub(crate) fn number_at(&self, place: usize) -> u32
         requires { place < OVERLAYS }
-        ensures { (size : ℕ) → place < size → slice_get (passed self.now.order size) place ≡ Some result }
+        ensures { (size : ℕ) → place < size → slice_get (whole_order self.now.order size) place ≡ Some result }
     {
         if place < self.order.len() {
             self.order.at(place)
@@ -65,9 +67,9 @@ impl Index {
 
     /// The place down to which a look-up at a position can go at once.
     pub(crate) fn skip_to(&self, place: usize, pos: Pos) -> usize
-        requires { length self.now.order ≤ length self.now.bounds * 256 }
+        requires { length self.now.order ≤ length self.now.bounds * BLOCK }
         ensures bound { result ≤ place }
-        ensures away { (slots : List (Option Overlay)) (k number : ℕ) → IsBounded slots self.now.order self.now.bounds → result ≤ k → k < place → slice_get (passed self.now.order (length slots)) k ≡ Some number → IsAway pos (overlay_at slots number) }
+        ensures away { (slots : List (Option Overlay)) (k number : ℕ) → IsBounded slots self.now.order self.now.bounds → result ≤ k → k < place → slice_get (whole_order self.now.order (length slots)) k ≡ Some number → IsAway pos (overlay_at slots number) }
     {
         if place == 0 {
             return 0;
@@ -86,10 +88,10 @@ impl Index {
     /// The place up to which a search for the nearest edge on the way from a position can go at once, where `nearest` is the one
     /// that it has found so far: no overlay passed over has a nearer one.
     pub(crate) fn skip_edges(&self, place: usize, way: Way, pos: Pos, nearest: Option<Pos>) -> usize
-        requires { length self.now.order ≤ length self.now.bounds * 256 }
+        requires { length self.now.order ≤ length self.now.bounds * BLOCK }
         ensures low { place ≤ result }
         ensures high { place < result → result ≤ length self.now.order }
-        ensures idle { (slots : List (Option Overlay)) (k number : ℕ) → IsBounded slots self.now.order self.now.bounds → place ≤ k → k < result → slice_get (passed self.now.order (length slots)) k ≡ Some number → nearer way nearest (slot_edge way pos (overlay_at slots number)) ≡ nearest }
+        ensures idle { (slots : List (Option Overlay)) (k number : ℕ) → IsBounded slots self.now.order self.now.bounds → place ≤ k → k < result → slice_get (whole_order self.now.order (length slots)) k ≡ Some number → nearer way nearest (slot_edge way pos (overlay_at slots number)) ≡ nearest }
     {
         if self.order.len() <= place {
             return place;
@@ -128,8 +130,8 @@ fn sort_by_start(numbers: &mut Vec<u32>, slots: &[Option<Overlay>]) -> Result<()
 
 /// Adds bounds where one more overlay than these has none.
 fn make_room(bounds: &mut ListOf<Bounds>, size: usize) -> Result<(), Memory>
-    requires { size ≤ length bounds.old * 256 }
-    ensures room { OnOk result (size < length bounds.new * 256) }
+    requires { size ≤ length bounds.old * BLOCK }
+    ensures room { OnOk result (size < length bounds.new * BLOCK) }
     ensures kept { (slots : List (Option Overlay)) (order : List ℕ) → IsBoundedTo size slots order bounds.old → IsBoundedTo size slots order bounds.new }
 {
     if size / BLOCK < bounds.len() {
@@ -144,7 +146,7 @@ fn make_room(bounds: &mut ListOf<Bounds>, size: usize) -> Result<(), Memory>
 
 /// Widens the bounds of a block so that an overlay at a place lies within them.
 fn widen(bounds: &mut ListOf<Bounds>, place: usize, slot: Option<Overlay>)
-    requires { place < length bounds.old * 256 }
+    requires { place < length bounds.old * BLOCK }
     ensures { IsWidened bounds.old bounds.new place slot }
 {
     let block = place / BLOCK;
@@ -201,7 +203,7 @@ fn lies_within(before: Option<Overlay>, after: Option<Overlay>) -> bool
 
 /// Widens the bounds of each block in which a number stands, so that an overlay lies within them. Costs a pass over the order.
 fn widen_all(order: &[u32], bounds: &mut ListOf<Bounds>, number: u32, slot: Option<Overlay>)
-    requires { length order.now ≤ length bounds.old * 256 }
+    requires { length order.now ≤ length bounds.old * BLOCK }
     ensures { (slots : List (Option Overlay)) → IsBounded slots order.now bounds.old → IsBounded (slice_set slots number slot) order.now bounds.new }
 {
     let mut place = order.len();
@@ -220,7 +222,7 @@ pub(crate) fn make_fit(
     before: Option<Overlay>,
     after: Option<Overlay>,
 )
-    requires { length index.old.order ≤ length index.old.bounds * 256 }
+    requires { length index.old.order ≤ length index.old.bounds * BLOCK }
     ensures order { index.new.order ≡ index.old.order }
     ensures bounded { (slots : List (Option Overlay)) → slice_get slots number ≡ Some before → IsBounded slots index.old.order index.old.bounds → IsBounded (slice_set slots number after) index.new.order index.new.bounds }
 {

@@ -2,7 +2,7 @@
 ghost use Rattle.std.specs.Prelude.{◌≡◌, ◌≤◌, ◌++◌, length, map, OnOk, IfOk};
 ghost use Rattle.rd_overlays.specs.Overlays.{meets, ranked_from, number_of_rank};
 ghost use Rattle.rd_overlays.specs.Listings.{rank_at, found_in};
-ghost use Rattle.rd_overlays.specs.Bounds.{IsIndex, passed};
+ghost use Rattle.rd_overlays.specs.Bounds.{IsIndex, whole_order};
 
 use crate::index::Index;
 use crate::overlay::{Meeting, Overlay, meets, overlay_at};
@@ -47,7 +47,7 @@ fn found(
 ) -> Result<Vec<Rank>, Memory>
     requires size { length slots.now ≤ OVERLAYS }
     requires index { IsIndex slots.now index.now.order index.now.bounds }
-    ensures { IfOk result (λ ranks. ranks.items ≡ found_in (meets meeting pos) slots.now (passed index.now.order (length slots.now))) }
+    ensures { IfOk result (λ ranks. ranks.items ≡ found_in (meets meeting pos) slots.now (whole_order index.now.order (length slots.now))) }
 {
     let mut ranks = Vec::new(alloc);
     let mut place = slots.len();

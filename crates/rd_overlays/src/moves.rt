@@ -33,10 +33,7 @@ pub(crate) fn slot_moved(edit: Edit, slot: Option<Overlay>) -> Option<Overlay>
     requires follows { SlotFollows edit slot }
     ensures { result ≡ slot_moved edit slot }
 {
-    match slot {
-        None => None,
-        Some(overlay) => Some(overlay_moved(edit, overlay)),
-    }
+    Some(overlay_moved(edit, slot?))
 }
 
 /// Bounds after an edit.

@@ -11,9 +11,6 @@ use rd_base::{ListOf, Memory, Pos};
 use std::alloc::Global;
 use std::marker::Model;
 
-/// The most overlays that are made.
-const MOST: usize = OVERLAYS as usize;
-
 /// All overlays of a buffer. A number counts from 0 in order of making and is never used again. A block is 256 overlays that
 /// follow one another by their starts, whatever the order in which they were made. The blocks are made anew when more than 256
 /// overlays and a 128th of those in blocks were made since, which are in no block, or when more than 16 and a 1,024th of them
@@ -77,7 +74,7 @@ impl Overlays {
         if to < from {
             return Err(OverlayFault::OutOfRange);
         }
-        if self.slots.len() >= MOST {
+        if self.slots.len() >= OVERLAYS as usize {
             return Err(OverlayFault::TooMany);
         }
         self.slots.settle()?;

@@ -1,6 +1,6 @@
 use Rattle.std.proofs.Common.{◌+◌, ◌*◌, ◌/◌, ◌<◌, ◌≤◌, length, refl, arith}
 use Rattle.rd_overlays.specs.Overlays.{overlay_at}
-use Rattle.rd_overlays.proofs.Bounding.{passed-holds}
+use Rattle.rd_overlays.proofs.Bounding.{whole_order-holds}
 use Rattle.rd_overlays.proofs.index.Index.skip_edges.Goals as goal
 
 pub returns-then-has_no_nearer_edge-clause-idle : goal.returns-then-has_no_nearer_edge-clause-idle
@@ -14,4 +14,4 @@ returns-then-has_no_nearer_edge-clause-idle c = λ slots k number h low high her
     let top : k < block * 256 + 256 = omega (arith, high, sum, least) in
     let within : k < length order = omega (arith, high, len, least) in
     c.if-has_no_nearer_edge.ensures refl (overlay_at slots number)
-    (passed-holds slots order c.args.self.now.bounds (length slots) block k number c.at.result h c.at.ensures bottom top within here)
+    (whole_order-holds slots order c.args.self.now.bounds (length slots) block k number c.at.result h c.at.ensures bottom top within here)

@@ -1,6 +1,6 @@
 use Rattle.std.proofs.Common.{◌-◌, ◌/◌, ◌<◌, ◌⊎◌, inl, inr, length, arith}
 use Rattle.rd_overlays.specs.Overlays.{overlay_at}
-use Rattle.rd_overlays.proofs.Bounding.{away, passed-holds}
+use Rattle.rd_overlays.proofs.Bounding.{away, whole_order-holds}
 use Rattle.rd_overlays.proofs.index.Index.skip_to.Goals.{then-pos-bounds-via-then-pos-bounds, then-pos-bounds-via-else-pos-bounds+then-bounds-pos}
 use Rattle.rd_overlays.proofs.index.Index.skip_to.Goals as goal
 
@@ -17,4 +17,4 @@ returns-then-pos-bounds-clause-away c = λ slots k number h low high here.
       | then-pos-bounds-via-else-pos-bounds+then-bounds-pos w ↦ inr w.if-bounds-pos.true
     ] in
     away c.args.pos c.at-bounds.result (overlay_at slots number)
-    (passed-holds slots order c.args.self.now.bounds (length slots) block k number c.at-bounds.result h c.at-bounds.ensures low (omega (arith, high)) (omega (arith, high, len, inside)) here) outside
+    (whole_order-holds slots order c.args.self.now.bounds (length slots) block k number c.at-bounds.result h c.at-bounds.ensures low (omega (arith, high)) (omega (arith, high, len, inside)) here) outside
