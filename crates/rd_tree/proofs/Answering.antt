@@ -12,12 +12,9 @@ use Rattle.rd_tree.specs.Calls.{Configuration, frame_of, is_full, split_tree, ch
 use Rattle.rd_tree.proofs.Keeping.{found_held, replaced_fits, replaced_found}
 use Rattle.rd_tree.proofs.Rooms.{found_number}
 
-not_held : (c : Configuration) (w : ℕ) → window_at w c.windows (frame_of c) ≡ None → holds w c.windows ≡ false
-not_held c w e = sym (found_held w c.windows (frame_of c)) ∙ ap is_some e
-
--- a window that was found is among the windows
-pub found_is_held : (c : Configuration) (w : ℕ) (window : Placed) → window_at w c.windows (frame_of c) ≡ Some window → holds w c.windows ≡ true
-found_is_held c w window e = sym (found_held w c.windows (frame_of c)) ∙ ap is_some e
+-- a window is among the windows exactly where it is found
+pub held_by : (c : Configuration) (w : ℕ) (found : Option Placed) → window_at w c.windows (frame_of c) ≡ found → holds w c.windows ≡ is_some found
+held_by c w found e = sym (found_held w c.windows (frame_of c)) ∙ ap is_some e
 
 -- whether a split leaves room, by the window that was found
 pub split_room : (c : Configuration) (w : ℕ) (side : Side) (size : ℕ) (window : Placed) → HasRoom c.windows (frame_of c) → window_at w c.windows (frame_of c) ≡ Some window → fits (split_at w side size c.made c.windows) (frame_of c) ≡ fits (Split side size (Window window.number window.mode window.margins) (Window 0 window.mode window.margins)) window.rect
@@ -32,7 +29,7 @@ split_replaced c w side size new window other e is =
 
 pub split_unknown : (c : Configuration) (w : ℕ) (side : Side) (size : ℕ) → window_at w c.windows (frame_of c) ≡ None → split_tree c w side size ≡ Err NoWindow
 unfolding split_tree
-split_unknown c w side size e = rw (not_held c w e) refl
+split_unknown c w side size e = rw (held_by c w None e) refl
 
 pub split_small : (c : Configuration) (w : ℕ) (side : Side) (size : ℕ) → holds w c.windows ≡ true → fits (split_at w side size c.made c.windows) (frame_of c) ≡ false → split_tree c w side size ≡ Err TooSmall
 unfolding split_tree
@@ -65,7 +62,7 @@ pub dressed_room : (c : Configuration) (window : Placed) → HasRoom c.windows (
 dressed_room c window room e =
     let old = map-some (λ (p : Placed). p.rect) (window_at window.number c.windows (frame_of c)) window.rect e in
     let as_said : Bool → ℕ → Windows = λ _ _. Window window.number window.mode window.margins in
-    (found_is_held c window.number old.0 old.1, replaced_fits window.number as_said c.windows (frame_of c) old.0 room old.1 ∙ ap (fits (Window window.number window.mode window.margins)) old.2)
+    (held_by c window.number (Some old.0) old.1, replaced_fits window.number as_said c.windows (frame_of c) old.0 room old.1 ∙ ap (fits (Window window.number window.mode window.margins)) old.2)
 
 pub changed_small : (c : Configuration) (windows : Windows) → fits windows (frame_of c) ≡ false → changed_to c windows ≡ Err TooSmall
 changed_small c windows f = rw f refl
@@ -75,7 +72,7 @@ changed_done c windows f = rw f refl
 
 pub mode_unknown : (c : Configuration) (w : ℕ) (shown : Bool) (found : Option Placed) → found ≡ window_at w c.windows (frame_of c) → found ≡ None → mode_tree c w shown ≡ Err NoWindow
 unfolding mode_tree
-mode_unknown c w shown found looked e = rw (not_held c w (sym looked ∙ e)) refl
+mode_unknown c w shown found looked e = rw (held_by c w None (sym looked ∙ e)) refl
 
 -- another mode line, by the window that was found
 pub mode_found : (result : Result ⊤ TreeFault) (c d : Configuration) (w : ℕ) (shown : Bool) (found : Option Placed) (window : Placed) → found ≡ window_at w c.windows (frame_of c) → found ≡ Some window
@@ -83,11 +80,11 @@ pub mode_found : (result : Result ⊤ TreeFault) (c d : Configuration) (w : ℕ)
 unfolding mode_tree
 mode_found result c d w shown found window looked e =
     let here = sym looked ∙ e in
-    rw (found_is_held c w window here, found_number w (placed c.windows (frame_of c)) window here, replaced_found w (λ _ margins. Window w shown margins) c.windows (frame_of c) window here) (λ a. a)
+    rw (held_by c w (Some window) here, found_number w (placed c.windows (frame_of c)) window here, replaced_found w (λ _ margins. Window w shown margins) c.windows (frame_of c) window here) (λ a. a)
 
 pub margins_unknown : (c : Configuration) (w columns : ℕ) (found : Option Placed) → found ≡ window_at w c.windows (frame_of c) → found ≡ None → margins_tree c w columns ≡ Err NoWindow
 unfolding margins_tree
-margins_unknown c w columns found looked e = rw (not_held c w (sym looked ∙ e)) refl
+margins_unknown c w columns found looked e = rw (held_by c w None (sym looked ∙ e)) refl
 
 -- other margins, by the window that was found
 pub margins_found : (result : Result ⊤ TreeFault) (c d : Configuration) (w columns : ℕ) (found : Option Placed) (window : Placed) → found ≡ window_at w c.windows (frame_of c) → found ≡ Some window
@@ -95,4 +92,4 @@ pub margins_found : (result : Result ⊤ TreeFault) (c d : Configuration) (w col
 unfolding margins_tree
 margins_found result c d w columns found window looked e =
     let here = sym looked ∙ e in
-    rw (found_is_held c w window here, found_number w (placed c.windows (frame_of c)) window here, replaced_found w (λ mode _. Window w mode columns) c.windows (frame_of c) window here) (λ a. a)
+    rw (held_by c w (Some window) here, found_number w (placed c.windows (frame_of c)) window here, replaced_found w (λ mode _. Window w mode columns) c.windows (frame_of c) window here) (λ a. a)

@@ -10,9 +10,6 @@ use rd_base::limits::{FRAME_COLUMNS, FRAME_ROWS, LEAST_WINDOW_COLUMNS, WINDOWS};
 use std::alloc::Global;
 use std::marker::Model;
 
-/// The most windows that live at one time.
-const MOST_WINDOWS: u32 = WINDOWS;
-
 /// The windows of a frame. They fill a rectangle of `width` columns and `height` rows, which is the frame's but for its last row,
 /// the echo area: whoever makes or resizes a tree hands in the frame's height less one. A window's number counts from 0 in order
 /// of making and is never used again.
@@ -76,7 +73,7 @@ impl Tree {
         if !old.takes_split(side, size) {
             return Err(TreeFault::TooSmall);
         }
-        if self.root.count() >= MOST_WINDOWS || self.made == u32::MAX {
+        if self.root.count() >= WINDOWS || self.made == u32::MAX {
             return Err(TreeFault::TooMany);
         }
         let number = self.made;
