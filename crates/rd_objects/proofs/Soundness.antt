@@ -180,12 +180,12 @@ goes_kept xs ys i a p = rw a.1 (get-first xs a.0 i p)
 pub extends_itself : (o : ObjectLists) → Extends o o
 extends_itself o = record { strings = goes_nowhere o.strings; specs = goes_nowhere o.specs; faces = goes_nowhere o.faces; tables = goes_nowhere o.tables }
 
-pub extends_further : (old middle new : ObjectLists) → Extends old middle → Extends middle new → Extends old new
-extends_further old middle new a b = record {
-  strings = goes_further old.strings middle.strings new.strings a.strings b.strings;
-  specs = goes_further old.specs middle.specs new.specs a.specs b.specs;
-  faces = goes_further old.faces middle.faces new.faces a.faces b.faces;
-  tables = goes_further old.tables middle.tables new.tables a.tables b.tables;
+pub extends_further : (old more new : ObjectLists) → Extends old more → Extends more new → Extends old new
+extends_further old more new a b = record {
+  strings = goes_further old.strings more.strings new.strings a.strings b.strings;
+  specs = goes_further old.specs more.specs new.specs a.specs b.specs;
+  faces = goes_further old.faces more.faces new.faces a.faces b.faces;
+  tables = goes_further old.tables more.tables new.tables a.tables b.tables;
 }
 
 pub string_extends : (o : ObjectLists) (chars : List ℕ) (runs : List Run) → Extends o (string_added o chars runs)

@@ -16,7 +16,7 @@ pub fn columns(code: u32) -> u8
 }
 
 /// The glyph character of a scalar value: in its own columns and without marks. None exactly where the code is below 32 or from
-/// 127 to 159, or has no columns. One of `width` 1 may stand in a slot. It costs what `columns` costs.
+/// 127 to 159, or has no columns. One of `width` 1 may stand in a slot. It costs a look into the tables of widths.
 pub fn glyph_character(c: char) -> Option<Glyph>
     ensures none { IsNone result ↔ IsTrue (has_no_glyph c) }
     ensures some { IfSome result (λ g. (g ≡ single c (columns c)) × IsTrue (is_glyph_character g)) }

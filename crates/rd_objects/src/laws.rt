@@ -21,7 +21,7 @@ pub fn objects_stay_closed()
 /// is what the objects name. The call does nothing.
 pub fn extensions_keep_objects()
     ensures more { GrowLaws }
-    ensures further { (old middle new : ObjectLists) → Extends old middle → Extends middle new → Extends old new }
+    ensures further { (old more new : ObjectLists) → Extends old more → Extends more new → Extends old new }
     ensures strings { (old new : ObjectLists) (number : ℕ) → Extends old new → number < length old.strings → slice_get new.strings number ≡ slice_get old.strings number }
     ensures specs { (old new : ObjectLists) (number : ℕ) → Extends old new → number < length old.specs → slice_get new.specs number ≡ slice_get old.specs number }
     ensures faces { (old new : ObjectLists) (number : ℕ) → Extends old new → number < length old.faces → slice_get new.faces number ≡ slice_get old.faces number }

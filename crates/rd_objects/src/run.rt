@@ -1,4 +1,4 @@
-//! The small types that objects are made of.
+//! The small types that objects are made of: the runs of strings, the display specs and the names of a table's slots.
 
 /// What a run gives the characters that it covers.
 #[derive(Clone, Copy, Debug, PartialEq, Eq)]

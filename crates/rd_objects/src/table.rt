@@ -127,10 +127,7 @@ impl Table {
         ensures value { MatchOption result (self.now.ellipsis ≡ None) (λ text. self.now.ellipsis ≡ Some text.now) }
         ensures text { IfSome result (λ text. IsTrue (is_glyph_text text.now)) }
     {
-        match &self.ellipsis {
-            Some(text) => Some(text.as_slice()),
-            None => None,
-        }
+        Some(self.ellipsis.as_ref()?.as_slice())
     }
 
     /// Each table holds glyph characters, at most 16 for a code and for hidden text, and in its slots such of one column.
