@@ -1,5 +1,5 @@
 -- How a character is shown: its elements.
-use Rattle.std.specs.Prelude.{◌≡◌, ℕ, ◌+◌, ◌-◌, ◌/◌, ◌%◌, ◌≤◌, nat_le, nat_lt, ◌==◌, Bool, true, false, ◌||◌, ◌&&◌, if◌then◌else◌, List, [], ◌∷◌, length, map, replicate, All, Option, None, Some, IfSome, unwrap_or}
+use Rattle.std.specs.Prelude.{◌≡◌, ℕ, ◌+◌, ◌-◌, ◌*◌, ◌/◌, ◌%◌, ◌≤◌, nat_le, nat_lt, ◌==◌, Bool, true, false, ◌||◌, ◌&&◌, if◌then◌else◌, List, [], ◌∷◌, length, map, replicate, All, Option, None, Some, IfSome, unwrap_or}
 use Rattle.rd_base.specs.Faces.{Attributes}
 use Rattle.rd_base.specs.Settings.{SettingValues}
 use Rattle.rd_base.specs.Classes.{is_initiator, is_removed}
@@ -133,11 +133,6 @@ elements_by None parts ch odd face origin =
 abbrev pub elements_of : PartValues → ℕ → Bool → Attributes → Origin → List Element
 elements_of parts ch odd face origin = elements_by (entry_of parts.table ch) parts ch odd face origin
 
--- what stands alone in a list
-abbrev pub only : {X : Type 0} → List X → Option X
-only (x ∷ []) = Some x
-only xs = None
-
 -- a look of 1 to 3 columns
 abbrev pub TakesColumns : Look → Type 0
 TakesColumns l = (1 ≤ look_columns l) × (look_columns l ≤ 3)
@@ -174,4 +169,4 @@ pub record AreOfCharacter (face : Attributes) (origin : Origin) (es : List Eleme
   pub short : All (λ e. IsShort e.extent) es
   pub own : All (HasOrigin face origin) es
   pub count : length es ≤ ENTRY_GLYPHS
-  pub columns : columns_at_most es ≤ 48
+  pub columns : columns_at_most es ≤ 3 * ENTRY_GLYPHS

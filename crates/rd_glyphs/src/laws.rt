@@ -20,7 +20,8 @@ pub fn elements_are_sound()
     ensures some { (parts : PartValues) (ch : ℕ) (odd : Bool) (face : Attributes) (origin : Origin) → is_empty_entry (entry_of parts.table ch) ≡ false → 1 ≤ length (elements_of parts ch odd face origin) }
 {}
 
-/// So are the elements of at most 16 glyph characters, as an entry of a table and an ellipsis have them. The call does nothing.
+/// The elements of at most 16 glyph characters, as an entry of a table and an ellipsis have them, are sound, measured and of the face
+/// and the origin that are given, of at most 48 columns together. The call does nothing.
 pub fn glyph_texts_are_sound()
     ensures { (face : Attributes) (origin : Origin) (text : List Glyph) → IsTrue (is_glyph_text text) → AreOfCharacter face origin (glyph_elements face origin text) }
 {}

@@ -6,15 +6,16 @@
 
 mod counting;
 mod examples;
+mod expansion;
 mod laws;
 mod looks;
 mod mark_role;
-mod only;
 mod parts;
 mod plain;
 mod shown;
 
 pub use counting::plain_columns;
+pub use expansion::Expansion;
 pub use laws::{
     elements_are_sound, glyph_texts_are_sound, marks_join_measured_glyphs, plain_lines_are_whole,
 };

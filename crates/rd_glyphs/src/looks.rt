@@ -2,7 +2,7 @@
 ghost use Rattle.std.specs.Prelude.{◌≡◌, ◌≤◌, All, length};
 ghost use Rattle.rd_base.specs.Glyphs.{IsMeasured};
 ghost use Rattle.rd_base.specs.declared.cell.Glyph.{Glyph};
-ghost use Rattle.rd_glyphs.specs.Characters.{narrow, digit, on_blank, looks_of, only, look_columns, TakesColumns, ShowsColumns};
+ghost use Rattle.rd_glyphs.specs.Characters.{narrow, digit, on_blank, looks_of, look_columns, TakesColumns, ShowsColumns};
 ghost use Rattle.rd_glyphs.specs.Looks.{list_of};
 ghost use Rattle.rd_glyphs.specs.MarkRoles.{IsMark};
 
@@ -12,7 +12,7 @@ use rd_base::{Glyph, Look};
 /// What is put for one character: one look, two or four.
 #[derive(Drop)]
 pub enum Looks {
-    One([Look; 1]),
+    One(Look),
     Two([Look; 2]),
     Four([Look; 4]),
 }
@@ -23,7 +23,7 @@ impl Looks {
         ensures { result.now ≡ list_of self.now }
     {
         match self {
-            Looks::One(looks) => looks,
+            Looks::One(look) => std::slice::from_ref(look),
             Looks::Two(looks) => looks,
             Looks::Four(looks) => looks,
         }
@@ -71,21 +71,9 @@ pub fn looks_of(escape: Glyph, control: Glyph, shown: Shown) -> Looks
             digit(byte / 8),
             digit(byte),
         ]),
-        Shown::Space => Looks::One([Look::Blank]),
-        Shown::Mark(code) => Looks::One([Look::Glyph(on_blank(code))]),
-        Shown::Itself(code, width) => Looks::One([Look::Glyph(Glyph::single(code, width))]),
-    }
-}
-
-/// What is put for a character where that is one look, and None where it is several.
-pub fn only_look(shown: Shown) -> Option<Look>
-    ensures { (escape control : Glyph) → result ≡ only (looks_of escape control shown) }
-{
-    match shown {
-        Shown::Caret(_) | Shown::Octal(_) => None,
-        Shown::Space => Some(Look::Blank),
-        Shown::Mark(code) => Some(Look::Glyph(on_blank(code))),
-        Shown::Itself(code, width) => Some(Look::Glyph(Glyph::single(code, width))),
+        Shown::Space => Looks::One(Look::Blank),
+        Shown::Mark(code) => Looks::One(Look::Glyph(on_blank(code))),
+        Shown::Itself(code, width) => Looks::One(Look::Glyph(Glyph::single(code, width))),
     }
 }
 

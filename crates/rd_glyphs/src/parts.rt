@@ -89,7 +89,7 @@ impl<'a> Parts<'a> {
     }
 
     /// The looks of a character that no table shows and that is no tab.
-    fn own_looks(&self, ch: Ch, odd: bool) -> Looks
+    pub(crate) fn own_looks(&self, ch: Ch, odd: bool) -> Looks
         ensures value { list_of result ≡ own_looks self.now ch odd }
         ensures count { length (list_of result) ≤ 4 }
     {
@@ -98,29 +98,6 @@ impl<'a> Parts<'a> {
             self.slot(Slot::Control, '^' as u32),
             self.shown(ch, odd),
         )
-    }
-
-    /// The list of the elements of a character.
-    fn listed(
-        &self,
-        alloc: Global,
-        ch: Ch,
-        odd: bool,
-        face: Face,
-        origin: Origin,
-    ) -> Result<SmallVec<Element, 4>, Memory>
-        ensures value { IfOk result (λ elements. elements.items ≡ elements_of self.now ch odd face origin) }
-        ensures few { entry_of self.now.table ch ≡ None → IfOk result (λ elements. length elements.items ≤ 4) }
-        ensures inline { entry_of self.now.table ch ≡ None → IsOk result }
-    {
-        if let Some(element) = self.only_element(ch, odd, face, origin) {
-            return Ok(SmallVec::from_slice(alloc, &[element])?);
-        }
-        if let Some(text) = self.entry(ch.code()) {
-            return of_glyphs(alloc, text, face, origin);
-        }
-        let looks = self.own_looks(ch, odd);
-        of_looks(alloc, looks.as_slice(), face, origin)
     }
 }
 
@@ -150,7 +127,8 @@ pub fn expand(
     ensures inline { entry_of parts.now.table ch ≡ None → IsOk result }
 {
     parts.parts_are_sound();
-    parts.listed(alloc, ch, odd, face, origin)
+    let expansion = parts.expansion(alloc, ch, odd, face, origin)?;
+    expansion.into_list(alloc)
 }
 
 /// The element of a look.
@@ -194,7 +172,7 @@ pub fn of_glyphs(
 }
 
 /// The elements of at most four looks.
-fn of_looks(
+pub(crate) fn of_looks(
     alloc: Global,
     looks: &[Look],
     face: Face,

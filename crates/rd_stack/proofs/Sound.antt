@@ -17,7 +17,7 @@ use Rattle.rd_base.specs.declared.element.Extent.TheVariants.{Fixed, Column}
 use Rattle.rd_base.specs.declared.element.Look.{Look}
 use Rattle.rd_base.specs.declared.element.Look.TheVariants as look
 use Rattle.rd_base.specs.declared.element.Origin.{Origin}
-use Rattle.rd_base.specs.declared.limits.TheConstants.{SPACE_COLUMNS, STRING_CHARACTERS}
+use Rattle.rd_base.specs.declared.limits.TheConstants.{ENTRY_GLYPHS, SPACE_COLUMNS, STRING_CHARACTERS}
 use Rattle.rd_objects.specs.Sound.{AreObjects, IsString}
 use Rattle.rd_objects.specs.Tables.{TableValue, IsTable, is_glyph_text}
 use Rattle.rd_objects.specs.Texts.{TextValue}
@@ -98,7 +98,7 @@ space-good (Text n) face origin small = good-nil SPACE_COLUMNS
 space-good (Width n) face origin small = good-one SPACE_COLUMNS (record { extent = Fixed n; look = look.Blank; face = face; origin = origin }) tt tt small
 space-good (Align n) face origin small = good-one SPACE_COLUMNS (record { extent = Column n; look = look.Blank; face = face; origin = origin }) tt tt small
 
-character-good : (face : Attributes) (origin : Origin) (es : List Element) → AreOfCharacter face origin es → AreRightWithin 48 es
+character-good : (face : Attributes) (origin : Origin) (es : List Element) → AreOfCharacter face origin es → AreRightWithin (3 * ENTRY_GLYPHS) es
 character-good face origin es are = record { right = both-right es are.sound are.measured; few = are.columns }
 
 -- ---- columns
@@ -124,13 +124,13 @@ module _ (laws : GlyphLaws) (marks : MarkLaws) (s : Scene) (base : ℕ) (sound :
       → AreRightWithin most (element_of face origin end ∷ []) → ((n : ℕ) → AreRightWithin most (string (slice_get s.objects.strings n))) → IsFitKind k
       → AreRightWithin most (kind_elements end string s k odd face origin)
   kind-good end string most room (item.Char c) odd face origin ender strings fit =
-      good-more 48 most (elements_of s.parts c odd face origin) (omega (arith, room)) (character-good face origin (elements_of s.parts c odd face origin) (laws.character s.parts c odd face origin parts fit.1))
+      good-more (3 * ENTRY_GLYPHS) most (elements_of s.parts c odd face origin) (omega (arith, room)) (character-good face origin (elements_of s.parts c odd face origin) (laws.character s.parts c odd face origin parts fit.1))
   kind-good end string most room (item.Marked g) odd face origin ender strings fit = glyph-good most g face origin fit.0 (omega (arith, room))
   kind-good end string most room (item.Text n) odd face origin ender strings fit = strings n
   kind-good end string most room (item.Space spec) odd face origin ender strings fit = good-more SPACE_COLUMNS most (space_elements spec face origin) room (space-good spec face origin fit.2)
   kind-good end string most room item.Ellipsis odd face origin ender strings fit =
       let glyphs = ellipsis_glyphs s.parts.table in
-      good-more 48 most (glyph_elements face origin glyphs) (omega (arith, room)) (character-good face origin (glyph_elements face origin glyphs) (laws.text face origin glyphs (ellipsis-fit s.parts.table parts.table)))
+      good-more (3 * ENTRY_GLYPHS) most (glyph_elements face origin glyphs) (omega (arith, room)) (character-good face origin (glyph_elements face origin glyphs) (laws.text face origin glyphs (ellipsis-fit s.parts.table parts.table)))
   kind-good end string most room item.Ender odd face origin ender strings fit = ender
 
   part-good : (string : Option TextValue → List Element) (most : ℕ) → SPACE_COLUMNS ≤ most → (x : Shown) (origin : Origin) → ((n : ℕ) → AreRightWithin most (string (slice_get s.objects.strings n)))

@@ -1,8 +1,8 @@
 //! A few elements that are given in turn.
 ghost use Rattle.std.specs.Prelude.{◌≡◌};
 
-use rd_base::{Ch, Element, Face, Glyph, Memory, Origin};
-use rd_glyphs::{Parts, expand, of_glyphs};
+use rd_base::{Element, Face, Glyph, Memory, Origin};
+use rd_glyphs::of_glyphs;
 use smallvec::SmallVec;
 use std::alloc::Global;
 use std::marker::Model;
@@ -25,7 +25,7 @@ impl Model for Few {
 
 impl Few {
     ghost use Rattle.std.specs.Prelude.{◌≡◌, ◌∷◌, [], MatchOption, OnOk};
-    ghost use Rattle.rd_glyphs.specs.Characters.{elements_of, glyph_elements};
+    ghost use Rattle.rd_glyphs.specs.Characters.{glyph_elements};
 
     /// No elements.
     pub fn none(alloc: Global) -> Few
@@ -37,21 +37,12 @@ impl Few {
         }
     }
 
-    /// Becomes the elements of a character, at an odd level or not.
-    pub fn put_char(
-        &mut self,
-        alloc: Global,
-        parts: &Parts,
-        ch: Ch,
-        odd: bool,
-        face: Face,
-        origin: Origin,
-    ) -> Result<(), Memory>
-        ensures { OnOk result (self.new ≡ elements_of parts.now ch odd face origin) }
+    /// Becomes these elements.
+    pub fn put(&mut self, elements: SmallVec<Element, 4>)
+        ensures { self.new ≡ elements.items }
     {
-        self.elements = expand(alloc, parts, ch, odd, face, origin)?;
+        self.elements = elements;
         self.given = 0;
-        Ok(())
     }
 
     /// Becomes the elements of glyphs.
@@ -64,8 +55,7 @@ impl Few {
     ) -> Result<(), Memory>
         ensures { OnOk result (self.new ≡ glyph_elements face origin text.now) }
     {
-        self.elements = of_glyphs(alloc, text, face, origin)?;
-        self.given = 0;
+        self.put(of_glyphs(alloc, text, face, origin)?);
         Ok(())
     }
 

@@ -1,5 +1,5 @@
 //! The order in which what is walked through is shown.
-ghost use Rattle.std.specs.Prelude.{◌≡◌, ℕ, ◌≤◌, map, length, IfOk};
+ghost use Rattle.std.specs.Prelude.{◌≡◌, ℕ, ◌≤◌, ◌<◌, map, length, IfOk};
 ghost use Rattle.rd_base.specs.declared.class.Class.{Class};
 ghost use Rattle.rd_items.specs.Pieces.{scene_of};
 ghost use Rattle.rd_levels.specs.Turns.{turns_of};
@@ -21,6 +21,7 @@ pub fn order_of<T, C: Fn(&T) -> Class, B: Fn(&T) -> u32>(
     code_of: B,
 ) -> Result<Order, Memory>
     requires base { base ≤ 1 }
+    requires few { length items.now < 4294967296 }
     requires asked { C.IsAlwaysCallable class_of × B.IsAlwaysCallable code_of }
     requires class { (class : T → Class) × Computes (C.post class_of) class }
     requires code { (code : T → ℕ) × Computes (B.post code_of) code }
@@ -30,9 +31,6 @@ pub fn order_of<T, C: Fn(&T) -> Class, B: Fn(&T) -> u32>(
 {
     let classes = mapped(alloc, items, class_of)?;
     let codes = mapped(alloc, items, code_of)?;
-    if items.len() > u32::MAX as usize {
-        return Err(Memory);
-    }
     let settings = view.settings();
     Order::new(
         alloc,

@@ -63,6 +63,9 @@ pub fn order_of_parts(alloc: Global, view: &View, base: u8, parts: &[Part]) -> R
     ensures turns { IfOk result (λ order. order.turns ≡ turns_of (scene_of view.now).brackets (scene_of view.now).parts.settings.reorder base (map part_class parts.now) (map part_code parts.now)) }
     ensures places { IfOk result (λ order. order.places ≡ length parts.now) }
 {
+    if parts.len() > u32::MAX as usize {
+        return Err(Memory);
+    }
     order_of(
         alloc,
         view,

@@ -9,7 +9,7 @@ use crate::few::Few;
 use crate::part::Shown;
 use crate::step::Step;
 use rd_base::{Ch, Element, Extent, Face, Glyph, Look, Memory, Origin};
-use rd_glyphs::element_of;
+use rd_glyphs::{Expansion, element_of};
 use rd_items::{ItemKind, parts_of};
 use rd_objects::Spec;
 use rd_props::View;
@@ -54,12 +54,13 @@ fn char_step<'a>(
     requires { few.old ≡ [] }
     ensures { IfOk result (λ step. IsStep step few.new (elements_of (scene_of view.now).parts ch odd face origin ∷ []) []) }
 {
-    let parts = parts_of(view);
-    if let Some(element) = parts.only_element(ch, odd, face, origin) {
-        return Ok(Step::Gives(element));
+    match parts_of(view).expansion(alloc, ch, odd, face, origin)? {
+        Expansion::One(element) => Ok(Step::Gives(element)),
+        Expansion::Several(elements) => {
+            few.put(elements);
+            Ok(Step::Lists)
+        }
     }
-    few.put_char(alloc, &parts, ch, odd, face, origin)?;
-    Ok(Step::Lists)
 }
 
 /// The step of the space of a spec.

@@ -7,7 +7,7 @@ new-requires g c =
     let classes = ap length (c.as_slice.ensures ∙ c.in_ok-classes.ensures c.requires.class.0 c.requires.class.1) ∙ length-map c.args.items.now c.requires.class.0 in
     let codes = ap length (c.as_slice-2.ensures ∙ c.in_ok-codes.ensures c.requires.code.0 c.requires.code.1) ∙ length-map c.args.items.now c.requires.code.0 in
     record {
-      short = omega (arith, classes, c.if-items.false);
+      short = omega (arith, classes, c.requires.few);
       codes = omega (arith, classes, codes);
       base = c.requires.base;
     }
