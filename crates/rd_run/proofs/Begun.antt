@@ -1,7 +1,7 @@
 -- How runs begin: the words, and the files that they name, where their bytes are known, determine it.
-use Rattle.std.proofs.Common.{◌≡◌, ℕ, ◌⊎◌, inl, inr, Bool, true, false, List, [], Option, None, Some, is_some, IfSome, IsSome, Result, Ok, Err, is_ok, refl, sym, ap, ◌∙◌, subst}
+use Rattle.std.proofs.Common.{◌≡◌, ℕ, inl, inr, Bool, true, false, List, [], Option, None, Some, is_some, IfSome, IsSome, Result, Ok, Err, is_ok, refl, sym, ap, ◌∙◌, subst}
 use Rattle.rd_base.proofs.Choices.{some-of}
-use Rattle.rd_files.specs.DataFiles.{FailedAt, FailedAtSome, GivesData, Named, StopsAtFailed, told_or_empty}
+use Rattle.rd_files.specs.DataFiles.{GivesData, Named, told_or_empty}
 use Rattle.rd_files.specs.declared.fault.BadFile.{BadFile}
 use Rattle.rd_files.specs.declared.fault.DataFile.{DataFile}
 use Rattle.rd_files.specs.declared.fault.DataKind.{DataKind}
@@ -72,14 +72,8 @@ Refuses given Usage = given.words ≡ None
 Refuses given (BadData file number kind) = IsBadData given file number kind
 Refuses given status = ⊥
 
-failed-one : (contents : List ℕ → Option (List ℕ)) (before after : List ℕ → ℕ) (w : WordValues) → StopsAtFailed contents before after (names_of w)
-    → FailedAt before after w.class_file ⊎ (FailedAt before after w.mirror_file ⊎ FailedAtSome before after w.bracket_file)
-failed-one contents before after w (inl a) = inl a
-failed-one contents before after w (inr (inl b)) = inr (inl b.1)
-failed-one contents before after w (inr (inr c)) = inr (inr c.2)
-
-has-failed : (given : Given) → FileFailed given → HasFailed given
-has-failed given f = (f.words, f.said, failed-one given.contents given.faults_before given.faults_after f.words f.failed)
+pub has-failed : (given : Given) → FileFailed given → HasFailed given
+has-failed given f = (f.words, f.said, elim f.failed [ inl a ↦ inl a | inr q ↦ elim q [ inl b ↦ inr (inl b.1) | inr c ↦ inr (inr c.2) ] ])
 
 -- where no file failed and memory was not wanting, a run that has not begun was refused, and no line was run
 pub refuses : (given : Given) (status : Status) (inputs : List Input) (bytes : List ℕ) (source : Drawn) → (HasFailed given → ⊥) → (status ≡ NoMemory → ⊥) → Comes given None status inputs bytes source

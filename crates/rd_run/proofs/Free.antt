@@ -5,6 +5,7 @@ use Rattle.rd_files.specs.declared.fault.BadFile.{BadFile}
 use Rattle.rd_files.specs.declared.fault.DataFile.{DataFile}
 use Rattle.rd_files.specs.declared.fault.DataKind.{DataKind}
 use Rattle.rd_files.specs.declared.fault.DataKind.TheVariants as kinds
+use Rattle.rd_script.proofs.Free.{reading-free}
 use Rattle.rd_script.specs.Reading.{reading}
 use Rattle.rd_script.specs.declared.fault.OpFault.{OpFault}
 use Rattle.rd_script.specs.declared.fault.OpFault.TheVariants as op_faults
@@ -28,10 +29,6 @@ use Rattle.rd_run.proofs.Effects.{effect-is}
 
 -- ---- runs
 
--- no line says that memory is wanting
-abbrev pub LineLaw : Type 0
-LineLaw = (line : List ℕ) → reading line ≢ Err op_faults.Memory
-
 -- a line is neither no op nor refused for want of memory
 abbrev pub IsFreeFault : Option ScriptFault → Type 0
 IsFreeFault fault = (fault ≢ Some (NoOp op_faults.Memory)) × (fault ≢ Some (Refused refusals.Memory))
@@ -45,20 +42,20 @@ unread-free r fault is h = (λ e. h (cc), λ e. cc)
 refused-free : (r : Result StateValue Refusal) (cause : Refusal) → r ≡ Err cause → AnswersFree r → IsFreeFault (Some (Refused cause))
 refused-free r cause is h = (λ e. cc, λ e. h (cc))
 
-effect-free : LineLaw → (now : Standing) (t : Input) → IsFreeFault (effect now t).fault
-effect-free law now t = effect-is now t (λ e. IsFreeFault e.fault) (record {
+effect-free : (now : Standing) (t : Input) → IsFreeFault (effect now t).fault
+effect-free now t = effect-is now t (λ e. IsFreeFault e.fault) (record {
   blank = none-free;
-  unread = λ fault is. unread-free (reading t.line) fault is (law t.line);
+  unread = λ fault is. unread-free (reading t.line) fault is (reading-free t.line);
   refusal = λ op cause is. refused-free (session_step now.session op) cause is (session-free now.session op);
   accepted = λ op state form step is. none-free;
   starved = none-free;
   fed = λ stop. none-free;
 })
 
-run-free : LineLaw → (w : World) (ts : List Input) → IsFreeFault w.fault → IsFreeFault (run w ts).fault
-run-free law w [] h = h
-run-free law w (t ∷ ts) h =
-    run-free law (run_line w t) ts (either (λ (v : World). IsFreeFault v.fault) (is_some w.fault) w (after w (effect w.now t)) h (effect-free law w.now t))
+run-free : (w : World) (ts : List Input) → IsFreeFault w.fault → IsFreeFault (run w ts).fault
+run-free w [] h = h
+run-free w (t ∷ ts) h =
+    run-free (run_line w t) ts (either (λ (v : World). IsFreeFault v.fault) (is_some w.fault) w (after w (effect w.now t)) h (effect-free w.now t))
 
 -- ---- statuses
 
@@ -72,16 +69,16 @@ over-free TooLong inputs bytes over = (λ e. cc, λ e. cc)
 over-free TooMany inputs bytes over = (λ e. cc, λ e. cc)
 over-free fault inputs bytes over = absurd over
 
-in-free : LineLaw → (mode : Mode) (status : Status) (inputs : List Input) (bytes : List ℕ) (source : Drawn) → ComesIn mode status inputs bytes source → TellsNoMemory status
-in-free law mode (BadData file number kind) inputs bytes source c = absurd c
-in-free law mode (BadScript number fault) inputs bytes source (inl bad) =
-    let free = run-free law (opened mode) inputs none-free in
+in-free : (mode : Mode) (status : Status) (inputs : List Input) (bytes : List ℕ) (source : Drawn) → ComesIn mode status inputs bytes source → TellsNoMemory status
+in-free mode (BadData file number kind) inputs bytes source c = absurd c
+in-free mode (BadScript number fault) inputs bytes source (inl bad) =
+    let free = run-free (opened mode) inputs none-free in
     (λ e. free.0 (bad.ended ∙ ap (λ f. Some f) e), λ e. free.1 (bad.ended ∙ ap (λ f. Some f) e))
-in-free law mode (BadScript number fault) inputs bytes source (inr past) = over-free fault inputs bytes past.over
-in-free law mode status inputs bytes source c = tt
+in-free mode (BadScript number fault) inputs bytes source (inr past) = over-free fault inputs bytes past.over
+in-free mode status inputs bytes source c = tt
 
-pub comes-free : LineLaw → (given : Given) (mode : Option Mode) (status : Status) (inputs : List Input) (bytes : List ℕ) (source : Drawn) → Comes given mode status inputs bytes source → TellsNoMemory status
-comes-free law given None (BadData file number kind) inputs bytes source c = bad-free given file number kind c.0
-comes-free law given None (BadScript number fault) inputs bytes source c = absurd c
-comes-free law given None status inputs bytes source c = tt
-comes-free law given (Some mode) status inputs bytes source c = in-free law mode status inputs bytes source c.1
+pub comes-free : (given : Given) (mode : Option Mode) (status : Status) (inputs : List Input) (bytes : List ℕ) (source : Drawn) → Comes given mode status inputs bytes source → TellsNoMemory status
+comes-free given None (BadData file number kind) inputs bytes source c = bad-free given file number kind c.0
+comes-free given None (BadScript number fault) inputs bytes source c = absurd c
+comes-free given None status inputs bytes source c = tt
+comes-free given (Some mode) status inputs bytes source c = in-free mode status inputs bytes source c.1

@@ -13,7 +13,6 @@ use rd_layout::{
     redisplays_keep_states, redisplays_lead_on, sessions_stay_known, targets_are_sound,
 };
 use rd_lineshift::{shift_law, shifted_updates_reach_their_targets};
-use rd_script::no_line_says_want_of_memory;
 
 /// Behind any lines of a run stands a session: its state is valid, and a known screen is the frame's and sound (`session`). The run is in
 /// the mode in which it began (`in_mode`). The next line leads on from there: the frame keeps its size unless a new terminal begins, and
@@ -63,6 +62,4 @@ pub fn valid_scripts_end_well()
 pub fn no_kind_is_want_of_memory()
     ensures { (given : Given) (mode : Option Mode) (status : Status) (inputs : List Input) (bytes : List ℕ) (source : Drawn) → Comes given mode status inputs bytes source
         → TellsNoMemory status }
-{
-    no_line_says_want_of_memory();
-}
+{}

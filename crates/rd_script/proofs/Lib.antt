@@ -1,4 +1,4 @@
-mod Free
+pub mod Free
 pub mod InForm
 mod Items
 mod Json

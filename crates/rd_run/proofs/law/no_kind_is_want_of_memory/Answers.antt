@@ -2,4 +2,4 @@ use Rattle.rd_run.proofs.Free.{comes-free}
 use Rattle.rd_run.proofs.law.no_kind_is_want_of_memory.Goals as goal
 
 pub returns : goal.returns
-returns c = comes-free c.no_line_says_want_of_memory.ensures
+returns c = comes-free
