@@ -23,5 +23,5 @@ pub use lines::{LineFault, Lines, lines_are_cut_at_newlines};
 pub use memory_files::MemFiles;
 pub use memory_sink::MemSink;
 pub use memory_source::MemSource;
-pub use piece::Piece;
+pub use piece::{PIECE_BYTES, Piece};
 pub use traits::{Failed, Files, Sink, Source, write_character, write_whole};

@@ -6,12 +6,12 @@ use arrayvec::ArrayVec;
 
 /// The most bytes of a piece, which are more than the longest line of a dump has, that of a row of 400 columns: 28 bytes for each
 /// character with its marks, 20 for each run of one column, as ` 399-399:1;4;7;37;47`, and at most 11 for the rest, 19,211 together.
-const ROOM: usize = 20_480;
+pub const PIECE_BYTES: usize = 20_480;
 
 /// Bytes that are kept without taking memory. It is a sink that fails where it has no room for more.
 #[derive(Drop)]
 pub struct Piece {
-    bytes: ArrayVec<u8, ROOM>,
+    bytes: ArrayVec<u8, PIECE_BYTES>,
     refused: u64,
 }
 
