@@ -7,7 +7,7 @@ mod reuse;
 ghost use Rattle.std.specs.Prelude.{◌≡◌, ◌<◌};
 
 use rd_base::Steps;
-use rd_io::{Failed, MemFiles, MemSink, MemSource, Source};
+use rd_io::{Failed, MemFiles, MemSink, MemSource, PIECE_BYTES, Source};
 use rd_player::play;
 use std::alloc::Global;
 use std::marker::Brand;
@@ -213,8 +213,8 @@ fn tell(call: u64) -> Calls {
     }
 }
 
-/// Room that is enough for the bytes of a screen or of a report here.
-const AMPLE: u64 = 32_768;
+/// Room that is enough for the bytes of a screen or of a report here, a line that is longer than a piece included.
+const AMPLE: u64 = PIECE_BYTES as u64 + 12_288;
 
 /// What a run left.
 #[derive(Drop)]
@@ -351,11 +351,16 @@ fn assert_of(rt: &impl Abort, name: &str, holds: bool) {
     assert!(rt; holds, "{name}");
 }
 
+/// Asserts that a device of a run of this name has these bytes. A failure tells both.
+fn assert_bytes(rt: &impl Abort, name: &str, device: &MemSink, bytes: &[u8]) {
+    assert_eq!(rt; device.bytes(), bytes, "{name}");
+}
+
 /// Asserts what a run of this name left.
 fn assert_trace(rt: &impl Abort, name: &str, run: &Trace, screen: &[u8], report: &[u8], code: u8) {
-    assert_of(rt, name, run.report.bytes() == report);
-    assert_of(rt, name, run.screen.bytes() == screen);
-    assert_of(rt, name, run.code == code);
+    assert_bytes(rt, name, &run.report, report);
+    assert_bytes(rt, name, &run.screen, screen);
+    assert_eq!(rt; run.code, code, "{name}");
 }
 
 #[test]
@@ -381,10 +386,16 @@ fn with_letters(alloc: Global, front: &[u8], count: usize, back: &[u8]) -> Resul
     Ok(text)
 }
 
+/// What a report says before a key that the op of the first line does not have.
+const EXTRA: &[u8] = b"script:1: Extra ";
+
+/// The letters of the longest such key whose line, with its newline, has room in a piece.
+const KEY_LETTERS: usize = PIECE_BYTES - EXTRA.len() - 1;
+
 /// Asserts that a key of so many letters, which the op does not have, is told whole.
 fn assert_key(rt: &impl Abort, alloc: Global, name: &str, count: usize) -> Result<(), Fail> {
     let script = with_letters(alloc, b"{\"op\":\"redisplay\",\"", count, b"\":1}\n")?;
-    let told = with_letters(alloc, b"script:1: Extra ", count, b"\n")?;
+    let told = with_letters(alloc, EXTRA, count, b"\n")?;
     let run = played(alloc, &[], script.as_slice(), NONE)?;
     assert_trace(rt, name, &run, b"", told.as_slice(), 4);
     Ok(())
@@ -392,8 +403,13 @@ fn assert_key(rt: &impl Abort, alloc: Global, name: &str, count: usize) -> Resul
 
 #[test]
 fn a_key_may_be_longer_than_a_piece(rt: HostRuntime) -> Result<(), Fail> {
-    assert_key(&rt, rt.alloc(), "20,463 letters", 20_463)?;
-    assert_key(&rt, rt.alloc(), "20,464 letters", 20_464)
+    assert_key(&rt, rt.alloc(), "a line as long as a piece", KEY_LETTERS)?;
+    assert_key(
+        &rt,
+        rt.alloc(),
+        "a line longer than a piece",
+        KEY_LETTERS + 1,
+    )
 }
 
 /// Runs a script that comes byte by byte.

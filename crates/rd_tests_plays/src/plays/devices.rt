@@ -4,6 +4,7 @@ use super::{
     CASES, Calls, NONE, Trace, assert_trace, fetch, played, played_from, read, send, source, tell,
 };
 use std::alloc::Global;
+use std::process::Abort;
 use std::test::Fail;
 
 /// What the first redisplay of the second script sends.
@@ -15,8 +16,11 @@ const BOTH: &[u8] = b"\x1b[0m\x1b[2J\x1b[1;1Habc\x1b[1;1H\x1b[1;1H";
 /// What the second script reports where no call fails.
 const DONE: &[u8] = b"3: shown 1 rows\n4: shown 0 rows\ndone 4 lines\n";
 
-/// The read that fails and its number, and what the second script then sends, reports and answers.
-const READS: [(&'static str, u64, &'static [u8], &'static [u8], u8); 3] = [
+/// A call that fails, by what it is for, and its number, and what the second script then sends, reports and answers.
+type Failing = (&'static str, u64, &'static [u8], &'static [u8], u8);
+
+/// Reads that fail.
+const READS: [Failing; 3] = [
     ("the first read", 1, b"", b"read fault\n", 5),
     (
         "the read at the end",
@@ -28,8 +32,8 @@ const READS: [(&'static str, u64, &'static [u8], &'static [u8], u8); 3] = [
     ("a read behind the end", 3, BOTH, DONE, 0),
 ];
 
-/// The fetch that fails and its number, and what the second script then sends, reports and answers.
-const FETCHES: [(&'static str, u64, &'static [u8], &'static [u8], u8); 5] = [
+/// Fetches that fail.
+const FETCHES: [Failing; 5] = [
     ("the classes", 1, b"", b"read fault\n", 5),
     ("the end of the classes", 2, b"", b"read fault\n", 5),
     ("the mirrors", 3, b"", b"read fault\n", 5),
@@ -37,8 +41,8 @@ const FETCHES: [(&'static str, u64, &'static [u8], &'static [u8], u8); 5] = [
     ("a fetch behind the mirrors", 5, BOTH, DONE, 0),
 ];
 
-/// What the screen's write that fails is for and its number, and what the second script then sends, reports and answers.
-const SENDS: [(&'static str, u64, &'static [u8], &'static [u8], u8); 3] = [
+/// Writes of the screen that fail.
+const SENDS: [Failing; 3] = [
     ("the first redisplay", 1, b"", b"write fault\n", 6),
     (
         "the second redisplay",
@@ -50,8 +54,8 @@ const SENDS: [(&'static str, u64, &'static [u8], &'static [u8], u8); 3] = [
     ("a write behind both redisplays", 3, BOTH, DONE, 0),
 ];
 
-/// What the report's write that fails is for and its number, and what the second script then sends, reports and answers.
-const TELLS: [(&'static str, u64, &'static [u8], &'static [u8], u8); 4] = [
+/// Writes of the report that fail.
+const TELLS: [Failing; 4] = [
     ("the line of the first redisplay", 1, FIRST, b"", 6),
     (
         "the line of the second redisplay",
@@ -123,40 +127,40 @@ const PAIRS: [(&'static str, Calls, &'static [u8], &'static [u8], u8); 4] = [
     ),
 ];
 
-#[test]
-fn each_read_may_fail(rt: HostRuntime) -> Result<(), Fail> {
-    for (name, call, sent, told, code) in &READS {
-        let run = played(rt.alloc(), &[], CASES[1].script, read(*call))?;
-        assert_trace(&rt, name, &run, sent, told, *code);
+/// Asserts what the second script leaves where a call of a table fails; `calls` says of which device it is.
+fn assert_each<F: Fn(u64) -> Calls>(
+    rt: &impl Abort,
+    alloc: Global,
+    table: &[Failing],
+    calls: F,
+) -> Result<(), Fail>
+    requires { F.IsAlwaysCallable calls }
+{
+    for (name, call, sent, told, code) in table {
+        let run = played(alloc, &[], CASES[1].script, calls(*call))?;
+        assert_trace(rt, name, &run, sent, told, *code);
     }
     Ok(())
+}
+
+#[test]
+fn each_read_may_fail(rt: HostRuntime) -> Result<(), Fail> {
+    assert_each(&rt, rt.alloc(), &READS, read)
 }
 
 #[test]
 fn each_fetch_may_fail(rt: HostRuntime) -> Result<(), Fail> {
-    for (name, call, sent, told, code) in &FETCHES {
-        let run = played(rt.alloc(), &[], CASES[1].script, fetch(*call))?;
-        assert_trace(&rt, name, &run, sent, told, *code);
-    }
-    Ok(())
+    assert_each(&rt, rt.alloc(), &FETCHES, fetch)
 }
 
 #[test]
 fn each_write_of_the_screen_may_fail(rt: HostRuntime) -> Result<(), Fail> {
-    for (name, call, sent, told, code) in &SENDS {
-        let run = played(rt.alloc(), &[], CASES[1].script, send(*call))?;
-        assert_trace(&rt, name, &run, sent, told, *code);
-    }
-    Ok(())
+    assert_each(&rt, rt.alloc(), &SENDS, send)
 }
 
 #[test]
 fn each_write_of_the_report_may_fail(rt: HostRuntime) -> Result<(), Fail> {
-    for (name, call, sent, told, code) in &TELLS {
-        let run = played(rt.alloc(), &[], CASES[1].script, tell(*call))?;
-        assert_trace(&rt, name, &run, sent, told, *code);
-    }
-    Ok(())
+    assert_each(&rt, rt.alloc(), &TELLS, tell)
 }
 
 #[test]
