@@ -1,8 +1,8 @@
 //! Sources, files, sinks and lines on plain cases, at their limits, and over the system's streams and files.
 use crate::claims::assert_of;
 use rd_io::{
-    Failed, FileFault, Files, HostFiles, LineFault, Lines, MemFiles, MemSink, MemSource, Piece,
-    Sink, Source, StdSink, StdSource, read_file, write_whole,
+    Failed, FileFault, Files, HostFiles, LineFault, Lines, MemFiles, MemSink, MemSource,
+    PIECE_BYTES, Piece, Sink, Source, StdSink, StdSource, read_file, write_whole,
 };
 use std::alloc::Global;
 use std::fs;
@@ -162,8 +162,8 @@ fn assert_full(rt: &impl Abort, bytes: &[u8]) {
 }
 
 #[test]
-fn a_piece_holds_20_480_bytes(rt: HostRuntime) -> Result<(), Fail> {
-    let bytes = letters(rt.alloc(), 20_480)?;
+fn a_piece_holds_as_many_bytes_as_it_says(rt: HostRuntime) -> Result<(), Fail> {
+    let bytes = letters(rt.alloc(), PIECE_BYTES)?;
     assert_full(&rt, bytes.as_slice());
     Ok(())
 }

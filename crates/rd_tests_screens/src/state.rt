@@ -75,21 +75,26 @@ const AT_END: &str = r#"{"op":"insert_raw","buffer":"main","pos":3,"bytes":[200]
 /// An edit that takes away what they are over.
 const OVER: &str = r#"{"op":"delete","buffer":"main","from":1,"to":3}"#;
 
-/// Overlays, edits, and the ranges that the overlays have then.
-const MOVES: [(&'static str, &'static str, (u32, u32)); 7] = [
-    (PLAIN, BEFORE, (4, 5)),
-    (PLAIN, AT_START, (2, 4)),
-    (FRONT, AT_START, (3, 4)),
-    (PLAIN, AT_END, (2, 3)),
-    (REAR, AT_END, (2, 4)),
-    (EMPTY, AT_START, (2, 2)),
-    (PLAIN, OVER, (1, 1)),
+/// Overlays and edits, by what moves, and the ranges that the overlays have then.
+const MOVES: [(&'static str, &'static str, &'static str, (u32, u32)); 7] = [
+    ("both ends, by a text before", PLAIN, BEFORE, (4, 5)),
+    (
+        "the end alone, by a text at the start",
+        PLAIN,
+        AT_START,
+        (2, 4),
+    ),
+    ("a start that is in front", FRONT, AT_START, (3, 4)),
+    ("nothing, by a text at the end", PLAIN, AT_END, (2, 3)),
+    ("an end that is in the rear", REAR, AT_END, (2, 4)),
+    ("nothing of an empty overlay", EMPTY, AT_START, (2, 2)),
+    ("both ends, by a deletion", PLAIN, OVER, (1, 1)),
 ];
 
 #[test]
 fn overlays_move_with_the_text(rt: HostRuntime) {
-    for (overlay, edit, range) in &MOVES {
-        assert_of(&rt, overlay, is_moved(rt.alloc(), overlay, edit, *range));
+    for (name, overlay, edit, range) in &MOVES {
+        assert_of(&rt, name, is_moved(rt.alloc(), overlay, edit, *range));
     }
 }
 

@@ -70,11 +70,19 @@ fn is_leaf(tree: &Tree, place: u32, window: u32) -> bool {
     tree.leaf(place) == Some(window)
 }
 
+/// Whether a tree splits 63 windows, each of which the one before made, and which keeps three rows.
+fn splits_each(tree: &mut Tree) -> bool {
+    for window in 0..63 {
+        if !is_number(tree.split(window, Side::Below, 3), window + 1) {
+            return false;
+        }
+    }
+    true
+}
+
 /// Asserts that 64 windows live and no more, where the opening one has room for them.
 fn assert_many(rt: &impl Abort, tree: &mut Tree) {
-    for window in 0..63 {
-        assert!(rt; is_number(tree.split(window, Side::Below, 3), window + 1));
-    }
+    assert!(rt; splits_each(tree));
     assert!(rt; is_fault(tree.split(63, Side::Below, 3), TreeFault::TooMany));
     assert!(rt; is_leaf(tree, 62, 62));
     assert!(rt; tree.leaf(64).is_none());
