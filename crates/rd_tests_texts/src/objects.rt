@@ -179,11 +179,19 @@ fn assert_first_faults(rt: &impl Abort, objects: &mut Objects) {
     assert!(rt; objects.add_string(&long, &[]) == Err(ObjectFault::TooLong));
 }
 
+/// Whether 64 tables are made.
+fn makes_tables(objects: &mut Objects, alloc: Global) -> bool {
+    for _k in 0..64 {
+        if add_table(objects, alloc).is_err() {
+            return false;
+        }
+    }
+    true
+}
+
 /// Asserts that there are at most 64 tables.
 fn assert_most_tables(rt: &impl Abort, objects: &mut Objects, alloc: Global) {
-    for _k in 0..64 {
-        assert!(rt; add_table(objects, alloc).is_ok());
-    }
+    assert!(rt; makes_tables(objects, alloc));
     assert!(rt; add_table(objects, alloc) == Err(ObjectFault::TooMany));
 }
 
