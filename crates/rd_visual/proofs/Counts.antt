@@ -40,7 +40,7 @@ turns-some start items (t ∷ ts) =
     some-append (range_by start (slice_get items t.index)) (ranges_in_turn start items ts)
     (range-has (λ (r : Range). r.from < r.to) start (slice_get items t.index) (λ x at less. omega (arith, less))) (turns-some start items ts)
 
-pub block-some : (s : BufferValue) (objects : ObjectLists) (files : Data) (b : Block) → AreSome (block_ranges s objects files b)
+block-some : (s : BufferValue) (objects : ObjectLists) (files : Data) (b : Block) → AreSome (block_ranges s objects files b)
 block-some s objects files b =
     let scene = scene_in s.settings objects files in
     let items = items_of scene (reading s objects b.start) in

@@ -1,28 +1,27 @@
 -- Steps from block to block.
 use Rattle.std.proofs.Common.{◌≡◌, ℕ, zero, suc, ◌+◌, ◌<◌, ◌≤◌, nat_lt, Bool, true, false, ◌==◌, if◌then◌else◌, List, [], ◌∷◌, ◌++◌, length, take, drop, Option, None, Some, refl, sym, ap, subst, ◌∙◌, arith}
-use Rattle.std.specs.Prelude.{count_by, slice_get}
+use Rattle.std.specs.Prelude.{count_by, reverse, slice_get}
 use Rattle.std.specs.List.{flat_map}
 use Rattle.std.proofs.lemmas.Bool.Decides.{nat_tests}
 use Rattle.std.proofs.lemmas.Grind.{flat_map-append}
-use Rattle.std.proofs.lemmas.List.{append-nil, take-append-drop}
+use Rattle.std.proofs.lemmas.List.{append-nil, append_assoc, reverse-append, take-append-drop}
 use Rattle.std.proofs.lemmas.Option.{slice_get_within}
 use Rattle.rd_ucd.specs.Data.{Data}
 use Rattle.rd_objects.specs.Things.{ObjectLists}
-use Rattle.rd_text.specs.Texts.{IsText, IsAccessible}
+use Rattle.rd_text.specs.Texts.{IsAccessible}
 use Rattle.rd_props.specs.Buffers.{BufferValue, meaning}
 use Rattle.rd_props.specs.declared.state.View.{View}
 use Rattle.rd_matrix.proofs.HeldLemmas.{later-start}
 use Rattle.rd_matrix.specs.Blocks.{HoldsPosition, IsAmong, StandFrom, block_before, first_start}
 use Rattle.rd_matrix.specs.declared.block.Block.{Block}
-use Rattle.rd_blocks.specs.Bases.{blocks_in}
-use Rattle.rd_visual.specs.Motion.{all_ranges, base_in, base_of, before, behind, block_ranges, files_of, first, holds, last, view_blocks, view_ranges}
-use Rattle.rd_visual.specs.Ways.{beside, block_beside, entered, opposite, sideways, stepped, way_in}
+use Rattle.rd_visual.specs.Motion.{base_in, base_of, behind, files_of, first, holds, view_blocks, view_ranges}
+use Rattle.rd_visual.specs.Tiles.{CoverOnce}
+use Rattle.rd_visual.specs.Ways.{along, beside, block_beside, entered, opposite, sideways, stepped, way_in}
 use Rattle.rd_visual.specs.declared.range.Range.{Range}
 use Rattle.rd_visual.specs.declared.way.Way.{Way}
 use Rattle.rd_visual.specs.declared.way.Way.TheVariants.{Forward, Backward}
-use Rattle.rd_visual.proofs.Counts.{block-some}
 use Rattle.rd_base.proofs.Lists.{drop-at, none-left, count-append, element-at, take-at}
-use Rattle.rd_visual.proofs.Neighbours.{AreSome, before-none, before-some, behind-front, behind-none, behind-some, first-append, last-append}
+use Rattle.rd_visual.proofs.Neighbours.{behind-front, behind-none, behind-some, count-reverse, first-append}
 
 -- blocks that stand one behind the other
 
@@ -88,63 +87,72 @@ module _ (f : Block → List Range) (bs : List Block) (pos k : ℕ) (b : Block) 
       let more = count-append (holds pos) (f b) back in
       (omega (arith, every, here, all, two, more), omega (arith, every, here, all, two, more))
 
-  forward-end : behind pos (f b) ≡ None → behind pos (flat_map f bs) ≡ first back
-  forward-end none =
-      ap (behind pos) whole ∙ behind-front pos front (f b ++ back) apart.0 ∙ behind-none pos (f b) back none (omega (arith, here))
+  -- what of all ranges comes on the way before those of the block, and what behind them
+  abbrev nearer : Way → List Range
+  nearer Forward = front
+  nearer Backward = reverse back
 
-  backward-end : before pos (f b) ≡ None → before pos (flat_map f bs) ≡ last front
-  backward-end none = ap (before pos) whole ∙ before-none pos front (f b) back apart.0 here apart.1 none
+  abbrev further : Way → List Range
+  further Forward = back
+  further Backward = reverse front
 
-  last-by : (j p : ℕ) (prev : Block) → block_before bs j ≡ Some prev → count_by (holds p) (f prev) ≡ 1 → last (flat_map f (take j bs)) ≡ last (f prev)
-  last-by zero p prev at some = absurd cc
-  last-by (suc j) p prev at some =
+  along-whole : (way : Way) → along way (flat_map f bs) ≡ nearer way ++ (along way (f b) ++ further way)
+  along-whole Forward = whole
+  along-whole Backward =
+      ap reverse whole ∙ reverse-append front (f b ++ back) ∙ ap (λ (xs : List Range). xs ++ reverse front) (reverse-append (f b) back)
+      ∙ append_assoc (reverse back) (reverse (f b)) (reverse front)
+
+  none-nearer : (way : Way) → count_by (holds pos) (nearer way) ≡ 0
+  none-nearer Forward = apart.0
+  none-nearer Backward = count-reverse pos back ∙ apart.1
+
+  one-along : (way : Way) → count_by (holds pos) (along way (f b)) ≡ 1
+  one-along Forward = here
+  one-along Backward = count-reverse pos (f b) ∙ here
+
+  from-block : (way : Way) → beside way pos (flat_map f bs) ≡ behind pos (along way (f b) ++ further way)
+  from-block way = ap (behind pos) (along-whole way) ∙ behind-front pos (nearer way) (along way (f b) ++ further way) (none-nearer way)
+
+  way-end : (way : Way) → beside way pos (f b) ≡ None → beside way pos (flat_map f bs) ≡ first (further way)
+  way-end way none = from-block way ∙ behind-none pos (along way (f b)) (further way) none (omega (arith, one-along way))
+
+  first-by : (j p : ℕ) (prev : Block) → block_before bs j ≡ Some prev → count_by (holds p) (f prev) ≡ 1 → first (reverse (flat_map f (take j bs))) ≡ first (reverse (f prev))
+  first-by zero p prev at some = absurd cc
+  first-by (suc j) p prev at some =
       let one : suc j ≡ j + 1 = omega arith in
-      ap (λ n. last (flat_map f (take n bs))) one
-      ∙ ap (λ xs. last (flat_map f xs)) (take-at bs j prev at)
-      ∙ ap last (flat_map-append f (take j bs) (prev ∷ []))
-      ∙ last-append (flat_map f (take j bs)) (flat_map f (prev ∷ [])) p
-      (let one = count-append (holds p) (f prev) [] in omega (arith, one, some))
-      ∙ ap last (append-nil (f prev))
+      let rest = flat_map f (take j bs) in
+      ap (λ n. first (reverse (flat_map f (take n bs)))) one
+      ∙ ap (λ xs. first (reverse (flat_map f xs))) (take-at bs j prev at)
+      ∙ ap (λ (xs : List Range). first (reverse xs)) (flat_map-append f (take j bs) (prev ∷ []) ∙ ap (λ (xs : List Range). rest ++ xs) (append-nil (f prev)))
+      ∙ ap first (reverse-append rest (f prev))
+      ∙ first-append (reverse (f prev)) (reverse rest) p (omega (arith, count-reverse p (f prev), some))
 
-  none-by : (j : ℕ) → j ≤ length bs → block_before bs j ≡ None → last (flat_map f (take j bs)) ≡ None
+  none-by : (j : ℕ) → j ≤ length bs → block_before bs j ≡ None → first (reverse (flat_map f (take j bs))) ≡ None
   none-by zero low at = refl
   none-by (suc j) low at = absurd (let q = element-at bs j (omega (arith, low)) in let x = q.1 in cc)
 
-  within-block : (way : Way) → AreSome (f b) → (q : ℕ) → beside way pos (f b) ≡ Some q → beside way pos (flat_map f bs) ≡ Some q
-  within-block Forward some q found = ap (behind pos) whole ∙ behind-front pos front (f b ++ back) apart.0 ∙ behind-some pos q (f b) back found
-  within-block Backward some q found = ap (before pos) whole ∙ before-some pos q front (f b) back some apart.0 (omega (arith, here)) found
+  within-block : (way : Way) (q : ℕ) → beside way pos (f b) ≡ Some q → beside way pos (flat_map f bs) ≡ Some q
+  within-block way q found = from-block way ∙ behind-some pos q (along way (f b)) (further way) found
 
   into-block : (way : Way) (p : ℕ) (x : Block) → beside way pos (f b) ≡ None → block_beside way bs k ≡ Some x → count_by (holds p) (f x) ≡ 1 → beside way pos (flat_map f bs) ≡ entered way (f x)
   into-block Forward p x none at some =
-      forward-end none ∙ ap (λ xs. first (flat_map f xs)) (drop-at bs (k + 1) x at) ∙ first-append (f x) (flat_map f (drop (k + 1 + 1) bs)) p (omega (arith, some))
-  into-block Backward p x none at some = backward-end none ∙ last-by k p x at some
+      way-end Forward none ∙ ap (λ xs. first (flat_map f xs)) (drop-at bs (k + 1) x at) ∙ first-append (f x) (flat_map f (drop (k + 1 + 1) bs)) p (omega (arith, some))
+  into-block Backward p x none at some = way-end Backward none ∙ first-by k p x at some
 
   out-of-blocks : (way : Way) → beside way pos (f b) ≡ None → block_beside way bs k ≡ None → beside way pos (flat_map f bs) ≡ None
-  out-of-blocks Forward none at = forward-end none ∙ ap (λ xs. first (flat_map f xs)) (none-left bs (k + 1) at)
-  out-of-blocks Backward none at = let inside = slice_get_within bs k b there in backward-end none ∙ none-by k (omega (arith, inside)) at
-
--- what law says how often a position is covered, in all blocks and in one
-
-abbrev pub EveryOnce : Type 0
-EveryOnce = (s : BufferValue) (objects : ObjectLists) (files : Data) (pos : ℕ) → IsText s.text → IsAccessible s.text pos → count_by (holds pos) (all_ranges s objects files) ≡ 1
-
-abbrev pub BlockOnce : Type 0
-BlockOnce = (s : BufferValue) (objects : ObjectLists) (files : Data) (b : Block) (pos : ℕ) → IsText s.text → IsAmong (blocks_in files.classes s) b
-    → b.start ≤ pos → pos < b.end → count_by (holds pos) (block_ranges s objects files b) ≡ 1
+  out-of-blocks Forward none at = way-end Forward none ∙ ap (λ xs. first (flat_map f xs)) (none-left bs (k + 1) at)
+  out-of-blocks Backward none at = let inside = slice_get_within bs k b there in way-end Backward none ∙ none-by k (omega (arith, inside)) at
 
 -- a step from a block of a view that holds a position
-module _ (every : EveryOnce) (once : BlockOnce) (v : View) (pos : ℕ) (b : Block) (text : IsText (meaning v.state.now).text) (place : IsAccessible (meaning v.state.now).text pos) (held : HoldsPosition pos (view_blocks v) b) (way : Way) (ranges : List Range) (are : ranges ≡ view_ranges v b) where
+module _ (v : View) (once : CoverOnce (meaning v.state.now) v.objects.now (files_of v)) (pos : ℕ) (b : Block) (place : IsAccessible (meaning v.state.now).text pos) (held : HoldsPosition pos (view_blocks v) b) (way : Way) (ranges : List Range) (are : ranges ≡ view_ranges v b) where
   abbrev pub landing : Option ℕ
   landing = stepped way (meaning v.state.now) v.objects.now (files_of v) pos
 
   all : count_by (holds pos) (flat_map (view_ranges v) (view_blocks v)) ≡ 1
-  all = every (meaning v.state.now) v.objects.now (files_of v) pos text place
-
-  within : (x : Block) (p : ℕ) → IsAmong (view_blocks v) x → x.start ≤ p → p < x.end → count_by (holds p) (view_ranges v x) ≡ 1
-  within x p among low high = once (meaning v.state.now) v.objects.now (files_of v) x p text among low high
+  all = once.every pos place
 
   mine : count_by (holds pos) (view_ranges v b) ≡ 1
-  mine = within b pos held.among held.from held.below
+  mine = once.block b pos held.among held.from held.below
 
   beside-is : (o : Option ℕ) → beside way pos ranges ≡ o → beside way pos (view_ranges v b) ≡ o
   beside-is o is = sym (ap (beside way pos) are) ∙ is
@@ -157,7 +165,7 @@ module _ (every : EveryOnce) (once : BlockOnce) (v : View) (pos : ℕ) (b : Bloc
 
   pub goes-beside : (q : ℕ) → beside way pos ranges ≡ Some q → Some q ≡ landing
   goes-beside q found =
-      sym (within-block (view_ranges v) (view_blocks v) pos held.among.0 b held.among.1 all mine way (block-some (meaning v.state.now) v.objects.now (files_of v) b) q (beside-is (Some q) found))
+      sym (within-block (view_ranges v) (view_blocks v) pos held.among.0 b held.among.1 all mine way q (beside-is (Some q) found))
 
   pub goes-nowhere : (bs : List Block) (other : Option Block) → bs ≡ view_blocks v → GivesBeside bs other → beside way pos ranges ≡ None → other ≡ None → None ≡ landing
   goes-nowhere bs other same gives none is =
@@ -170,4 +178,4 @@ module _ (every : EveryOnce) (once : BlockOnce) (v : View) (pos : ℕ) (b : Bloc
       let among = among-beside way held.among.0 (view_blocks v) x at in
       let low : x.start ≤ x.start = omega arith in
       let some = (later-start (first_start (view_blocks v)) among.0 (view_blocks v) x (subst (λ (xs : List Block). StandFrom (first_start xs) xs) same stand) among.1).1 in
-      sym (into-block (view_ranges v) (view_blocks v) pos held.among.0 b held.among.1 all mine way x.start x (beside-is None none) at (within x x.start among low some))
+      sym (into-block (view_ranges v) (view_blocks v) pos held.among.0 b held.among.1 all mine way x.start x (beside-is None none) at (once.block x x.start among low some))

@@ -1,6 +1,6 @@
 -- Motion in visual order: the item behind or before the one that covers a position.
-use Rattle.std.specs.Prelude.{ℕ, ◌+◌, nat_lt, nat_le, Bool, ◌==◌, ◌&&◌, if◌then◌else◌, List, [], ◌∷◌, slice_get, Option, None, Some, option_map}
-use Rattle.std.specs.List.{flat_map, last_or}
+use Rattle.std.specs.Prelude.{ℕ, ◌+◌, nat_lt, nat_le, Bool, ◌==◌, ◌&&◌, if◌then◌else◌, List, [], ◌∷◌, reverse, slice_get, Option, None, Some}
+use Rattle.std.specs.List.{flat_map}
 use Rattle.rd_ucd.specs.Data.{Data}
 use Rattle.rd_objects.specs.Things.{ObjectLists}
 use Rattle.rd_props.specs.Buffers.{BufferValue, meaning}
@@ -51,17 +51,12 @@ behind pos (r ∷ next ∷ rs) = if holds pos r then Some next.from else behind 
 
 -- the least position of the item right before the one that covers a position
 abbrev pub before : ℕ → List Range → Option ℕ
-before pos [] = None
-before pos (r ∷ []) = None
-before pos (r ∷ next ∷ rs) = if holds pos next then Some r.from else before pos (next ∷ rs)
+before pos rs = behind pos (reverse rs)
 
--- the least position of the first of these items, and of the last
+-- the least position of the first of these items
 abbrev pub first : List Range → Option ℕ
 first [] = None
 first (r ∷ rs) = Some r.from
-
-abbrev pub last : List Range → Option ℕ
-last rs = option_map (λ (r : Range). r.from) (last_or None rs)
 
 abbrev pub forward : BufferValue → ObjectLists → Data → ℕ → Option ℕ
 forward s objects files pos = behind pos (all_ranges s objects files)

@@ -1,11 +1,11 @@
 -- A step in visual order, by its way.
-use Rattle.std.specs.Prelude.{ℕ, ◌+◌, ◌-◌, ◌==◌, if◌then◌else◌, List, slice_get, Option}
+use Rattle.std.specs.Prelude.{ℕ, ◌+◌, ◌==◌, if◌then◌else◌, List, reverse, slice_get, Option}
 use Rattle.rd_ucd.specs.Data.{Data}
 use Rattle.rd_objects.specs.Things.{ObjectLists}
 use Rattle.rd_props.specs.Buffers.{BufferValue}
 use Rattle.rd_matrix.specs.Blocks.{block_before}
 use Rattle.rd_matrix.specs.declared.block.Block.{Block}
-use Rattle.rd_visual.specs.Motion.{all_ranges, before, behind, first, last, left_of, right_of}
+use Rattle.rd_visual.specs.Motion.{all_ranges, behind, first, left_of, right_of}
 use Rattle.rd_visual.specs.declared.range.Range.{Range}
 use Rattle.rd_visual.specs.declared.way.Way.{Way}
 use Rattle.rd_visual.specs.declared.way.Way.TheVariants.{Forward, Backward}
@@ -18,20 +18,18 @@ opposite Backward = Forward
 abbrev pub way_in : Way → ℕ → Way
 way_in way base = if base == 0 then way else opposite way
 
--- of a place and the place before it, the one from which a step leads to the other
-abbrev pub origin : Way → ℕ → ℕ
-origin Forward place = place - 1
-origin Backward place = place
+-- ranges as they come on the way
+abbrev pub along : Way → List Range → List Range
+along Forward rs = rs
+along Backward rs = reverse rs
 
 -- the least position of the item to which a step leads from the one that covers a position
 abbrev pub beside : Way → ℕ → List Range → Option ℕ
-beside Forward pos rs = behind pos rs
-beside Backward pos rs = before pos rs
+beside way pos rs = behind pos (along way rs)
 
 -- the least position of the item that is the first on the way
 abbrev pub entered : Way → List Range → Option ℕ
-entered Forward rs = first rs
-entered Backward rs = last rs
+entered way rs = first (along way rs)
 
 -- the block to which a step leads from the one at a place
 abbrev pub block_beside : Way → List Block → ℕ → Option Block

@@ -35,10 +35,8 @@ fn least_at(entry: &Entry, column: u32) -> Option<Pos>
     requires { All (Fits entry.now.start) entry.now.row.shown.begins }
     ensures { result ≡ least_at (shown_entry entry.now) column }
 {
-    match item_of_cell(&entry.row, column) {
-        Some(item) => Some(entry.start + item.from),
-        None => None,
-    }
+    let item = item_of_cell(&entry.row, column)?;
+    Some(entry.start + item.from)
 }
 
 /// The item of a cell of a row.

@@ -9,7 +9,7 @@ ghost use Rattle.rd_rows.specs.Rows.{rows_of};
 ghost use Rattle.rd_rows.specs.Shapes.{ShapeValues, IsShape};
 ghost use Rattle.rd_rows.specs.declared.begin.Begin.{Begin};
 ghost use Rattle.rd_rows.specs.declared.cutting.Cutting.{Cutting};
-ghost use Rattle.rd_text.specs.Texts.{IsText, IsAccessible};
+ghost use Rattle.rd_text.specs.Texts.{IsText};
 ghost use Rattle.rd_ucd.specs.Data.{Data};
 ghost use Rattle.rd_objects.specs.Things.{ObjectLists};
 ghost use Rattle.rd_props.specs.Buffers.{BufferValue};
@@ -17,8 +17,8 @@ ghost use Rattle.rd_matrix.specs.Blocks.{IsAmong};
 ghost use Rattle.rd_matrix.specs.declared.block.Block.{Block};
 ghost use Rattle.rd_blocks.specs.Bases.{blocks_in};
 ghost use Rattle.rd_blocks.specs.Sources.{text_source};
-ghost use Rattle.rd_visual.specs.Motion.{all_ranges, backward, base_in, block_ranges, forward, holds, least, left_of, right_of};
-ghost use Rattle.rd_visual.specs.Tiles.{AreTiled};
+ghost use Rattle.rd_visual.specs.Motion.{all_ranges, backward, base_in, block_ranges, forward, least, left_of, right_of};
+ghost use Rattle.rd_visual.specs.Tiles.{AreTiled, CoverOnce};
 ghost use Rattle.rd_visual.specs.Order.{EndsWithEnder, StandBetween, block_items, ordered_ranges};
 ghost use Rattle.rd_visual.specs.declared.range.Range.{Range};
 ghost use Rattle.rd_visual.specs.Hits.{AreRowsAt, begins_at, hit_in, reading_column};
@@ -64,9 +64,7 @@ pub fn blocks_are_tiled()
 /// Each accessible position, and the accessible end, is covered by exactly one of the items among which one moves, and it is one of
 /// the block that holds it.
 pub fn ranges_cover_once()
-    ensures every { (s : BufferValue) (objects : ObjectLists) (files : Data) (pos : ℕ) → IsText s.text → IsAccessible s.text pos → count_by (holds pos) (all_ranges s objects files) ≡ 1 }
-    ensures block { (s : BufferValue) (objects : ObjectLists) (files : Data) (b : Block) (pos : ℕ) → IsText s.text → IsAmong (blocks_in files.classes s) b
-        → b.start ≤ pos → pos < b.end → count_by (holds pos) (block_ranges s objects files b) ≡ 1 }
+    ensures { (s : BufferValue) (objects : ObjectLists) (files : Data) → IsText s.text → CoverOnce s objects files }
 {
     blocks_are_tiled();
 }

@@ -1,7 +1,6 @@
 //! The ranges of items, in a list.
-ghost use Rattle.std.specs.Prelude.{◌≡◌};
-ghost use Rattle.rd_visual.specs.Motion.{first, last};
-ghost use Rattle.rd_visual.specs.Ways.{beside, entered};
+ghost use Rattle.std.specs.Prelude.{◌≡◌, ◌<◌, length, slice_get, Some};
+ghost use Rattle.rd_visual.specs.Ways.{along, beside, entered};
 
 use crate::way::Way;
 use rd_base::{ListOf, Pos};
@@ -31,8 +30,8 @@ pub fn beside(ranges: &ListOf<Range>, way: Way, pos: Pos) -> Option<Pos>
     ensures { result ≡ beside way pos ranges.now }
 {
     for place in 1..ranges.len() {
-        if ranges.at(way.origin(place)).holds(pos) {
-            return Some(ranges.at(way.opposite().origin(place)).from);
+        if on_way(ranges, way, place - 1).holds(pos) {
+            return Some(on_way(ranges, way, place).from);
         }
     }
     None
@@ -42,26 +41,19 @@ pub fn beside(ranges: &ListOf<Range>, way: Way, pos: Pos) -> Option<Pos>
 pub fn entered(ranges: &ListOf<Range>, way: Way) -> Option<Pos>
     ensures { result ≡ entered way ranges.now }
 {
-    match way {
-        Way::Forward => first(ranges),
-        Way::Backward => last(ranges),
-    }
-}
-
-/// The least position of the first item.
-fn first(ranges: &ListOf<Range>) -> Option<Pos>
-    ensures { result ≡ first ranges.now }
-{
     if ranges.is_empty() {
         return None;
     }
-    Some(ranges.at(0).from)
+    Some(on_way(ranges, way, 0).from)
 }
 
-/// The least position of the last item.
-fn last(ranges: &ListOf<Range>) -> Option<Pos>
-    ensures { result ≡ last ranges.now }
+/// The range at a place, counted along the way from 0.
+fn on_way(ranges: &ListOf<Range>, way: Way, place: usize) -> Range
+    requires { place < length ranges.now }
+    ensures { slice_get (along way ranges.now) place ≡ Some result }
 {
-    let place = ranges.len().checked_sub(1)?;
-    Some(ranges.at(place).from)
+    match way {
+        Way::Forward => ranges.at(place),
+        Way::Backward => ranges.at(ranges.len() - 1 - place),
+    }
 }

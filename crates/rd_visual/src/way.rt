@@ -8,11 +8,11 @@ pub enum Way {
 }
 
 impl Way {
-    ghost use Rattle.std.specs.Prelude.{◌≡◌, ◌≤◌};
-    ghost use Rattle.rd_visual.specs.Ways.{opposite, origin, way_in};
+    ghost use Rattle.std.specs.Prelude.{◌≡◌};
+    ghost use Rattle.rd_visual.specs.Ways.{opposite, way_in};
 
     /// The other way.
-    pub fn opposite(self) -> Way
+    fn opposite(self) -> Way
         ensures { result ≡ opposite self }
     {
         match self {
@@ -29,18 +29,6 @@ impl Way {
         match base {
             0 => self,
             _ => self.opposite(),
-        }
-    }
-
-    /// Of a place and the place before it, the one from which a step this way leads to the other.
-    pub fn origin(self, place: usize) -> usize
-        requires { 1 ≤ place }
-        ensures value { result ≡ origin self place }
-        ensures within { result ≤ place }
-    {
-        match self {
-            Way::Forward => place - 1,
-            Way::Backward => place,
         }
     }
 }
