@@ -7,14 +7,14 @@ use Rattle.rd_props.specs.Buffers.{BufferValue}
 use Rattle.rd_props.specs.Agreement.{IsInReach, IsSame, Unchanged}
 
 -- sameness goes through a third position
-through : (old middle new : BufferValue) (a b c : ObjectLists) (x m y : ℕ)
-    → (IsInReach old x middle m → IsSame old a x middle b m) → (IsInReach middle m new y → IsSame middle b m new c y)
+through : (old changed new : BufferValue) (a b c : ObjectLists) (x m y : ℕ)
+    → (IsInReach old x changed m → IsSame old a x changed b m) → (IsInReach changed m new y → IsSame changed b m new c y)
     → IsInReach old x new y → IsSame old a x new c y
-through old middle new a b c x m y first second (inl within) =
+through old changed new a b c x m y first second (inl within) =
     let one = first (inl within) in
     let two = second (inl one.new_within) in
     record { old_within = within; new_within = two.new_within; agree = one.agree ∙ two.agree }
-through old middle new a b c x m y first second (inr within) =
+through old changed new a b c x m y first second (inr within) =
     let two = second (inr within) in
     let one = first (inr two.old_within) in
     record { old_within = one.old_within; new_within = within; agree = one.agree ∙ two.agree }
@@ -27,21 +27,21 @@ between x y tail begin d e is behind low = by (pos x +ℤ d) refl where
   by (pos m) same = (m, omega (arith, ints), omega (arith, ints), same, omega (arith, ints))
   by (negsuc m) same = absurd (omega (arith, ints))
 
-module _ (old middle new : BufferValue) (a b c : ObjectLists) (head later_head tail later_tail joined : ℕ) (d e : ℤ)
-    (one : Unchanged old a middle b head tail d) (two : Unchanged middle b new c later_head later_tail e) (low : (pos middle.text.begin +ℤ e) ≤ℤ pos (max middle.text.begin later_tail))
+module _ (old changed new : BufferValue) (a b c : ObjectLists) (head later_head tail later_tail joined : ℕ) (d e : ℤ)
+    (one : Unchanged old a changed b head tail d) (two : Unchanged changed b new c later_head later_tail e) (low : (pos changed.text.begin +ℤ e) ≤ℤ pos (max changed.text.begin later_tail))
     (first : (pos tail +ℤ e) ≤ℤ pos joined) (second : later_tail ≤ joined) where
   joined-before : (x : ℕ) → new.text.begin ≤ x → x < min head later_head → IsInReach old x new x → IsSame old a x new c x
   joined-before x begin less =
       let same = two.begin in
-      through old middle new a b c x x x (one.before x (omega arith) (omega arith)) (two.before x begin (omega arith))
+      through old changed new a b c x x x (one.before x (omega arith) (omega arith)) (two.before x begin (omega arith))
 
   joined-behind : (x y : ℕ) → new.text.begin ≤ y → joined ≤ y → pos x +ℤ (d +ℤ e) ≡ pos y → IsInReach old x new y → IsSame old a x new c y
   joined-behind x y begin more is =
       let same = two.begin in
-      let most : max middle.text.begin later_tail ≤ y = omega arith in
-      let found = between x y tail middle.text.begin d e is (omega (arith, ints)) (omega (arith, ints)) in
+      let most : max changed.text.begin later_tail ≤ y = omega arith in
+      let found = between x y tail changed.text.begin d e is (omega (arith, ints)) (omega (arith, ints)) in
       let m = found.0 in
-      through old middle new a b c x m y (one.behind x m found.2 found.1 found.3) (two.behind m y begin (omega arith) found.4)
+      through old changed new a b c x m y (one.behind x m found.2 found.1 found.3) (two.behind m y begin (omega arith) found.4)
 
   pub join : Unchanged old a new c (min head later_head) joined (d +ℤ e)
   join = record { begin = two.begin ∙ one.begin; before = joined-before; behind = joined-behind }

@@ -1,5 +1,5 @@
 -- What positions see of overlays that moved with an edit.
-use Rattle.std.proofs.Common.{◌≡◌, ℕ, ◌+◌, ◌-◌, ◌<◌, ◌≤◌, min, Bool, true, false, ◌&&◌, ◌||◌, if◌then◌else◌, List, map, Option, None, Some, refl, sym, ap, subst, ◌∙◌, arith}
+use Rattle.std.proofs.Common.{◌≡◌, ◌⊎◌, inl, inr, ℕ, ◌+◌, ◌-◌, ◌<◌, ◌≤◌, min, Bool, true, false, ◌&&◌, ◌||◌, if◌then◌else◌, List, map, Option, None, Some, refl, sym, ap, subst, ◌∙◌, arith}
 use Rattle.std.specs.Prelude.{nat_lt, nat_le, ◌==◌}
 use Rattle.std.proofs.lemmas.Bool.Decides.{nat_tests}
 use Rattle.rd_overlays.specs.declared.overlay.Overlay.{Overlay}
@@ -27,17 +27,9 @@ pub record SeesSame (x y : ℕ) (o p : Overlay) : Type 0 where
 covered-by : (x from to : ℕ) → (nat_le from x && nat_lt x to) ≡ true → (from == to) ≡ false
 covered-by x from to h = grind (arith, nat_tests)
 
-started-by : (x y from to new_from new_to : ℕ) → (from == x) ≡ (new_from == y) → (to == x) ≡ (new_to == y) → (from == x) ≡ true → (from == to) ≡ (new_from == new_to)
-started-by x y from to new_from new_to first last h =
-    let here : from ≡ x = grind (arith, nat_tests) in
-    let there : new_from ≡ y = grind (arith, nat_tests) in
-    grind (arith, nat_tests)
-
-ended-by : (x y from to new_from new_to : ℕ) → (from == x) ≡ (new_from == y) → (to == x) ≡ (new_to == y) → (to == x) ≡ true → (from == to) ≡ (new_from == new_to)
-ended-by x y from to new_from new_to first last h =
-    let here : to ≡ x = grind (arith, nat_tests) in
-    let there : new_to ≡ y = grind (arith, nat_tests) in
-    grind (arith, nat_tests)
+edge-by : (x y from to new_from new_to : ℕ) → (from == x) ≡ (new_from == y) → (to == x) ≡ (new_to == y) → ((from == x) ≡ true) ⊎ ((to == x) ≡ true) → (from == to) ≡ (new_from == new_to)
+edge-by x y from to new_from new_to first last (inl h) = grind (arith, nat_tests)
+edge-by x y from to new_from new_to first last (inr h) = grind (arith, nat_tests)
 
 edges-see : (x y : ℕ) (o p : Overlay) → StandsAlike x y o.from p.from → StandsAlike x y o.to p.to → SeesSame x y o p
 edges-see x y o p first last =
@@ -49,8 +41,8 @@ edges-see x y o p first last =
       start = first.at;
       end = last.at;
       covered = λ h. covered-by x o.from o.to h ∙ sym (covered-by y p.from p.to (sym same ∙ h));
-      started = started-by x y o.from o.to p.from p.to first.at last.at;
-      ended = ended-by x y o.from o.to p.from p.to first.at last.at;
+      started = λ h. edge-by x y o.from o.to p.from p.to first.at last.at (inl h);
+      ended = λ h. edge-by x y o.from o.to p.from p.to first.at last.at (inr h);
     }
 
 mark-same : (o p : Overlay) → is_empty o ≡ is_empty p → p.priority ≡ o.priority → p.values ≡ o.values → mark_of o ≡ mark_of p

@@ -89,14 +89,9 @@ unmet : (f : Overlay → Bool) (slot : Option Overlay) → ((o : Overlay) → sl
 unmet f None none = refl
 unmet f (Some o) none = ap (λ (t : Bool). if t then Some (mark_of o) else None) (none o refl)
 
-uncovered : (low high x : ℕ) (o : Overlay) → (low ≤ o.from) × (o.from ≤ o.to) × (o.to ≤ high) → (x < low) ⊎ (high < x) → covers x o ≡ false
-uncovered low high x o lies away = let first = lies.0 in let middle = lies.1 in let last = lies.2 in grind (arith, nat_tests)
-
-unstarted : (low high x : ℕ) (o : Overlay) → (low ≤ o.from) × (o.from ≤ o.to) × (o.to ≤ high) → (x < low) ⊎ (high < x) → starts x o ≡ false
-unstarted low high x o lies away = let first = lies.0 in let middle = lies.1 in let last = lies.2 in grind (arith, nat_tests)
-
-unended : (low high x : ℕ) (o : Overlay) → (low ≤ o.from) × (o.from ≤ o.to) × (o.to ≤ high) → (x < low) ⊎ (high < x) → ends x o ≡ false
-unended low high x o lies away = let first = lies.0 in let middle = lies.1 in let last = lies.2 in grind (arith, nat_tests)
+missed : (low high x : ℕ) (o : Overlay) → (low ≤ o.from) × (o.from ≤ o.to) × (o.to ≤ high) → (x < low) ⊎ (high < x) → (covers x o ≡ false) × (starts x o ≡ false) × (ends x o ≡ false)
+missed low high x o lies away =
+    let first = lies.0 in let ordered = lies.1 in let last = lies.2 in (grind (arith, nat_tests), grind (arith, nat_tests), grind (arith, nat_tests))
 
 -- two lists whose overlays are the same but for some that lie between two positions: a test that no such overlay passes finds
 -- the same in both
@@ -105,9 +100,9 @@ DifferIn low high a b = (f : Overlay → Bool) → ((o : Overlay) → (low ≤ o
 
 see-elsewhere : (low high : ℕ) (a b : List (Option Overlay)) → DifferIn low high a b → (x : ℕ) → (x < low) ⊎ (high < x) → SeeSame x x a b
 see-elsewhere low high a b differ x away = record {
-  covers = differ (covers x) (λ o lies. uncovered low high x o lies away);
-  starts = differ (starts x) (λ o lies. unstarted low high x o lies away);
-  ends = differ (ends x) (λ o lies. unended low high x o lies away);
+  covers = differ (covers x) (λ o lies. (missed low high x o lies away).0);
+  starts = differ (starts x) (λ o lies. (missed low high x o lies away).1);
+  ends = differ (ends x) (λ o lies. (missed low high x o lies away).2);
 }
 
 overlays-stay : (old new : BufferValue) (slots : List (Option Overlay)) (low high x : ℕ) → HasOverlays old new slots → DifferIn low high old.overlays slots

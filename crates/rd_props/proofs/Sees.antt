@@ -81,14 +81,11 @@ module _ (s : BufferValue) (objects : ObjectLists) (made : AreMade s objects) wh
       (All-append IsString closing between (strings-made Closing (reverse (ending p s.overlays))) (strings-made Between (starting p s.overlays)))
       (strings-made Opening (starting p s.overlays))
 
-  seen-made : (p : ℕ) → SeesMade objects (seen_at s objects p)
+  -- what is seen at each position names made objects alone
+  pub seen-made : (p : ℕ) → SeesMade objects (seen_at s objects p)
   seen-made p = record {
     display = if-value (λ n. n < length objects.specs) (effective s p Display) (effective-made Display p);
     line_prefix = if-value IsString (effective s p LinePrefix) (effective-made LinePrefix p);
     wrap_prefix = if-value IsString (effective s p WrapPrefix) (effective-made WrapPrefix p);
     strings = all-made p;
   }
-
--- what is seen at each position names made objects alone
-pub sees-made : (s : BufferValue) (objects : ObjectLists) (p : ℕ) → AreMade s objects → SeesMade objects (seen_at s objects p)
-sees-made s objects p made = seen-made s objects made p

@@ -45,7 +45,8 @@ pub(crate) fn face_under(view: &View, covering: &[u32], pos: Pos) -> Face
 }
 
 /// The face of an accessible position, or of the end of the accessible text, which is plain: the face of the text property with
-/// the faces of the covering overlays laid over it in increasing order of priority and number. It costs what `appearance_at` does.
+/// the faces of the covering overlays laid over it in increasing order of priority and number. It costs one listing of the overlays
+/// that cover the position, a pass over them for each of five values, and one look-up of each property.
 pub fn face_at(alloc: Global, view: &View, pos: Pos) -> Result<Face, Memory>
     requires { IsAccessible view.now.state.now.text pos }
     ensures { IfOk result (λ face. face ≡ face_at (meaning view.now.state.now) view.now.objects.now pos) }

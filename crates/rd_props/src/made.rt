@@ -1,4 +1,4 @@
-//! That edits name no object that was not made, and that none is seen.
+//! The laws of made objects: edits name no object that was not made, and none is seen.
 ghost use Rattle.std.specs.Prelude.{ℕ};
 ghost use Rattle.rd_objects.specs.Things.{ObjectLists};
 ghost use Rattle.rd_props.specs.Buffers.{BufferValue};

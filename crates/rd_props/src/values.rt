@@ -24,10 +24,7 @@ pub(crate) fn property(state: &BufferState, kind: Kind, pos: Pos) -> Option<u32>
 pub(crate) fn value_of(overlays: &Overlays, kind: Kind, number: u32) -> Option<u32>
     ensures { result ≡ overlay_value overlays.now kind number }
 {
-    match overlays.get(number) {
-        None => None,
-        Some(overlay) => overlay.values[kind as usize],
-    }
+    overlays.get(number)?.values[kind as usize]
 }
 
 /// The value of a kind at a position that these overlays cover: that of the last of them which has one, else that of the text
