@@ -9,7 +9,7 @@ use Rattle.rd_rows.specs.declared.cutting.Cutting.{Cutting}
 use Rattle.rd_rows.specs.Copies.{RowValues}
 use Rattle.rd_rows.specs.Cuts.{ends_some}
 use Rattle.rd_rows.specs.Leads.{HasLeads}
-use Rattle.rd_rows.specs.Left.{MakerValues, IsLine, rows_behind}
+use Rattle.rd_rows.specs.Left.{MakerValues, IsLine}
 use Rattle.rd_rows.specs.Lines.{rows_left, columns_held, is_finished, IsFresh, Asks, MakesRow}
 use Rattle.rd_rows.specs.Makers.{IsMaking, Cuts}
 use Rattle.rd_rows.specs.Placing.{line_start}
@@ -56,12 +56,9 @@ unfolding columns_held is_finished
 asks-again m es waits line on =
     line-behind m.spot.column (m.spot.column + columns_at_most m.held) m.held es (on-line_ends m.held waits) (omega arith) (line on)
 
-finished-rows : (m : MakerValues) (es : List Element) → m.finished ≡ true → rows_behind m es ≡ []
-finished-rows m es h = rw h refl
-
-pub over-rows : (m : MakerValues) (es : List Element) → is_finished m ≡ true → rows_left m es ≡ []
+pub finished-rows : (m : MakerValues) (es : List Element) → is_finished m ≡ true → rows_left m es ≡ []
 unfolding rows_left is_finished
-over-rows m es h = finished-rows m es h
+finished-rows m es h = rw h refl
 
 pub makes-row : (m n : MakerValues) (es fs : List Element) (row : RowValues) (weight s t : ℕ) → Cuts m n es fs row weight → m.finished ≡ false → t ≡ s + weight → MakesRow row.shown m n es fs s t
 unfolding rows_left is_finished
@@ -70,7 +67,7 @@ makes-row m n es fs row weight s t cuts on steps = record {
   row_is = cuts.row_is;
   steps = steps;
   last = cuts.last;
-  over = over-rows n fs;
+  over = finished-rows n fs;
   going_on = on;
   asks = asks-again n fs cuts.on cuts.line;
 }

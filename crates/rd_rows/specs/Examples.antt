@@ -78,8 +78,8 @@ prefix cs = map (λ c. record {
 }) cs
 
 -- the same behind these letters in the first row and in the others
-abbrev pub rows_behind : ShapeValues → List ℕ → List ℕ → List Element → List LaidRow
-rows_behind shape first wrap es = rows_of (cutting_of shape 0 (prefix first) (prefix wrap) (single 36 1) (single 92 1)) es
+abbrev pub rows_with : ShapeValues → List ℕ → List ℕ → List Element → List LaidRow
+rows_with shape first wrap es = rows_of (cutting_of shape 0 (prefix first) (prefix wrap) (single 36 1) (single 92 1)) es
 
 -- from the right edge, with the marks $ and /
 abbrev pub rows_reversed : ShapeValues → List Element → List LaidRow

@@ -20,7 +20,7 @@ use rd_base::limits::PREFIX_COLUMNS;
 use rd_base::{Cell, Element, Face, Glyph, ListOf, Memory, push_look};
 use std::alloc::Global;
 
-/// The cells and the items of the elements that were placed in a row so far, where the next element comes, and how many elements
+/// The cells and the items of the elements that were placed in a row, where the next element comes, and how many elements
 /// were placed.
 #[derive(Drop)]
 pub struct Draft {

@@ -3,7 +3,7 @@ ghost use Rattle.std.specs.Prelude.{◌≡◌, ◌∷◌, ◌++◌, []};
 ghost use Rattle.rd_base.specs.Faces.{plain};
 ghost use Rattle.rd_base.specs.Cells.{single};
 ghost use Rattle.rd_base.specs.Glyphs.{glyph_cells, blanks};
-ghost use Rattle.rd_rows.specs.Examples.{letter, letters, wide, tab, line_end, row_end, stretch, spaces, narrow, cut, cut_at, by_words, rows, rows_behind, rows_reversed, text, cells, weights, begins, at};
+ghost use Rattle.rd_rows.specs.Examples.{letter, letters, wide, tab, line_end, row_end, stretch, spaces, narrow, cut, cut_at, by_words, rows, rows_with, rows_reversed, text, cells, weights, begins, at};
 
 /// Eleven letters fill the room without a mark; a twelfth goes to the next row. (The codes of `a` to `l` are 97 to 108.)
 fn letters_of_a_continued_line()
@@ -61,12 +61,12 @@ fn stretches_of_set_columns()
 /// The prefix of the first row and that of the other rows, of which the line behind a row end has the first again; a prefix is
 /// cut to half of the columns, and a tab is measured from the line's beginning.
 fn rows_behind_prefixes()
-    ensures cells { cells (rows_behind narrow (62 ∷ 32 ∷ []) (43 ∷ 32 ∷ []) (letters 0 (97 ∷ 98 ∷ 99 ∷ 100 ∷ 101 ∷ 102 ∷ 103 ∷ 104 ∷ 105 ∷ 106 ∷ 107 ∷ 108 ∷ []) ++ line_end 12)) ≡ text (62 ∷ 32 ∷ 97 ∷ 98 ∷ 99 ∷ 100 ∷ 101 ∷ 102 ∷ 103 ∷ 104 ∷ 105 ∷ 92 ∷ []) ∷ (text (43 ∷ 32 ∷ 106 ∷ 107 ∷ 108 ∷ []) ++ blanks 7 plain) ∷ [] }
-    ensures weights { weights (rows_behind narrow (62 ∷ 32 ∷ []) (43 ∷ 32 ∷ []) (letters 0 (97 ∷ 98 ∷ 99 ∷ 100 ∷ 101 ∷ 102 ∷ 103 ∷ 104 ∷ 105 ∷ 106 ∷ 107 ∷ 108 ∷ []) ++ line_end 12)) ≡ 11 ∷ 6 ∷ [] }
-    ensures begins { begins (rows_behind narrow (62 ∷ 32 ∷ []) (43 ∷ 32 ∷ []) (letter 0 97 ∷ line_end 1)) ≡ (at 0 2 ∷ at 1 3 ∷ []) ∷ [] }
-    ensures row_end { cells (rows_behind narrow (62 ∷ []) (43 ∷ []) (letter 0 97 ∷ row_end 0 ∷ letter 0 98 ∷ line_end 1)) ≡ (text (62 ∷ 97 ∷ []) ++ blanks 10 plain) ∷ (text (62 ∷ 98 ∷ []) ++ blanks 10 plain) ∷ [] }
-    ensures cut { cells (rows_behind narrow (49 ∷ 50 ∷ 51 ∷ 52 ∷ 53 ∷ 54 ∷ 55 ∷ []) [] (letter 0 97 ∷ line_end 1)) ≡ (text (49 ∷ 50 ∷ 51 ∷ 52 ∷ 53 ∷ 54 ∷ 97 ∷ []) ++ blanks 5 plain) ∷ [] }
-    ensures tab { cells (rows_behind narrow (62 ∷ 32 ∷ []) [] (letter 0 97 ∷ tab 1 ∷ letter 2 98 ∷ line_end 3)) ≡ (text (62 ∷ 32 ∷ 97 ∷ []) ++ blanks 7 plain ++ text (98 ∷ 32 ∷ [])) ∷ [] }
+    ensures cells { cells (rows_with narrow (62 ∷ 32 ∷ []) (43 ∷ 32 ∷ []) (letters 0 (97 ∷ 98 ∷ 99 ∷ 100 ∷ 101 ∷ 102 ∷ 103 ∷ 104 ∷ 105 ∷ 106 ∷ 107 ∷ 108 ∷ []) ++ line_end 12)) ≡ text (62 ∷ 32 ∷ 97 ∷ 98 ∷ 99 ∷ 100 ∷ 101 ∷ 102 ∷ 103 ∷ 104 ∷ 105 ∷ 92 ∷ []) ∷ (text (43 ∷ 32 ∷ 106 ∷ 107 ∷ 108 ∷ []) ++ blanks 7 plain) ∷ [] }
+    ensures weights { weights (rows_with narrow (62 ∷ 32 ∷ []) (43 ∷ 32 ∷ []) (letters 0 (97 ∷ 98 ∷ 99 ∷ 100 ∷ 101 ∷ 102 ∷ 103 ∷ 104 ∷ 105 ∷ 106 ∷ 107 ∷ 108 ∷ []) ++ line_end 12)) ≡ 11 ∷ 6 ∷ [] }
+    ensures begins { begins (rows_with narrow (62 ∷ 32 ∷ []) (43 ∷ 32 ∷ []) (letter 0 97 ∷ line_end 1)) ≡ (at 0 2 ∷ at 1 3 ∷ []) ∷ [] }
+    ensures row_end { cells (rows_with narrow (62 ∷ []) (43 ∷ []) (letter 0 97 ∷ row_end 0 ∷ letter 0 98 ∷ line_end 1)) ≡ (text (62 ∷ 97 ∷ []) ++ blanks 10 plain) ∷ (text (62 ∷ 98 ∷ []) ++ blanks 10 plain) ∷ [] }
+    ensures cut { cells (rows_with narrow (49 ∷ 50 ∷ 51 ∷ 52 ∷ 53 ∷ 54 ∷ 55 ∷ []) [] (letter 0 97 ∷ line_end 1)) ≡ (text (49 ∷ 50 ∷ 51 ∷ 52 ∷ 53 ∷ 54 ∷ 97 ∷ []) ++ blanks 5 plain) ∷ [] }
+    ensures tab { cells (rows_with narrow (62 ∷ 32 ∷ []) [] (letter 0 97 ∷ tab 1 ∷ letter 2 98 ∷ line_end 3)) ≡ (text (62 ∷ 32 ∷ 97 ∷ []) ++ blanks 7 plain ++ text (98 ∷ 32 ∷ [])) ∷ [] }
 {}
 
 /// A row that is scrolled sideways has a mark at each end, and its prefix is scrolled with it.
@@ -74,7 +74,7 @@ fn rows_scrolled_sideways()
     ensures marks { cells (rows (record narrow { hscroll = 3 }) (spaces 0 4 ∷ letters 1 (101 ∷ 102 ∷ 103 ∷ 104 ∷ 105 ∷ 106 ∷ 107 ∷ 108 ∷ 109 ∷ 110 ∷ []) ++ spaces 11 2 ∷ line_end 12)) ≡ text (36 ∷ 101 ∷ 102 ∷ 103 ∷ 104 ∷ 105 ∷ 106 ∷ 107 ∷ 108 ∷ 109 ∷ 110 ∷ 36 ∷ []) ∷ [] }
     ensures begins { begins (rows (record narrow { hscroll = 3 }) (letters 0 (97 ∷ 98 ∷ 99 ∷ 100 ∷ 101 ∷ []) ++ line_end 5)) ≡ (at 0 0 ∷ at 1 0 ∷ at 2 0 ∷ at 3 0 ∷ at 4 1 ∷ at 5 2 ∷ []) ∷ [] }
     ensures empty { cells (rows (record narrow { hscroll = 3 }) (line_end 0)) ≡ blanks 12 plain ∷ [] }
-    ensures prefix { cells (rows_behind (record cut { hscroll = 1 }) (62 ∷ 32 ∷ []) [] (letters 0 (97 ∷ 98 ∷ []) ++ line_end 2)) ≡ (text (36 ∷ 97 ∷ 98 ∷ []) ++ blanks 9 plain) ∷ [] }
+    ensures prefix { cells (rows_with (record cut { hscroll = 1 }) (62 ∷ 32 ∷ []) [] (letters 0 (97 ∷ 98 ∷ []) ++ line_end 2)) ≡ (text (36 ∷ 97 ∷ 98 ∷ []) ++ blanks 9 plain) ∷ [] }
 {}
 
 /// A row that is read from its right edge has its first element in the last column and its mark in the first, and a wide
@@ -109,9 +109,9 @@ fn breaks_at_the_edge()
 /// A prefix has no break. What waits behind a break may have no room behind a wrap prefix, and is then cut again; each element is
 /// counted in the row where it stands.
 fn words_behind_prefixes()
-    ensures none { cells (rows_behind by_words (62 ∷ 32 ∷ []) (62 ∷ 32 ∷ []) (letters 0 (97 ∷ 98 ∷ 99 ∷ 100 ∷ 101 ∷ 102 ∷ 103 ∷ 104 ∷ 105 ∷ 106 ∷ 107 ∷ 108 ∷ 109 ∷ []) ++ line_end 13)) ≡ text (62 ∷ 32 ∷ 97 ∷ 98 ∷ 99 ∷ 100 ∷ 101 ∷ 102 ∷ 103 ∷ 104 ∷ 105 ∷ 92 ∷ []) ∷ (text (62 ∷ 32 ∷ 106 ∷ 107 ∷ 108 ∷ 109 ∷ []) ++ blanks 6 plain) ∷ [] }
-    ensures again { cells (rows_behind by_words [] (49 ∷ 50 ∷ 51 ∷ 52 ∷ 53 ∷ 54 ∷ []) (letters 0 (97 ∷ 98 ∷ 32 ∷ 99 ∷ 100 ∷ 101 ∷ 102 ∷ 103 ∷ 104 ∷ 105 ∷ 106 ∷ 107 ∷ 32 ∷ 108 ∷ 109 ∷ 110 ∷ []) ++ line_end 16)) ≡ (text (97 ∷ 98 ∷ []) ++ blanks 10 plain) ∷ text (49 ∷ 50 ∷ 51 ∷ 52 ∷ 53 ∷ 54 ∷ 99 ∷ 100 ∷ 101 ∷ 102 ∷ 103 ∷ 92 ∷ []) ∷ (text (49 ∷ 50 ∷ 51 ∷ 52 ∷ 53 ∷ 54 ∷ 104 ∷ 105 ∷ 106 ∷ 107 ∷ []) ++ blanks 2 plain) ∷ (text (49 ∷ 50 ∷ 51 ∷ 52 ∷ 53 ∷ 54 ∷ 108 ∷ 109 ∷ 110 ∷ []) ++ blanks 3 plain) ∷ [] }
-    ensures weights { weights (rows_behind by_words [] (49 ∷ 50 ∷ 51 ∷ 52 ∷ 53 ∷ 54 ∷ []) (letters 0 (97 ∷ 98 ∷ 32 ∷ 99 ∷ 100 ∷ 101 ∷ 102 ∷ 103 ∷ 104 ∷ 105 ∷ 106 ∷ 107 ∷ 32 ∷ 108 ∷ 109 ∷ 110 ∷ []) ++ line_end 16)) ≡ 3 ∷ 11 ∷ 11 ∷ 10 ∷ [] }
+    ensures none { cells (rows_with by_words (62 ∷ 32 ∷ []) (62 ∷ 32 ∷ []) (letters 0 (97 ∷ 98 ∷ 99 ∷ 100 ∷ 101 ∷ 102 ∷ 103 ∷ 104 ∷ 105 ∷ 106 ∷ 107 ∷ 108 ∷ 109 ∷ []) ++ line_end 13)) ≡ text (62 ∷ 32 ∷ 97 ∷ 98 ∷ 99 ∷ 100 ∷ 101 ∷ 102 ∷ 103 ∷ 104 ∷ 105 ∷ 92 ∷ []) ∷ (text (62 ∷ 32 ∷ 106 ∷ 107 ∷ 108 ∷ 109 ∷ []) ++ blanks 6 plain) ∷ [] }
+    ensures again { cells (rows_with by_words [] (49 ∷ 50 ∷ 51 ∷ 52 ∷ 53 ∷ 54 ∷ []) (letters 0 (97 ∷ 98 ∷ 32 ∷ 99 ∷ 100 ∷ 101 ∷ 102 ∷ 103 ∷ 104 ∷ 105 ∷ 106 ∷ 107 ∷ 32 ∷ 108 ∷ 109 ∷ 110 ∷ []) ++ line_end 16)) ≡ (text (97 ∷ 98 ∷ []) ++ blanks 10 plain) ∷ text (49 ∷ 50 ∷ 51 ∷ 52 ∷ 53 ∷ 54 ∷ 99 ∷ 100 ∷ 101 ∷ 102 ∷ 103 ∷ 92 ∷ []) ∷ (text (49 ∷ 50 ∷ 51 ∷ 52 ∷ 53 ∷ 54 ∷ 104 ∷ 105 ∷ 106 ∷ 107 ∷ []) ++ blanks 2 plain) ∷ (text (49 ∷ 50 ∷ 51 ∷ 52 ∷ 53 ∷ 54 ∷ 108 ∷ 109 ∷ 110 ∷ []) ++ blanks 3 plain) ∷ [] }
+    ensures weights { weights (rows_with by_words [] (49 ∷ 50 ∷ 51 ∷ 52 ∷ 53 ∷ 54 ∷ []) (letters 0 (97 ∷ 98 ∷ 32 ∷ 99 ∷ 100 ∷ 101 ∷ 102 ∷ 103 ∷ 104 ∷ 105 ∷ 106 ∷ 107 ∷ 32 ∷ 108 ∷ 109 ∷ 110 ∷ []) ++ line_end 16)) ≡ 3 ∷ 11 ∷ 11 ∷ 10 ∷ [] }
 {}
 
 /// Text that is aligned at the eighth of sixteen columns, and text that has passed it: the stretch begins in the column of the

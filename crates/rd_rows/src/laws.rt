@@ -23,8 +23,8 @@ pub fn rows_of_every_line()
     ensures begun { (c : Cutting) (es : List Element) → HasLeads c → IsTrue (ends_once es) → map range_of (begins_of (seen_rows (rows_of c es))) ≡ ranges_of None es }
 {}
 
-/// The same of the last row and of where items begin, for all prefixes that end no line and begin no item of it, sound or not. The
-/// call does nothing.
+/// Behind prefixes that end no line and begin no item of it, sound or not, the last row of a line and no other ends the block, and each
+/// item begins once, in the order of the first elements. The call does nothing.
 pub fn rows_behind_quiet_prefixes()
     ensures last { (c : Cutting) (es : List Element) → HasQuietLeads c → IsTrue (ends_once es) → IsTrue (ends_last (seen_rows (rows_of c es))) }
     ensures begun { (c : Cutting) (es : List Element) → HasQuietLeads c → IsTrue (ends_once es) → map range_of (begins_of (seen_rows (rows_of c es))) ≡ ranges_of None es }

@@ -133,13 +133,10 @@ impl Spot {
         requires used { self.used ≤ self.column + PREFIX_COLUMNS }
         ensures { result ≡ fits shape self element.now }
     {
-        if ends_row(element.look) || shape.truncates() {
-            return true;
-        }
-        if self.used + width_at(element.extent, self.column) <= shape.room() {
-            return true;
-        }
-        is_blank(element.look) && self.used < shape.room()
+        ends_row(element.look)
+            || shape.truncates()
+            || self.used + width_at(element.extent, self.column) <= shape.room()
+            || is_blank(element.look) && self.used < shape.room()
     }
 
     /// The columns that an element takes here.

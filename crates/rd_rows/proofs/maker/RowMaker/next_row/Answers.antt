@@ -2,13 +2,13 @@ use Rattle.std.proofs.Common.{refl, ap, sym, subst, ◌∙◌, ◌≡◌, true}
 use Rattle.rd_rows.specs.Left.{MakerValues}
 use Rattle.rd_rows.specs.Lines.{is_finished}
 use Rattle.rd_rows.specs.Makers.{IsMaking}
-use Rattle.rd_rows.proofs.Made.{finished-is, asked, over-rows, makes-row, makes-whole}
+use Rattle.rd_rows.proofs.Made.{finished-is, asked, finished-rows, makes-row, makes-whole}
 use Rattle.rd_rows.proofs.maker.RowMaker.next_row.Goals as goal
 
 pub returns-then-self-clause-row : goal.returns-then-self-clause-row
 returns-then-self-clause-row g c =
     let over : is_finished c.args.self.now ≡ true = finished-is c.args.self.now true (sym (sym (ap (λ (m : MakerValues). m.finished) c.self.view_is) ∙ c.if-self.true)) in
-    (over, over-rows c.args.self.now (g.E.Elements.left c.args.elements.now) over, refl, refl, refl)
+    (over, finished-rows c.args.self.now (g.E.Elements.left c.args.elements.now) over, refl, refl, refl)
 
 pub make_row-requires-clause-going_on : goal.make_row-requires-clause-going_on
 make_row-requires-clause-going_on g c = sym (ap (λ (m : MakerValues). m.finished) c.self.view_is) ∙ c.if-self.false
