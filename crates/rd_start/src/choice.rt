@@ -24,10 +24,10 @@ use std::sync::ledger::Ledger;
 /// its row is in view. Else it moves to the least position that the first item covers, in order of position, which begins in view
 /// and covers a position, or the last such item where its row is below the view; where there is no such item it stays.
 ///
-/// Else the start stays where it suits: where point's row is in view, at least the margin away from the view's first and last rows,
-/// held to a quarter of the height; no row is wanted above it where the view starts with the first row, and none below where it has
-/// the last one. If it does not suit it moves to the nearest row that does, the lesser one where two are equally near, and at most
-/// `conservatively` rows away. If there is none, point's row comes to the middle: the start is half the height above it.
+/// A start that is not forced stays where it suits: where point's row is in view, at least the margin away from the view's first and
+/// last rows, held to a quarter of the height; no row is wanted above it where the view starts with the first row, and none below where
+/// it has the last one. If it does not suit it moves to the nearest row that does, the lesser one where two are equally near, and at
+/// most `conservatively` rows away. If there is none, point's row comes to the middle: the start is half the height above it.
 ///
 /// The anchor and point are positions of the source's blocks, and the height is at least 1. The one error is want of memory, behind
 /// which the source is to be made anew. The steps that it takes, also where memory is wanting, are at most twice the costs of the
