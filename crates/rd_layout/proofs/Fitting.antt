@@ -9,6 +9,7 @@ use Rattle.std.proofs.lemmas.Option.{option_and_then_some, slice_get_within}
 use Rattle.std.specs.Prelude.{IfSome, IsTrue, option_map, slice_get, slice_index_or}
 use Rattle.rd_base.proofs.Choices.{either, if-value, some-of}
 use Rattle.rd_base.specs.Chars.{is_code}
+use Rattle.rd_base.specs.Faces.{plain}
 use Rattle.rd_base.specs.declared.cell.Cell.{Cell}
 use Rattle.rd_base.specs.declared.element.Element.{Element}
 use Rattle.rd_base.proofs.Lists.{all-at, found-each}
@@ -21,6 +22,7 @@ use Rattle.rd_rows.specs.declared.cutting.Cutting.{Cutting}
 use Rattle.rd_frame.specs.Fits.{FitsFrame, FitsRow, FitsWindow, IsInBody}
 use Rattle.rd_frame.specs.Panes.{body_height, body_width}
 use Rattle.rd_frame.specs.Held.{glyph_row}
+use Rattle.rd_glyphs.proofs.Wholeness.{plain-length}
 use Rattle.rd_margins.specs.Cells.{IsMargin}
 use Rattle.rd_margins.specs.Marks.{margin_string}
 use Rattle.rd_matrix.specs.Columns.{covers, shown_column}
@@ -206,7 +208,7 @@ module _ (laws : FitLaws) (files : Data) (s : StateValue) (valid : IsValid s) wh
     room = valid.windows.tree.room;
     windows = all-places s valid (λ (p : Placed). FitsWindow s.tree.width (pane_at files s p) p)
         (λ p at. subst (λ (n : ℕ). FitsWindow n (pane_at files s p) p) (sym valid.frame.columns) (pane-fits p at));
-    echo = laws.plain_width files.classes s.width s.echo ∙ sym valid.frame.columns;
+    echo = plain-length files.classes plain s.width s.echo ∙ sym valid.frame.columns;
     selected = selected-there;
     cursor = subst (λ (n : ℕ). IfSome (place_of s.selected s) (λ (p : Placed). IfSome (cursor_at files s s.selected) (IsInBody n p))) (sym valid.frame.columns) (selected-fits (place_of s.selected s) refl);
   }

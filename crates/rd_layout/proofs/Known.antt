@@ -56,7 +56,6 @@ pub record StepLaws : Type 0 where
   pub valid : (s t : StateValue) (op : Op) → IsValid s → IsInForm op → step s op ≡ Ok t → IsValid t
   pub left : (s t : StateValue) (op : Op) → IsValid s → IsInForm op → step s op ≡ Ok t → LeavesTheRest s t (effect_of s op)
   pub joined : (first second third : props.BufferValue) (a b c : ObjectLists) (change later : Change) → LeadsTo first a second b change → LeadsTo second b third c later → LeadsTo first a third c (join change later)
-  pub last_all : (c : Change) → join c all ≡ all
   pub over : OverLaws
   pub views : ViewLaws
 
@@ -103,7 +102,7 @@ module _ (laws : StepLaws) (s t : StateValue) (op : Op) (valid : IsValid s) (for
         let both = shown-both number w v hw hv ((laws.left s t op valid form is).windows number w v hw hv q) in
         let names = (valid.buffers.contents v.buffer both.0 both.2).names in
         subst₂ (λ (x : ContentValue) (y : ContentValue). LeadsTo (seen x) s.objects (seen y) t.objects (change_by (effect_of s op) number v.buffer)) both.4 both.5
-        (effect-leads laws.last_all both.0.content both.1.content s.objects t.objects valid.closed names (laws.left s t op valid form is).objects (effect_of s op) number v.buffer
+        (effect-leads both.0.content both.1.content s.objects t.objects valid.closed names (laws.left s t op valid form is).objects (effect_of s op) number v.buffer
         (has-place s t valid op is v.buffer both.0 both.2) ((laws.left s t op valid form is).contents v.buffer both.0 both.1 both.2 both.3))
   ]
 
@@ -134,7 +133,7 @@ module _ (laws : StepLaws) (s t : StateValue) (op : Op) (valid : IsValid s) (for
       → StandsUnchanged (Some (changed (change_by (effect_of s op) number v.buffer) l)) (window_source files t v) v.forced v.anchor
   stands-behind files number w v l hw hv known unchanged forced =
       let nothing = joined-none l.change (effect_of s op) number v.buffer unchanged in
-      let before = first-none laws.over l.change (change_by (effect_of s op) number v.buffer) known.change nothing unchanged in
+      let before = first-none l.change (change_by (effect_of s op) number v.buffer) known.change nothing unchanged in
       let stands : Stands (window_source files t v) v.anchor l = elim (tells (effect_of s op) number) [
         | inl p ↦ absurd (not-itself number v.buffer p nothing)
         | inr q ↦ stands-by files number w v l hw hv known ((laws.left s t op valid form is).windows number w v hw hv q) nothing before forced

@@ -9,6 +9,7 @@ use Rattle.rd_blocks.proofs.Leading.{leads-none, leads-ranged}
 use Rattle.rd_objects.specs.Sound.{IsClosed, Extends}
 use Rattle.rd_objects.specs.Things.{ObjectLists}
 use Rattle.rd_props.specs.Made.{AreMade}
+use Rattle.rd_reuse.proofs.Joining.{all-last}
 use Rattle.rd_reuse.specs.Changes.{all, change_of, edit, is_all, is_small, join, moved, none}
 use Rattle.rd_reuse.specs.declared.change.Change.{Change}
 use Rattle.rd_state.specs.Changes.{Stays, StaysWhole, Leaves}
@@ -33,7 +34,7 @@ none-inside begin tail = omega (arith, ints)
 nothing-added : (n : ℕ) → (pos n -ℤ pos n) ≡ pos 0
 nothing-added n = omega (arith, ints)
 
-module _ (last_all : (c : Change) → join c all ≡ all) (old new : ContentValue) (a b : ObjectLists) (closed : IsClosed a) (named : AreMade (seen old) a) (extends : Extends a b) where
+module _ (old new : ContentValue) (a b : ObjectLists) (closed : IsClosed a) (named : AreMade (seen old) a) (extends : Extends a b) where
   abbrev pub Goal : Change → Type 0
   Goal change = LeadsTo (seen old) a (seen new) b change
 
@@ -75,7 +76,7 @@ module _ (last_all : (c : Change) → join c all ≡ all) (old new : ContentValu
 
       by : (t u : Bool) → Goal (join (if t then x else all) (if u then y else all))
       by false u = inl refl
-      by true false = inl (last_all x)
+      by true false = inl (all-last x)
       by true true =
           either Goal (is_all x || is_all y) _ _ (inl refl)
           (joined-lead before.0 after.0 (before.0 + n + 1) (after.0 + m + 1) x.added y.added (nothing-added n) (nothing-added m)

@@ -18,6 +18,7 @@ use Rattle.rd_objects.specs.Things.{ObjectLists}
 use Rattle.rd_props.specs.Buffers.{BufferValue}
 use Rattle.rd_props.specs.Made.{AreMade}
 use Rattle.rd_reuse.proofs.Changes.{all-is-change, change-by}
+use Rattle.rd_reuse.proofs.Joining.{none-last}
 use Rattle.rd_reuse.specs.Changes.{IsChange, all, edit, is_all, is_none, is_small, join, moved, none}
 use Rattle.rd_reuse.specs.declared.change.Change.{Change}
 use Rattle.rd_rows.specs.Laws.{seen_rows}
@@ -37,7 +38,6 @@ pub record OverLaws : Type 0 where
   pub grown : (s : BufferValue) (made objects : ObjectLists) → IsClosed made → AreMade s made → Extends made objects → LeadsTo s made s objects none
   pub local : (old new : BufferValue) (made objects : ObjectLists) (files : Data) (a b : Block) (shape : ShapeValues) → without_flags new.settings ≡ without_flags old.settings → IsClosed made → AreMade old made → Extends made objects
       → a.base ≡ b.base → reading old made a.start ≡ reading new objects b.start → rows_in new objects files b shape ≡ rows_in old made files a shape
-  pub last_none : (c : Change) → IsChange c → join c none ≡ c
   pub stand : (m n : SourceValues) (anchor : Anchor) (l : Layout) → n.blocks ≡ m.blocks → ((b : Block) → IsAmong m.blocks b → n.rows_of b l.shape ≡ m.rows_of b l.shape) → Stands m anchor l → Stands n anchor l
 
 -- ---- changes
@@ -70,8 +70,8 @@ joined-change x y is =
     let head = is.head in
     either IsChange (is_all x || is_all y) _ _ all-is-change (change-by (nat_le tail 4294967295 && is_small added) (min x.head y.head) tail added refl (omega (arith, head)))
 
-pub first-none : OverLaws → (x y : Change) → IsChange x → y ≡ none → is_none (join x y) ≡ true → is_none x ≡ true
-first-none laws x y is same h = subst (λ (c : Change). is_none c ≡ true) (ap (join x) same ∙ laws.last_none x is) h
+pub first-none : (x y : Change) → IsChange x → y ≡ none → is_none (join x y) ≡ true → is_none x ≡ true
+first-none x y is same h = subst (λ (c : Change). is_none c ≡ true) (ap (join x) same ∙ none-last x is) h
 
 -- ---- objects that were made since
 

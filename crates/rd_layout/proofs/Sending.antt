@@ -87,6 +87,12 @@ unknown-at width height =
       now = tt;
     }
 
+-- a current screen, where one is known, and a target of the frame's size; the current one is a screen, and sound
+pub sized : (s : StateValue) (current : Option Picture) (target : Picture) → s.width ≤ 400 → s.height ≤ 200 → FitsFrame current s → IsOfSize s.width s.height target
+    → HaveOneSize current target × IfSome current (λ screen. IsScreen screen × IsSound screen)
+sized s None target wide tall fits size = (tt, tt)
+sized s (Some screen) target wide tall fits size = (one-size s.width s.height screen target fits.0 size, (is-screen s.width s.height screen wide tall fits.0, fits.1))
+
 module _ (laws : SendLaws) (s : StateValue) (target : Picture) (bands : List Band) (limit : Option ℕ) (wide : s.width ≤ 400) (tall : s.height ≤ 200)
     (size : IsOfSize s.width s.height target) (sound : IsSound target) (within : AreWithin s.height bands) where
   ready : (current : Option Picture) → FitsFrame current s → IsReady s.width s.height current target (shows s.width s.height current)
@@ -97,15 +103,12 @@ module _ (laws : SendLaws) (s : StateValue) (target : Picture) (bands : List Ban
       record { sure = refl; between = refl; rows = rows; each = grid-known s.width screen.rows fits.0.each; now = (fits.0, refl, refl) } in
       record { there = there; wide = wide; tall = tall; size = size; sound = sound }
 
-  sized : (current : Option Picture) → FitsFrame current s → HaveOneSize current target × IfSome current (λ screen. IsScreen screen × IsSound screen)
-  sized None fits = (tt, tt)
-  sized (Some screen) fits = (one-size s.width s.height screen target fits.0 size, (is-screen s.width s.height screen wide tall fits.0, fits.1))
-
   new-screen : (current : Option Picture) → FitsFrame current s → FitsFrame (Some (shifted_update current target bands limit).screen) s
-  new-screen current fits = (
-    (laws.read s.width s.height current target bands limit (shows s.width s.height current) (ready current fits) within).size,
-    laws.sound current target bands limit (sized current fits).0 (sized current fits).1 (subst (λ (n : ℕ). AreWithin n bands) (sym size.rows) within) sound,
-  )
+  new-screen current fits =
+      let both = sized s current target wide tall fits size in (
+        (laws.read s.width s.height current target bands limit (shows s.width s.height current) (ready current fits) within).size,
+        laws.sound current target bands limit both.0 both.1 (subst (λ (n : ℕ). AreWithin n bands) (sym size.rows) within) sound,
+      )
 
 -- ---- the new layouts
 

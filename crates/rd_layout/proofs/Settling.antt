@@ -6,6 +6,7 @@ use Rattle.rd_frame.specs.Panes.{has_border}
 use Rattle.rd_matrix.specs.Blocks.{IsWithin}
 use Rattle.rd_props.specs.Buffers as props
 use Rattle.rd_rows.specs.Shapes.{IsShape}
+use Rattle.rd_start.proofs.Inside.{start-inside}
 use Rattle.rd_state.specs.States.{ContentValue, StateValue, seen}
 use Rattle.rd_state.specs.Valid.{AreWindows, IsContent, IsValid, IsWindow}
 use Rattle.rd_state.specs.Windows.{content_in, leaf_of, shown_content}
@@ -67,7 +68,7 @@ module _ (laws : ViewLaws) (files : Data) (s : StateValue) (valid : IsValid s) w
       let source = laws.source (seen (shown_content s w)) s.objects files text in
       let is = is-shape s valid number w place there in
       let point = point-within w window in
-      let first = accessible laws files.classes (seen (shown_content s w)) _ text (chosen-anchor m shape source is wanted (laws.start m shape wanted source is point)) in
+      let first = accessible laws files.classes (seen (shown_content s w)) _ text (chosen-anchor m shape source is wanted (start-inside m shape wanted source is point)) in
       let second = accessible laws files.classes (seen (shown_content s w)) _ text (chosen-point m shape source is wanted point) in
       (first, second)
 

@@ -9,7 +9,7 @@ use Rattle.rd_base.proofs.Lists.{all-at, element-at}
 use Rattle.std.specs.List.{All, list_all}
 use Rattle.std.specs.Prelude.{IsTrue, slice_get, slice_index_or}
 use Rattle.std.specs.Str.{chars}
-use Rattle.rd_base.specs.Cells.{AreColoured, HasColours, IsColoured}
+use Rattle.rd_base.specs.Cells.{AreColoured, IsColoured}
 use Rattle.rd_base.specs.Chars.{is_code, is_scalar}
 use Rattle.rd_base.specs.Faces.{Attributes, plain}
 use Rattle.rd_base.specs.Glyphs.{AreMeasured, IsMeasuredLook, IsRowAfter}
@@ -22,6 +22,7 @@ use Rattle.rd_frame.specs.Fits.{EachPart, EachPartOf, FitsFrame, IsColouredFrame
 use Rattle.rd_frame.specs.Frames.{FrameValues, frame_picture, frame_rows}
 use Rattle.rd_frame.specs.Held.{glyph_row}
 use Rattle.rd_frame.specs.Panes.{GlyphRow, border_cell}
+use Rattle.rd_glyphs.proofs.Wholeness.{plain-coloured as line-coloured, plain-whole}
 use Rattle.rd_glyphs.specs.Characters.{glyph_elements}
 use Rattle.rd_glyphs.specs.Lines.{plain_cells}
 use Rattle.rd_items.specs.Pieces.{table_in}
@@ -64,8 +65,6 @@ pub record FramePartLaws : Type 0 where
   pub coloured : (s : props.BufferValue) (objects : ObjectLists) (files : Data) (shape : ShapeValues) → AreObjects objects → All (λ (e : EntryMeaning). All IsColoured e.row.cells) (rows_at (text_source s objects files) shape)
   pub mode_coloured : (classes : List Span) (facts : FactValues) (width : ℕ) (pieces : List Piece) → All IsColoured (line_cells classes facts width pieces)
   pub mode_whole : (classes : List Span) (facts : FactValues) (width : ℕ) (format : List ℕ) (pieces : List Piece) → AreFacts facts → All (λ c. IsTrue (is_code c)) format → pieces_of format ≡ Ok pieces → IsRowAfter 0 (line_cells classes facts width pieces)
-  pub plain_whole : (classes : List Span) (face : Attributes) (width : ℕ) (text : List ℕ) → All (λ c. IsTrue (is_code c)) text → IsRowAfter 0 (plain_cells classes face width text)
-  pub plain_coloured : (classes : List Span) (face : Attributes) (width : ℕ) (text : List ℕ) → HasColours face → All IsColoured (plain_cells classes face width text)
   pub bar : IsRowAfter 0 (border_cell None ∷ [])
   pub slot : (slot : Glyph) → IsMark slot → IsRowAfter 0 (border_cell (Some slot) ∷ [])
   pub border_coloured : (slot : Option Glyph) → All IsColoured (border_cell slot ∷ [])
@@ -162,14 +161,14 @@ module _ (laws : FramePartLaws) (files : Data) (s : StateValue) (valid : IsValid
   whole-frame = parts-have (IsRowAfter 0) (λ n cells m. m.whole)
       (λ w p at window k d less. (view-whole laws.fit files s valid w p at window k d less).whole)
       (λ c. border-whole laws (border_slot s.objects c) (slot-right c)) mode-whole
-      (laws.plain_whole files.classes plain s.width s.echo (plain-codes s.echo valid.echo))
+      (plain-whole files.classes plain s.width s.echo (plain-codes s.echo valid.echo))
 
   coloured-frame : IsColouredFrame (frame_in files s)
   coloured-frame = parts-have (All IsColoured) (λ n cells m. m.coloured)
       (λ w p at window. in-view laws.fit files s valid (λ (e : EntryMeaning). All IsColoured e.row.cells) w p
       (laws.coloured (seen (shown_content s w)) s.objects files (window_shape s w p) valid.objects))
       (λ c. laws.border_coloured (border_slot s.objects c)) mode-coloured
-      (laws.plain_coloured files.classes plain s.width s.echo plain-coloured)
+      (line-coloured files.classes plain s.width s.echo plain-coloured)
 
   -- ---- the target
 

@@ -3,9 +3,7 @@
 use Rattle.std.specs.Prelude.{◌≡◌, ℕ, ◌+◌, ◌^◌, ◌<◌, ◌≤◌, Bool, List, Option, length, IsTrue}
 use Rattle.std.specs.List.{All}
 use Rattle.rd_base.specs.Chars.{is_code}
-use Rattle.rd_base.specs.Faces.{plain}
 use Rattle.rd_blocks.specs.Sources.{text_source}
-use Rattle.rd_glyphs.specs.Lines.{plain_cells}
 use Rattle.rd_items.specs.Blocks.{AreListed}
 use Rattle.rd_margins.specs.Cells.{IsMargin, row_margin}
 use Rattle.rd_margins.specs.declared.rows.Widths.{Widths}
@@ -21,9 +19,6 @@ use Rattle.rd_props.specs.Buffers as props
 use Rattle.rd_rows.specs.Shapes.{IsShape, ShapeValues}
 use Rattle.rd_rows.specs.Whole.{IsWhole}
 use Rattle.rd_rows.specs.declared.begin.Begin.{Begin}
-use Rattle.rd_start.specs.Chosen.{places_of}
-use Rattle.rd_start.specs.Starts.{start_of}
-use Rattle.rd_start.specs.declared.wanted.Wanted.{Wanted}
 use Rattle.rd_text.specs.Texts.{IsAccessible, IsText}
 use Rattle.rd_ucd.specs.Data.{Data}
 use Rattle.rd_ucd.specs.declared.spans.Span.{Span}
@@ -36,7 +31,6 @@ pub record ViewLaws : Type 0 where
   pub source : (s : props.BufferValue) (objects : ObjectLists) (files : Data) → IsText s.text → IsSource (text_source s objects files)
   pub within : (s : props.BufferValue) (objects : ObjectLists) (files : Data) (pos : ℕ) → IsAccessible s.text pos → IsWithin pos (text_source s objects files).blocks
   pub listed : (s : props.BufferValue) → s.text.begin ≤ s.text.end → AreListed s
-  pub start : (m : SourceValues) (shape : ShapeValues) (w : Wanted) → IsSource m → IsShape shape → IsWithin w.point m.blocks → start_of w (places_of m shape w) < length (rows_at m shape)
 
 -- of the sizes of what windows show
 pub record FitLaws : Type 0 where
@@ -44,7 +38,6 @@ pub record FitLaws : Type 0 where
       → All (λ (e : EntryMeaning). IsWhole shape.width e.row) (rows_at (text_source s objects files) shape)
   pub margin : (classes : List Span) (widths : Widths) (row line : ℕ) (text : List ℕ) → line < 2 ^ 64 → All (λ c. IsTrue (is_code c)) text → IsMargin (widths.numbers + widths.strings) (row_margin classes widths row line text)
   pub mode_width : (classes : List Span) (facts : FactValues) (width : ℕ) (pieces : List Piece) → length (line_cells classes facts width pieces) ≡ width
-  pub plain_width : (classes : List Span) (width : ℕ) (text : List ℕ) → length (plain_cells classes plain width text) ≡ width
   pub columns : (s : props.BufferValue) (objects : ObjectLists) (files : Data) (shape : ShapeValues) → IsShape shape → All (λ (e : EntryMeaning). All (λ (b : Begin). b.column < shape.width) e.row.begins) (rows_at (text_source s objects files) shape)
 
 -- a redisplay that is sent leads from a session to a session

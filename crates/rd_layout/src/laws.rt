@@ -33,13 +33,11 @@ use rd_blocks::{
     rows_are_local, rows_of_buffers_are_coloured, rows_of_buffers_are_whole,
 };
 use rd_frame::{borders_are_whole, frames_are_pictures};
-use rd_glyphs::{glyph_texts_are_sound, plain_lines_are_whole};
+use rd_glyphs::glyph_texts_are_sound;
 use rd_items::blocks_are_listed;
 use rd_lineshift::{shift_law, shifted_updates_keep_screens_sound};
 use rd_margins::margins_are_whole;
 use rd_modeline::mode_lines_are_whole;
-use rd_reuse::{joined_with_all, joined_with_none};
-use rd_start::a_start_is_a_row;
 use rd_state::{ops_leave_the_rest, steps_keep_states};
 use rd_visual::items_begin_in_the_window;
 use rd_window::{layouts_stand_over_equal_rows, new_layouts_stand, no_rows_are_kept};
@@ -70,8 +68,6 @@ pub fn sessions_stay_known()
     ensures positions { (v : SessionValue) (number : ℕ) (w : WindowState) (l : Layout) → IsSession v → window_of number v.state.windows ≡ Some w → layout_of number v.layouts ≡ Some l → AreInPositions (shown_entries l.matrix) }
 {
     changes_lead_on();
-    joined_with_all();
-    joined_with_none();
     kept_rows_are_fresh();
     layouts_stand_over_equal_rows();
     no_rows_are_kept();
@@ -131,7 +127,6 @@ pub fn targets_are_sound()
     frames_are_pictures();
     glyph_texts_are_sound();
     mode_lines_are_whole();
-    plain_lines_are_whole();
     rows_of_buffers_are_coloured();
 }
 
@@ -139,7 +134,6 @@ pub fn targets_are_sound()
 fn view_laws()
     ensures { ViewLaws }
 {
-    a_start_is_a_row();
     accessible_positions_lie_in_blocks();
     blocks_are_listed();
     buffers_are_sources();
@@ -152,6 +146,5 @@ fn fit_laws()
     items_begin_in_the_window();
     margins_are_whole();
     mode_lines_are_whole();
-    plain_lines_are_whole();
     rows_of_buffers_are_whole();
 }

@@ -1,4 +1,3 @@
-use Rattle.rd_base.specs.Faces.{plain}
 use Rattle.rd_layout.proofs.Fitting.{columns-hold}
 use Rattle.rd_layout.proofs.laws.fit_laws.Goals as goal
 
@@ -7,6 +6,5 @@ returns c = record {
   whole = c.rows_of_buffers_are_whole.ensures.all;
   margin = c.margins_are_whole.ensures;
   mode_width = c.mode_lines_are_whole.ensures.width;
-  plain_width = λ classes width text. c.plain_lines_are_whole.ensures.width classes plain width text;
   columns = columns-hold c.items_begin_in_the_window.ensures;
 }

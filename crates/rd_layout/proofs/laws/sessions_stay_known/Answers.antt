@@ -12,14 +12,12 @@ returns-clause-step c =
     let over : OverLaws = record {
       grown = c.changes_lead_on.ensures.grown;
       local = c.rows_are_local.ensures;
-      last_none = c.joined_with_none.ensures.last;
       stand = c.layouts_stand_over_equal_rows.ensures;
     } in
     let laws : StepLaws = record {
       valid = c.steps_keep_states.ensures.step;
       left = c.ops_leave_the_rest.ensures;
       joined = c.changes_lead_on.ensures.joined;
-      last_all = c.joined_with_all.ensures.last;
       over = over;
       views = c.view_laws.ensures;
     } in

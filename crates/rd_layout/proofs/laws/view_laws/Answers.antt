@@ -5,5 +5,4 @@ returns c = record {
   source = c.buffers_are_sources.ensures;
   within = c.accessible_positions_lie_in_blocks.ensures;
   listed = c.blocks_are_listed.ensures;
-  start = c.a_start_is_a_row.ensures;
 }
