@@ -1,6 +1,7 @@
 -- A session stands behind each line of a run, and the terminal shows its screen where that is known.
 use Rattle.std.proofs.Common.{◌≡◌, ℕ, Bool, true, false, List, [], ◌∷◌, length, map, Option, None, Some, Ok, is_some, if◌then◌else◌, refl, sym, ap, ◌∙◌, subst, subst₂, true≢false}
 use Rattle.std.proofs.lemmas.List.{length-map}
+use Rattle.std.proofs.lemmas.Option.{IfSome_then}
 use Rattle.std.specs.Prelude.{IfSome}
 use Rattle.rd_lineshift.specs.Choices.{AreWithin}
 use Rattle.rd_lineshift.specs.Plans.{shifted_update}
@@ -21,15 +22,14 @@ use Rattle.rd_layout.specs.Laws.{LeadLaw}
 use Rattle.rd_layout.specs.Redisplays.{bands_of, update_of}
 use Rattle.rd_layout.specs.Screens.{laid_out}
 use Rattle.rd_layout.specs.Sessions.{IsStep, SessionValue, behind, is_frame, opened as opened_session, session_step}
-use Rattle.rd_layout.specs.Since.{FitsFrame, IsSession}
+use Rattle.rd_layout.specs.Since.{IsSession}
 use Rattle.rd_layout.specs.declared.outcome.Outcome.{Outcome}
-use Rattle.rd_layout.proofs.Sending.{unknown-at}
+use Rattle.rd_layout.proofs.Sending.{sized, unknown-at}
 use Rattle.rd_run.specs.Runs.{AreOfOneSize, Effect, Input, IsOn, LeadsOn, Mode, Standing, World, after, effect, is_sent, is_shown, opened, outcome_at, quiet, redisplayed, refused, run, run_line, stepped, terminal_after, unshown}
 use Rattle.rd_run.specs.declared.status.ScriptFault.TheVariants as faults
 use Rattle.rd_run.proofs.Effects.{effect-is, shown-done}
 use Rattle.rd_run.proofs.Leading.{leads-on}
 use Rattle.rd_run.proofs.Ops.{keeps-size}
-use Rattle.rd_update.proofs.Sizes.{is-screen, one-size}
 
 -- what the layers below promise of sessions and of updates
 pub record RunLaws : Type 0 where
@@ -91,19 +91,14 @@ updated-at v next u target t session same now h =
     frame-at v next (Some u.screen) t session same now (record { sure = h.sure; between = h.between; rows = rows; each = each; now = (h.size, h.cells, h.pen) })
 
 -- an update that is done leads to its target
-reached-from : (laws : RunLaws) (s : StateValue) (current : Option Picture) (target : Picture) (stop : Option ℕ) → IsValid s → FitsFrame current s → IsOfSize s.width s.height target
-    → AreWithin (length target.rows) (bands_of s) → (shifted_update current target (bands_of s) stop).done ≡ true → (shifted_update current target (bands_of s) stop).screen ≡ target
-reached-from laws s None target stop valid fits size within = laws.reached None target (bands_of s) stop tt tt within
-reached-from laws s (Some screen) target stop valid fits size within =
-    let frame = valid.frame in
-    laws.reached (Some screen) target (bands_of s) stop (one-size s.width s.height screen target fits.0 size)
-    (is-screen s.width s.height screen frame.narrow frame.low fits.0) within
-
 target-reached : (laws : RunLaws) (v : SessionValue) (stop : Option ℕ) → IsSession v → (update_of v stop).done ≡ true → (update_of v stop).screen ≡ (laid_out v.files v.state).picture
 target-reached laws v stop h =
     let target = (laid_out v.files v.state).picture in
     let size = (laws.targets v.files v.state h.state).0 in
-    reached-from laws v.state v.current target stop h.state h.screen size (subst (λ k. AreWithin k (bands_of v.state)) (sym size.rows) (laws.bands v.state h.state))
+    let frame = h.state.frame in
+    let both = sized v.state v.current target frame.narrow frame.low h.screen size in
+    laws.reached v.current target (bands_of v.state) stop both.0 (IfSome_then v.current both.1 (λ screen h. h.0))
+    (subst (λ k. AreWithin k (bands_of v.state)) (sym size.rows) (laws.bands v.state h.state))
 
 updated-shows : (width height : ℕ) (u : Update) (target : Picture) (t : Tty) → u.screen ≡ target → u.done ≡ true → IsUpdated width height u target t → Shows t target
 updated-shows width height u target t reached done h = record {
