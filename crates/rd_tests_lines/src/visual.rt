@@ -5,7 +5,6 @@ ghost use Rattle.rd_text.specs.Texts.{IsAccessible};
 ghost use Rattle.rd_matrix.specs.Entries.{shown_entries};
 ghost use Rattle.rd_visual.specs.Hits.{AreInPositions, Fits};
 
-use crate::claims::assert_at;
 use crate::scenery::{Scenery, is_accessible, put_text};
 use rd_base::{Cell, Memory, Pos, Steps, Wrap};
 use rd_blocks::{Blocks, accessible_positions_lie_in_blocks};
@@ -66,11 +65,16 @@ const STEPS: [(Pos, Pos, Pos); 11] = [
     (11, 10, 0),
 ];
 
+/// Asserts what is to hold of the step to a side of a position.
+fn assert_step(rt: &impl Abort, side: &str, pos: Pos, holds: bool) {
+    assert!(rt; holds, "{side} of {pos}");
+}
+
 /// Asserts where steps lead in those lines.
 fn assert_steps(rt: &impl Abort, alloc: Global, view: &View) {
     for (pos, to_right, to_left) in &STEPS {
-        assert_at(rt, *pos, leads(alloc, view, *pos, true, *to_right));
-        assert_at(rt, *pos, leads(alloc, view, *pos, false, *to_left));
+        assert_step(rt, "right", *pos, leads(alloc, view, *pos, true, *to_right));
+        assert_step(rt, "left", *pos, leads(alloc, view, *pos, false, *to_left));
     }
 }
 
