@@ -69,9 +69,6 @@ fn paint_blanks(screen: &mut Screen, window: Placed, border: &Cell, from: u32)
     ensures columns { width_of screen.new.rows ≡ width_of screen.old.rows }
     ensures rows { length screen.new.rows ≡ length screen.old.rows }
 {
-    if from == body_height(window) {
-        return;
-    }
     let blanks = [Cell::Blank(Face::PLAIN); FRAME_COLUMNS as usize];
     let blank = first_blanks(&blanks, window.margins + body_width(screen.width(), window));
     for row in from..body_height(window) {

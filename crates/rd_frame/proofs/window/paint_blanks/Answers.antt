@@ -1,19 +1,9 @@
-use Rattle.std.proofs.Common.{◌≡◌, ℕ, ◌+◌, ◌-◌, ◌<◌, ◌≤◌, [], length, take, get_or, replicate, ap, sym, subst, ◌∙◌, arith}
+use Rattle.std.proofs.Common.{◌≡◌, ℕ, ◌+◌, ◌-◌, ◌<◌, [], length, take, get_or, replicate, ap, sym, subst, ◌∙◌, arith}
 use Rattle.std.proofs.lemmas.List.{length-replicate, get_or-replicate}
 use Rattle.rd_term.specs.Pictures.{blank_row, width_of}
 use Rattle.rd_frame.specs.Panes.{body_height, body_width}
 use Rattle.rd_frame.proofs.Screens.{IsLaid, laid-none, laid-step, laid-whole}
 use Rattle.rd_frame.proofs.window.paint_blanks.Goals as goal
-
--- no row is below
-pub returns-then-from-body_height-clause-painted : goal.returns-then-from-body_height-clause-painted
-returns-then-from-body_height-clause-painted c =
-    let screen = c.args.screen.now in
-    let window = c.args.window in
-    let from : ℕ = c.args.from in
-    let blank = blank_row (window.margins + body_width (width_of screen.rows) window) in
-    let none : length (replicate (body_height window - from) blank) ≤ 0 = omega (arith, length-replicate (body_height window - from) blank, c.if-from-body_height.true, c.body_height.ensures) in
-    laid-whole window c.args.border.now screen screen (window.rect.y + from) 0 (replicate (body_height window - from) blank) none (laid-none window c.args.border.now screen (window.rect.y + from))
 
 pub loop-row-init : goal.loop-row-init
 loop-row-init c =
