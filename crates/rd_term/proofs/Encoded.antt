@@ -5,14 +5,11 @@ use Rattle.std.proofs.lemmas.Bool.{cases_lt, cases_eq, lt-ltb, le-ltb, ne_eqb}
 use Rattle.std.proofs.lemmas.Bool.Decides.{nat_tests}
 use Rattle.rd_base.specs.Chars.{is_scalar, columns_of}
 use Rattle.rd_base.specs.Faces.{Attributes}
-use Rattle.rd_base.specs.declared.cell.Cell.{Cell}
 use Rattle.rd_term.specs.Characters.{CharacterRead, begun, with_bits, continued, read}
 use Rattle.rd_term.specs.Terminals.{Tty, feed_byte, feed_bytes, show}
 use Rattle.rd_term.specs.declared.reading.Reading.{Reading}
 use Rattle.rd_term.specs.declared.reading.Reading.TheVariants.{Between, Character}
-
-abbrev pub Rows : Type 0
-Rows = List (List (Option Cell))
+pub use Rattle.rd_term.proofs.Shapes.{Rows}
 
 -- a terminal that is not confused, by what it has read
 abbrev pub reading_at : Option (ℕ × ℕ) → Rows → Option (ℕ × ℕ) → Bool → Option Attributes → Option (ℕ × ℕ) → Reading → Tty

@@ -6,15 +6,15 @@ use arrayvec::ArrayVec;
 use std::marker::Model;
 
 /// The most numbers that a sequence may have.
-const MOST: usize = 16;
+pub const MOST_NUMBERS: usize = 16;
 
 /// Numbers above this one, which no sequence can use, count as this one.
-const GREATEST: u32 = 65_535;
+pub const GREATEST_NUMBER: u32 = 65_535;
 
-/// At most 16 numbers, in order.
+/// At most `MOST_NUMBERS` numbers, in order.
 #[derive(Drop)]
 pub(crate) struct Numbers {
-    items: ArrayVec<u32, MOST>,
+    items: ArrayVec<u32, MOST_NUMBERS>,
 }
 
 impl Model for Numbers {
@@ -38,14 +38,14 @@ impl Numbers {
     /// How many there are.
     fn len(&self) -> usize
         ensures value { result ≡ length self.now }
-        ensures most { length self.now ≤ 16 }
+        ensures most { length self.now ≤ MOST_NUMBERS }
     {
         self.items.len()
     }
 
     /// One more at the end.
     fn push(&mut self, n: u32)
-        requires { length self.old < 16 }
+        requires { length self.old < MOST_NUMBERS }
         ensures { self.new ≡ self.old ++ n ∷ [] }
     {
         self.items.push(n);
@@ -96,7 +96,7 @@ impl Parameters {
     {
         let last = match self.last {
             None => {
-                if self.ended.len() >= MOST {
+                if self.ended.len() >= MOST_NUMBERS {
                     return None;
                 }
                 digit as u32
@@ -159,9 +159,9 @@ impl Parameters {
 
 /// A number with one more digit.
 fn longer(n: u32, digit: u8) -> u32
-    requires small { n ≤ 65535 }
+    requires small { n ≤ GREATEST_NUMBER }
     requires digit { digit < 10 }
     ensures { result ≡ one_longer n digit }
 {
-    (10 * n + digit as u32).min(GREATEST)
+    (10 * n + digit as u32).min(GREATEST_NUMBER)
 }
