@@ -7,6 +7,7 @@ ghost use Rattle.rd_term.specs.Pictures.{Picture};
 ghost use Rattle.rd_term.specs.Controls.{control_of};
 ghost use Rattle.rd_term.specs.Steps.{at_end};
 ghost use Rattle.rd_term.specs.Terminals.{Tty, feed_bytes, perform};
+ghost use Rattle.rd_term.specs.declared.parameters.TheConstants.{GREATEST_NUMBER, MOST_NUMBERS};
 ghost use Rattle.rd_term.specs.declared.reading.Reading.TheVariants.{Between};
 ghost use Rattle.rd_update.specs.Plans.{HaveOneSize};
 ghost use Rattle.rd_update.specs.Updates.{sequence, update, end_of_differences, begin_of, end_of};
@@ -22,11 +23,11 @@ pub fn update_law()
         → IsUpdated width height (update current target limit) target (feed_bytes t (update current target limit).bytes) }
 {}
 
-/// The bytes of a control sequence of up to 16 numbers, none above 65,535, do what its last byte says. They are read by a terminal
-/// that is not confused and stands between two sequences, and no mark joins behind them.
+/// The bytes of a control sequence of up to `MOST_NUMBERS` numbers, none above `GREATEST_NUMBER`, do what its last byte says. They are
+/// read by a terminal that is not confused and stands between two sequences, and no mark joins behind them.
 pub fn sequences_are_read()
     ensures { (t : Tty) (last n : ℕ) (ns : List ℕ) → t.confused ≡ false → t.reading ≡ Between → is_ascii_digit last ≡ false → (last == 59) ≡ false
-        → n ≤ 65535 → All (λ k. k ≤ 65535) ns → length ns < 16
+        → n ≤ GREATEST_NUMBER → All (λ k. k ≤ GREATEST_NUMBER) ns → length ns < MOST_NUMBERS
         → feed_bytes t (sequence n ns last) ≡ perform (at_end (control_of last) (Some (n ∷ ns))) (record t { latest = None }) }
 {}
 

@@ -22,35 +22,35 @@ row_of-from-requires c =
 from : (c : goal.After-row_of-from) → c.row_of-from.result ≡ (get_or (planned c.args.current c.args.target).parts c.args.sent.rows no_part).row
 from c = c.row_of-from.ensures ∙ ap (λ (p : Prepared). (get_or p.parts c.args.sent.rows no_part).row) c.requires.plan
 
-within : (c : goal.After-row_of-from) → c.row_of-from.result ≤ length c.args.target.rows
-within c =
+from-bound : (c : goal.After-row_of-from) → c.row_of-from.result ≤ length c.args.target.rows
+from-bound c =
     let less = (stopped-less c.args.current c.args.target c.args.sent c.requires.sent.0 c.requires.sent.1 c.if-sent.false).1 in
     rw (from c) (cut-within c.args.current c.args.target c.args.sent.rows less)
 
 -- the target's rows before it, and the old ones from it on
-stopped : (c : goal.After-row_of-from) → Option Picture → Picture
-stopped c current = record (start current c.args.target) { rows = take c.row_of-from.result c.args.target.rows ++ drop c.row_of-from.result (start current c.args.target).rows }
+left_off : (c : goal.After-row_of-from) → Option Picture → Picture
+left_off c current = record (start current c.args.target) { rows = take c.row_of-from.result c.args.target.rows ++ drop c.row_of-from.result (start current c.args.target).rows }
 
-after : (c : goal.After-row_of-from) (limit : Option ℕ) → c.args.sent ≡ sent_of (update c.args.current c.args.target limit) → stopped c c.args.current ≡ (update c.args.current c.args.target limit).screen
-unfolding stopped
+after : (c : goal.After-row_of-from) (limit : Option ℕ) → c.args.sent ≡ sent_of (update c.args.current c.args.target limit) → left_off c c.args.current ≡ (update c.args.current c.args.target limit).screen
+unfolding left_off
 after c limit e =
     let stop = stopped-less c.args.current c.args.target c.args.sent limit e c.if-sent.false in
     after-stopped c.args.current c.args.target limit c.args.sent.rows c.row_of-from.result stop.0 stop.1 (from c)
 
 pub with_rows_of-requires-clause-row : goal.with_rows_of-requires-clause-row
-with_rows_of-requires-clause-row c = within (goal.at.with_rows_of-requires-clause-row c).After-row_of-from
+with_rows_of-requires-clause-row c = from-bound (goal.at.with_rows_of-requires-clause-row c).After-row_of-from
 
 pub returns-in-Some : goal.returns-in-Some
-unfolding stopped
+unfolding left_off
 returns-in-Some c = λ limit e.
     let at = (goal.at.returns-in-Some c).After-row_of-from in
-    c.with_rows_of.ensures ∙ ap (stopped at) (sym c.in-Some.is) ∙ after at limit e
+    c.with_rows_of.ensures ∙ ap (left_off at) (sym c.in-Some.is) ∙ after at limit e
 
 pub with_blanks-requires : goal.with_blanks-requires
-with_blanks-requires c = within (goal.at.with_blanks-requires c).After-row_of-from
+with_blanks-requires c = from-bound (goal.at.with_blanks-requires c).After-row_of-from
 
 pub returns : goal.returns
-unfolding stopped
+unfolding left_off
 returns c = λ limit e.
     let at = (goal.at.returns c).After-row_of-from in
-    c.with_blanks.ensures ∙ ap (stopped at) (sym c.in-None.is) ∙ after at limit e
+    c.with_blanks.ensures ∙ ap (left_off at) (sym c.in-None.is) ∙ after at limit e
