@@ -6,6 +6,7 @@ use Rattle.rd_update.specs.Updates.{differing}
 use Rattle.rd_lineshift.specs.Shifts.{shifted}
 use Rattle.rd_lineshift.specs.declared.band.Band.{Band}
 use Rattle.rd_lineshift.specs.declared.band.Shift.{Shift}
+use Rattle.rd_lineshift.specs.declared.choice.TheConstants.{GAIN}
 
 abbrev pub shift_by : Band → ℤ → Shift
 shift_by band by = record { top = band.top; height = band.height; by = by }
@@ -34,13 +35,13 @@ abbrev pub cheapest : (Shift → ℕ) → List Shift → Option Shift
 cheapest cost_of [] = None
 cheapest cost_of (s ∷ shifts) = cheaper cost_of (Some s) (cheapest cost_of shifts)
 
--- a shift that costs at least three less than so many rows
+-- a shift that costs at least `GAIN` less than so many rows
 abbrev pub if_gains : (Shift → ℕ) → ℕ → Option Shift → Option Shift
 if_gains cost_of rows None = None
-if_gains cost_of rows (Some s) = if nat_le (cost_of s + 3) rows then Some s else None
+if_gains cost_of rows (Some s) = if nat_le (cost_of s + GAIN) rows then Some s else None
 
--- The shift of a known screen that is taken: of all shifts of all bands the first that costs the least, where it costs at least three
--- less than the screen as it is.
+-- The shift of a known screen that is taken: of all shifts of all bands the first that costs the least, where it costs at least
+-- `GAIN` less than the screen as it is.
 abbrev pub choice : Option Picture → Picture → List Band → Option Shift
 choice None target bands = None
 choice (Some current) target bands =

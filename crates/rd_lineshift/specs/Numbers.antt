@@ -1,37 +1,28 @@
 -- Rows that are numbered, so that equal rows have equal numbers.
-use Rattle.std.specs.Prelude.{ℕ, suc, ◌+◌, ◌-◌, ◌*◌, ◌%◌, ◌^◌, ◌==◌, nat_le, if◌then◌else◌, List, [], ◌∷◌, take, drop, replicate, Option, None, Some}
-use Rattle.rd_base.specs.Faces.{Attributes}
+use Rattle.std.specs.Prelude.{ℕ, suc, ◌+◌, ◌-◌, ◌*◌, ◌%◌, ◌^◌, ◌==◌, nat_le, if◌then◌else◌, List, [], ◌∷◌, take, drop, replicate, slice_index, Option, None, Some}
+use Rattle.rd_base.specs.Cells.{words_of}
 use Rattle.rd_base.specs.declared.cell.Cell.{Cell}
-use Rattle.rd_base.specs.declared.cell.Cell.TheVariants.{Blank, First, Rest}
 use Rattle.rd_update.specs.Updates.{differs}
 use Rattle.rd_lineshift.specs.Choices.{cheaper}
 use Rattle.rd_lineshift.specs.Shifts.{shifted_rows}
 use Rattle.rd_lineshift.specs.declared.band.Band.{Band}
 use Rattle.rd_lineshift.specs.declared.band.Shift.{Shift}
 use Rattle.rd_lineshift.specs.declared.choice.Priced.{Priced}
+use Rattle.rd_lineshift.specs.declared.choice.TheConstants.{GAIN}
 
 -- the number of the first of these rows that does not differ from a row, and how many they are where each does
 abbrev pub number_in : List (List Cell) → List Cell → ℕ
 number_in [] row = 0
 number_in (x ∷ xs) row = if differs x row then suc (number_in xs row) else 0
 
--- a number made of a cell's character and colours
-abbrev pub colours_number : Attributes → ℕ
-colours_number f = f.fg + 9 * f.bg
-
-abbrev pub cell_number : Cell → ℕ
-cell_number Rest = 0
-cell_number (Blank f) = 1 + 3 * colours_number f
-cell_number (First g f) = 2 + 3 * (colours_number f + 81 * g.base)
-
 -- a print with one more number
 abbrev pub mixed : ℕ → ℕ → ℕ
 mixed print number = (print * 1099511628211 % 2 ^ 64 + number) % 2 ^ 64
 
--- a row's print, made of the numbers of its cells: rows of different prints differ
+-- a row's print, made of the first word of each of its cells: rows of different prints differ
 abbrev pub print_from : ℕ → List Cell → ℕ
 print_from print [] = print
-print_from print (cell ∷ cells) = print_from (mixed print (cell_number cell)) cells
+print_from print (cell ∷ cells) = print_from (mixed print (slice_index (words_of cell) 0)) cells
 
 -- at how many places two lists of numbers differ
 abbrev pub unlike : List ℕ → List ℕ → ℕ
@@ -62,7 +53,7 @@ priced cost_of (Some s) = Some (record { shift = s; cost = cost_of s })
 abbrev pub lesser : Option Priced → Option Priced → Option Priced
 lesser p other = cheaper (λ priced. priced.cost) p other
 
--- a shift that spares three of so many rows
+-- a shift that spares `GAIN` of so many rows
 abbrev pub gained : ℕ → Option Priced → Option Shift
 gained rows None = None
-gained rows (Some p) = if nat_le (p.cost + 3) rows then Some p.shift else None
+gained rows (Some p) = if nat_le (p.cost + GAIN) rows then Some p.shift else None

@@ -14,7 +14,7 @@ use rd_base::limits::FRAME_ROWS;
 use rd_term::Screen;
 
 /// How many rows a shift must spare.
-const GAIN: u32 = 3;
+pub(crate) const GAIN: u32 = 3;
 
 /// A shift, and how many rows differ after it.
 #[derive(Clone, Copy)]
@@ -34,7 +34,7 @@ struct Numbered {
 
 /// The shift that brings the current screen nearest to the target. Of all shifts of all bands it is the first that leaves the
 /// fewest rows that differ: the bands are taken in order, then the shifts by the number of their rows from 1 on, then the one
-/// upward. None comes exactly where that many are not at least three fewer than differ now. It takes no memory. Where there is no
+/// upward. None comes exactly where that many are not at least three fewer than differ without a shift. It takes no memory. Where there is no
 /// band it looks at nothing. Else it compares the rows that stand in the same place, and goes on only where at least three of them
 /// differ. Then it looks at each cell of both screens a fixed number of times, where it compares two rows cell by cell only if their
 /// prints are equal, and at the numbers of all rows once for each shift.
@@ -97,8 +97,8 @@ fn cheapest_of(numbers: &Numbered, bands: &[Band]) -> Option<Priced>
     for i in 0..bands.len() {
         let band = bands[i];
         for by in 1..band.height {
-            best = cheaper(best, moved(numbers, band, by, true));
-            best = cheaper(best, moved(numbers, band, by, false));
+            best = cheaper(best, priced_shift(numbers, band, by, true));
+            best = cheaper(best, priced_shift(numbers, band, by, false));
         }
     }
     best
@@ -116,7 +116,7 @@ fn cheaper(best: Option<Priced>, other: Priced) -> Option<Priced>
 
 /// The shift of a band by so many rows, up or else down: those of its rows that stay stand from its top on and blank ones behind them,
 /// or the blank ones from its top on.
-fn moved(numbers: &Numbered, band: Band, by: u32, up: bool) -> Priced
+fn priced_shift(numbers: &Numbered, band: Band, by: u32, up: bool) -> Priced
     requires length { length numbers.now.old.items ≡ length numbers.now.new.items }
     requires few { length numbers.now.new.items ≤ FRAME_ROWS }
     requires band { band.top + band.height ≤ length numbers.now.new.items }

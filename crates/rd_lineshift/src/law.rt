@@ -12,6 +12,7 @@ ghost use Rattle.rd_lineshift.specs.Laws.{IsShift};
 ghost use Rattle.rd_lineshift.specs.Plans.{shifted_update};
 ghost use Rattle.rd_lineshift.specs.declared.band.Band.{Band};
 ghost use Rattle.rd_lineshift.specs.declared.band.Shift.{Shift};
+ghost use Rattle.rd_lineshift.specs.declared.choice.TheConstants.{GAIN};
 
 use rd_update::{update_law, updates_keep_screens_sound, updates_reach_their_targets};
 
@@ -34,13 +35,13 @@ pub fn shifts_stay_on_the_screen()
         → IfSome (choice current target bands) (λ s. IsShift height s) }
 {}
 
-/// No shift of any band costs less than the one that is taken, and that costs at least three less than the screen as it is.
+/// No shift of any band costs less than the one that is taken, and that costs at least `GAIN` less than the screen as it is.
 /// Where none is taken, none would.
 pub fn the_shift_taken_costs_the_least()
     ensures taken { (current target : Picture) (bands : List Band) (s : Shift) → choice (Some current) target bands ≡ Some s
-        → (cost current target s + 3 ≤ differing current.rows target.rows) × All (λ t. cost current target s ≤ cost current target t) (flat_map shifts_of bands) }
+        → (cost current target s + GAIN ≤ differing current.rows target.rows) × All (λ t. cost current target s ≤ cost current target t) (flat_map shifts_of bands) }
     ensures none { (current target : Picture) (bands : List Band) → choice (Some current) target bands ≡ None
-        → All (λ t. differing current.rows target.rows < cost current target t + 3) (flat_map shifts_of bands) }
+        → All (λ t. differing current.rows target.rows < cost current target t + GAIN) (flat_map shifts_of bands) }
 {}
 
 /// An update that is done leads to its target, and one without a limit is always done.

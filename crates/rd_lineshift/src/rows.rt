@@ -1,9 +1,9 @@
 //! Rows of screens that are compared and numbered.
-ghost use Rattle.std.specs.Prelude.{◌≡◌, ◌≤◌, length, map, not};
+ghost use Rattle.std.specs.Prelude.{◌≡◌, length, map, not};
 ghost use Rattle.rd_term.specs.Pictures.{width_of, blank_row};
 ghost use Rattle.rd_update.specs.Plans.{HaveOneSize};
 ghost use Rattle.rd_update.specs.Updates.{differs, differing as differing_rows};
-ghost use Rattle.rd_lineshift.specs.Numbers.{cell_number, colours_number, number_in, print_from, mixed};
+ghost use Rattle.rd_lineshift.specs.Numbers.{number_in, print_from, mixed};
 
 use crate::numbers::Numbers;
 use rd_base::limits::FRAME_COLUMNS;
@@ -25,25 +25,6 @@ pub(crate) fn differing(current: &Screen, target: &Screen) -> u32
     count
 }
 
-/// A number made of a face's colours.
-fn colours_number(face: Face) -> u64
-    ensures value { result ≡ colours_number face }
-    ensures bound { result ≤ 80 }
-{
-    face.fg as u64 + 9 * face.bg as u64
-}
-
-/// A number made of a cell's character and colours.
-fn cell_number(cell: &Cell) -> u64
-    ensures { result ≡ cell_number cell.now }
-{
-    match cell {
-        Cell::Rest => 0,
-        Cell::Blank(face) => 1 + 3 * colours_number(*face),
-        Cell::First(glyph, face) => 2 + 3 * (colours_number(*face) + 81 * glyph.base as u64),
-    }
-}
-
 /// A row's print with one more number.
 fn mix(print: u64, number: u64) -> u64
     ensures { result ≡ mixed print number }
@@ -51,13 +32,14 @@ fn mix(print: u64, number: u64) -> u64
     print.wrapping_mul(1_099_511_628_211).wrapping_add(number)
 }
 
-/// A row's print: those of rows that are the same are equal.
+/// A row's print, of the first word of each cell: those of rows that are the same are equal.
 fn print_of(cells: &[Cell]) -> u64
     ensures { result ≡ print_from 0 cells.now }
 {
     let mut print = 0;
     for i in 0..cells.len() {
-        print = mix(print, cell_number(&cells[i]));
+        let words = cells[i].words();
+        print = mix(print, words[0]);
     }
     print
 }

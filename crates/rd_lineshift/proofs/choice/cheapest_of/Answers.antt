@@ -22,12 +22,12 @@ loop-by-preserved c =
     let band = get_or bands c.loop-i.i none in
     let by = c.loop-by.by in
     let best = c.loop-by.best in
-    let up = c.moved.result in
-    let down = c.moved-in-loop-by.result in
+    let up = c.priced_shift.result in
+    let down = c.priced_shift-in-loop-by.result in
     let is = c.cheaper-best-in-loop-by.ensures ∙ ap (λ p. lesser p (Some down)) c.cheaper-best.ensures in
-    let first = priced-is f up (shift_by band (pos by)) c.moved.ensures.shift c.moved.ensures.cost in
-    let second = priced-is f down (shift_by band (neg_ℤ (pos by))) c.moved-in-loop-by.ensures.shift c.moved-in-loop-by.ensures.cost in
-    let bound = lesser-bound (lesser best (Some up)) (Some down) (lesser-bound best (Some up) c.loop-by.invariant.1 c.moved.ensures.bound) c.moved-in-loop-by.ensures.bound in
+    let first = priced-is f up (shift_by band (pos by)) c.priced_shift.ensures.shift c.priced_shift.ensures.cost in
+    let second = priced-is f down (shift_by band (neg_ℤ (pos by))) c.priced_shift-in-loop-by.ensures.shift c.priced_shift-in-loop-by.ensures.cost in
+    let bound = lesser-bound (lesser best (Some up)) (Some down) (lesser-bound best (Some up) c.loop-by.invariant.1 c.priced_shift.ensures.bound) c.priced_shift-in-loop-by.ensures.bound in
     let whole = priced f (cheapest f (flat_map shifts_of bands)) in
     rw is (band-step f band by (flat_map shifts_of (drop (c.loop-i.i + 1) bands)) best (Some up) (Some down) whole c.loop-by-test.true first second c.loop-by.invariant.0, bound)
 

@@ -1,6 +1,6 @@
 use Rattle.std.proofs.Common.{◌∙◌, arith}
 use Rattle.rd_lineshift.proofs.Moving.{down-cost, up-cost}
-use Rattle.rd_lineshift.proofs.choice.moved.Goals as goal
+use Rattle.rd_lineshift.proofs.choice.priced_shift.Goals as goal
 
 pub returns-then-up-clause-cost : goal.returns-then-up-clause-cost
 returns-then-up-clause-cost c = rw c.if-up.true (
