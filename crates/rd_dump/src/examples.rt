@@ -5,7 +5,7 @@ ghost use Rattle.rd_base.specs.Faces.{plain};
 ghost use Rattle.rd_base.specs.declared.cell.Cell.TheVariants.{Blank, First, Rest};
 ghost use Rattle.rd_dump.specs.Dumps.{row_line, windows_text};
 
-/// The definition of a dump, computed on rows and windows.
+/// The lines of rows with a face and with a wide character, and those of windows.
 fn worked_dump()
     ensures row { row_line 0
         (First (single 97 1) plain ∷ First (single 98 1) (record plain { fg = 1; bold = true }) ∷ First (single 99 1) plain ∷ Blank plain ∷ [])

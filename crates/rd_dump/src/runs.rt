@@ -100,7 +100,7 @@ fn print_numbers<K: Sink>(sink: &mut K, face: Face) -> Result<(), Failed>
     Ok(())
 }
 
-/// Writes a number behind the others of its face, if there are any, and answers whether there is any now.
+/// Writes a number of a face, if there is one, and answers whether one was written, by this call or before it.
 fn print_number<K: Sink>(sink: &mut K, any: bool, number: Option<u32>) -> Result<bool, Failed>
     ensures text { Prints (K.written sink.old) (K.written sink.new) (K.faults sink.old) (K.faults sink.new) (number_text any number) result }
     ensures any { IfOk result (λ now. now ≡ (any || is_some number)) }
