@@ -1,8 +1,7 @@
 //! The numbers of lines.
-ghost use Rattle.std.specs.Prelude.{◌≡◌, ◌+◌, ◌++◌, suc, All, IfOk, OnOk, Some, length};
-ghost use Rattle.rd_base.specs.Cells.{IsColoured};
+ghost use Rattle.std.specs.Prelude.{◌≡◌, ◌+◌, ◌++◌, suc, IfOk, OnOk, Some};
 ghost use Rattle.rd_base.specs.Faces.{plain};
-ghost use Rattle.rd_base.specs.Glyphs.{IsRowAfter, blanks};
+ghost use Rattle.rd_base.specs.Glyphs.{blanks};
 ghost use Rattle.rd_margins.specs.Cells.{IsMargin, digit_cells, number_cells, sign};
 
 use itoa::Buffer;
@@ -16,9 +15,7 @@ const BLANK: Cell = Cell::Blank(Face::PLAIN);
 /// of the others; where there are more digits, a plus sign stands in each of these. Without a line all columns are blank.
 pub fn numbers(alloc: Global, line: Option<u32>, width: u32) -> Result<ListOf<Cell>, Memory>
     ensures value { IfOk result (λ cells. cells ≡ number_cells width line) }
-    ensures columns { IfOk result (λ cells. length cells ≡ width) }
-    ensures whole { IfOk result (λ cells. IsRowAfter 0 cells) }
-    ensures coloured { IfOk result (λ cells. All IsColoured cells) }
+    ensures margin { IfOk result (λ cells. IsMargin width cells) }
 {
     match line {
         Some(line) if width > 0 => number(alloc, line, width - 1),
@@ -37,7 +34,7 @@ fn number(alloc: Global, line: u32, columns: u32) -> Result<ListOf<Cell>, Memory
     Ok(cells)
 }
 
-/// So many blanks.
+/// The blanks that stand in so many columns where no number does.
 fn no_number(alloc: Global, columns: u32) -> Result<ListOf<Cell>, Memory>
     ensures value { IfOk result (λ cells. cells ≡ blanks columns plain) }
     ensures margin { IfOk result (λ cells. IsMargin columns cells) }

@@ -1,8 +1,6 @@
 //! The margins beside a row.
-ghost use Rattle.std.specs.Prelude.{All, ◌≡◌, ◌+◌, IfOk, length};
-ghost use Rattle.rd_base.specs.Cells.{IsColoured};
-ghost use Rattle.rd_base.specs.Glyphs.{IsRowAfter};
-ghost use Rattle.rd_margins.specs.Cells.{row_margin};
+ghost use Rattle.std.specs.Prelude.{◌≡◌, ◌+◌, IfOk};
+ghost use Rattle.rd_margins.specs.Cells.{IsMargin, row_margin};
 
 use crate::lines::numbers;
 use rd_base::{Cell, Ch, Face, ListOf, Memory};
@@ -29,9 +27,7 @@ pub fn row_margin(
     text: &[Ch],
 ) -> Result<ListOf<Cell>, Memory>
     ensures value { IfOk result (λ cells. cells ≡ row_margin classes.now widths row line text.now) }
-    ensures columns { IfOk result (λ cells. length cells ≡ widths.numbers + widths.strings) }
-    ensures whole { IfOk result (λ cells. IsRowAfter 0 cells) }
-    ensures coloured { IfOk result (λ cells. All IsColoured cells) }
+    ensures margin { IfOk result (λ cells. IsMargin (widths.numbers + widths.strings) cells) }
 {
     plain_lines_are_whole();
     let (line, text): (Option<u32>, &[Ch]) = if row > 0 {

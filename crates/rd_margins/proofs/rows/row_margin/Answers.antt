@@ -1,21 +1,20 @@
-use Rattle.std.proofs.Common.{All, sym, subst, ◌∙◌}
-use Rattle.std.proofs.lemmas.List.Elements.{All-append}
+use Rattle.std.proofs.Common.{All, ap, subst, sym, ◌+◌, ◌++◌, ◌∙◌}
 use Rattle.rd_base.specs.Cells.{IsColoured}
 use Rattle.rd_base.specs.Faces.{plain}
-use Rattle.rd_base.specs.Glyphs.{IsRowAfter}
 use Rattle.rd_base.proofs.Colours.{plain-coloured}
-use Rattle.rd_base.proofs.Rows.{behind-whole}
+use Rattle.rd_margins.specs.Cells.{IsMargin}
+use Rattle.rd_margins.proofs.Whole.{joined-margin}
 use Rattle.rd_margins.proofs.rows.row_margin.Goals as goal
 
-pub returns-clause-whole : goal.returns-clause-whole
-returns-clause-whole c =
-    subst (IsRowAfter 0) (sym c.in_ok-extend_from_slice.ensures.ok)
-    (behind-whole 0 c.in_ok-cells.cells c.as_slice.result.now c.in_ok-cells.ensures.whole (subst (IsRowAfter 0) (sym c.as_slice.ensures) c.in_ok-string.ensures.whole))
-
-pub returns-clause-coloured : goal.returns-clause-coloured
-returns-clause-coloured c =
-    let lines = c.plain_lines_are_whole.ensures in
-    subst (All IsColoured) (sym c.in_ok-extend_from_slice.ensures.ok)
-    (All-append IsColoured c.in_ok-cells.cells c.as_slice.result.now c.in_ok-cells.ensures.coloured
-    (subst (All IsColoured) (sym (c.as_slice.ensures ∙ c.in_ok-string.ensures.value))
-    (lines.coloured c.args.classes.now plain c.args.widths.strings c.if-row-gt0.line.1.now plain-coloured)))
+pub returns-clause-margin : goal.returns-clause-margin
+returns-clause-margin c =
+    let w = c.args.widths in
+    let text = c.if-row-gt0.line.1.now in
+    let coloured = c.plain_lines_are_whole.ensures.coloured c.args.classes.now plain w.strings text plain-coloured in
+    let string : IsMargin w.strings c.in_ok-string.string = record {
+      count = c.in_ok-string.ensures.columns;
+      whole = c.in_ok-string.ensures.whole;
+      coloured = subst (All IsColoured) (sym c.in_ok-string.ensures.value) coloured;
+    } in
+    subst (IsMargin (w.numbers + w.strings)) (sym (c.in_ok-extend_from_slice.ensures.ok ∙ ap (λ cells. c.in_ok-cells.cells ++ cells) c.as_slice.ensures))
+    (joined-margin w.numbers w.strings c.in_ok-cells.cells c.in_ok-string.string c.in_ok-cells.ensures.margin string)
