@@ -55,8 +55,8 @@ impl Items {
         Items::with_appearance(alloc, view, start, &appearance)
     }
 
-    /// The same, of a position that is known to look like this: it is not looked up again. There is room at once for the items of a
-    /// line that is not too long.
+    /// The items of the block that starts at a position, as `new` has them, where it is known how the position looks, which saves one
+    /// look-up. There is room at once for the items of a line that is not too long.
     pub fn with_appearance(
         alloc: Global,
         view: &View,

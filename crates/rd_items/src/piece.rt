@@ -79,10 +79,7 @@ impl Piece {
 fn table_of(objects: &Objects, number: Option<u32>) -> Option<&Table>
     ensures { option_map (λ table. table.now) result ≡ table_in objects.now number }
 {
-    match number {
-        None => None,
-        Some(number) => objects.table(number),
-    }
+    objects.table(number?)
 }
 
 /// What the elements of a buffer's characters depend on. A number that names no table stands for none.

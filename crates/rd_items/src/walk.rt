@@ -12,7 +12,7 @@ use rd_glyphs::marked_glyph;
 use rd_props::{View, strings_at};
 use std::alloc::Global;
 
-/// The items made so far, the first offset that none of them covers yet, and the last piece, which marks may still join.
+/// The items that were made, the first offset that none of them covers, and the last piece, which marks may still join.
 #[derive(Drop)]
 pub struct Walk {
     items: ListOf<Item>,
