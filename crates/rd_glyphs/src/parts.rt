@@ -58,10 +58,7 @@ impl<'a> Parts<'a> {
     pub(crate) fn entry(&self, code: u32) -> Option<&[Glyph]>
         ensures { MatchOption result (entry_of self.now.table code ≡ None) (λ text. entry_of self.now.table code ≡ Some text.now) }
     {
-        match self.table {
-            Some(table) => table.entry(code),
-            None => None,
-        }
+        self.table?.entry(code)
     }
 
     /// The glyph of a slot, and where the table has none this character of one column.
