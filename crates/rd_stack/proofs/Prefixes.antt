@@ -35,19 +35,19 @@ took found e old new is takes = subst (λ (x : Option Element). Takes (Ok x) old
 took-none : (found : Option Element) (old new : List Element) → found ≡ None → Takes (Ok found) old new → old ≡ []
 took-none found old new is takes = (subst (λ (x : Option Element). Takes (Ok x) old new) is takes).0
 
-pub row-goes : (out more : List Element) (e : Element) (old new whole : List Element) → more ≡ out ++ e ∷ [] → old ≡ e ∷ new → is_row_end e.look ≡ false
+pub prefix-goes : (out more : List Element) (e : Element) (old new whole : List Element) → more ≡ out ++ e ∷ [] → old ≡ e ∷ new → is_row_end e.look ≡ false
     → out ++ before_row_end old ≡ whole → more ++ before_row_end new ≡ whole
-row-goes out more e old new whole pushed taken here all =
+prefix-goes out more e old new whole pushed taken here all =
     let rest = before_row_end new in
     ap (λ l. l ++ rest) pushed ∙ append_assoc out (e ∷ []) rest
     ∙ sym (ap (λ l. out ++ before_row_end l) taken ∙ ap (λ b. out ++ (if b then [] else e ∷ rest)) here) ∙ all
 
-pub row-stops : (out : List Element) (e : Element) (old new whole : List Element) → old ≡ e ∷ new → is_row_end e.look ≡ true → out ++ before_row_end old ≡ whole → out ≡ whole
-row-stops out e old new whole taken here all =
+pub prefix-stops : (out : List Element) (e : Element) (old new whole : List Element) → old ≡ e ∷ new → is_row_end e.look ≡ true → out ++ before_row_end old ≡ whole → out ≡ whole
+prefix-stops out e old new whole taken here all =
     sym (ap (λ l. out ++ before_row_end l) taken ∙ ap (λ b. out ++ (if b then [] else e ∷ before_row_end new)) here ∙ append-nil out) ∙ all
 
-pub row-ends : (found : Option Element) (out old new whole : List Element) → found ≡ None → Takes (Ok found) old new → out ++ before_row_end old ≡ whole → out ≡ whole
-row-ends found out old new whole is takes all = sym (ap (λ l. out ++ before_row_end l) (took-none found old new is takes) ∙ append-nil out) ∙ all
+pub prefix-ends : (found : Option Element) (out old new whole : List Element) → found ≡ None → Takes (Ok found) old new → out ++ before_row_end old ≡ whole → out ≡ whole
+prefix-ends found out old new whole is takes all = sym (ap (λ l. out ++ before_row_end l) (took-none found old new is takes) ∙ append-nil out) ∙ all
 
 module _ (s : Scene) (base number : ℕ) (found : Option (List (List Element))) (made : unwrap_or found [] ≡ put_text kind_steps s base false outside plain (slice_get s.objects.strings number)) where
   pub prefix-none : found ≡ None → [] ≡ prefix s base number

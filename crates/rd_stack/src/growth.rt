@@ -1,4 +1,4 @@
-//! That objects which are made later change no line.
+//! The law of growth: objects that are made later change no line.
 ghost use Rattle.std.specs.Prelude.{◌≡◌, ◌<◌, ℕ, List, length};
 ghost use Rattle.rd_objects.specs.Sound.{IsClosed};
 ghost use Rattle.rd_props.specs.Seen.{Seen};

@@ -42,13 +42,11 @@ fn hold(made: &mut ListOf<Part>, held: Option<Part>, next: &Part) -> Result<Part
 fn marked(held: &Part, next: &Part) -> Option<Part>
     ensures { result ≡ marked part_joins held.now next.now }
 {
-    match marked_glyph(held.role.base(), next.role.mark()) {
-        Some(glyph) => Some(Part {
-            kind: ItemKind::Marked(glyph),
-            role: MarkRole::Base(glyph),
-            class: held.class,
-            face: held.face,
-        }),
-        None => None,
-    }
+    let glyph = marked_glyph(held.role.base(), next.role.mark())?;
+    Some(Part {
+        kind: ItemKind::Marked(glyph),
+        role: MarkRole::Base(glyph),
+        class: held.class,
+        face: held.face,
+    })
 }

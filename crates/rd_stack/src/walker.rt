@@ -46,7 +46,8 @@ impl<'a> Walker<'a> {
         Walker::with_appearance(alloc, view, start, base, &appearance)
     }
 
-    /// The same, where the position is known to look like this: it is not looked up again.
+    /// The elements of the line of the block that starts at a position, as `start` has them, where it is known how the position looks,
+    /// which saves one look-up.
     pub fn with_appearance(
         alloc: Global,
         view: View<'a>,
