@@ -2,5 +2,5 @@ mod Near
 mod Ends
 pub mod Starting
 mod Points
-mod Standing
+pub mod Standing
 mod Remembering

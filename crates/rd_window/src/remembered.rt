@@ -56,7 +56,7 @@ impl<B: BlockSource> Remembered<B> {
         }
     }
 
-    /// From now on it hands out what it remembers.
+    /// Lets it hand out what it remembers, from the next call on.
     pub(crate) fn hand_out(&mut self)
         ensures { self.new ≡ self.old }
     {
