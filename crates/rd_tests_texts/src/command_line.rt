@@ -123,7 +123,7 @@ fn have_fault(
     }
 }
 
-/// The same of files that were made.
+/// Whether files that were made have this fault, where the bracket file is read if its name is given.
 fn is_refused(
     alloc: Global,
     files: &mut MemFiles,
