@@ -4,22 +4,23 @@ use Rattle.std.proofs.Math.Nat.{add_comm, mul_comm}
 use Rattle.std.proofs.lemmas.Nat.{div-mul-add, mod-mul-add}
 use Rattle.std.proofs.lemmas.List.{ext_get_or}
 use Rattle.std.specs.Prelude.{slice_index}
+use Rattle.std.specs.Int.{from_bool}
 use Rattle.rd_base.specs.Faces.{Attributes}
-use Rattle.rd_base.specs.Cells.{bit_of, face_number, packed, glyph_number, words_of, HasColours, IsSmallGlyph, IsSmall}
+use Rattle.rd_base.specs.Cells.{face_number, packed, glyph_number, words_of, HasColours, IsSmallGlyph, IsSmall}
 use Rattle.rd_base.proofs.Equals.{attributes-same, glyphs-same}
 use Rattle.rd_base.specs.declared.cell.Glyph.{Glyph}
 use Rattle.rd_base.specs.declared.cell.Cell.{Cell}
 use Rattle.rd_base.specs.declared.cell.Cell.TheVariants.{Blank, First, Rest}
 
-bit_of-small : (b : Bool) → bit_of b < 2
-bit_of-small true = omega arith
-bit_of-small false = omega arith
+from_bool-small : (b : Bool) → from_bool b < 2
+from_bool-small true = omega arith
+from_bool-small false = omega arith
 
-bit_of-told : (a b : Bool) → bit_of a ≡ bit_of b → a ≡ b
-bit_of-told true true e = refl
-bit_of-told true false e = absurd (omega arith)
-bit_of-told false true e = absurd (omega arith)
-bit_of-told false false e = refl
+from_bool-told : (a b : Bool) → from_bool a ≡ from_bool b → a ≡ b
+from_bool-told true true e = refl
+from_bool-told true false e = absurd (omega arith)
+from_bool-told false true e = absurd (omega arith)
+from_bool-told false false e = refl
 
 -- a number's lowest digit and the rest, in some base
 in_base : (n a b c d : ℕ) → a < n → c < n → a + n * b ≡ c + n * d → (a ≡ c) × (b ≡ d)
@@ -38,23 +39,23 @@ packed-told a b c d e f same =
 
 face_number-small : (f : Attributes) → HasColours f → face_number f < 2048
 face_number-small f h =
-    let bold = bit_of-small f.bold in
-    let underline = bit_of-small f.underline in
-    let inverse = bit_of-small f.inverse in
+    let bold = from_bool-small f.bold in
+    let underline = from_bool-small f.underline in
+    let inverse = from_bool-small f.inverse in
     omega arith
 
 face_number-told : (f g : Attributes) → HasColours f → HasColours g → face_number f ≡ face_number g → f ≡ g
 face_number-told f g hf hg same =
     let fg = in_base 16 (f.fg % 16) _ (g.fg % 16) _ (omega arith) (omega arith) same in
     let bg = in_base 16 (f.bg % 16) _ (g.bg % 16) _ (omega arith) (omega arith) fg.1 in
-    let bold = in_base 2 _ _ _ _ (bit_of-small f.bold) (bit_of-small g.bold) bg.1 in
-    let flags = in_base 2 _ _ _ _ (bit_of-small f.underline) (bit_of-small g.underline) bold.1 in
+    let bold = in_base 2 _ _ _ _ (from_bool-small f.bold) (from_bool-small g.bold) bg.1 in
+    let flags = in_base 2 _ _ _ _ (from_bool-small f.underline) (from_bool-small g.underline) bold.1 in
     let fg_same : f.fg ≡ g.fg = omega arith in
     let bg_same : f.bg ≡ g.bg = omega arith in
     attributes-same f.fg f.bg g.fg g.bg f.bold f.underline f.inverse g.bold g.underline g.inverse fg_same bg_same
-    (bit_of-told f.bold g.bold bold.0)
-    (bit_of-told f.underline g.underline flags.0)
-    (bit_of-told f.inverse g.inverse flags.1)
+    (from_bool-told f.bold g.bold bold.0)
+    (from_bool-told f.underline g.underline flags.0)
+    (from_bool-told f.inverse g.inverse flags.1)
 
 -- equal small codes modulo 2^21
 code-told : (a b : ℕ) → a < 2097152 → b < 2097152 → a % 2097152 ≡ b % 2097152 → a ≡ b

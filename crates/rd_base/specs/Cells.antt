@@ -1,21 +1,27 @@
 -- Glyphs and cells, and the words that tell cells apart.
 use Rattle.std.specs.Prelude.{◌≡◌, ℕ, ◌+◌, ◌*◌, ◌%◌, ◌<◌, ◌≤◌, Bool, if◌then◌else◌, List, [], ◌∷◌, length, All, replicate, slice_index, slice_index_or, slice_set, nat_lt, Option, None, Some}
+use Rattle.std.specs.Int.{from_bool}
 use Rattle.rd_base.specs.Faces.{Attributes}
+use Rattle.rd_base.specs.declared.cell.TheConstants.{CODES}
 use Rattle.rd_base.specs.declared.cell.Glyph.{Glyph}
 use Rattle.rd_base.specs.declared.cell.Cell.{Cell}
 use Rattle.rd_base.specs.declared.cell.Cell.TheVariants.{Blank, First, Rest}
+use Rattle.rd_base.specs.declared.limits.TheConstants.{GLYPH_MARKS}
 
 -- a character without marks
 abbrev pub single : ℕ → ℕ → Glyph
-single base width = record { base = base; marks = replicate 6 0; count = 0; width = width }
+single base width = record { base = base; marks = replicate GLYPH_MARKS 0; count = 0; width = width }
 
 -- a glyph with one more mark
 abbrev pub with_mark : Glyph → ℕ → Glyph
 with_mark g code = record g { marks = slice_set g.marks g.count code; count = g.count + 1 }
 
--- the same, where it has fewer than six
+-- whether one more mark may join a glyph: it has fewer than six
+abbrev pub takes_mark : Glyph → Bool
+takes_mark g = nat_lt g.count GLYPH_MARKS
+
 abbrev pub joined_glyph : Glyph → ℕ → Option Glyph
-joined_glyph g code = if nat_lt g.count 6 then Some (with_mark g code) else None
+joined_glyph g code = if takes_mark g then Some (with_mark g code) else None
 
 -- the face of a cell behind one of this face: a later column of a glyph has that of its first
 abbrev pub face_after : Attributes → Cell → Attributes
@@ -23,16 +29,13 @@ face_after before (Blank face) = face
 face_after before (First g face) = face
 face_after before Rest = before
 
-abbrev pub bit_of : Bool → ℕ
-bit_of b = if b then 1 else 0
-
 -- a face as a number below 2^11
 abbrev pub face_number : Attributes → ℕ
-face_number f = f.fg % 16 + 16 * (f.bg % 16 + 16 * (bit_of f.bold + 2 * (bit_of f.underline + 2 * bit_of f.inverse)))
+face_number f = f.fg % 16 + 16 * (f.bg % 16 + 16 * (from_bool f.bold + 2 * (from_bool f.underline + 2 * from_bool f.inverse)))
 
 -- three codes as one number, 21 bits each
 abbrev pub packed : ℕ → ℕ → ℕ → ℕ
-packed a b c = a % 2097152 + 2097152 * (b % 2097152 + 2097152 * (c % 2097152))
+packed a b c = a % CODES + CODES * (b % CODES + CODES * (c % CODES))
 
 -- a glyph's numbers but its marks behind the first
 abbrev pub glyph_number : Glyph → ℕ
@@ -69,10 +72,10 @@ AreColoured rows = All (λ row. All IsColoured row) rows
 
 -- a glyph whose codes are below 2^21, with at most 6 marks and 3 columns
 pub record IsSmallGlyph (g : Glyph) : Type 0 where
-  pub base : g.base < 2097152
-  pub marks : All (λ mark. mark < 2097152) g.marks
-  pub places : length g.marks ≡ 6
-  pub count : g.count ≤ 6
+  pub base : g.base < CODES
+  pub marks : All (λ mark. mark < CODES) g.marks
+  pub places : length g.marks ≡ GLYPH_MARKS
+  pub count : g.count ≤ GLYPH_MARKS
   pub width : g.width ≤ 3
 
 -- a cell of such a glyph

@@ -1,15 +1,20 @@
 -- The codes of characters: scalar values of Unicode, and raw bytes behind them.
-use Rattle.std.specs.Prelude.{ℕ, Bool, false, nat_lt, nat_le, ◌&&◌, ◌||◌, if◌then◌else◌, List, [], Option, None}
+use Rattle.std.specs.Prelude.{ℕ, ◌+◌, Bool, false, nat_lt, nat_le, ◌&&◌, ◌||◌, if◌then◌else◌, List, [], Option, None}
 use Rattle.std.specs.Char.{encode_utf8}
 use Rattle.unicode_width.specs.Width.{char_width}
+use Rattle.rd_base.specs.declared.limits.TheConstants.{CODE_POINTS}
 
--- a scalar value: a code point below 110000 (hexadecimal) that is no surrogate
+-- a scalar value: a code point that is no surrogate
 abbrev pub is_scalar : ℕ → Bool
-is_scalar n = nat_lt n 1114112 && (nat_lt n 55296 || nat_le 57344 n)
+is_scalar n = nat_lt n CODE_POINTS && (nat_lt n 55296 || nat_le 57344 n)
 
--- a raw byte of 128 to 255, counted from the first code that is no code point
+-- the code of a raw byte: raw bytes are counted from the first number that is no code point
+abbrev pub raw_code : ℕ → ℕ
+raw_code byte = CODE_POINTS + byte
+
+-- a raw byte of 128 to 255
 abbrev pub is_raw : ℕ → Bool
-is_raw n = nat_le 1114240 n && nat_lt n 1114368
+is_raw n = nat_le (raw_code 128) n && nat_lt n (raw_code 256)
 
 abbrev pub is_code : ℕ → Bool
 is_code n = is_scalar n || is_raw n

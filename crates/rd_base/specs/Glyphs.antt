@@ -10,6 +10,7 @@ use Rattle.rd_base.specs.declared.cell.Cell.TheVariants.{Blank, First, Rest}
 use Rattle.rd_base.specs.declared.element.Element.{Element}
 use Rattle.rd_base.specs.declared.element.Look.{Look}
 use Rattle.rd_base.specs.declared.element.Look.TheVariants as look
+use Rattle.rd_base.specs.declared.limits.TheConstants.{GLYPH_MARKS}
 
 -- a space without marks
 abbrev pub is_space : Glyph → Bool
@@ -38,10 +39,10 @@ pub record IsMeasured (g : Glyph) : Type 0 where
   pub columns : char_width false g.base ≡ Some g.width
   pub some : 1 ≤ g.width
   pub few : g.width ≤ 3
-  pub places : length g.marks ≡ 6
-  pub count : g.count ≤ 6
+  pub places : length g.marks ≡ GLYPH_MARKS
+  pub count : g.count ≤ GLYPH_MARKS
   pub marks : (k : ℕ) → k < g.count → IsTrue (is_scalar (slice_index g.marks k)) × (char_width false (slice_index g.marks k) ≡ Some 0)
-  pub rest : (k : ℕ) → g.count ≤ k → k < 6 → slice_index g.marks k ≡ 0
+  pub rest : (k : ℕ) → g.count ≤ k → k < GLYPH_MARKS → slice_index g.marks k ≡ 0
 
 -- what may stand in a cell: never a space without marks
 pub record IsGood (g : Glyph) : Type 0 where

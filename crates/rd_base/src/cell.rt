@@ -2,15 +2,16 @@
 ghost use Rattle.std.specs.Prelude.{◌≡◌, ◌<◌, take};
 ghost use Rattle.rd_base.specs.Glyphs.{is_space};
 ghost use Rattle.rd_base.specs.Equals.{same_glyph, same_cell};
-ghost use Rattle.rd_base.specs.Cells.{single, joined_glyph, bit_of, face_number, packed, glyph_number, words_of, AreOnlyOf};
+ghost use Rattle.rd_base.specs.Cells.{single, takes_mark, joined_glyph, face_number, packed, glyph_number, words_of, AreOnlyOf};
 
 use crate::face::Face;
+use crate::limits::GLYPH_MARKS;
 
 /// A character with the marks that join it: `count` of the `marks` count, and the others are 0. It takes `width` columns.
 #[derive(Clone, Copy, Debug, PartialEq, Eq)]
 pub struct Glyph {
     pub base: u32,
-    pub marks: [u32; 6],
+    pub marks: [u32; GLYPH_MARKS],
     pub count: u8,
     pub width: u8,
 }
@@ -22,7 +23,7 @@ impl Glyph {
     {
         Glyph {
             base,
-            marks: [0; 6],
+            marks: [0; GLYPH_MARKS],
             count: 0,
             width,
         }
@@ -35,11 +36,18 @@ impl Glyph {
         self.base == 32 && self.count == 0
     }
 
-    /// The same with one more mark, and None exactly where it has six.
+    /// Whether one more mark may join it: it has fewer than six.
+    pub fn takes_mark(&self) -> bool
+        ensures { result ≡ takes_mark self.now }
+    {
+        (self.count as usize) < GLYPH_MARKS
+    }
+
+    /// This glyph with one more mark, and None exactly where it has six.
     pub fn joined(&self, mark: u32) -> Option<Glyph>
         ensures { result ≡ joined_glyph self.now mark }
     {
-        if self.count >= 6 {
+        if !self.takes_mark() {
             return None;
         }
         let mut more = *self;
@@ -105,19 +113,12 @@ impl Cell {
     }
 }
 
-/// A flag as a number.
-fn bit(flag: bool) -> u64
-    ensures { result ≡ bit_of flag }
-{
-    if flag { 1 } else { 0 }
-}
-
 /// A face in 11 bits.
 fn number_of_face(face: Face) -> u64
     ensures value { result ≡ face_number face }
     ensures bound { result < 2048 }
 {
-    let flags = bit(face.bold) + 2 * (bit(face.underline) + 2 * bit(face.inverse));
+    let flags = face.bold as u64 + 2 * (face.underline as u64 + 2 * (face.inverse as u64));
     face.fg as u64 % 16 + 16 * (face.bg as u64 % 16 + 16 * flags)
 }
 
@@ -131,7 +132,7 @@ fn pack(a: u32, b: u32, c: u32) -> u64
 }
 
 /// One more than the greatest code that is told apart.
-const CODES: u64 = 2_097_152;
+pub(crate) const CODES: u64 = 2_097_152;
 
 /// A glyph's count, width, base and first mark.
 fn number_of_glyph(glyph: &Glyph) -> u64

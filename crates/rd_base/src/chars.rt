@@ -1,8 +1,9 @@
 //! Characters of a text: Unicode scalar values and raw bytes.
 ghost use Rattle.std.specs.Prelude.{◌≡◌, ◌+◌, ◌<◌, ◌≤◌, IfOk, IfSome, ◌↔◌, IsNone, IsTrue};
 ghost use Rattle.std.specs.Str.{chars};
-ghost use Rattle.rd_base.specs.Chars.{is_code, columns_of, encoded};
+ghost use Rattle.rd_base.specs.Chars.{is_code, raw_code, columns_of, encoded};
 
+use crate::limits::CODE_POINTS;
 use crate::list::ListOf;
 use crate::memory::Memory;
 use std::alloc::Global;
@@ -28,9 +29,6 @@ impl Model for Ch {
     ghost inverse = { λ n. record { code = n } };
 }
 
-/// What is added to a raw byte to make its code: one past the last scalar value.
-const RAW: u32 = 1_114_112;
-
 impl Ch {
     /// The character of a scalar value.
     pub fn scalar(c: char) -> Ch
@@ -42,13 +40,13 @@ impl Ch {
     /// A raw byte, and None exactly below 128.
     pub fn raw(b: u8) -> Option<Ch>
         ensures none { IsNone result ↔ (b < 128) }
-        ensures some { IfSome result (λ c. c ≡ 1114112 + b) }
+        ensures some { IfSome result (λ c. c ≡ raw_code b) }
     {
         if b < 128 {
             return None;
         }
         Some(Ch {
-            code: RAW + b as u32,
+            code: CODE_POINTS + b as u32,
         })
     }
 
@@ -96,11 +94,6 @@ pub fn columns_of(code: u32) -> Option<u8>
     ensures value { result ≡ columns_of code }
     ensures bound { IfSome result (λ columns. columns ≤ 3) }
 {
-    match char::from_u32(code) {
-        Some(c) => match c.width() {
-            Some(columns) => Some(columns as u8),
-            None => None,
-        },
-        None => None,
-    }
+    let columns = char::from_u32(code)?.width()?;
+    Some(columns as u8)
 }

@@ -1,5 +1,11 @@
 //! The limits of the engine, each with its unit. All are included: a text of `TEXT_CHARACTERS` is no longer too long.
 
+/// Code points of Unicode: each is below this, and the code of a raw byte is this and the byte.
+pub const CODE_POINTS: u32 = 1_114_112;
+
+/// Marks that join one glyph.
+pub const GLYPH_MARKS: usize = 6;
+
 /// Characters in the text of a buffer.
 pub const TEXT_CHARACTERS: u32 = 4_194_304;
 

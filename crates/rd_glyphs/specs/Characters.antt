@@ -12,7 +12,7 @@ use Rattle.rd_base.specs.declared.element.Extent.{Extent}
 use Rattle.rd_base.specs.declared.element.Extent.TheVariants.{Fixed, Tab, Column}
 use Rattle.rd_base.specs.Elements.{IsSound, AreSound, columns_at_most}
 use Rattle.rd_base.specs.Glyphs.{AreMeasured}
-use Rattle.rd_base.specs.declared.limits.TheConstants.{ENTRY_GLYPHS, TAB_COLUMNS}
+use Rattle.rd_base.specs.declared.limits.TheConstants.{CODE_POINTS, ENTRY_GLYPHS, TAB_COLUMNS}
 use Rattle.rd_base.specs.declared.element.Look.{Look}
 use Rattle.rd_base.specs.declared.element.Look.TheVariants as look
 use Rattle.rd_base.specs.declared.element.Origin.{Origin}
@@ -53,7 +53,7 @@ caret code = if code == 127 then 63 else code + 64
 abbrev pub shown_as : Bool → Class → ℕ → Shown
 shown_as ctl_arrow class code =
     if is_control code then (if ctl_arrow then Caret (caret code) else Octal code)
-    else if nat_le 1114112 code then Octal (code - 1114112)
+    else if nat_le CODE_POINTS code then Octal (code - CODE_POINTS)
     else if nat_le 128 code && nat_le code 159 then Octal code
     else if is_formatting class code then Space
     else if columns code == 0 then Mark code

@@ -1,7 +1,7 @@
 -- How the code reads a plain line: character by character, with one glyph held for the marks behind it. These are its steps, and no
 -- part of what a plain line is.
-use Rattle.std.specs.Prelude.{ℕ, ◌≤◌, nat_lt, Bool, true, false, if◌then◌else◌, List, [], ◌∷◌, ◌++◌, Option, None, Some}
-use Rattle.rd_base.specs.Cells.{single, with_mark}
+use Rattle.std.specs.Prelude.{ℕ, ◌≤◌, Bool, true, false, if◌then◌else◌, List, [], ◌∷◌, ◌++◌, Option, None, Some}
+use Rattle.rd_base.specs.Cells.{single, with_mark, takes_mark}
 use Rattle.rd_base.specs.declared.cell.Glyph.{Glyph}
 use Rattle.rd_base.specs.declared.element.Look.{Look}
 use Rattle.rd_base.specs.declared.element.Look.TheVariants as look
@@ -17,10 +17,10 @@ abbrev pub held_looks : Option Glyph → List Look
 held_looks None = []
 held_looks (Some g) = look.Glyph g ∷ []
 
--- whether a glyph is held that a mark may join: one that has fewer than six
+-- whether a glyph is held that a mark may join
 abbrev pub has_room : Option Glyph → Bool
 has_room None = false
-has_room (Some g) = nat_lt g.count 6
+has_room (Some g) = takes_mark g
 
 -- a glyph that is held takes 1 to 3 columns
 abbrev pub HoldsColumns : Option Glyph → Type 0
@@ -35,7 +35,7 @@ given held s = held_looks held ++ looks_of (single 92 1) (single 94 1) s
 
 -- the glyph that takes a mark: the one that is held, or where that has six a blank
 abbrev pub joined_to : Glyph → ℕ → Glyph
-joined_to g code = if nat_lt g.count 6 then with_mark g code else on_blank code
+joined_to g code = if takes_mark g then with_mark g code else on_blank code
 
 abbrev pub joined_held : Option Glyph → ℕ → Glyph
 joined_held None code = on_blank code

@@ -70,7 +70,7 @@ pub(crate) fn has_room(held: Option<Glyph>) -> bool
     ensures { result ≡ has_room held }
 {
     match held {
-        Some(glyph) => glyph.count < 6,
+        Some(glyph) => glyph.takes_mark(),
         None => false,
     }
 }

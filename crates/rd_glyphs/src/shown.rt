@@ -5,6 +5,7 @@ ghost use Rattle.rd_glyphs.specs.Characters.{is_control, caret, is_pop, is_forma
 ghost use Rattle.rd_ucd.specs.Lookup.{mirror_in};
 
 use rd_base::Class;
+use rd_base::limits::CODE_POINTS;
 use rd_objects::columns;
 use rd_ucd::Mirrors;
 
@@ -69,8 +70,8 @@ pub fn shown_as(ctl_arrow: bool, class: Class, code: u32) -> Shown
             Shown::Octal(code)
         };
     }
-    if code >= 1_114_112 {
-        return Shown::Octal(code - 1_114_112);
+    if code >= CODE_POINTS {
+        return Shown::Octal(code - CODE_POINTS);
     }
     if code >= 128 && code <= 159 {
         return Shown::Octal(code);

@@ -4,7 +4,7 @@ use Rattle.std.proofs.lemmas.Bool.{leb-true, or_right}
 use Rattle.std.proofs.lemmas.Bool.Decides.{nat_tests}
 use Rattle.std.proofs.lemmas.List.Elements.{All-map, All-weaker}
 use Rattle.std.specs.Prelude.{All, IfOk, slice_get, slice_set}
-use Rattle.rd_base.specs.Chars.{is_code, is_scalar}
+use Rattle.rd_base.specs.Chars.{is_code, is_raw, is_scalar, raw_code}
 use Rattle.rd_text.specs.Texts.{TextValue, IsAccessible, most_characters}
 use Rattle.rd_text.specs.Answers.{IsAccessibleRange, IsRangeOfAll}
 use Rattle.rd_base.proofs.Choices.{some-of, both-ok, made-ok, ok-unless}
@@ -35,16 +35,16 @@ use Rattle.rd_state.proofs.Within.{place-moves}
 
 -- ---- texts
 
-raw-code : (byte : ℕ) → IsRawByte byte → is_code (1114112 + byte) ≡ true
+raw-code : (byte : ℕ) → IsRawByte byte → is_code (raw_code byte) ≡ true
 raw-code byte h =
     let low = h.0 in
     let high = h.1 in
-    or_right (is_scalar (1114112 + byte)) (nat_le 1114240 (1114112 + byte) && nat_lt (1114112 + byte) 1114368) (grind (arith, nat_tests))
+    or_right (is_scalar (raw_code byte)) (is_raw (raw_code byte)) (grind (arith, nat_tests))
 
 pub raw-codes : (bytes : List ℕ) → All IsRawByte bytes → AreCodes (raw_text bytes)
 raw-codes bytes h =
-    All-map (λ (x : ℕ). IsTrue (is_code x)) (λ byte. 1114112 + byte) bytes
-    (All-weaker IsRawByte (λ byte. IsTrue (is_code (1114112 + byte))) raw-code bytes h)
+    All-map (λ (x : ℕ). IsTrue (is_code x)) raw_code bytes
+    (All-weaker IsRawByte (λ byte. IsTrue (is_code (raw_code byte))) raw-code bytes h)
 
 -- ---- one buffer
 

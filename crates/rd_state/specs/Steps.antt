@@ -1,6 +1,7 @@
 -- One op: the next state, or the first refusal.
 use Rattle.std.specs.Prelude.{ℕ, ◌+◌, ◌-◌, nat_lt, nat_le, ◌==◌, true, false, is_some, if◌then◌else◌, ℤ, pos, ◌+ℤ◌, neg_ℤ, Option, None, Some, Result, Ok, Err, List, [], ◌∷◌, ◌++◌, length, map, slice_get, slice_set}
 use Rattle.std.specs.Int.{int_min, int_max}
+use Rattle.rd_base.specs.Chars.{raw_code}
 use Rattle.rd_base.specs.declared.limits.TheConstants.{PENDING_ROWS}
 use Rattle.rd_base.specs.declared.settings.Anchor.{Anchor}
 use Rattle.rd_modeline.specs.Formats.{fault_in, pieces_of}
@@ -100,7 +101,7 @@ inserting s name place new = edited_moving s name (Inserted place (length new)) 
 
 -- the characters of raw bytes
 abbrev pub raw_text : List ℕ → List ℕ
-raw_text bytes = map (λ byte. 1114112 + byte) bytes
+raw_text bytes = map raw_code bytes
 
 -- a text put in at the selected window's point, which then stands behind it
 abbrev pub typing : StateValue → List ℕ → Result StateValue Refused

@@ -1,5 +1,6 @@
 //! Raw bytes as characters.
-ghost use Rattle.std.specs.Prelude.{◌≡◌, ◌+◌, ◌≤◌, All, IfOk};
+ghost use Rattle.std.specs.Prelude.{◌≡◌, ◌≤◌, All, IfOk};
+ghost use Rattle.rd_base.specs.Chars.{raw_code};
 ghost use Rattle.rd_script.specs.Forms.{IsRawByte};
 ghost use Rattle.rd_state.specs.Steps.{raw_text};
 
@@ -17,7 +18,7 @@ pub(crate) fn raw_text(alloc: Global, bytes: &[u8]) -> Result<ListOf<Ch>, Memory
 /// The character of a raw byte.
 fn raw_character(byte: u8) -> Ch
     requires { 128 ≤ byte }
-    ensures { result ≡ 1114112 + byte }
+    ensures { result ≡ raw_code byte }
 {
     match Ch::raw(byte) {
         Some(ch) => ch,

@@ -2,7 +2,7 @@
 use Rattle.std.specs.Prelude.{◌≡◌, ℕ, zero, suc, ◌+◌, ◌-◌, ◌<◌, ◌≤◌, ◌==◌, nat_lt, nat_le, min, Bool, true, false, if◌then◌else◌, ◌&&◌, ◌||◌, not, List, [], ◌∷◌, length, replicate, map, Option, None, Some, IfSome, slice_set, slice_index_or, fold}
 use Rattle.rd_base.specs.Chars.{columns_of}
 use Rattle.rd_base.specs.declared.limits.TheConstants.{FRAME_COLUMNS, FRAME_ROWS}
-use Rattle.rd_base.specs.Cells.{single, with_mark, row_at}
+use Rattle.rd_base.specs.Cells.{single, with_mark, takes_mark, row_at}
 use Rattle.rd_base.specs.Faces.{Attributes}
 use Rattle.rd_base.specs.Glyphs.{glyph_cells}
 use Rattle.rd_base.specs.declared.cell.Glyph.{Glyph}
@@ -148,9 +148,9 @@ put code columns (Some face) (Some place) t =
 put code columns (Some face) None t = confuse t
 put code columns None place t = confuse t
 
--- the cell of a glyph with one more mark, where it has fewer than six
+-- the cell of a glyph with one more mark
 abbrev pub joined_cell : ℕ → Glyph → Attributes → Option Cell
-joined_cell code g face = if nat_lt g.count 6 then Some (First (with_mark g code) face) else None
+joined_cell code g face = if takes_mark g then Some (First (with_mark g code) face) else None
 
 -- a cell with one more mark: a blank counts as a space
 abbrev pub marked : ℕ → Option Cell → Option Cell

@@ -6,10 +6,11 @@ use Rattle.std.proofs.lemmas.Bool.{cases_Bool}
 use Rattle.std.proofs.lemmas.Bool.Decides.{nat_tests}
 use Rattle.std.proofs.lemmas.List.{get_or_append_left, get_or-append_right}
 use Rattle.std.proofs.lemmas.List.Elements.{recursion_from_All, All-from_recursion, All-append, All-get_or}
+use Rattle.std.specs.Int.{from_bool}
 use Rattle.rd_base.proofs.Lists.{all-front, all-back, get-first, get-second}
 use Rattle.rd_base.proofs.Rows.{behind-whole}
 use Rattle.rd_base.specs.declared.cell.Cell.{Cell}
-use Rattle.rd_base.specs.Cells.{IsColoured, AreColoured, bit_of, row_at}
+use Rattle.rd_base.specs.Cells.{IsColoured, AreColoured, row_at}
 use Rattle.rd_base.specs.Glyphs.{IsRowAfter}
 use Rattle.rd_tree.specs.declared.rect.Rect.{Rect}
 use Rattle.rd_tree.specs.declared.side.Side.{Side}
@@ -131,7 +132,7 @@ some_holds column row (window ∷ windows) p =
 
 pub composed-held : (windows : Windows) (rect : Rect) (column row : ℕ) → HasRoom windows rect → lies_in column row rect ≡ true → IsHeld column row (placed windows rect)
 composed-held windows rect column row h l =
-    let once : bit_of (lies_in column row rect) ≡ 1 = rw l refl in
+    let once : from_bool (lies_in column row rect) ≡ 1 = rw l refl in
     some_holds column row (placed windows rect) (omega (arith, one_window windows rect h column row))
 
 both-each : {C : Type 0} (P : List C → Type 0) → ((left right : List C) → P left → P right → P (left ++ right)) → (side : Side) (firsts seconds : List (List C)) → All P firsts → All P seconds → All P (both_parts side firsts seconds)

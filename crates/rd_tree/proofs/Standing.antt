@@ -10,7 +10,7 @@ use Rattle.std.proofs.lemmas.List.Folds.{list_any-append}
 use Rattle.std.specs.Option.{option_map, option_or}
 use Rattle.rd_base.proofs.Choices.{none-of}
 use Rattle.rd_base.proofs.Lists.{each-append, found-passes, total-append}
-use Rattle.rd_base.specs.Cells.{bit_of}
+use Rattle.std.specs.Int.{from_bool}
 use Rattle.rd_tree.specs.declared.rect.Rect.{Rect}
 use Rattle.rd_tree.specs.declared.side.Side.{Side}
 use Rattle.rd_tree.specs.declared.side.Side.TheVariants.{Below, Right}
@@ -22,32 +22,32 @@ use Rattle.rd_tree.proofs.Rooms.{rows_for-some, room_within, of_number-append}
 use Rattle.rd_tree.proofs.Keeping.{found_held, placed_among, by_way, resized_same}
 
 -- a place in a range that is cut is in one of the two parts
-is_from-cut : (first size whole place : ℕ) → size ≤ whole → bit_of (is_from first size place) + bit_of (is_from (first + size) (whole - size) place) ≡ bit_of (is_from first whole place)
+is_from-cut : (first size whole place : ℕ) → size ≤ whole → from_bool (is_from first size place) + from_bool (is_from (first + size) (whole - size) place) ≡ from_bool (is_from first whole place)
 is_from-cut first size whole place h = grind (arith, nat_tests)
 
-bit_of-and : (a b c other : Bool) → bit_of a + bit_of b ≡ bit_of c → bit_of (a && other) + bit_of (b && other) ≡ bit_of (c && other)
-bit_of-and a b c true e = rw (and-true a, and-true b, and-true c) e
-bit_of-and a b c false e = rw (and-false a, and-false b, and-false c)
+from_bool-and : (a b c other : Bool) → from_bool a + from_bool b ≡ from_bool c → from_bool (a && other) + from_bool (b && other) ≡ from_bool (c && other)
+from_bool-and a b c true e = rw (and-true a, and-true b, and-true c) e
+from_bool-and a b c false e = rw (and-false a, and-false b, and-false c)
 
-and_bit_of : (other a b c : Bool) → bit_of a + bit_of b ≡ bit_of c → bit_of (other && a) + bit_of (other && b) ≡ bit_of (other && c)
-and_bit_of true a b c e = e
-and_bit_of false a b c e = refl
+and_from_bool : (other a b c : Bool) → from_bool a + from_bool b ≡ from_bool c → from_bool (other && a) + from_bool (other && b) ≡ from_bool (other && c)
+and_from_bool true a b c e = e
+and_from_bool false a b c e = refl
 
-parts_hold : (column row : ℕ) (side : Side) (size : ℕ) (first second : Windows) (rect : Rect) → HasRoom (Split side size first second) rect → bit_of (lies_in column row (first_part side size rect)) + bit_of (lies_in column row (second_part side size rect)) ≡ bit_of (lies_in column row rect)
+parts_hold : (column row : ℕ) (side : Side) (size : ℕ) (first second : Windows) (rect : Rect) → HasRoom (Split side size first second) rect → from_bool (lies_in column row (first_part side size rect)) + from_bool (lies_in column row (second_part side size rect)) ≡ from_bool (lies_in column row rect)
 parts_hold column row Right size first second rect h =
-    bit_of-and (is_from rect.x size column) (is_from (rect.x + size) (rect.width - size) column) (is_from rect.x rect.width column) (is_from rect.y rect.height row)
+    from_bool-and (is_from rect.x size column) (is_from (rect.x + size) (rect.width - size) column) (is_from rect.x rect.width column) (is_from rect.y rect.height row)
     (is_from-cut rect.x size rect.width column (room_within Right size first second rect h).0)
 parts_hold column row Below size first second rect h =
-    and_bit_of (is_from rect.x rect.width column) (is_from rect.y size row) (is_from (rect.y + size) (rect.height - size) row) (is_from rect.y rect.height row)
+    and_from_bool (is_from rect.x rect.width column) (is_from rect.y size row) (is_from (rect.y + size) (rect.height - size) row) (is_from rect.y rect.height row)
     (is_from-cut rect.y size rect.height row (room_within Below size first second rect h).0)
 
 -- each cell of the rectangle lies in one window, and no other cell does
-pub one_window : (windows : Windows) (rect : Rect) → HasRoom windows rect → (column row : ℕ) → windows_with column row (placed windows rect) ≡ bit_of (lies_in column row rect)
+pub one_window : (windows : Windows) (rect : Rect) → HasRoom windows rect → (column row : ℕ) → windows_with column row (placed windows rect) ≡ from_bool (lies_in column row rect)
 one_window (Window number mode margins) rect h column row = omega arith
 one_window (Split side size first second) rect h column row =
     let a = first_part side size rect in
     let b = second_part side size rect in
-    omega (arith, total-append (λ (window : Placed). bit_of (lies_in column row window.rect)) (placed first a) (placed second b), one_window first a h.0 column row, one_window second b h.1 column row, parts_hold column row side size first second rect h)
+    omega (arith, total-append (λ (window : Placed). from_bool (lies_in column row window.rect)) (placed first a) (placed second b), one_window first a h.0 column row, one_window second b h.1 column row, parts_hold column row side size first second rect h)
 
 pub listed : (windows : Windows) (rect : Rect) → map (λ (window : Placed). window.number) (placed windows rect) ≡ leaves windows
 listed (Window number mode margins) rect = refl

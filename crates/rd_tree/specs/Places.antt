@@ -1,7 +1,7 @@
 -- Where windows stand: what the laws of a window tree speak of.
 use Rattle.std.specs.Prelude.{ℕ, ◌+◌, ◌≤◌, Bool, if◌then◌else◌, nat_le, nat_lt, ◌==◌, ◌&&◌, List, [], ◌∷◌, ◌++◌, Option, None, Some}
 use Rattle.std.specs.List.{AllByRecursion, list_any}
-use Rattle.rd_base.specs.Cells.{bit_of}
+use Rattle.std.specs.Int.{from_bool}
 use Rattle.rd_base.specs.Lists.{total}
 use Rattle.rd_base.specs.declared.limits.TheConstants.{FRAME_COLUMNS, FRAME_ROWS, LEAST_WINDOW_COLUMNS}
 use Rattle.rd_tree.specs.declared.rect.Rect.{Rect}
@@ -18,7 +18,7 @@ lies_in column row rect = is_from rect.x rect.width column && is_from rect.y rec
 
 -- in how many of the windows a cell lies
 abbrev pub windows_with : ℕ → ℕ → List Placed → ℕ
-windows_with column row windows = total (λ window. bit_of (lies_in column row window.rect)) windows
+windows_with column row windows = total (λ window. from_bool (lies_in column row window.rect)) windows
 
 -- each window has the columns and rows that it needs
 abbrev pub AllHaveRoom : List Placed → Type 0

@@ -1,6 +1,7 @@
 //! Laws of the definitions, for the layers above.
 ghost use Rattle.std.specs.Prelude.{ℕ, ◌≡◌, ◌==◌, ◌≤◌, Bool, true, false, ◌-◌, map, is_some, slice_get, Some, List, All};
-ghost use Rattle.rd_base.specs.Cells.{AreColoured, bit_of};
+ghost use Rattle.std.specs.Int.{from_bool};
+ghost use Rattle.rd_base.specs.Cells.{AreColoured};
 ghost use Rattle.rd_base.specs.Glyphs.{IsRowAfter};
 ghost use Rattle.rd_base.specs.declared.cell.Cell.{Cell};
 ghost use Rattle.rd_tree.specs.declared.placed.Placed.{Placed};
@@ -20,7 +21,7 @@ pub fn calls_keep_trees()
 /// Each window lies in the rectangle and has the columns and rows that it needs. The leaves are the windows' numbers in order, a window is
 /// found exactly where its number is among them, and it is the one in its leaf's place. The call does nothing.
 pub fn windows_tile_their_rectangle()
-    ensures cells { (windows : Windows) (rect : Rect) → HasRoom windows rect → (column row : ℕ) → windows_with column row (placed windows rect) ≡ bit_of (lies_in column row rect) }
+    ensures cells { (windows : Windows) (rect : Rect) → HasRoom windows rect → (column row : ℕ) → windows_with column row (placed windows rect) ≡ from_bool (lies_in column row rect) }
     ensures room { (windows : Windows) (rect : Rect) → HasRoom windows rect → AllHaveRoom (placed windows rect) }
     ensures inside { (number : ℕ) (windows : Windows) (rect : Rect) (window : Placed) → HasRoom windows rect → window_at number windows rect ≡ Some window → StandsIn window rect }
     ensures listed { (windows : Windows) (rect : Rect) → map (λ window. window.number) (placed windows rect) ≡ leaves windows }

@@ -3,6 +3,7 @@ use Rattle.std.specs.Prelude.{ℕ, ◌<◌, ◌≤◌, nat_le, ◌&&◌, if◌th
 use Rattle.std.specs.List.{find}
 use Rattle.rd_base.specs.declared.class.Class.{Class}
 use Rattle.rd_base.specs.declared.class.Class.TheVariants.{L}
+use Rattle.rd_base.specs.declared.limits.TheConstants.{CODE_POINTS}
 use Rattle.rd_ucd.specs.declared.spans.Span.{Span}
 use Rattle.rd_ucd.specs.declared.spans.Pair.{Pair}
 use Rattle.rd_ucd.specs.declared.spans.Bracket.{Bracket}
@@ -27,7 +28,7 @@ class_in spans code = unwrap_or (option_map (λ s. s.class) (entry_in (λ s. s.f
 
 -- the class of a character: a raw byte, whose code is above all code points, has class L
 abbrev pub class_of : List Span → ℕ → Class
-class_of spans ch = if nat_le 1114112 ch then L else class_in spans ch
+class_of spans ch = if nat_le CODE_POINTS ch then L else class_in spans ch
 
 -- the mirrored character of a code, None where the code is not listed
 abbrev pub mirror_in : List Pair → ℕ → Option ℕ

@@ -8,6 +8,7 @@ use crate::lines::read_lines;
 use crate::listing::Listing;
 use crate::reader::Reader;
 use crate::spans::Span;
+use rd_base::limits::CODE_POINTS;
 use rd_base::{Ch, Class};
 use std::alloc::Global;
 
@@ -38,7 +39,7 @@ impl Classes {
         ensures { result ≡ class_of self.now ch }
     {
         let code = ch.code();
-        if code >= 1_114_112 {
+        if code >= CODE_POINTS {
             return Class::L;
         }
         self.entry(code).map_or(Class::L, |span| span.class)
