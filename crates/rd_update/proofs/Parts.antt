@@ -101,38 +101,31 @@ done-limit None d e = (refl, refl)
 done-limit (Some zero) d e = absurd (let h : suc d ≤ 0 = grind (arith, nat_tests) in omega arith)
 done-limit (Some (suc m)) d e = (refl, grind (arith, nat_tests))
 
-done-bytes-step : (d : Bool) (limit : Option ℕ) (count : ℕ) (a b c e f : List ℕ) → (is_done limit count ≡ true → a ≡ b) → (is_done (less_one limit) count ≡ true → e ≡ f)
-    → is_done limit (if d then suc count else count) ≡ true
-    → (if not d then a else if allows limit then c ++ e else []) ≡ (if not d then b else if allows None then c ++ f else [])
-done-bytes-step false limit count a b c e f g h t = g t
-done-bytes-step true limit count a b c e f g h t =
+-- what is made of a row and of those behind it, where the limit allows all that differ
+done-step : {A : Type 0} (d : Bool) (limit : Option ℕ) (count : ℕ) (alike more kept : A) (whole : Bool → A) → (is_done limit count ≡ true → alike ≡ whole false) → (is_done (less_one limit) count ≡ true → more ≡ whole true)
+    → is_done limit (if d then suc count else count) ≡ true → (if not d then alike else if allows limit then more else kept) ≡ whole d
+done-step false limit count alike more kept whole g h t = g t
+done-step true limit count alike more kept whole g h t =
     let parts = done-limit limit count t in
-    ap (λ x. if x then c ++ e else []) parts.0 ∙ ap (λ x. c ++ x) (h parts.1)
+    ap (λ x. if x then more else kept) parts.0 ∙ h parts.1
 
 done-bytes : (row : ℕ) (limit : Option ℕ) (olds news : List (List Cell)) → is_done limit (differing olds news) ≡ true → rows_bytes row limit olds news ≡ rows_bytes row None olds news
 done-bytes row limit [] [] t = refl
 done-bytes row limit [] (n ∷ ns) t = refl
 done-bytes row limit (o ∷ os) [] t = refl
 done-bytes row limit (o ∷ os) (n ∷ ns) t =
-    done-bytes-step (differs o n) limit (differing os ns) (rows_bytes (row + 1) limit os ns) (rows_bytes (row + 1) None os ns) (row_bytes row o n)
-    (rows_bytes (row + 1) (less_one limit) os ns) (rows_bytes (row + 1) None os ns)
-    (done-bytes (row + 1) limit os ns) (done-bytes (row + 1) (less_one limit) os ns) t
-
-done-rows-step : (d : Bool) (limit : Option ℕ) (count : ℕ) (n o : List Cell) (os ns a b : List (List Cell)) → (is_done limit count ≡ true → a ≡ ns) → (is_done (less_one limit) count ≡ true → b ≡ ns)
-    → is_done limit (if d then suc count else count) ≡ true
-    → (if not d then n ∷ a else if allows limit then n ∷ b else o ∷ os) ≡ n ∷ ns
-done-rows-step false limit count n o os ns a b g h t = ap (λ x. n ∷ x) (g t)
-done-rows-step true limit count n o os ns a b g h t =
-    let parts = done-limit limit count t in
-    ap (λ x. if x then n ∷ b else o ∷ os) parts.0 ∙ ap (λ x. n ∷ x) (h parts.1)
+    let own = row_bytes row o n in
+    done-step (differs o n) limit (differing os ns) (rows_bytes (row + 1) limit os ns) (own ++ rows_bytes (row + 1) (less_one limit) os ns) []
+    (λ d. if not d then rows_bytes (row + 1) None os ns else own ++ rows_bytes (row + 1) None os ns)
+    (done-bytes (row + 1) limit os ns) (λ h. ap (λ x. own ++ x) (done-bytes (row + 1) (less_one limit) os ns h)) t
 
 pub done-rows : (limit : Option ℕ) (olds news : List (List Cell)) → length olds ≡ length news → is_done limit (differing olds news) ≡ true → rows_after limit olds news ≡ news
 done-rows limit [] [] e t = refl
 done-rows limit [] (n ∷ ns) e t = absurd (cc)
 done-rows limit (o ∷ os) [] e t = absurd (cc)
 done-rows limit (o ∷ os) (n ∷ ns) e t =
-    done-rows-step (differs o n) limit (differing os ns) n o os ns (rows_after limit os ns) (rows_after (less_one limit) os ns)
-    (done-rows limit os ns (omega arith)) (done-rows (less_one limit) os ns (omega arith)) t
+    done-step (differs o n) limit (differing os ns) (n ∷ rows_after limit os ns) (n ∷ rows_after (less_one limit) os ns) (o ∷ os) (λ d. n ∷ ns)
+    (λ h. ap (λ x. n ∷ x) (done-rows limit os ns (omega arith) h)) (λ h. ap (λ x. n ∷ x) (done-rows (less_one limit) os ns (omega arith) h)) t
 
 -- ---- what is sent
 
