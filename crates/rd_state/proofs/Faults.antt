@@ -13,7 +13,7 @@ use Rattle.rd_objects.specs.declared.run.Run.{Run}
 use Rattle.rd_objects.specs.declared.run.RunKind.{RunKind}
 use Rattle.rd_objects.specs.declared.run.RunKind.TheVariants.{Face, Display}
 use Rattle.rd_script.specs.declared.object.OpRun.{OpRun}
-use Rattle.rd_state.specs.Held.{narrowed}
+use Rattle.rd_state.specs.Held.{capped_run}
 use Rattle.rd_state.specs.Making.{unless_fault, run_of, string_making}
 
 no-fault : (a b c d : Bool) → ◌≡◌ {A = Option ObjectFault} (if not a then Some NoObject else (if not b then Some OutOfRange else (if c then Some TooLong else (if d then Some TooMany else None)))) None
@@ -33,13 +33,13 @@ module _ (o : ObjectLists) (sound : AreObjects o) where
   few-specs : length o.specs ≤ STRINGS
   few-specs = let few = sound.few_specs in omega arith
 
-  made-same : (size : ℕ) (run : OpRun) → is_made o (narrowed size run) ≡ is_made o (run_of run)
+  made-same : (size : ℕ) (run : OpRun) → is_made o (capped_run size run) ≡ is_made o (run_of run)
   made-same size run = by run.kind where
     by : (kind : RunKind) → is_numbered kind (length o.faces) (length o.specs) (min run.value STRINGS) ≡ is_numbered kind (length o.faces) (length o.specs) run.value
     by Face = below (length o.faces) run.value few-faces
     by Display = below (length o.specs) run.value few-specs
 
-  inside-same : (size : ℕ) (run : OpRun) → is_inside size (narrowed size run) ≡ is_inside size (run_of run)
+  inside-same : (size : ℕ) (run : OpRun) → is_inside size (capped_run size run) ≡ is_inside size (run_of run)
   inside-same size run = by (is_inside size (run_of run)) refl where
     by : (t : Bool) → is_inside size (run_of run) ≡ t → (nat_le (if t then min run.from 4294967295 else 1) (if t then min run.to 4294967295 else 0) && nat_le (if t then min run.to 4294967295 else 0) size) ≡ t
     by true h =
@@ -50,7 +50,7 @@ module _ (o : ObjectLists) (sound : AreObjects o) where
     by false h = refl
 
   -- a run that is as it must be has its own numbers
-  run-same : (size : ℕ) (run : OpRun) → size ≤ STRING_CHARACTERS → is_made o (run_of run) ≡ true → is_inside size (run_of run) ≡ true → narrowed size run ≡ run_of run
+  run-same : (size : ℕ) (run : OpRun) → size ≤ STRING_CHARACTERS → is_made o (run_of run) ≡ true → is_inside size (run_of run) ≡ true → capped_run size run ≡ run_of run
   run-same size run short made inside =
       let parts = and_parts (nat_le run.from run.to) (nat_le run.to size) inside in
       let ordered = leb-true run.from run.to parts.0 in
@@ -68,7 +68,7 @@ module _ (o : ObjectLists) (sound : AreObjects o) where
       by Display h = let less = ltb-true run.value (length o.specs) h in let few = few-specs in omega arith
 
   runs-same : (size : ℕ) (runs : List OpRun) → size ≤ STRING_CHARACTERS → list_all (λ run. is_made o (run_of run)) runs ≡ true → list_all (λ run. is_inside size (run_of run)) runs ≡ true
-      → map (narrowed size) runs ≡ map run_of runs
+      → map (capped_run size) runs ≡ map run_of runs
   runs-same size [] short made inside = refl
   runs-same size (run ∷ runs) short made inside =
       let m = and_parts (is_made o (run_of run)) (list_all (λ r. is_made o (run_of r)) runs) made in
@@ -77,11 +77,11 @@ module _ (o : ObjectLists) (sound : AreObjects o) where
       let rest = runs-same size runs short m.1 n.1 in
       λ i. one i ∷ rest i
 
-  pub string-narrowed : (text : List ℕ) (runs : List OpRun)
-      → string_making o text runs ≡ unless_fault (string_fault o text (map (narrowed (length text)) runs)) (string_added o text (map (narrowed (length text)) runs))
-  string-narrowed text runs =
+  pub string-capped : (text : List ℕ) (runs : List OpRun)
+      → string_making o text runs ≡ unless_fault (string_fault o text (map (capped_run (length text)) runs)) (string_added o text (map (capped_run (length text)) runs))
+  string-capped text runs =
       by (string_fault o text (map run_of runs)) refl
-      ∙ ap (λ (f : Option ObjectFault). unless_fault f (string_added o text (map (narrowed (length text)) runs)))
+      ∙ ap (λ (f : Option ObjectFault). unless_fault f (string_added o text (map (capped_run (length text)) runs)))
       (λ i. if not (made i) then Some NoObject else (if not (inside i) then Some OutOfRange else (if nat_lt STRING_CHARACTERS (length text) then Some TooLong else (if nat_le STRINGS (length o.strings) then Some TooMany else None))))
     where
       made-of : list_all (is_made o) (map run_of runs) ≡ list_all (λ run. is_made o (run_of run)) runs
@@ -90,14 +90,14 @@ module _ (o : ObjectLists) (sound : AreObjects o) where
       inside-of : list_all (is_inside (length text)) (map run_of runs) ≡ list_all (λ run. is_inside (length text) (run_of run)) runs
       inside-of = list_all-map (is_inside (length text)) run_of runs
 
-      made : list_all (is_made o) (map run_of runs) ≡ list_all (is_made o) (map (narrowed (length text)) runs)
-      made = made-of ∙ ((λ i. list_all (λ run. sym (made-same (length text) run) i) runs) ∙ sym (list_all-map (is_made o) (narrowed (length text)) runs))
+      made : list_all (is_made o) (map run_of runs) ≡ list_all (is_made o) (map (capped_run (length text)) runs)
+      made = made-of ∙ ((λ i. list_all (λ run. sym (made-same (length text) run) i) runs) ∙ sym (list_all-map (is_made o) (capped_run (length text)) runs))
 
-      inside : list_all (is_inside (length text)) (map run_of runs) ≡ list_all (is_inside (length text)) (map (narrowed (length text)) runs)
-      inside = inside-of ∙ ((λ i. list_all (λ run. sym (inside-same (length text) run) i) runs) ∙ sym (list_all-map (is_inside (length text)) (narrowed (length text)) runs))
+      inside : list_all (is_inside (length text)) (map run_of runs) ≡ list_all (is_inside (length text)) (map (capped_run (length text)) runs)
+      inside = inside-of ∙ ((λ i. list_all (λ run. sym (inside-same (length text) run) i) runs) ∙ sym (list_all-map (is_inside (length text)) (capped_run (length text)) runs))
 
       by : (fault : Option ObjectFault) → string_fault o text (map run_of runs) ≡ fault
-          → unless_fault fault (string_added o text (map run_of runs)) ≡ unless_fault fault (string_added o text (map (narrowed (length text)) runs))
+          → unless_fault fault (string_added o text (map run_of runs)) ≡ unless_fault fault (string_added o text (map (capped_run (length text)) runs))
       by (Some fault) h = refl
       by None h =
           let none = no-fault (list_all (is_made o) (map run_of runs)) (list_all (is_inside (length text)) (map run_of runs)) (nat_lt STRING_CHARACTERS (length text)) (nat_le STRINGS (length o.strings)) h in

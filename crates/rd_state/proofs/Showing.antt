@@ -131,9 +131,9 @@ showing-valid s number name v =
 
 -- ---- the tree
 
-good-format : (format : Option (List ℕ)) → IsFormat format → format_fault format ≡ None → IfSome format IsGoodFormat
-good-format None form h = tt
-good-format (Some text) form h = record { plain = form; good = h }
+format-in-form : (format : Option (List ℕ)) → IsFormat format → format_fault format ≡ None → IfSome format IsGoodFormat
+format-in-form None form h = tt
+format-in-form (Some text) form h = record { plain = form; good = h }
 
 both-parts : (x : Leaf) → ◌≡◌ {A = Leaf} (x.0, x.1) x
 both-parts (mode, margins) = refl
@@ -168,7 +168,7 @@ mode_lining-valid s number format v form =
     (λ w lives. unless IsValid (format_fault format) _
     (λ good. retold-valid s number (λ old. record old { format = format }) (λ x. (shown, x.1)) (mode_tree s.tree number shown) v
     (λ d at. (mode_keeps s.tree d number shown v.windows.tree at, (mode-means s.tree d number shown at).2)) (λ x. refl)
-    (λ x old. window-still s.buffers (record x { format = format }) old.made old.point old.anchor old.pending old.hscroll (good-format format form good) old.numbers old.strings)))
+    (λ x old. window-still s.buffers (record x { format = format }) old.made old.point old.anchor old.pending old.hscroll (format-in-form format form good) old.numbers old.strings)))
 
 pub margining-valid : (s : StateValue) (number numbers strings : ℕ) → IsValid s → numbers ≤ 10 → strings ≤ 20 → IfOk (margining s number numbers strings) IsValid
 margining-valid s number numbers strings v few some =

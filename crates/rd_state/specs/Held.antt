@@ -30,8 +30,8 @@ IsFitting (WrapPrefix number) = IfSome number (λ n. n < 4294967296)
 IsFitting setting = Unit {0}
 
 -- a run in 32 bits: one that does not lie in a string of this length lies in none, and one of an object that was not made is of none
-abbrev pub narrowed : ℕ → OpRun → Run
-narrowed size run = record {
+abbrev pub capped_run : ℕ → OpRun → Run
+capped_run size run = record {
   from = if is_inside size (run_of run) then min run.from 4294967295 else 1;
   to = if is_inside size (run_of run) then min run.to 4294967295 else 0;
   kind = run.kind;

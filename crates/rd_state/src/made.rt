@@ -42,8 +42,8 @@ fn is_value(objects: &Objects, kind: Kind, number: u64) -> bool
     ensures small { result ≡ true → IsPropertyValue kind (Some number) → number < 4294967296 }
 {
     match kind {
-        Kind::Face => objects.face(narrow(number)).is_some(),
-        Kind::Display => objects.spec(narrow(number)).is_some(),
+        Kind::Face => objects.face(capped(number)).is_some(),
+        Kind::Display => objects.spec(capped(number)).is_some(),
         Kind::Invisible => true,
         Kind::LinePrefix => is_made_string(objects, number),
         Kind::WrapPrefix => is_made_string(objects, number),
@@ -74,7 +74,7 @@ pub(crate) fn names_made(objects: &Objects, setting: &Setting) -> bool
     ensures small { result ≡ true → IsFitting setting.now }
 {
     match setting {
-        Setting::Table(Some(number)) => objects.table(narrow(*number)).is_some(),
+        Setting::Table(Some(number)) => objects.table(capped(*number)).is_some(),
         Setting::LinePrefix(Some(number)) => is_made_string(objects, *number),
         Setting::WrapPrefix(Some(number)) => is_made_string(objects, *number),
         _ => true,
@@ -87,11 +87,11 @@ fn is_made_string(objects: &Objects, number: u64) -> bool
     ensures value { result ≡ is_made (length objects.now.strings) (Some number) }
     ensures small { result ≡ true → number < 4294967296 }
 {
-    objects.string(narrow(number)).is_some()
+    objects.string(capped(number)).is_some()
 }
 
 /// The number of an object in 32 bits. One that is past all objects stays past them.
-pub(crate) fn narrow(number: u64) -> u32
+pub(crate) fn capped(number: u64) -> u32
     ensures { result ≡ min number STRINGS }
 {
     number.min(MOST_NUMBERS) as u32

@@ -4,10 +4,10 @@ ghost use Rattle.rd_objects.specs.Things.{string_fault, string_added};
 ghost use Rattle.rd_script.specs.Forms.{IsSpecInForm};
 ghost use Rattle.rd_objects.specs.Sound.{AreObjects};
 ghost use Rattle.rd_state.specs.Answers.{Answers};
-ghost use Rattle.rd_state.specs.Held.{narrowed};
+ghost use Rattle.rd_state.specs.Held.{capped_run};
 ghost use Rattle.rd_state.specs.Making.{unless_fault, string_making, spec_making, face_making, table_making};
 
-use crate::made::narrow;
+use crate::made::capped;
 use crate::refused::Refused;
 use rd_base::{Ch, Face, mapped};
 use rd_objects::{Objects, Run, Spec, Table};
@@ -25,7 +25,7 @@ pub(crate) fn add_string(
     ensures { Answers result (string_making objects.old text.now runs.now) objects.old objects.new }
 {
     let size = text.len();
-    let runs = mapped(alloc, runs, |run| narrowed(size, *run))?;
+    let runs = mapped(alloc, runs, |run| capped_run(size, *run))?;
     add_runs(objects, text, runs.as_slice())
 }
 
@@ -38,15 +38,15 @@ fn add_runs(objects: &mut Objects, text: &[Ch], runs: &[Run]) -> Result<(), Refu
 }
 
 /// A run in 32 bits. One that does not lie in a string of this length lies in none, and one of an object that was not made is of none.
-fn narrowed(size: usize, run: OpRun) -> Run
-    ensures { result ≡ narrowed size run }
+fn capped_run(size: usize, run: OpRun) -> Run
+    ensures { result ≡ capped_run size run }
 {
     let inside = run.from <= run.to && run.to <= size as u64;
     Run {
         from: if_inside(inside, run.from, 1),
         to: if_inside(inside, run.to, 0),
         kind: run.kind,
-        value: narrow(run.value),
+        value: capped(run.value),
     }
 }
 
@@ -68,7 +68,7 @@ pub(crate) fn add_spec(objects: &mut Objects, spec: OpSpec) -> Result<(), Refuse
     ensures { Answers result (spec_making objects.old spec) objects.old objects.new }
 {
     let spec = match spec {
-        OpSpec::Text(number) => Spec::Text(narrow(number)),
+        OpSpec::Text(number) => Spec::Text(capped(number)),
         OpSpec::Width(columns) => Spec::Width(columns),
         OpSpec::Align(column) => Spec::Align(column),
     };

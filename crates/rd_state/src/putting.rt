@@ -137,7 +137,7 @@ impl StateParts {
     }
 }
 
-/// The text of a buffer from one position up to another may look otherwise.
+/// The effect that the text of a buffer from one position up to another may look otherwise.
 fn restyled(buffer: u32, from: Pos, to: Pos) -> Effect
     ensures { result ≡ restyled buffer from to }
 {

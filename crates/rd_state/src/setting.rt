@@ -18,22 +18,19 @@ pub(crate) fn put(settings: &mut Settings, setting: Setting)
         Setting::CtlArrow(flag) => settings.ctl_arrow = flag,
         Setting::Direction(direction) => settings.direction = direction,
         Setting::Reorder(flag) => settings.reorder = flag,
-        Setting::Table(number) => settings.table = narrow(number),
+        Setting::Table(number) => settings.table = in_32_bits(number),
         Setting::Invisible(invisible) => settings.invisible = invisible,
-        Setting::LinePrefix(number) => settings.line_prefix = narrow(number),
-        Setting::WrapPrefix(number) => settings.wrap_prefix = narrow(number),
+        Setting::LinePrefix(number) => settings.line_prefix = in_32_bits(number),
+        Setting::WrapPrefix(number) => settings.wrap_prefix = in_32_bits(number),
         Setting::Modified(flag) => settings.modified = flag,
         Setting::ReadOnly(flag) => settings.read_only = flag,
     }
 }
 
 /// A number in 32 bits, where there is one.
-fn narrow(number: Option<u64>) -> Option<u32>
+fn in_32_bits(number: Option<u64>) -> Option<u32>
     requires { IfSome number (λ n. n < 4294967296) }
     ensures { result ≡ number }
 {
-    match number {
-        Some(n) => Some(n as u32),
-        None => None,
-    }
+    Some(number? as u32)
 }
