@@ -1,6 +1,6 @@
 -- What an item shows has elements exactly where it is said to give one.
 use Rattle.std.proofs.Common.{◌≡◌, ◌⊎◌, ℕ, ◌+◌, ◌-◌, ◌≤◌, Bool, true, false, cond, not, ◌||◌, List, [], ◌∷◌, ◌++◌, length, map, get_or, inl, inr, Option, None, Some, refl, ap, ap₂, sym, ◌∙◌, subst, arith, nat_eq, length-append}
-use Rattle.std.specs.Prelude.{is_some, if◌then◌else◌, slice_get, option_map}
+use Rattle.std.specs.Prelude.{is_some, slice_get}
 use Rattle.std.specs.Option.{unwrap_or}
 use Rattle.std.specs.List.{AllByRecursion, flat_map, list_any, position_or_len, range_with_len}
 use Rattle.std.proofs.lemmas.Bool.{and_parts, both_ways, cond_both, eqb-true, false_from_ne_true, not-true, or_cases, or_left, or_parts, or_right}
@@ -20,8 +20,8 @@ use Rattle.rd_objects.specs.declared.run.Spec.TheVariants.{Text}
 use Rattle.rd_text.specs.Texts.{is_newline}
 use Rattle.rd_glyphs.specs.Characters.{PartValues, glyph_elements, entry_of, elements_by, elements_of, shown_as}
 use Rattle.rd_glyphs.specs.MarkRoles.{is_empty_entry, base_of, mark_of, mark_role_by}
-use Rattle.rd_glyphs.proofs.Joined.{Grows}
-use Rattle.rd_glyphs.specs.Marks.{marked_glyph, marks_joined_from, marks_joined}
+use Rattle.rd_glyphs.proofs.Joined.{Grows, joined-by}
+use Rattle.rd_glyphs.specs.Marks.{marked_glyph, marks_joined}
 use Rattle.rd_items.specs.Pieces.{Scene, gives_element, give_elements, string_gives, ellipsis_gives}
 use Rattle.rd_items.specs.Items.{kind_gives}
 use Rattle.rd_items.specs.declared.item.ItemKind.{ItemKind}
@@ -110,22 +110,21 @@ order-some law s base origin xs h =
 
 -- marks that join take no part away without another that gives an element
 
-held-gives : (s : Scene) (held x : Part) (m : Option Glyph) (rest : List Part)
-    → (part_gives s held.kind ≡ true) ⊎ ((part_gives s x.kind || some_gives s rest) ≡ true)
-    → ((y : Part) → (part_gives s y.kind ≡ true) ⊎ (some_gives s rest ≡ true) → some_gives s (marks_joined_from part_joins y rest) ≡ true)
-    → some_gives s ((if is_some (option_map (λ glyph. part_joins.grown held glyph x) m) then [] else held ∷ []) ++ marks_joined_from part_joins (unwrap_or (option_map (λ glyph. part_joins.grown held glyph x) m) x) rest) ≡ true
-held-gives s held x (Some g) rest h later = later (part_joins.grown held g x) (inl refl)
-held-gives s held x None rest (inl h) later = or_left (part_gives s held.kind) (some_gives s (marks_joined_from part_joins x rest)) h
-held-gives s held x None rest (inr h) later = or_right (part_gives s held.kind) (some_gives s (marks_joined_from part_joins x rest)) (later x (or_cases (part_gives s x.kind) (some_gives s rest) h))
+abbrev StillGives : Scene → Part → List Part → List Part → Type 0
+StillGives s held xs ys = (part_gives s held.kind ≡ true) ⊎ (some_gives s xs ≡ true) → some_gives s ys ≡ true
 
-marks_joined_from-gives : (s : Scene) (held : Part) (xs : List Part) → (part_gives s held.kind ≡ true) ⊎ (some_gives s xs ≡ true) → some_gives s (marks_joined_from part_joins held xs) ≡ true
-marks_joined_from-gives s held [] (inl h) = or_left (part_gives s held.kind) false h
-marks_joined_from-gives s held [] (inr h) = absurd (let q : false ≡ true = h in cc)
-marks_joined_from-gives s held (x ∷ xs) h = held-gives s held x (marked_glyph (part_joins.base held) (part_joins.mark x)) xs h (λ y. marks_joined_from-gives s y xs)
+alone-gives : (s : Scene) (held : Part) → StillGives s held [] (held ∷ [])
+alone-gives s held (inl h) = or_left (part_gives s held.kind) false h
+alone-gives s held (inr h) = absurd (let q : false ≡ true = h in cc)
+
+apart-gives : (s : Scene) (held next : Part) (xs ys : List Part) → StillGives s next xs ys → StillGives s held (next ∷ xs) (held ∷ ys)
+apart-gives s held next xs ys rest (inl h) = or_left (part_gives s held.kind) (some_gives s ys) h
+apart-gives s held next xs ys rest (inr h) = or_right (part_gives s held.kind) (some_gives s ys) (rest (or_cases (part_gives s next.kind) (some_gives s xs) h))
 
 marks_joined-gives : (s : Scene) (xs : List Part) → some_gives s xs ≡ true → some_gives s (marks_joined part_joins xs) ≡ true
 marks_joined-gives s [] h = h
-marks_joined-gives s (x ∷ xs) h = marks_joined_from-gives s x xs (or_cases (part_gives s x.kind) (some_gives s xs) h)
+marks_joined-gives s (x ∷ xs) h =
+    joined-by part_joins (StillGives s) (alone-gives s) (apart-gives s) (λ held next glyph ys zs e rest some. rest (inl refl)) x xs (or_cases (part_gives s x.kind) (some_gives s xs) h)
 
 gives-append : (s : Scene) (xs ys : List Part) → (some_gives s xs ≡ true) ⊎ (some_gives s ys ≡ true) → some_gives s (xs ++ ys) ≡ true
 gives-append s xs ys (inl h) = list_any-append (λ (x : Part). part_gives s x.kind) xs ys ∙ or_left (some_gives s xs) (some_gives s ys) h

@@ -3,7 +3,7 @@ use Rattle.std.proofs.Common.{◌≡◌, ◌⊎◌, inl, inr, ℕ, zero, suc, �
 use Rattle.std.specs.Prelude.{pos, ◌-ℤ◌, slice_get}
 use Rattle.std.specs.List.{list_all}
 use Rattle.std.specs.Ordering.{int_eq}
-use Rattle.std.proofs.lemmas.Bool.{and_parts, both_ways, leb-true, not-true, or_cases}
+use Rattle.std.proofs.lemmas.Bool.{and_parts, leb-true, or_cases}
 use Rattle.std.proofs.lemmas.Bool.Decides.{nat_tests, Decides-eqb, Decides-int_eq}
 use Rattle.std.proofs.lemmas.Int.{ints}
 use Rattle.std.proofs.lemmas.Option.{same_Some}
@@ -19,6 +19,7 @@ use Rattle.rd_props.specs.Made.{AreMade}
 use Rattle.rd_items.specs.Blocks.{AreListed, IsBlock}
 use Rattle.rd_items.specs.Pieces.{scene_in}
 use Rattle.rd_items.specs.Readings.{reading}
+use Rattle.rd_matrix.proofs.Counting.{behind-first, ends-alone}
 use Rattle.rd_matrix.specs.Blocks.{IsAmong, first_start}
 use Rattle.rd_matrix.specs.Entries.{shown_entry}
 use Rattle.rd_matrix.specs.Sources.{IsSource}
@@ -41,14 +42,6 @@ use Rattle.rd_blocks.proofs.SameReading.{reads-before, reads-behind}
 
 -- ---- rows up to the first that ends the block
 
-alone : (r : RowMeaning) (rs : List RowMeaning) → r.ends_block ≡ true → ends_last (r ∷ rs) ≡ true → rs ≡ []
-alone r [] ends last = refl
-alone r (s ∷ rs) ends last = absurd (both_ways r.ends_block (not-true r.ends_block (and_parts (not r.ends_block) (ends_last (s ∷ rs)) last).0) ends)
-
-behind-first : (r : RowMeaning) (rs : List RowMeaning) → r.ends_block ≡ false → ends_last (r ∷ rs) ≡ true → ends_last rs ≡ true
-behind-first r [] goes last = cc
-behind-first r (s ∷ rs) goes last = (and_parts (not r.ends_block) (ends_last (s ∷ rs)) last).1
-
 -- each older row that is found stands at its number among these
 abbrev AreFound : List Entry → Change → ℕ → ℕ → List RowMeaning → Type 0
 AreFound es c start k rest = (j i : ℕ) (e : Entry) → i ≡ k + j → entry_under es c start i ≡ Some e → slice_get rest j ≡ Some e.row.shown
@@ -57,7 +50,7 @@ one-more : (e : Entry) (r : RowMeaning) (rs : List RowMeaning) (older : List Row
     → ends_last (shown_rows (e.row ∷ (if ends then [] else older))) ≡ true → (ends_last rs ≡ true → ends_last (shown_rows older) ≡ true → shown_rows older ≡ rs)
     → shown_rows (e.row ∷ (if ends then [] else older)) ≡ r ∷ rs
 one-more e r rs older true same ends last whole later =
-    ap (λ (x : RowMeaning). x ∷ []) same ∙ ap (λ (xs : List RowMeaning). r ∷ xs) (sym (alone r rs ends last))
+    ap (λ (x : RowMeaning). x ∷ []) same ∙ ap (λ (xs : List RowMeaning). r ∷ xs) (sym (ends-alone r rs ends last))
 one-more e r rs older false same ends last whole later =
     let here : e.row.shown.ends_block ≡ false = ap (λ (x : RowMeaning). x.ends_block) same ∙ ends in
     let rest = later (behind-first r rs ends last) (behind-first e.row.shown (shown_rows older) here whole) in

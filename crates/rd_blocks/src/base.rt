@@ -34,7 +34,7 @@ pub(crate) fn base_of(view: View, known: &mut Option<Paragraph>, near: Pos, star
     }
 }
 
-/// The paragraph of a position: the one that is known, further, where it reaches `near`, and else the one that is found.
+/// The paragraph of a position: gone on to from the known one where that reaches `near`, and else found in the text.
 fn paragraph_of(view: View, known: Option<Paragraph>, near: Pos, pos: Pos) -> Paragraph
     requires known { IfSome known (λ p. IsKnown view.classes.now view.state.now.text p) }
     requires place { IsAccessible view.state.now.text pos }
@@ -49,7 +49,7 @@ fn paragraph_of(view: View, known: Option<Paragraph>, near: Pos, pos: Pos) -> Pa
     }
 }
 
-/// A paragraph that is known, or one of those behind it, so far that it holds a position.
+/// The paragraph that holds a position, found from a known one by going on line by line.
 fn further(view: View, known: Paragraph, pos: Pos) -> Paragraph
     requires known { IsKnown view.classes.now view.state.now.text known }
     requires from { known.from ≤ pos }

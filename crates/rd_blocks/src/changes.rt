@@ -1,4 +1,4 @@
-//! That the changes of edits, joined, lead from a state of a buffer to each later one.
+//! The law of changes: those of edits, joined, lead from a state of a buffer to each later one.
 ghost use Rattle.std.specs.Prelude.{◌≡◌, ◌≤◌, ℕ};
 ghost use Rattle.rd_objects.specs.Sound.{IsClosed, Extends};
 ghost use Rattle.rd_objects.specs.Things.{ObjectLists};

@@ -7,7 +7,7 @@ ghost use Rattle.rd_rows.specs.Examples.{text};
 ghost use Rattle.rd_reuse.specs.Changes.{all, edit, none};
 ghost use Rattle.rd_blocks.specs.Examples.{buffer, two_lines, hidden_at, narrowed_to, with_prefixes, prefixed, with_marks, arrows, no_objects, marks, cut_by, going_on, bases_of, cells_of, keeping};
 
-/// Two blocks of which the second has a letter that is read from the right, and the same with other settings of the direction.
+/// Two blocks of which the second has a letter that is read from the right, by each setting of the direction.
 fn blocks_with_their_bases()
     ensures text { bases_of (two_lines true Auto) ≡ record { start = 1; end = 3; base = 0 } ∷ record { start = 3; end = 5; base = 0 } ∷ [] }
     ensures right { bases_of (two_lines true Right) ≡ record { start = 1; end = 3; base = 1 } ∷ record { start = 3; end = 5; base = 1 } ∷ [] }
@@ -35,7 +35,7 @@ fn a_row_scrolled_sideways()
     ensures whole { cells_of (cut_by 0) (buffer (97 ∷ 98 ∷ 99 ∷ 100 ∷ 101 ∷ 102 ∷ 103 ∷ 104 ∷ 105 ∷ 106 ∷ 107 ∷ 108 ∷ 109 ∷ 110 ∷ 111 ∷ 112 ∷ [])) no_objects (record { start = 1; end = 18; base = 0 }) ≡ text (97 ∷ 98 ∷ 99 ∷ 100 ∷ 101 ∷ 102 ∷ 103 ∷ 104 ∷ 105 ∷ 106 ∷ 107 ∷ 36 ∷ []) ∷ [] }
 {}
 
-/// Twelve letters behind the settings' prefixes; the same where the first letter has a line prefix of its own; and an empty block,
+/// Twelve letters behind the settings' prefixes; letters of which the first has a line prefix of its own; and an empty block,
 /// which has the setting's prefix alone.
 fn rows_behind_prefixes()
     ensures settings { cells_of going_on (with_prefixes (97 ∷ 98 ∷ 99 ∷ 100 ∷ 101 ∷ 102 ∷ 103 ∷ 104 ∷ 105 ∷ 106 ∷ 107 ∷ 108 ∷ [])) arrows (record { start = 1; end = 14; base = 0 }) ≡ text (62 ∷ 32 ∷ 97 ∷ 98 ∷ 99 ∷ 100 ∷ 101 ∷ 102 ∷ 103 ∷ 104 ∷ 105 ∷ 92 ∷ []) ∷ (text (43 ∷ 32 ∷ 106 ∷ 107 ∷ 108 ∷ []) ++ blanks 7 plain) ∷ [] }

@@ -1,4 +1,4 @@
-//! That the rows of a block depend on what is read of it alone, so that older rows can be kept.
+//! The laws of kept rows: the rows of a block depend on what is read of it alone, so that older rows can be kept.
 ghost use Rattle.std.specs.Prelude.{◌≡◌, ℕ, List, take, drop};
 ghost use Rattle.rd_text.specs.Texts.{IsText};
 ghost use Rattle.rd_ucd.specs.Data.{Data};

@@ -1,5 +1,6 @@
 -- The rows of blocks, counted, and what the blocks cost that have rows of a kind.
-use Rattle.std.proofs.Common.{◌≡◌, ℕ, suc, ◌+◌, ◌-◌, ◌<◌, ◌≤◌, Bool, true, false, if◌then◌else◌, List, [], ◌∷◌, ◌++◌, length, refl, ap, ◌∙◌, arith}
+use Rattle.std.proofs.Common.{◌≡◌, ℕ, suc, ◌+◌, ◌-◌, ◌<◌, ◌≤◌, Bool, true, false, not, if◌then◌else◌, List, [], ◌∷◌, ◌++◌, length, refl, ap, ◌∙◌, arith}
+use Rattle.std.proofs.lemmas.Bool.{and_parts, both_ways, not-true}
 use Rattle.std.proofs.lemmas.Grind.{flat_map-append}
 use Rattle.std.proofs.lemmas.List.{length-append}
 use Rattle.std.proofs.lemmas.List.Folds.{list_any_at}
@@ -32,6 +33,15 @@ count-last rows xs b = omega (arith, count-append rows xs (b ∷ []), count-cons
 pub some-row : (rows : List RowMeaning) → ends_last rows ≡ true → 0 < length rows
 some-row [] e = absurd cc
 some-row (r ∷ rows) e = omega arith
+
+-- where the last row and no other ends the block, a row that ends it is the last, and behind another one the same holds
+pub ends-alone : (r : RowMeaning) (rs : List RowMeaning) → r.ends_block ≡ true → ends_last (r ∷ rs) ≡ true → rs ≡ []
+ends-alone r [] ends last = refl
+ends-alone r (s ∷ rs) ends last = absurd (both_ways r.ends_block (not-true r.ends_block (and_parts (not r.ends_block) (ends_last (s ∷ rs)) last).0) ends)
+
+pub behind-first : (r : RowMeaning) (rs : List RowMeaning) → r.ends_block ≡ false → ends_last (r ∷ rs) ≡ true → ends_last rs ≡ true
+behind-first r [] goes last = cc
+behind-first r (s ∷ rs) goes last = (and_parts (not r.ends_block) (ends_last (s ∷ rs)) last).1
 
 -- a test that passes at a number passes in each list of numbers that has it
 pub any-range : (p : ℕ → Bool) (from n k : ℕ) → from ≤ k → k < from + n → p k ≡ true → list_any p (range_with_len from n) ≡ true

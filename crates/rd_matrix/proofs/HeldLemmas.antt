@@ -288,13 +288,10 @@ pub within-some : (hs : List HeldBlock) (pos : ℕ) → IsWithin pos (blocks_hel
 within-some [] pos within = let high = within.1 in absurd (omega (arith, high))
 within-some (h ∷ hs) pos within = omega arith
 
-pub rows-at : (b : Block) (shape : ShapeValues) (hs : List HeldBlock) (n : ℕ) (h : HeldBlock) → AreHeld hs → slice_get (blocks_held hs) n ≡ Some b → slice_get hs n ≡ Some h → laid_from shape b.start hs ≡ laid_at shape h
-rows-at b shape hs n h held block there =
-    let both : Some b ≡ Some h.block = sym block ∙ block-there hs n h there in
-    let same : b ≡ h.block = cc in
-    ap (λ (x : Block). laid_from shape x.start hs) same ∙ laid-there (first_start (blocks_held hs)) n hs h shape held.stand there
-
 pub rows-there : (b : Block) (shape : ShapeValues) (now items : List HeldBlock) (n : ℕ) (h : HeldBlock) → AreHeld now → items ≡ now → slice_get (blocks_held now) n ≡ Some b → n < length now → h ≡ get_or items n h
     → laid_from shape b.start now ≡ laid_at shape h
 rows-there b shape now items n h held same block below read =
-    rows-at b shape now n h held block (slice_get_read now (length now) n h refl below (read ∙ ap (λ xs. get_or xs n h) same))
+    let there = slice_get_read now (length now) n h refl below (read ∙ ap (λ xs. get_or xs n h) same) in
+    let both : Some b ≡ Some h.block = sym block ∙ block-there now n h there in
+    let is : b ≡ h.block = cc in
+    ap (λ (x : Block). laid_from shape x.start now) is ∙ laid-there (first_start (blocks_held now)) n now h shape held.stand there

@@ -132,10 +132,7 @@ impl MemBlocks {
     fn block_at(&self, place: usize) -> Option<Block>
         ensures { result ≡ slice_get (blocks_held self.now) place }
     {
-        match self.held.get(place) {
-            Some(held) => Some(held.block),
-            None => None,
-        }
+        Some(self.held.get(place)?.block)
     }
 }
 

@@ -1,8 +1,9 @@
 -- Older rows that are a block's own.
-use Rattle.std.proofs.Common.{◌≡◌, ℕ, zero, suc, ◌+◌, ◌<◌, ◌&&◌, not, Bool, true, false, if◌then◌else◌, List, [], ◌∷◌, length, slice_get, Option, None, Some, refl, sym, ap, ◌∙◌, subst, arith}
+use Rattle.std.proofs.Common.{◌≡◌, ℕ, zero, suc, ◌+◌, ◌<◌, Bool, true, false, if◌then◌else◌, List, [], ◌∷◌, length, slice_get, Option, None, Some, refl, sym, ap, ◌∙◌, subst, arith}
 use Rattle.std.proofs.lemmas.Bool.{and_parts}
 use Rattle.std.specs.Cmp.Derive.{both_true}
 use Rattle.std.specs.List.{list_all}
+use Rattle.rd_matrix.proofs.Counting.{behind-first, ends-alone}
 use Rattle.rd_matrix.specs.declared.block.Block.{Block}
 use Rattle.rd_matrix.specs.declared.matrix.Entry.{Entry}
 use Rattle.rd_reuse.specs.Keeping.{are_whole, entry_under, has_base, is_kept, is_outside, taken, taken_from, up_to_end}
@@ -15,20 +16,10 @@ use Rattle.rd_rows.specs.Rows.{RowMeaning}
 pub of-found : (P : Entry → Type 0) (o : Option Entry) (x e : Entry) → o ≡ Some x → P x → o ≡ Some e → P e
 of-found P o x e here holds there = let same : x ≡ e = cc in subst P same holds
 
--- rows that end a block end there
-ended : (r : RowMeaning) (rs : List RowMeaning) → r.ends_block ≡ true → ends_last (r ∷ rs) ≡ true → rs ≡ []
-ended r [] t ends = refl
-ended r (s ∷ rs) t ends = let no : (not r.ends_block && ends_last (s ∷ rs)) ≡ false = ap (λ b. not b && ends_last (s ∷ rs)) t in absurd cc
-
--- and others go on
-goes-on : (r : RowMeaning) (rs : List RowMeaning) → r.ends_block ≡ false → ends_last (r ∷ rs) ≡ true → ends_last rs ≡ true
-goes-on r [] t ends = absurd cc
-goes-on r (s ∷ rs) t ends = sym (ap (λ b. not b && ends_last (s ∷ rs)) t) ∙ ends
-
 whole-rest : (base : ℕ) (r : RowMeaning) (rs : List RowMeaning) → r.ends_block ≡ false → are_whole base (r ∷ rs) ≡ true → are_whole base rs ≡ true
 whole-rest base r rs t whole =
     let parts = and_parts (ends_last (r ∷ rs)) (list_all (has_base base) (r ∷ rs)) whole in
-    both_true (goes-on r rs t parts.0) (and_parts (has_base base r) (list_all (has_base base) rs) parts.1).1
+    both_true (behind-first r rs t parts.0) (and_parts (has_base base r) (list_all (has_base base) rs) parts.1).1
 
 -- each older row of a block from a number on that has the block's base level is the row there
 abbrev pub AreOwn : List Entry → Change → ℕ → ℕ → ℕ → List RowMeaning → Type 0
@@ -50,12 +41,12 @@ own-by : (old : List Entry) (c : Change) (start base n number : ℕ) (r : RowMea
     → are_whole base (shown_rows (e.row ∷ (if last then [] else taken_from n old c start (number + 1)))) ≡ true
     → shown_rows (e.row ∷ (if last then [] else taken_from n old c start (number + 1))) ≡ r ∷ rs
 own-by old c start base n number r rs e true last same behind own ends whole =
-    let none = ended r rs (ap (λ (x : RowMeaning). x.ends_block) same ∙ last) ends in
+    let none = ends-alone r rs (ap (λ (x : RowMeaning). x.ends_block) same ∙ last) ends in
     ap (λ x. x ∷ []) (sym same) ∙ ap (λ xs. r ∷ xs) (sym none)
 own-by old c start base n number r rs e false last same behind own ends whole =
     let ends-not = ap (λ (x : RowMeaning). x.ends_block) same ∙ last in
     let left = taken_from n old c start (number + 1) in
-    let rest = behind (own-rest old c start base number r rs own) (goes-on r rs ends-not ends) (whole-rest base e.row.shown (shown_rows left) last whole) in
+    let rest = behind (own-rest old c start base number r rs own) (behind-first r rs ends-not ends) (whole-rest base e.row.shown (shown_rows left) last whole) in
     ap (λ x. x ∷ shown_rows left) (sym same) ∙ ap (λ xs. r ∷ xs) rest
 
 -- by whether there is one
