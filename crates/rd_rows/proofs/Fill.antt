@@ -50,8 +50,8 @@ standing-length shape lead start xs = length-append lead (place_all shape start 
 
 -- one more element in a draft
 
-joined : {A : Type 0} (new old all one : List A) → new ≡ old ++ one → old ≡ all → new ≡ all ++ (one ++ [])
-joined new old all one h k = rw (append-nil one) (h ∙ ap (λ xs. xs ++ one) k)
+one-behind : {A : Type 0} (new old all one : List A) → new ≡ old ++ one → old ≡ all → new ≡ all ++ (one ++ [])
+one-behind new old all one h k = rw (append-nil one) (h ∙ ap (λ xs. xs ++ one) k)
 
 pub grown : (shape : ShapeValues) (lead : List Placed) (start : Spot) (xs : List Element) (e : Element) (old new : Draft) → IsDraft shape lead start xs old
     → Grows shape (placed_at shape old.spot e) old new → IsDraft shape lead start (xs ++ e ∷ []) new
@@ -62,8 +62,8 @@ grown shape lead start xs e old new d g =
     let placed = d.placed in
     let more = h.placed in
     record {
-      cells = joined new.cells old.cells (flat_map (seen_in shape) (standing shape lead start xs)) (seen_in shape p) h.cells d.cells ∙ sym (seen-append (seen_in shape) shape lead start xs (e ∷ []));
-      begins = joined new.begins old.begins (flat_map (begin_of shape) (standing shape lead start xs)) (begin_of shape p) h.begins d.begins ∙ sym (seen-append (begin_of shape) shape lead start xs (e ∷ []));
+      cells = one-behind new.cells old.cells (flat_map (seen_in shape) (standing shape lead start xs)) (seen_in shape p) h.cells d.cells ∙ sym (seen-append (seen_in shape) shape lead start xs (e ∷ []));
+      begins = one-behind new.begins old.begins (flat_map (begin_of shape) (standing shape lead start xs)) (begin_of shape p) h.begins d.begins ∙ sym (seen-append (begin_of shape) shape lead start xs (e ∷ []));
       spot = h.spot ∙ (ap (λ (s : Spot). behind s p) d.spot ∙ sym (reached-append shape start xs (e ∷ [])));
       placed = omega (arith, size, placed, more);
     }
