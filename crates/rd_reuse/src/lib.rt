@@ -1,7 +1,7 @@
 //! Rows of an older layout that are used again where nothing changed.
 //!
 //! The older rows are the window's current glyph matrix in the words of Emacs (`w->current_matrix`), the new ones its desired glyph
-//! matrix. Emacs uses rows again in `try_window_id`, where text was put in or taken away, and on window systems in
+//! matrix. Emacs uses rows again in `try_window_id` (xdisp.c), where text was put in or taken away, and on window systems in
 //! `try_window_reusing_current_matrix`, where only the start moved.
 //!
 //! What goes in: a source of blocks and their rows, the older rows (`rd_matrix::Matrix`) at one shape, and a `Change`, which says what
