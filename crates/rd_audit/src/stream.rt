@@ -16,7 +16,7 @@ const ROOM: usize = 4096;
 pub enum StreamFault {
     /// The stream failed.
     Failed,
-    /// It has more than 16,777,216 bytes.
+    /// The stream has more than 16,777,216 bytes.
     TooLong,
 }
 

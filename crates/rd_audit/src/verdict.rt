@@ -18,7 +18,7 @@ pub enum Difference {
 pub enum Verdict {
     /// The stream shows the dump.
     Yes,
-    /// It does not.
+    /// The stream does not show the dump; this differs first.
     No(Difference),
     /// There is no word, or more than one.
     Usage,
