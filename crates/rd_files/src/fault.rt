@@ -16,7 +16,7 @@ pub enum DataFile {
 /// What is wrong with a data file.
 #[derive(Clone, Copy, Debug, Drop, PartialEq, Eq)]
 pub enum DataKind {
-    /// It has more than 8,388,608 bytes.
+    /// The file has more than 8,388,608 bytes.
     TooLarge,
     /// A line of it is bad. This is the first one.
     Bad(UcdFault),
@@ -25,11 +25,11 @@ pub enum DataKind {
 /// A data file that is bad.
 #[derive(Clone, Copy, Debug, Drop, PartialEq, Eq)]
 pub struct BadFile {
-    /// Which it is.
+    /// Which of the three it is.
     pub file: DataFile,
-    /// The number of its first bad line, from 1; 0 where it is too large.
+    /// The number of the file's first bad line, from 1; 0 where the file is too large.
     pub line: u32,
-    /// What is wrong.
+    /// What is wrong with the file.
     pub kind: DataKind,
 }
 
