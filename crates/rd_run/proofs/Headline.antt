@@ -2,7 +2,7 @@
 use Rattle.std.proofs.Common.{List, [], ◌∷◌}
 use Rattle.rd_run.specs.Runs.{Input, KnowsEach, LeadsOn, ShowsEach, World, run, run_line}
 
--- the headline
+-- what each shown redisplay promises
 pub shows-each : (w : World) (ts : List Input) → ((us : List Input) (t : Input) → LeadsOn (run w us) t) → ShowsEach w ts
 shows-each w [] h = tt
 shows-each w (t ∷ ts) h = let one = h [] t in (one.shows, shows-each (run_line w t) ts (λ us u. h (t ∷ us) u))

@@ -190,8 +190,8 @@ is_sent (Some (Shown rows)) = true
 is_sent (Some (Stopped rows)) = true
 is_sent outcome = false
 
--- The headline: behind each line whose redisplay was shown, the terminal shows what the rules give from nothing for the state
--- before that line.
+-- What each shown redisplay promises: behind each line whose redisplay was shown, the terminal shows what the rules give from nothing
+-- for the state before that line.
 abbrev pub ShowsEach : World → List Input → Type 0
 ShowsEach w [] = Unit {0}
 ShowsEach w (t ∷ ts) =

@@ -28,7 +28,7 @@ pub fn a_session_stands_behind_each_line()
     targets_are_sound();
 }
 
-/// The headline, over all runs: behind each redisplay that was shown, the written terminal, which reads the bytes since the last
+/// Over all runs: behind each redisplay that was shown, the written terminal, which reads the bytes since the last
 /// accepted frame, shows exactly what the rules give from nothing for the state before that redisplay. The call does nothing.
 pub fn each_redisplay_is_shown()
     ensures { (mode : Mode) (inputs : List Input) → ShowsEach (opened mode) inputs }

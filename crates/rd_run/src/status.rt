@@ -9,13 +9,13 @@ use rd_state::Refused;
 /// Why a line of a script is bad.
 #[derive(Debug, Drop)]
 pub enum ScriptFault {
-    /// It has more than 1,048,576 bytes.
+    /// The line has more than 1,048,576 bytes.
     TooLong,
-    /// It is the 1,000,001st.
+    /// The line is the 1,000,001st.
     TooMany,
-    /// It is no op.
+    /// The line is no op.
     Op(OpFault),
-    /// Its op was refused.
+    /// The line's op was refused.
     Refused(Refused),
 }
 
