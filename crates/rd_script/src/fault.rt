@@ -24,7 +24,7 @@ pub enum OpFault {
     /// The first key in byte order that the op does not have.
     #[error("a field too many")]
     Extra(ListOf<Ch>),
-    /// The allocator had no room.
+    /// Memory was wanting, which may be at any time.
     #[error("no memory")]
     Memory,
 }

@@ -108,7 +108,7 @@ fn present<'a>(asked: &mut Asked<'a>, key: &'static str) -> Result<Option<&'a Va
     }
 }
 
-/// What was found of a member's value, or that it is bad.
+/// What was found of a member's value, and where nothing was the fault that the value is bad.
 pub fn good<T: Drop>(alloc: Global, key: &str, found: Option<T>) -> Result<T, OpFault>
     ensures { IsRead result (or_bad key.now found) }
 {
@@ -118,7 +118,7 @@ pub fn good<T: Drop>(alloc: Global, key: &str, found: Option<T>) -> Result<T, Op
     }
 }
 
-/// That a member's value is bad.
+/// The fault that the value of the member with this key is bad.
 pub fn bad<T: Drop>(alloc: Global, key: &str) -> Result<T, OpFault>
     ensures { IsRead result (Err (faults.BadField (chars key.now))) }
 {

@@ -1,4 +1,4 @@
-//! The ops of a script, one line an op in JSON. `WindowFacts` and `print_dump` of rd_dump are named here again.
+//! The ops of a script, one line an op in JSON. The crate hands on `WindowFacts` and `print_dump` of rd_dump.
 //!
 //! The rules are in docs/RULES.md, "Scripts".
 #![tactic(auto)]
