@@ -5,7 +5,7 @@
 //! which says whether the frame was shown or the redisplay stopped, and how many rows were sent, or that memory was wanting or the sink
 //! failed. In between the session lends what it knows (`lending`): starts, points, rows and cursors of windows, and the current screen.
 //!
-//! A redisplay takes these steps, as Emacs's `redisplay_internal` and, from step 2 on, `update_frame` do:
+//! A redisplay takes these steps, as Emacs's `redisplay_internal` (xdisp.c) and, from step 2 on, `update_frame` (dispnew.c) do:
 //!
 //! 1. `rd_views` lays out all windows (Emacs: `redisplay_windows`). That gives a `Desired`: a desired glyph matrix for each window
 //!    whose last one does not stay.
