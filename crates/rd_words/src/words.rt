@@ -29,7 +29,7 @@ pub struct Words<'a> {
 /// Why the words were not read.
 #[derive(Clone, Copy, Debug, PartialEq, Eq, Error)]
 pub enum WordsFault {
-    /// They are faulty.
+    /// The words are faulty.
     #[error("usage: redisplay --data FILE --mirror FILE [--brackets FILE] [--generate N] [--dump]")]
     Usage,
     /// Memory was wanting.
