@@ -5,11 +5,10 @@ use Rattle.std.proofs.KnownBytes.{Appends-nil, Appends-trans, Consumes-nil}
 use Rattle.rd_io.specs.Devices.{Rose}
 use Rattle.rd_run.specs.Alike.{End, IsFaultless}
 use Rattle.rd_run.specs.Ends.{Broke, Comes, Drawn, Ended, IsBroken, IsWhole, LastBroke, ReportBroke, ScreenBroke, ShowsIn, Sunk, Took, last_in, sent_in, sunk, told_in}
-use Rattle.rd_run.specs.Given.{Given, HasFailed, IsMode}
+use Rattle.rd_run.specs.Given.{Given, HasFailed}
 use Rattle.rd_run.specs.Reports.{last_line}
 use Rattle.rd_run.specs.Runs.{Input, Mode, ShowsEach, opened, run}
 use Rattle.rd_run.specs.Statuses.{TellsNoMemory}
-use Rattle.rd_run.specs.Validity.{EndsWell, IsValidScript}
 use Rattle.rd_run.specs.declared.status.Status.{Status}
 use Rattle.rd_run.specs.declared.status.Status.TheVariants.{Done, ReadFault, WriteFault}
 use Rattle.rd_player.specs.Acts.{ComesTo, Finishes, SpentBy, Tells, summary_of}
@@ -17,6 +16,9 @@ use Rattle.rd_player.specs.Played.{Completes, HasReadFault, KnowsIn, Played, Spe
 use Rattle.rd_player.specs.declared.halt.Ending.{Ending}
 use Rattle.rd_player.specs.declared.halt.Ending.TheVariants as endings
 use Rattle.rd_player.proofs.Running.{broke-after}
+use Rattle.rd_run.proofs.Begun.{has-failed}
+use Rattle.rd_run.proofs.Free.{comes-free}
+use Rattle.rd_run.proofs.Validity.{ends-well}
 
 later : {m n o : ℕ} → Rose m n → n ≤ o → Rose m o
 later (inl p) q = inl (omega arith)
@@ -54,7 +56,7 @@ told-last given mode status inputs bytes source screen result line p0 p1 p2 n0 n
     } in
     inr (is, last-broke given mode status inputs bytes source screen (sunk p0 p2 n0 n2) last)
 
--- the headline, over all runs
+-- what each shown redisplay promises, over all runs
 abbrev pub ShowsAlways : Type 0
 ShowsAlways = (mode : Mode) (inputs : List Input) → ShowsEach (opened mode) inputs
 
@@ -102,13 +104,9 @@ spent endings.ReportBroke given mode inputs bytes left result report c0 c1 h f =
 
 -- ---- the whole
 
--- a run over a valid script ends well
-abbrev pub EndWell : Type 0
-EndWell = (script : List ℕ) (mode : Mode) (e : End) → IsMode e.given mode → IsValidScript mode e.inputs script → IsFaultless script e → EndsWell e.status
-
-completes : (law : EndWell) (given : Given) (begun : Option Mode) (result : Status) (inputs : List Input) (bytes : List ℕ) (l0 : Option (List ℕ)) (source : Drawn) (screen report : Sunk)
+completes : (given : Given) (begun : Option Mode) (result : Status) (inputs : List Input) (bytes : List ℕ) (l0 : Option (List ℕ)) (source : Drawn) (screen report : Sunk)
     → Consumes l0 source.left bytes → Ended given begun result inputs bytes source screen report → Completes given result inputs l0 source screen report
-completes law given begun result inputs bytes l0 source screen report taken ends = λ mode script good files left valid fetched read sent told.
+completes given begun result inputs bytes l0 source screen report taken ends = λ mode script good files left valid fetched read sent told.
     let e : End = record { given = given; mode = begun; status = result; inputs = inputs; bytes = bytes; source = source; screen = screen; report = report } in
     let whole : IsFaultless script e = record {
       taken = λ reads. subst (λ l. Consumes l source.left bytes) (left reads) taken;
@@ -119,15 +117,15 @@ completes law given begun result inputs bytes l0 source screen report taken ends
       sent = sent;
       told = told;
     } in
-    law script mode e good valid whole
+    ends-well script mode e good valid whole
 
 -- a run, whether or not a line of it could begin
 pub played : (ending : Ending) (given : Given) (mode : Option Mode) (l0 : Option (List ℕ)) (source : Drawn) (screen : Sunk) (result : Status) (p0 p1 p2 : Option (List ℕ)) (n0 n1 n2 c0 c1 : ℕ)
-    → ShowsAlways → EndWell → n0 ≤ n1 → n1 ≤ n2
+    → ShowsAlways → n0 ≤ n1 → n1 ≤ n2
     → (h : (inputs : List Input) × (bytes : List ℕ) × Consumes l0 source.left bytes × ComesTo ending given mode inputs bytes source screen (sunk p0 p1 n0 n1)
     × SpentBy ending given mode inputs bytes source.left c0 c1)
     → ShowsIn mode h.0 → KnowsIn mode h.0 → Finishes ending result (sunk p1 p2 n1 n2) → Played given result l0 source screen (sunk p0 p2 n0 n2) c0 c1
-played ending given mode l0 source screen result p0 p1 p2 n0 n1 n2 c0 c1 law well m n h shows knows f =
+played ending given mode l0 source screen result p0 p1 p2 n0 n1 n2 c0 c1 law m n h shows knows f =
     let report = sunk p0 p2 n0 n2 in
     let ends : Ended given mode result h.0 h.1 source screen report = ended ending given mode h.0 h.1 source screen result p0 p1 p2 n0 n1 n2 law h.3 m n f in (
       mode,
@@ -138,43 +136,38 @@ played ending given mode l0 source screen result p0 p1 p2 n0 n1 n2 c0 c1 law wel
       shows,
       knows,
       spent ending given mode h.0 h.1 source.left result (sunk p1 p2 n1 n2) c0 c1 h.4 f,
-      completes well given mode result h.0 h.1 l0 source screen report h.2 ends,
+      completes given mode result h.0 h.1 l0 source screen report h.2 ends,
     )
 
 last-none : (status : Status) → last_in None status [] ≡ last_line status 0
 last-none status = refl
 
 -- one of which no line could begin
-pub unplayed : (status : Status) (given : Given) (l : Option (List ℕ)) (q : ℕ) (s : Option (List ℕ)) (m : ℕ) (result : Status) (p0 p1 : Option (List ℕ)) (n0 n1 c : ℕ) → ShowsAlways → EndWell → n0 ≤ n1
+pub unplayed : (status : Status) (given : Given) (l : Option (List ℕ)) (q : ℕ) (s : Option (List ℕ)) (m : ℕ) (result : Status) (p0 p1 : Option (List ℕ)) (n0 n1 c : ℕ) → ShowsAlways → n0 ≤ n1
     → ((source : Drawn) → Comes given None status [] [] source) → Finishes (endings.Ends status 0) result (sunk p0 p1 n0 n1)
     → Played given result l (record { left = l; faults_before = q; faults_after = q }) (sunk s s m m) (sunk p0 p1 n0 n1) c c
-unplayed status given l q s m result p0 p1 n0 n1 c law well n comes f =
+unplayed status given l q s m result p0 p1 n0 n1 c law n comes f =
     let source : Drawn = record { left = l; faults_before = q; faults_after = q } in
     let none : n0 ≤ n0 = omega arith in
     let same : c ≤ c + 0 = omega arith in
-    played (endings.Ends status 0) given None l source (sunk s s m m) result p0 p0 p1 n0 n0 n1 c c law well none n
+    played (endings.Ends status 0) given None l source (sunk s s m m) result p0 p0 p1 n0 n0 n1 c c law none n
     ([], [], Consumes-nil l, (comes source, last-none status, Appends-nil s, Appends-nil p0), same) tt tt f
 
 -- ---- want of memory
 
--- want of memory is no kind that a status tells
-abbrev pub KindLaw : Type 0
-KindLaw = (given : Given) (mode : Option Mode) (status : Status) (inputs : List Input) (bytes : List ℕ) (source : Drawn) → Comes given mode status inputs bytes source → TellsNoMemory status
-
-ended-free : (law : KindLaw) (given : Given) (mode : Option Mode) (result : Status) (inputs : List Input) (bytes : List ℕ) (source : Drawn) (screen report : Sunk)
+ended-free : (given : Given) (mode : Option Mode) (result : Status) (inputs : List Input) (bytes : List ℕ) (source : Drawn) (screen report : Sunk)
     → Ended given mode result inputs bytes source screen report → TellsNoMemory result
-ended-free law given mode result inputs bytes source screen report (inl whole) = law given mode result inputs bytes source whole.comes
-ended-free law given mode result inputs bytes source screen report (inr (same, broken)) = subst TellsNoMemory (sym same) tt
+ended-free given mode result inputs bytes source screen report (inl whole) = comes-free given mode result inputs bytes source whole.comes
+ended-free given mode result inputs bytes source screen report (inr (same, broken)) = subst TellsNoMemory (sym same) tt
 
-pub played-free : (law : KindLaw) (given : Given) (result : Status) (l0 : Option (List ℕ)) (source : Drawn) (screen report : Sunk) (c0 c1 : ℕ) → Played given result l0 source screen report c0 c1
+pub played-free : (given : Given) (result : Status) (l0 : Option (List ℕ)) (source : Drawn) (screen report : Sunk) (c0 c1 : ℕ) → Played given result l0 source screen report c0 c1
     → TellsNoMemory result
-played-free law given result l0 source screen report c0 c1 p = ended-free law given p.0 result p.1 p.2 source screen report p.4
+played-free given result l0 source screen report c0 c1 p = ended-free given p.0 result p.1 p.2 source screen report p.4
 
 -- a read fault comes where the source failed, or a file before the first line
 come-read : (given : Given) (mode : Option Mode) (inputs : List Input) (bytes : List ℕ) (source : Drawn) → Comes given mode ReadFault inputs bytes source
     → Rose source.faults_before source.faults_after ⊎ HasFailed given
-come-read given None inputs bytes source (file, nothing) =
-    inr (file.words, file.said, elim file.failed [ inl a ↦ inl a | inr q ↦ elim q [ inl b ↦ inr (inl b.1) | inr c ↦ inr (inr c.2) ] ])
+come-read given None inputs bytes source (file, nothing) = inr (has-failed given file)
 come-read given (Some mode) inputs bytes source (begun, comes) = inl comes.2
 
 ended-read : (given : Given) (mode : Option Mode) (result : Status) (inputs : List Input) (bytes : List ℕ) (source : Drawn) (screen report : Sunk)

@@ -8,7 +8,7 @@ use rd_run::{ScriptFault, Status};
 pub enum Halt {
     /// The line is bad.
     Bad(ScriptFault),
-    /// There was no memory, and the op was given up.
+    /// Memory was wanting, and the op was given up: nothing of it stands.
     NoMemory,
     /// The screen failed at the update.
     ScreenBroke,

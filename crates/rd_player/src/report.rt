@@ -1,4 +1,4 @@
-//! The lines of the report. Each is one write where it has at most 20,480 bytes, and takes no memory.
+//! The lines of the report. Each is one write where a `Piece` of rd_io has room for it, and takes no memory.
 ghost use Rattle.std.specs.Prelude.{◌++◌, codes};
 ghost use Rattle.std.specs.Fmt.{decimal};
 ghost use Rattle.rd_dump.specs.Prints.{Prints};

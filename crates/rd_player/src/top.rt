@@ -22,10 +22,7 @@ use rd_base::Steps;
 use rd_dump::print_at_once;
 use rd_files::{DataFault, DataFiles, read_data};
 use rd_io::{Files, Sink, Source};
-use rd_run::{
-    Status, each_redisplay_is_shown, each_slice_is_known, no_kind_is_want_of_memory,
-    valid_scripts_end_well,
-};
+use rd_run::{Status, each_redisplay_is_shown, each_slice_is_known};
 use rd_words::{Words, WordsFault, read_words};
 use std::alloc::Global;
 use std::sync::ledger::Ledger;
@@ -77,9 +74,7 @@ pub fn play<S: Source, F: Files, K: Sink, R: Sink, L: Ledger>(
     ensures screen { K.faults screen.old ≤ K.faults screen.new }
     ensures report { R.faults report.old ≤ R.faults report.new }
 {
-    no_kind_is_want_of_memory();
     each_redisplay_is_shown();
-    valid_scripts_end_well();
     match begun(alloc, words, files) {
         Ok(mut run) => run_whole(alloc, &mut run, script, screen, report, steps),
         Err(status) => finish(report, Ending::Ends(status, 0)),
@@ -156,7 +151,6 @@ fn run_whole<S: Source, K: Sink, R: Sink, L: Ledger>(
 {
     each_redisplay_is_shown();
     each_slice_is_known();
-    valid_scripts_end_well();
     match run.generated {
         Some(number) => {
             let ending = run_generated(alloc, number, run, screen, report, steps);

@@ -1,7 +1,7 @@
 mod Alike
-mod Begun
+pub mod Begun
 pub mod Effects
-mod Free
+pub mod Free
 mod FreeFiles
 mod FreeSteps
 mod Headline
@@ -12,5 +12,5 @@ pub mod OnRuns
 mod Ops
 mod Scripts
 mod Starved
-mod Validity
+pub mod Validity
 mod Whole

@@ -23,7 +23,7 @@ none-ran : (g : given.Over) (c : goal.After-finish g)
 none-ran g c =
     unplayed c.in-Err.status (given_by (values_of (texts c.args.words.items)) g.F.Files.contents g.F.Files.faults c.args.files.now c.begun.new.files) (g.S.Source.left c.args.script.now)
     (g.S.Source.faults c.args.script.now) (g.K.Sink.written c.args.screen.now) (g.K.Sink.faults c.args.screen.now) c.finish.result (g.R.Sink.written c.args.report.now) (g.R.Sink.written c.finish.new.report)
-    (g.R.Sink.faults c.args.report.now) (g.R.Sink.faults c.finish.new.report) c.args.steps.now c.each_redisplay_is_shown.ensures c.valid_scripts_end_well.ensures c.finish.ensures.report c.in-Err.ensures.begins c.finish.ensures.finishes
+    (g.R.Sink.faults c.args.report.now) (g.R.Sink.faults c.finish.new.report) c.args.steps.now c.each_redisplay_is_shown.ensures c.finish.ensures.report c.in-Err.ensures.begins c.finish.ensures.finishes
 
 pub returns-in-Ok-clause-ran : goal.returns-in-Ok-clause-ran
 returns-in-Ok-clause-ran g c = ran g (goal.at.returns-in-Ok-clause-ran g c).After-run_whole
@@ -32,7 +32,7 @@ pub returns-in-Ok-clause-read : goal.returns-in-Ok-clause-read
 returns-in-Ok-clause-read g c = played-read _ _ _ _ _ _ _ _ (ran g (goal.at.returns-in-Ok-clause-read g c).After-run_whole)
 
 pub returns-in-Ok-clause-free : goal.returns-in-Ok-clause-free
-returns-in-Ok-clause-free g c = played-free c.no_kind_is_want_of_memory.ensures _ _ _ _ _ _ _ _ (ran g (goal.at.returns-in-Ok-clause-free g c).After-run_whole)
+returns-in-Ok-clause-free g c = played-free _ _ _ _ _ _ _ _ (ran g (goal.at.returns-in-Ok-clause-free g c).After-run_whole)
 
 pub returns-in-Err-clause-ran : goal.returns-in-Err-clause-ran
 returns-in-Err-clause-ran g c = none-ran g (goal.at.returns-in-Err-clause-ran g c).After-finish
@@ -41,4 +41,4 @@ pub returns-in-Err-clause-read : goal.returns-in-Err-clause-read
 returns-in-Err-clause-read g c = played-read _ _ _ _ _ _ _ _ (none-ran g (goal.at.returns-in-Err-clause-read g c).After-finish)
 
 pub returns-in-Err-clause-free : goal.returns-in-Err-clause-free
-returns-in-Err-clause-free g c = played-free c.no_kind_is_want_of_memory.ensures _ _ _ _ _ _ _ _ (none-ran g (goal.at.returns-in-Err-clause-free g c).After-finish)
+returns-in-Err-clause-free g c = played-free _ _ _ _ _ _ _ _ (none-ran g (goal.at.returns-in-Err-clause-free g c).After-finish)
