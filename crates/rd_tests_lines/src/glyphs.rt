@@ -157,11 +157,11 @@ fn worked_data(alloc: Global, ctl_arrow: bool) -> Result<Data, Fail> {
 }
 
 /// Characters that are shown as texts.
-const SPELLED: [(char, &'static str); 4] = [
-    ('\u{0}', "^@"),
-    ('\u{7F}', "^?"),
-    ('\u{9F}', "\\237"),
-    ('(', "("),
+const SPELLED: [(&'static str, char, &'static str); 4] = [
+    ("the control NUL", '\u{0}', "^@"),
+    ("the control DEL", '\u{7F}', "^?"),
+    ("a C1 control", '\u{9F}', "\\237"),
+    ("a bracket at an even level", '(', "("),
 ];
 
 /// Characters that are shown as one blank column.
@@ -178,10 +178,10 @@ fn assert_spelled(
     alloc: Global,
     parts: &Parts,
     odd: bool,
-    table: &[(char, &str)],
+    table: &[(&str, char, &str)],
 ) {
-    for (c, text) in table {
-        assert_of(rt, text, spells(alloc, parts, Ch::scalar(*c), odd, text));
+    for (name, c, text) in table {
+        assert_of(rt, name, spells(alloc, parts, Ch::scalar(*c), odd, text));
     }
 }
 
@@ -209,7 +209,12 @@ fn characters_by_the_rules(rt: HostRuntime) -> Result<(), Fail> {
 }
 
 /// Characters at an odd level that are shown as texts.
-const MIRRORED: [(char, &'static str); 4] = [('(', ")"), ('<', "<"), ('[', "["), ('a', "a")];
+const MIRRORED: [(&'static str, char, &'static str); 4] = [
+    ("a bracket with a mirror", '(', ")"),
+    ("a mirror of another width", '<', "<"),
+    ("a mirror that is no scalar value", '[', "["),
+    ("a letter", 'a', "a"),
+];
 
 #[test]
 fn mirrors_at_an_odd_level(rt: HostRuntime) -> Result<(), Fail> {
@@ -227,7 +232,10 @@ fn marked_table(alloc: Global) -> Result<Table, Fail> {
 }
 
 /// Controls that are shown with the mark of that table.
-const ESCAPED: [(char, &'static str); 2] = [('\u{7F}', "!177"), ('\n', "!012")];
+const ESCAPED: [(&'static str, char, &'static str); 2] = [
+    ("the control DEL without arrows", '\u{7F}', "!177"),
+    ("a newline without arrows", '\n', "!012"),
+];
 
 #[test]
 fn controls_without_arrows(rt: HostRuntime) -> Result<(), Fail> {
@@ -256,7 +264,12 @@ fn table_of_entries(alloc: Global) -> Result<Table, Fail> {
 }
 
 /// Characters that are shown by that table.
-const ENTRIES: [(char, &'static str); 4] = [('\t', ""), ('x', "ab"), ('y', "d"), ('z', "z")];
+const ENTRIES: [(&'static str, char, &'static str); 4] = [
+    ("an empty entry", '\t', ""),
+    ("an entry of two letters", 'x', "ab"),
+    ("the later of two entries", 'y', "d"),
+    ("no entry", 'z', "z"),
+];
 
 #[test]
 fn characters_by_the_entries_of_a_table(rt: HostRuntime) -> Result<(), Fail> {
@@ -327,20 +340,58 @@ fn is_line(alloc: Global, text: &str, classes: &Classes, width: u32, signs: &str
 }
 
 /// Asserts that each text of a table is the plain line beside it.
-fn assert_lines(rt: &impl Abort, alloc: Global, classes: &Classes, table: &[(&str, u32, &str)]) {
-    for (text, width, signs) in table {
-        assert_of(rt, signs, is_line(alloc, text, classes, *width, signs));
+fn assert_lines(rt: &impl Abort, alloc: Global, classes: &Classes, table: &[PlainLine]) {
+    for line in table {
+        let shown = is_line(alloc, line.text, classes, line.width, line.signs);
+        assert_of(rt, line.name, shown);
     }
 }
 
-/// Texts, and their plain lines in so many columns.
-const LINES: [(&'static str, u32, &'static str); 6] = [
-    ("", 2, "  "),
-    ("h \t", 5, "h ^I "),
-    ("\n", 2, "^J"),
-    ("a\u{4E2D}b", 4, "aW.b"),
-    ("a\u{4E2D}b", 2, "a "),
-    ("a", 0, ""),
+/// A text by what it is about, and its plain line in so many columns.
+struct PlainLine {
+    name: &'static str,
+    text: &'static str,
+    width: u32,
+    signs: &'static str,
+}
+
+const LINES: [PlainLine; 6] = [
+    PlainLine {
+        name: "no text",
+        text: "",
+        width: 2,
+        signs: "  ",
+    },
+    PlainLine {
+        name: "a tab at the end",
+        text: "h \t",
+        width: 5,
+        signs: "h ^I ",
+    },
+    PlainLine {
+        name: "a newline",
+        text: "\n",
+        width: 2,
+        signs: "^J",
+    },
+    PlainLine {
+        name: "a wide character that fits",
+        text: "a\u{4E2D}b",
+        width: 4,
+        signs: "aW.b",
+    },
+    PlainLine {
+        name: "a wide character that does not fit",
+        text: "a\u{4E2D}b",
+        width: 2,
+        signs: "a ",
+    },
+    PlainLine {
+        name: "no column",
+        text: "a",
+        width: 0,
+        signs: "",
+    },
 ];
 
 #[test]
@@ -350,20 +401,32 @@ fn plain_lines(rt: HostRuntime) -> Result<(), Fail> {
     Ok(())
 }
 
-/// The same of texts with marks: seven and eight of them behind a letter, one alone, and one behind a character that no column shows.
-const MARKED_LINES: [(&'static str, u32, &'static str); 4] = [
-    (
-        "e\u{301}\u{301}\u{301}\u{301}\u{301}\u{301}\u{301}",
-        2,
-        "e'",
-    ),
-    (
-        "e\u{301}\u{301}\u{301}\u{301}\u{301}\u{301}\u{301}\u{301}",
-        3,
-        "e\" ",
-    ),
-    ("\u{301}", 2, "' "),
-    ("\u{AD}\u{301}", 2, " '"),
+/// Texts with marks, and their plain lines.
+const MARKED_LINES: [PlainLine; 4] = [
+    PlainLine {
+        name: "seven marks behind a letter",
+        text: "e\u{301}\u{301}\u{301}\u{301}\u{301}\u{301}\u{301}",
+        width: 2,
+        signs: "e'",
+    },
+    PlainLine {
+        name: "eight marks behind a letter",
+        text: "e\u{301}\u{301}\u{301}\u{301}\u{301}\u{301}\u{301}\u{301}",
+        width: 3,
+        signs: "e\" ",
+    },
+    PlainLine {
+        name: "a mark alone",
+        text: "\u{301}",
+        width: 2,
+        signs: "' ",
+    },
+    PlainLine {
+        name: "a mark behind a soft hyphen",
+        text: "\u{AD}\u{301}",
+        width: 2,
+        signs: " '",
+    },
 ];
 
 #[test]

@@ -162,7 +162,7 @@ fn marks_join(rt: HostRuntime) -> Result<(), Fail> {
 /// The items of two lines whose newline is hidden.
 const HIDDEN: [(char, u32, u32); 3] = [('e', 0, 1), ('\'', 1, 3), ('$', 3, 4)];
 
-/// The same where an ellipsis stands for it.
+/// The items of two lines where an ellipsis stands for the newline.
 const ELLIPSIS: [(char, u32, u32); 4] = [('e', 0, 1), ('~', 1, 2), ('\'', 2, 3), ('$', 3, 4)];
 
 #[test]
@@ -175,7 +175,7 @@ fn hidden_newlines(rt: HostRuntime) -> Result<(), Fail> {
 /// Positions of two lines, each with its block.
 const TWO_BLOCKS: [(Pos, (Pos, Pos)); 4] = [(1, (1, 3)), (2, (1, 3)), (3, (3, 5)), (4, (3, 5))];
 
-/// The same where the newline between them is hidden.
+/// Positions of two lines whose newline is hidden, each with its block.
 const ONE_BLOCK: [(Pos, (Pos, Pos)); 3] = [(1, (1, 5)), (2, (1, 5)), (4, (1, 5))];
 
 #[test]

@@ -1,6 +1,7 @@
-//! Tests of what stands at positions, of items, lines of elements and rows, by the public calls of their layers: results that were worked
-//! out elsewhere, printed text, limits, and each allocating call once with ample memory. One file a crate. They stand above the crates
-//! that they test, so that a crate's own proof and its must-fail edits never wait for them.
+//! Tests of what stands at positions, of items, lines of elements, rows, starts of windows, rows that are used again, hits, motion, margins
+//! and mode lines, by the public calls of their layers: results that were worked out elsewhere, printed text, limits, and each allocating
+//! call once with ample memory. One file a crate, or a folder of files for its subjects. They stand above the crates that they test, so
+//! that a crate's own proof and its must-fail edits never wait for them.
 #![tactic(auto)]
 
 #[cfg(test)]

@@ -29,7 +29,7 @@ fn are_shown(alloc: Global, classes: &Classes, row: u32, string: &[Ch], wanted: 
     }
 }
 
-/// The same of a string that is told as a text.
+/// Whether margins are shown so beside such a row, where the string is told as a text.
 fn are_margins(alloc: Global, classes: &Classes, row: u32, string: &str, wanted: &str) -> bool {
     match characters(alloc, string) {
         Ok(string) => are_shown(alloc, classes, row, string.as_slice(), wanted),

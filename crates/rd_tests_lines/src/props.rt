@@ -1,7 +1,7 @@
 //! Look-ups with ample memory, on buffers that are made by calls.
 ghost use Rattle.std.specs.Prelude.{◌≤◌};
 
-use crate::claims::assert_at;
+use crate::claims::assert_of;
 use crate::scenery::{Scenery, is_accessible, put_text};
 use rd_base::{Face, Invisible, ListOf, Memory, Pos};
 use rd_objects::{ObjectFault, Objects};
@@ -122,22 +122,31 @@ fn stops_at(view: &View, pos: Pos, stop: Pos) -> bool {
 }
 
 /// The faces at positions of the buffer of three characters.
-const FACES: [(Pos, Face); 4] = [(1, RED), (2, RED_ON_GREEN), (3, RED), (4, Face::PLAIN)];
+const FACES: [(&'static str, Pos, Face); 4] = [
+    ("the face of the first character", 1, RED),
+    ("the face of the second", 2, RED_ON_GREEN),
+    ("the face of the third", 3, RED),
+    ("the face of the end", 4, Face::PLAIN),
+];
 
 /// How its positions are hidden.
-const HIDDEN: [(Pos, Hidden); 3] = [(1, Hidden::Plain), (2, Hidden::No), (3, Hidden::No)];
+const HIDDEN: [(&'static str, Pos, Hidden); 3] = [
+    ("the first is hidden", 1, Hidden::Plain),
+    ("the second is replaced", 2, Hidden::No),
+    ("the third is shown", 3, Hidden::No),
+];
 
 /// Asserts how positions are hidden.
-fn assert_hidden(rt: &impl Abort, alloc: Global, view: &View, table: &[(Pos, Hidden)]) {
-    for (pos, how) in table {
-        assert_at(rt, *pos, is_hidden(alloc, view, *pos, *how));
+fn assert_hidden(rt: &impl Abort, alloc: Global, view: &View, table: &[(&str, Pos, Hidden)]) {
+    for (name, pos, how) in table {
+        assert_of(rt, name, is_hidden(alloc, view, *pos, *how));
     }
 }
 
 /// Asserts which faces positions have.
 fn assert_faces(rt: &impl Abort, alloc: Global, view: &View) {
-    for (pos, face) in &FACES {
-        assert_at(rt, *pos, has_face(alloc, view, *pos, *face));
+    for (name, pos, face) in &FACES {
+        assert_of(rt, name, has_face(alloc, view, *pos, *face));
     }
 }
 
@@ -166,7 +175,11 @@ fn listed(alloc: Global) -> Result<Scenery, Fail> {
 }
 
 /// How the positions of that buffer are hidden.
-const LISTED: [(Pos, Hidden); 3] = [(1, Hidden::Ellipsis), (2, Hidden::No), (3, Hidden::No)];
+const LISTED: [(&'static str, Pos, Hidden); 3] = [
+    ("the first pair of its atom counts", 1, Hidden::Ellipsis),
+    ("a replaced one is not hidden", 2, Hidden::No),
+    ("one without an atom is not hidden", 3, Hidden::No),
+];
 
 #[test]
 fn atoms_hide_by_the_setting(rt: HostRuntime) -> Result<(), Fail> {
@@ -183,12 +196,16 @@ fn narrowed(alloc: Global) -> Result<Scenery, Fail> {
 }
 
 /// The line prefixes at positions of that buffer.
-const PREFIXES: [(Pos, Option<u32>); 3] = [(1, Some(22)), (2, Some(22)), (3, None)];
+const PREFIXES: [(&'static str, Pos, Option<u32>); 3] = [
+    ("the prefix of the first character", 1, Some(22)),
+    ("the prefix of the second", 2, Some(22)),
+    ("no prefix at the end", 3, None),
+];
 
 /// Asserts which line prefixes positions have.
 fn assert_prefixes(rt: &impl Abort, alloc: Global, view: &View) {
-    for (pos, value) in &PREFIXES {
-        assert_at(rt, *pos, has_prefix(alloc, view, *pos, *value));
+    for (name, pos, value) in &PREFIXES {
+        assert_of(rt, name, has_prefix(alloc, view, *pos, *value));
     }
 }
 

@@ -46,7 +46,7 @@ enum Way {
     Relay,
     /// By `lay_out_again`, over its last layout.
     LastLayout,
-    /// The same where it became wider since.
+    /// By `lay_out_again`, over a last layout since which the window became wider.
     Wider,
 }
 
@@ -185,7 +185,7 @@ fn holds_against<L: Ledger>(
     }
 }
 
-/// The same.
+/// Whether a case holds over a last layout; what a window of another shape keeps is a matrix of no row.
 fn holds_behind<L: Ledger>(
     alloc: Global,
     layout: &Layout,

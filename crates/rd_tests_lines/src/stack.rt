@@ -10,8 +10,8 @@ use std::test::Fail;
 
 /// Adds the string zz, and the string PQ, newline, R, in which that one stands for Q.
 fn add_strings(objects: &mut Objects) -> Result<(), ObjectFault> {
-    let inner = objects.add_string(&[Ch::scalar('z'), Ch::scalar('z')], &[])?;
-    let spec = objects.add_spec(Spec::Text(inner))?;
+    let display_string = objects.add_string(&[Ch::scalar('z'), Ch::scalar('z')], &[])?;
+    let spec = objects.add_spec(Spec::Text(display_string))?;
     let run = Run {
         from: 1,
         to: 2,
@@ -76,7 +76,7 @@ fn goes_on(alloc: Global, walker: &mut Walker, wanted: &[(char, usize)]) -> bool
     matches!(walker.next(alloc), Ok(None))
 }
 
-/// The same of the whole line from a position on.
+/// Whether the whole line from a position on has these looks, with so many frames standing when each is given.
 fn walks(alloc: Global, view: &View, start: Pos, wanted: &[(char, usize)]) -> bool {
     if !is_accessible(view, start) {
         return false;

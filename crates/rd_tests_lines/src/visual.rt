@@ -118,7 +118,7 @@ fn rows_at<L: Ledger>(
     source.rows(alloc, &block, shape, &mut steps)
 }
 
-/// The same, and no row where the position is not accessible.
+/// The rows of the block that holds a position, and no row where the position is not accessible.
 fn rows_of<L: Ledger>(
     alloc: Global,
     view: &View,

@@ -84,7 +84,8 @@ macro_rules! case {
     };
 }
 
-/// The same where something changed later.
+/// What a window shows from the first row on where something changed later too: the case's name, the older rows, both changes, the text
+/// and its rows.
 macro_rules! joined {
     ($name:expr => $older:expr, $changed:expr, $later:expr, $text:expr, $rows:expr) => {
         Case {
