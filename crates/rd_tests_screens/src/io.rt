@@ -222,19 +222,19 @@ fn holds<F: Files>(alloc: Global, files: &mut F, name: &str, bytes: &[u8]) -> bo
     }
 }
 
-/// The names of files, and how many bytes each has, or why it is not read, where the second fetch fails.
-const LENGTHS: [(&'static str, Result<usize, FileFault>); 5] = [
-    ("small", Err(FileFault::Failed)),
-    ("small", Ok(3)),
-    ("full", Ok(8_388_608)),
-    ("over", Err(FileFault::TooLarge)),
-    ("none", Err(FileFault::Failed)),
+/// Files by what they are and by their names, and how many bytes each has, or why it is not read, where the second fetch fails.
+const LENGTHS: [(&'static str, &'static str, Result<usize, FileFault>); 5] = [
+    ("a file whose fetch fails", "small", Err(FileFault::Failed)),
+    ("the same file, read again", "small", Ok(3)),
+    ("a file of the largest size", "full", Ok(8_388_608)),
+    ("a file that is too large", "over", Err(FileFault::TooLarge)),
+    ("a file that is not there", "none", Err(FileFault::Failed)),
 ];
 
 /// Asserts how each file is read.
 fn assert_read(rt: &impl Abort, files: &mut MemFiles, alloc: Global) {
-    for (name, answer) in &LENGTHS {
-        assert_of(rt, name, answers(alloc, files, name, *answer));
+    for (case, name, answer) in &LENGTHS {
+        assert_of(rt, case, answers(alloc, files, name, *answer));
     }
     assert!(rt; holds(alloc, files, "small", b"abc"));
 }

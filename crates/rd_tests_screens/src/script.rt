@@ -53,7 +53,7 @@ pub fn faults(alloc: Global, line: &str, kind: &str, key: &str) -> bool {
     has_fault(alloc, line.as_bytes(), kind, key)
 }
 
-/// The same of a line of bytes.
+/// Whether a line of bytes has a fault of this kind, at this key.
 pub fn has_fault(alloc: Global, line: &[u8], kind: &str, key: &str) -> bool {
     match read_op(alloc, line) {
         Ok(_op) => false,

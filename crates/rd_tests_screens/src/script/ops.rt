@@ -123,7 +123,7 @@ fn is_op(op: &Op, name: &str) -> bool {
         || is_screen_op(op, name)
 }
 
-/// The same of the ops about buffers and their texts.
+/// Whether an op about a buffer and its text is the one that stands under its name.
 fn is_text_op(op: &Op, name: &str) -> bool {
     match op {
         Op::Buffer { name: buffer } => name == "buffer" && buffer.as_str() == "b c",
@@ -151,7 +151,7 @@ fn is_text_op(op: &Op, name: &str) -> bool {
     }
 }
 
-/// The same of the ops about properties, overlays and settings.
+/// Whether an op about properties, overlays or settings is the one that stands under its name.
 fn is_property_op(op: &Op, name: &str) -> bool {
     match op {
         Op::Put {
@@ -199,7 +199,7 @@ fn is_property_op(op: &Op, name: &str) -> bool {
     }
 }
 
-/// The same of the ops that make objects.
+/// Whether an op that makes an object is the one that stands under its name.
 fn is_object_op(op: &Op, name: &str) -> bool {
     match op {
         Op::AddString { text, runs } => name == "string" && is_spelled(text, "ab") && is_run(runs),
@@ -243,7 +243,7 @@ fn are_entries(entries: &ListOf<OpEntry>) -> bool {
         && is_spelled(&second.text, "b中")
 }
 
-/// The same of the ops that make, take away and place windows.
+/// Whether an op that makes, takes away or places a window is the one that stands under its name.
 fn is_window_op(op: &Op, name: &str) -> bool {
     match op {
         Op::Split { window, side, size } => {
@@ -265,7 +265,7 @@ fn is_window_op(op: &Op, name: &str) -> bool {
     }
 }
 
-/// The same of the ops that say how a window shows its text, and that ask for what it shows.
+/// Whether an op that says how a window shows its text, or asks for what it shows, is the one that stands under its name.
 fn is_view_op(op: &Op, name: &str) -> bool {
     match op {
         Op::Scroll { window, rows } => name == "scroll" && (*window, *rows) == (0, -1_000_000),
@@ -286,7 +286,7 @@ fn is_view_op(op: &Op, name: &str) -> bool {
     }
 }
 
-/// The same of the ops about the whole screen.
+/// Whether an op about the whole screen is the one that stands under its name.
 fn is_screen_op(op: &Op, name: &str) -> bool {
     match op {
         Op::Frame { width, height } => name == "frame" && (*width, *height) == (12, 200),

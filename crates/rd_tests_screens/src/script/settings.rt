@@ -81,7 +81,7 @@ fn is_setting(setting: &Setting, name: &str) -> bool {
     }
 }
 
-/// The same of what is hidden.
+/// Whether what is hidden is what stands under its name in that table.
 fn is_hiding(invisible: &Invisible, name: &str) -> bool {
     match invisible {
         Invisible::Every => name == "all invisible",
