@@ -1,8 +1,7 @@
 -- Pieces of bytes, as the code finds them.
-use Rattle.std.proofs.Common.{◌≡◌, ◌≢◌, ◌==◌, ℕ, ◌+◌, false, List, [], ◌∷◌, length, drop, None, Some, refl, sym, ap, ◌∙◌, subst, arith}
+use Rattle.std.proofs.Common.{◌≡◌, ◌≢◌, ◌==◌, ℕ, false, List, [], ◌∷◌, drop, None, Some, refl, sym, ap, ◌∙◌, subst}
 use Rattle.std.proofs.lemmas.Bool.{eq-eqb, ne_eqb}
 use Rattle.std.specs.List.{All, AllByRecursion, slice_split}
-use Rattle.std.proofs.lemmas.List.{drop-drop, length-drop}
 use Rattle.std.proofs.lemmas.List.Elements.{All-from_recursion}
 use Rattle.std.proofs.lemmas.List.Splits.{slice_split_at, slice_split_none}
 use Rattle.rd_base.proofs.Cutting.{IsCut, cut-is}
@@ -25,18 +24,3 @@ pieces-cut c bs front rest e =
 -- without a separator there is one piece
 pub pieces-uncut : (c : ℕ) (bs : List ℕ) → cut c bs ≡ None → slice_split (λ b. b == c) bs ≡ bs ∷ []
 pieces-uncut c bs e = slice_split_none (λ b. b == c) bs (others c bs (subst (IsCut c bs) e (cut-is c bs)))
-
--- the field behind those that were cut off
-pub field_next : (c i : ℕ) (line rest piece more : List ℕ) → slice_split (λ b. b == c) rest ≡ drop i (slice_split (λ b. b == c) line)
-    → slice_split (λ b. b == c) rest ≡ piece ∷ slice_split (λ b. b == c) more → slice_split (λ b. b == c) more ≡ drop (i + 1) (slice_split (λ b. b == c) line)
-field_next c i line rest piece more before cut =
-    let step : drop 1 (slice_split (λ b. b == c) rest) ≡ slice_split (λ b. b == c) more = ap (drop 1) cut in
-    sym step ∙ ap (drop 1) before ∙ drop-drop 1 i (slice_split (λ b. b == c) line)
-
--- the last piece has nothing behind it
-pub field_last : (c i : ℕ) (line rest piece : List ℕ) → slice_split (λ b. b == c) rest ≡ drop i (slice_split (λ b. b == c) line)
-    → slice_split (λ b. b == c) rest ≡ piece ∷ [] → length (slice_split (λ b. b == c) line) ≡ i + 1
-field_last c i line rest piece before cut =
-    let size : length (drop i (slice_split (λ b. b == c) line)) ≡ 1 = ap length (sym before ∙ cut) in
-    let whole = length-drop i (slice_split (λ b. b == c) line) in
-    omega arith

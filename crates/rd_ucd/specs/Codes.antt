@@ -1,18 +1,12 @@
 -- Codes: 4 to 6 hexadecimal digits of either case, at most 10FFFF.
-use Rattle.std.specs.Prelude.{ℕ, ◌+◌, ◌-◌, ◌*◌, nat_le, Bool, ◌||◌, if◌then◌else◌, List, [], ◌∷◌, length, Option, None, Some}
+use Rattle.std.specs.Prelude.{ℕ, ◌+◌, ◌*◌, nat_le, if◌then◌else◌, List, [], ◌∷◌, length, Option, None, Some}
+use Rattle.std.specs.Char.{digit_value, is_digit}
 use Rattle.std.specs.Int.{is_in_range}
-
--- 0 to 9, A to F, a to f
-abbrev pub is_hex : ℕ → Bool
-is_hex b = is_in_range 48 57 b || is_in_range 65 70 b || is_in_range 97 102 b
-
-abbrev pub hex_value : ℕ → ℕ
-hex_value b = if is_in_range 48 57 b then b - 48 else (if is_in_range 65 70 b then b - 55 else b - 87)
 
 -- the number that the digits write behind those that were read, None where one of them is no digit
 abbrev pub number_from : ℕ → List ℕ → Option ℕ
 number_from n [] = Some n
-number_from n (b ∷ bs) = if is_hex b then number_from (16 * n + hex_value b) bs else None
+number_from n (b ∷ bs) = if is_digit b 16 then number_from (16 * n + digit_value b) bs else None
 
 -- a code point
 abbrev pub in_range : Option ℕ → Option ℕ

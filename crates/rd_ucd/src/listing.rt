@@ -26,7 +26,7 @@ pub trait Listed: Covers + Copy {
         ensures bound { IfOk result (λ entry. (Self.first entry ≤ 1114111) × (Self.last entry ≡ Self.first entry)) };
 }
 
-/// What was read so far: the entries, and one more than the code of the last of them.
+/// The entries of the lines that were read, and one more than the code of the last of them.
 #[derive(Drop)]
 struct ListingReader<E> {
     entries: ListOf<E>,

@@ -26,14 +26,7 @@ pub fn field(line: &[u8], index: usize) -> Option<&[u8]>
         (length (fields_of line.now) ≤ index)
         (λ field. (index < length (fields_of line.now)) × (slice_index_or (fields_of line.now) index [] ≡ field.now)) }
 {
-    let mut rest = line;
-    for _i in 0..index {
-        match split_first(rest, b';').1 {
-            None => return None,
-            Some(more) => rest = more,
-        }
-    }
-    Some(split_first(rest, b';').0)
+    line.split(|b| *b == b';').nth(index)
 }
 
 /// A line without the byte 13 at its end.
@@ -74,7 +67,7 @@ fn blanks_before(bytes: &[u8]) -> usize
     ensures value { result ≡ prefix_len is_blank bytes.now }
     ensures bound { result ≤ length bytes.now }
 {
-    bytes.iter().take_while(|byte| is_space(**byte)).count()
+    bytes.iter().take_while(|byte| is_blank(**byte)).count()
 }
 
 /// How many spaces and tabs stand at the end.
@@ -85,12 +78,12 @@ fn blanks_behind(bytes: &[u8]) -> usize
     bytes
         .iter()
         .rev()
-        .take_while(|byte| is_space(**byte))
+        .take_while(|byte| is_blank(**byte))
         .count()
 }
 
 /// A space or a tab.
-fn is_space(byte: u8) -> bool
+fn is_blank(byte: u8) -> bool
     ensures { result ≡ is_blank byte }
 {
     byte == b' ' || byte == b'\t'

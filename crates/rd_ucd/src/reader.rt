@@ -11,7 +11,7 @@ use crate::spans::Span;
 use rd_base::ListOf;
 use std::alloc::Global;
 
-/// What was read so far: the ranges, one more than the code of the last entry, and the First that waits for its Last.
+/// The ranges of the lines that were read, one more than the code of the last entry, and the First that waits for its Last.
 #[derive(Drop)]
 pub struct Reader {
     pub spans: ListOf<Span>,
