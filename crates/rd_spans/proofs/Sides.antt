@@ -2,6 +2,7 @@
 use Rattle.std.proofs.Common.{◌≡◌, ℕ, zero, suc, ◌+◌, ◌-◌, ◌<◌, ◌≤◌, Bool, true, false, if◌then◌else◌, List, [], ◌∷◌, ◌++◌, length, length-append, append_assoc, append-nil, replicate, take, Option, None, Some, inl, inr, refl, sym, ap, subst, ◌∙◌, arith}
 use Rattle.std.specs.Prelude.{is_some, min, nat_lt, nat_eq, slice_get, slice_index_or, reverse}
 use Rattle.std.specs.Bool.{Decides}
+use Rattle.std.specs.Option.{option_eq}
 use Rattle.std.proofs.lemmas.Bool.Decides.{Decides-like, Decides-eqb, same_from_decides}
 use Rattle.std.proofs.lemmas.Bool.{lt-ltb, le-ltb, cases_lt}
 use Rattle.std.proofs.lemmas.List.{replicate-append-replicate, replicate_more, length-replicate, take_all, length-reverse, reverse-append, get_or_append_left, get_or-append_right, get_or-replicate, get_or_past, get_or-reverse, take-append-le, reverse-reverse, length_push, length-take, get_or-take}
@@ -11,17 +12,17 @@ use Rattle.rd_base.proofs.Lists.{all-read, last-read}
 use Rattle.std.proofs.lemmas.List.Sums.{fold_push}
 use Rattle.rd_spans.specs.declared.run.ValueRun.{ValueRun}
 use Rattle.rd_spans.specs.Values.{value_at, IsTrimmed}
-use Rattle.rd_spans.specs.Sides.{values_from, values_of, Rises, reach, size_of, value_in, top, same_value, has_value, meet, needs, values_of_both, AreMoved, IsLighter, GapMoved}
+use Rattle.rd_spans.specs.Sides.{values_from, values_of, Rises, reach, size_of, value_in, top, has_value, meet, needs, values_of_both, AreMoved, IsLighter, GapMoved}
 
 -- values: whether two are one is decided
 
-pub value-decides : (a b : Option ℕ) → Decides (same_value a b) (a ≡ b)
+pub value-decides : (a b : Option ℕ) → Decides (option_eq nat_eq a b) (a ≡ b)
 value-decides None None = (λ e. refl, λ e. refl)
 value-decides (Some a) (Some b) = Decides-like (nat_eq a b) (ap Some) (same_Some a b) (Decides-eqb a b)
 value-decides a b = (λ e. absurd (cc), λ e. absurd (cc))
 
-same_value-swap : (a b : Option ℕ) → same_value a b ≡ same_value b a
-same_value-swap a b = same_from_decides (same_value a b) (same_value b a) (value-decides a b) (Decides-like (same_value b a) (λ e. sym e) (λ e. sym e) (value-decides b a))
+value-swap : (a b : Option ℕ) → option_eq nat_eq a b ≡ option_eq nat_eq b a
+value-swap a b = same_from_decides (option_eq nat_eq a b) (option_eq nat_eq b a) (value-decides a b) (Decides-like (option_eq nat_eq b a) (λ e. sym e) (λ e. sym e) (value-decides b a))
 
 -- runs and a last one
 
@@ -129,10 +130,10 @@ run-value es i p d h l low high =
     value-of-place es p h ∙ found-run es i p d (λ k x m. omega (arith, before-run 0 es i k x h m l)) high l
 
 -- a run is opened at its end, or a new one begins
-pub has-top : (rs : List ValueRun) (r : ValueRun) (value : Option ℕ) → has_value (top (rs ++ r ∷ [])) value ≡ same_value r.value value
+pub has-top : (rs : List ValueRun) (r : ValueRun) (value : Option ℕ) → has_value (top (rs ++ r ∷ [])) value ≡ option_eq nat_eq r.value value
 has-top rs r value = rw (top-push rs r) refl
 
-pub opened-values : (rs : List ValueRun) (r : ValueRun) (value : Option ℕ) → same_value r.value value ≡ true → values_of (rs ++ r ∷ []) ≡ values_of rs ++ replicate (size_of (rs ++ r ∷ []) - size_of rs) value
+pub opened-values : (rs : List ValueRun) (r : ValueRun) (value : Option ℕ) → option_eq nat_eq r.value value ≡ true → values_of (rs ++ r ∷ []) ≡ values_of rs ++ replicate (size_of (rs ++ r ∷ []) - size_of rs) value
 opened-values rs r value e = rw (reach-push 0 rs r, ← (value-decides r.value value).0 e) (values-push 0 rs r)
 
 -- so many of one value, in two parts
@@ -171,32 +172,32 @@ popped-rises old rs r e h =
 pub popped-values : (old rs : List ValueRun) (r : ValueRun) → old ≡ rs ++ r ∷ [] → values_of old ≡ values_of rs ++ replicate (r.end - size_of rs) r.value
 popped-values old rs r e = ap values_of e ∙ values-push 0 rs r
 
-pub popped-has : (old rs : List ValueRun) (r : ValueRun) (value : Option ℕ) → old ≡ rs ++ r ∷ [] → has_value (top old) value ≡ same_value r.value value
+pub popped-has : (old rs : List ValueRun) (r : ValueRun) (value : Option ℕ) → old ≡ rs ++ r ∷ [] → has_value (top old) value ≡ option_eq nat_eq r.value value
 popped-has old rs r value e = ap (λ (x : List ValueRun). has_value (top x) value) e ∙ has-top rs r value
 
 pub popped-length : (old rs : List ValueRun) (r : ValueRun) → old ≡ rs ++ r ∷ [] → length old ≡ length rs + 1
 popped-length old rs r e = ap length e ∙ length_push rs r
 
-pub kept-count : (old rs : List ValueRun) (r : ValueRun) (value : Option ℕ) → old ≡ rs ++ r ∷ [] → same_value r.value value ≡ false → length (rs ++ r ∷ []) + (if has_value (top old) value then 1 else 0) ≡ length old
+pub kept-count : (old rs : List ValueRun) (r : ValueRun) (value : Option ℕ) → old ≡ rs ++ r ∷ [] → option_eq nat_eq r.value value ≡ false → length (rs ++ r ∷ []) + (if has_value (top old) value then 1 else 0) ≡ length old
 kept-count old rs r value e f = rw (popped-has old rs r value e, f, ← e) (omega arith)
 
-pub taken-count : (old rs : List ValueRun) (r : ValueRun) (value : Option ℕ) → old ≡ rs ++ r ∷ [] → same_value r.value value ≡ true → length rs + (if has_value (top old) value then 1 else 0) ≡ length old
+pub taken-count : (old rs : List ValueRun) (r : ValueRun) (value : Option ℕ) → old ≡ rs ++ r ∷ [] → option_eq nat_eq r.value value ≡ true → length rs + (if has_value (top old) value then 1 else 0) ≡ length old
 taken-count old rs r value e f = rw (popped-has old rs r value e, f) (sym (popped-length old rs r e))
 
-pub taken-values : (old rs : List ValueRun) (r : ValueRun) (value : Option ℕ) → old ≡ rs ++ r ∷ [] → same_value r.value value ≡ true → values_of old ≡ values_of rs ++ replicate (size_of old - size_of rs) value
+pub taken-values : (old rs : List ValueRun) (r : ValueRun) (value : Option ℕ) → old ≡ rs ++ r ∷ [] → option_eq nat_eq r.value value ≡ true → values_of old ≡ values_of rs ++ replicate (size_of old - size_of rs) value
 taken-values old rs r value e f = rw e (opened-values rs r value f)
 
 -- two sides
 
 meet-run : (run : ValueRun) (o : Option ValueRun) → meet (Some run) o ≡ has_value o run.value
 meet-run run None = refl
-meet-run run (Some r) = same_value-swap run.value r.value
+meet-run run (Some r) = value-swap run.value r.value
 
 meet-swap : (a b : Option ValueRun) → meet a b ≡ meet b a
 meet-swap None None = refl
 meet-swap None (Some b) = refl
 meet-swap (Some a) None = refl
-meet-swap (Some a) (Some b) = same_value-swap a.value b.value
+meet-swap (Some a) (Some b) = value-swap a.value b.value
 
 -- a last run with a value meets whatever has the value
 meet-value : (a b : Option ValueRun) (value : Option ℕ) → has_value b value ≡ true → meet a b ≡ has_value a value

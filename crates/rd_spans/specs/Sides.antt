@@ -1,7 +1,8 @@
 -- How the values are kept: runs on both sides of a gap. Each run reaches from the end of the one before it to its own. The runs behind the
 -- gap count from the last position with a value backwards.
-use Rattle.std.specs.Prelude.{◌≡◌, ℕ, ◌+◌, ◌-◌, ◌<◌, ◌≤◌, nat_lt, nat_eq, Bool, true, false, if◌then◌else◌, List, [], ◌∷◌, ◌++◌, length, min, replicate, reverse, take, fold, Option, None, Some}
+use Rattle.std.specs.Prelude.{◌≡◌, ℕ, ◌+◌, ◌-◌, ◌<◌, ◌≤◌, nat_lt, nat_eq, Bool, false, if◌then◌else◌, List, [], ◌∷◌, ◌++◌, length, min, replicate, reverse, take, fold, Option, None, Some}
 use Rattle.std.specs.List.{last_or}
+use Rattle.std.specs.Option.{option_eq}
 use Rattle.rd_spans.specs.declared.run.ValueRun.{ValueRun}
 use Rattle.rd_spans.specs.Values.{IsTrimmed}
 
@@ -34,15 +35,10 @@ value_in (r ∷ rs) p = if nat_lt p r.end then r.value else value_in rs p
 abbrev pub top : List ValueRun → Option ValueRun
 top rs = last_or None rs
 
-abbrev pub same_value : Option ℕ → Option ℕ → Bool
-same_value None None = true
-same_value (Some a) (Some b) = nat_eq a b
-same_value a b = false
-
 -- whether a run that may be there has a value
 abbrev pub has_value : Option ValueRun → Option ℕ → Bool
 has_value None value = false
-has_value (Some r) value = same_value r.value value
+has_value (Some r) value = option_eq nat_eq r.value value
 
 -- whether two runs that may be there have one value
 abbrev pub meet : Option ValueRun → Option ValueRun → Bool

@@ -48,7 +48,7 @@ pub(crate) fn next_other(front: &[ValueRun], back: &[ValueRun], pos: u64) -> Opt
     let mut next = here.to;
     while next < side::LIMIT {
         let behind = run_around(front, back, next);
-        if !side::same_value(behind.value, here.value) {
+        if behind.value != here.value {
             return Some(next as u32);
         }
         next = behind.to;
@@ -66,7 +66,7 @@ pub(crate) fn first_alike(front: &[ValueRun], back: &[ValueRun], pos: u64) -> u3
     let mut from = here.from;
     while 0 < from {
         let before = run_around(front, back, from - 1);
-        if !side::same_value(before.value, here.value) {
+        if before.value != here.value {
             return from as u32;
         }
         from = before.from;

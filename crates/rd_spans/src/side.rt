@@ -3,7 +3,7 @@ ghost use Rattle.std.specs.Prelude.{◌≡◌, ℕ, ◌+◌, ◌-◌, ◌<◌, �
 ghost use Rattle.std.specs.Vec.{vec_capacity};
 ghost use Rattle.rd_spans.specs.declared.run.ValueRun.{ValueRun};
 ghost use Rattle.rd_spans.specs.Values.{value_at, IsTrimmed};
-ghost use Rattle.rd_spans.specs.Sides.{values_of, Rises, size_of, top, same_value, has_value, needs, AreMoved, HaveRoom, IsCut, IsLighter};
+ghost use Rattle.rd_spans.specs.Sides.{values_of, Rises, size_of, top, has_value, needs, AreMoved, HaveRoom, IsCut, IsLighter};
 
 use crate::run::{ValueRange, ValueRun};
 
@@ -17,16 +17,6 @@ pub(crate) fn size(runs: &[ValueRun]) -> u64
     match runs.last() {
         Some(run) => run.end,
         None => 0,
-    }
-}
-
-pub(crate) fn same_value(a: Option<u32>, b: Option<u32>) -> bool
-    ensures { result ≡ same_value a b }
-{
-    match (a, b) {
-        (None, None) => true,
-        (Some(x), Some(y)) => x == y,
-        _ => false,
     }
 }
 
@@ -79,7 +69,7 @@ fn open_end(runs: &mut Vec<ValueRun>, value: Option<u32>)
     let Some(run) = runs.pop() else {
         return;
     };
-    if !same_value(run.value, value) {
+    if run.value != value {
         runs.push_reserved(run);
     }
 }

@@ -1,16 +1,17 @@
 use Rattle.std.proofs.Common.{arith, sym, ◌∙◌}
+use Rattle.std.proofs.lemmas.Bool.{not-true, not-false}
 use Rattle.rd_spans.proofs.Sides.{kept-count, taken-count, taken-values, popped-rises}
 use Rattle.rd_spans.proofs.side.open_end.Goals as goal
 
-pub returns-then-not-same_value-clause-count : goal.returns-then-not-same_value-clause-count
-returns-then-not-same_value-clause-count c =
+pub returns-then-ne-clause-count : goal.returns-then-ne-clause-count
+returns-then-ne-clause-count c =
     rw c.push_reserved.ensures.items
-    (kept-count c.args.runs.now.items c.pop.new.self.items c.in-Some.run' c.args.value c.in-Some.ensures.items (sym c.same_value.ensures ∙ c.if-not-same_value.true))
+    (kept-count c.args.runs.now.items c.pop.new.self.items c.in-Some.run' c.args.value c.in-Some.ensures.items (not-true _ (sym c.ne.ensures ∙ c.if-ne.true)))
 
-pub returns-else-not-same_value : goal.returns-else-not-same_value
-returns-else-not-same_value c =
+pub returns-else-ne : goal.returns-else-ne
+returns-else-ne c =
     let p = popped-rises c.args.runs.now.items c.pop.new.self.items c.in-Some.run' c.in-Some.ensures.items c.requires.order in
-    let same = sym c.same_value.ensures ∙ c.if-not-same_value.false in
+    let same = not-false _ (sym c.ne.ensures ∙ c.if-ne.false) in
     record {
       values = taken-values c.args.runs.now.items c.pop.new.self.items c.in-Some.run' c.args.value c.in-Some.ensures.items same;
       order = p.0;
