@@ -34,8 +34,8 @@ impl<'a> Parts<'a> {
     ghost use Rattle.rd_glyphs.specs.Characters.{elements_of, entry_of};
     ghost use Rattle.rd_glyphs.specs.Looks.{expanded};
 
-    /// What a character expands to, at an odd embedding level or not: the elements that `expand` lists, with its costs. A tab, and a
-    /// character that is shown by one look, is one element.
+    /// What a character expands to, at an odd embedding level or not: the elements that `expand` lists, with its costs. Where no table's
+    /// entry shows it, a tab or a character of one look is one element, and for it no list is made.
     pub fn expansion(
         &self,
         alloc: Global,

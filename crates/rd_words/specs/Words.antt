@@ -70,7 +70,7 @@ uses_from None (word ∷ words) =
     then last words
     else option_and_then (λ p. begun (named p.0) p.1 (uses_from None words) (λ s. uses_from (Some s) words)) (long_of word)
 
--- the number of a generated script: decimal digits, before which a plus may stand, of at most so much
+-- the number of a generated script: decimal digits, before which a plus may stand, of at most `GENERATED_NUMBER`
 abbrev pub is_number : Text → Bool
 is_number text = is_unsigned_in 0 GENERATED_NUMBER text
 
