@@ -53,5 +53,5 @@ fn blocks_of_two_lines()
     ensures whole { blocks_of (folded Every) ≡ (1, 5) ∷ [] }
     ensures first { items_at (folded (Listed [])) nothing_made 1 ≡ letter 0 97 ∷ ender 1 2 ∷ [] }
     ensures second { items_at (folded (Listed [])) nothing_made 3 ≡ letter 0 98 ∷ ender 1 2 ∷ [] }
-    ensures joined { items_at (folded Every) nothing_made 1 ≡ letter 0 97 ∷ record (letter 2 98) { from = 1 } ∷ ender 3 4 ∷ [] }
+    ensures one { items_at (folded Every) nothing_made 1 ≡ letter 0 97 ∷ record (letter 2 98) { from = 1 } ∷ ender 3 4 ∷ [] }
 {}

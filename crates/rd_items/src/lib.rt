@@ -19,12 +19,12 @@
 //! `block` goes from newline to newline and looks properties up at newlines alone, as Emacs does in `back_to_previous_visible_line_start`
 //! and `reseat_at_next_visible_line_start`.
 //!
-//! In Emacs no such list is made. The iterator (`struct it`) gives one display element after the other in visual order
+//! In Emacs (xdisp.c) no such list is made. The iterator (`struct it`) gives one display element after the other in visual order
 //! (`get_next_display_element`, `set_iterator_to_next`); its handlers `handle_face_prop`, `handle_display_prop` and `handle_invisible_prop`
 //! do steps 1 and 2 at each stop. Here the list comes first, rd_levels orders it, and `rd_stack::Walker` is the iterator. For the order,
 //! Emacs takes hidden text by its own characters and leaves overlays' strings out; here hidden text has no class of its own, and a string
-//! or an ellipsis counts as ON. A space of a spec separates segments here, in Emacs paragraphs (`bidi_fetch_char`). Marks are joined here
-//! by their width; Emacs has the composition rules of composite.c.
+//! or an ellipsis counts as ON. A space of a spec separates segments here, in Emacs paragraphs (`bidi_fetch_char`, bidi.c). Marks are
+//! joined here by their width; Emacs has the composition rules of composite.c.
 //!
 //! The rules are in docs/RULES.md: "Effective properties", "Blocks" and "Items of a block".
 #![tactic(auto)]

@@ -4,4 +4,4 @@ use Rattle.rd_items.proofs.examples.blocks_of_two_lines.Goals as goal
 
 pub returns : goal.returns
 unfolding char_width
-returns c = record { cut = refl; whole = refl; first = refl; second = refl; joined = refl }
+returns c = record { cut = refl; whole = refl; first = refl; second = refl; one = refl }
