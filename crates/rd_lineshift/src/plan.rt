@@ -137,9 +137,9 @@ impl Shifted {
     {
         let Shifted { screen, plan, .. } = self;
         match (screen, current) {
-            (Some(moved), Some(old)) => {
+            (Some(screen), Some(old)) => {
                 let _width = old.width();
-                plan.after(Some(moved), target, sent)
+                plan.after(Some(screen), target, sent)
             }
             (_, current) => plan.after(current, target, sent),
         }

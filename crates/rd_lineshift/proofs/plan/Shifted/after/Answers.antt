@@ -11,6 +11,6 @@ after-requires-clause-size c =
     let target = c.args.target in
     let bands = c.requires.prepared.0 in
     let known = c.requires.prepared.1 in
-    moved-sized (choice current target bands) current target c.in-Some-Some.old c.in-Some-Some.moved c.in-Some-Some.is-1
+    moved-sized (choice current target bands) current target c.in-Some-Some.old c.in-Some-Some.screen c.in-Some-Some.is-1
     (sym (ap (λ (s : Shifting). s.screen) (c.self.view_is ∙ known.1)) ∙ c.in-Some-Some.is-0)
     c.requires.size c.width-width.ensures.screen (taken-fits (length target.rows) current target bands known.0)
