@@ -9,8 +9,8 @@ use Rattle.rd_modeline.specs.declared.piece.Piece.{Piece}
 use Rattle.rd_modeline.specs.declared.piece.Piece.TheVariants.{Literal, Value, Dashes}
 use Rattle.rd_modeline.specs.declared.reading.Begun.{Begun}
 use Rattle.rd_modeline.specs.declared.reading.Begun.TheVariants.{Text, Percent}
-use Rattle.rd_modeline.specs.declared.reading.Step.{Step}
-use Rattle.rd_modeline.specs.declared.reading.Step.TheVariants.{On, Ends}
+use Rattle.rd_modeline.specs.declared.reading.ReadOn.{ReadOn}
+use Rattle.rd_modeline.specs.declared.reading.ReadOn.TheVariants.{On, Ends}
 
 -- the value that a letter asks for: b, l, p, *, + and n
 abbrev pub field_of : ℕ → Option Field
@@ -90,12 +90,12 @@ IsBegun Text = Unit {0}
 IsBegun (Percent start digits width) = HasDigits digits width
 
 -- the same of what is begun behind a character
-abbrev pub IsBegunBehind : Step → Type 0
+abbrev pub IsBegunBehind : ReadOn → Type 0
 IsBegunBehind (On after) = IsBegun after
 IsBegunBehind (Ends p) = Unit {0}
 
 -- what the next character makes of the rest, where it goes on with a code or ends a piece, and where it is bad
-abbrev pub ReadsOn : Result Step FormatFault → Begun → ℕ → ℕ → Type 0
+abbrev pub ReadsOn : Result ReadOn FormatFault → Begun → ℕ → ℕ → Type 0
 ReadsOn (Err (BadFormat start)) b place c = (cs : List ℕ) → pieces_from b place (c ∷ cs) ≡ Err start
 ReadsOn (Err Memory) b place c = Unit {0}
 ReadsOn (Ok (On after)) b place c = (cs : List ℕ) → pieces_from b place (c ∷ cs) ≡ pieces_from after (place + 1) cs

@@ -17,7 +17,7 @@ pub enum Begun {
 
 /// What a character does behind what is begun: it goes on with a code, or it ends a piece.
 #[derive(Clone, Copy, Debug, PartialEq, Eq)]
-pub enum Step {
+pub enum ReadOn {
     On(Begun),
     Ends(Piece),
 }
@@ -61,8 +61,8 @@ fn next_piece(text: &[Ch], from: usize) -> Result<Option<(Piece, usize)>, Format
     let mut begun = Begun::Text;
     for place in from..text.len() {
         match read_on(begun, place as u64, text[place])? {
-            Step::On(after) => begun = after,
-            Step::Ends(piece) => return Ok(Some((piece, place + 1))),
+            ReadOn::On(after) => begun = after,
+            ReadOn::Ends(piece) => return Ok(Some((piece, place + 1))),
         }
     }
     match begun {
@@ -72,23 +72,23 @@ fn next_piece(text: &[Ch], from: usize) -> Result<Option<(Piece, usize)>, Format
 }
 
 /// What a character does behind what is begun. The fault is the place of a percent sign where no code is spelled so.
-fn read_on(begun: Begun, place: u64, ch: Ch) -> Result<Step, FormatFault>
+fn read_on(begun: Begun, place: u64, ch: Ch) -> Result<ReadOn, FormatFault>
     requires { IsBegun begun }
     ensures reads { ReadsOn result begun place ch }
     ensures named { IfErr result (λ f. f ≢ fault.Memory) }
-    ensures begun { IfOk result (λ step. IsBegunBehind step) }
+    ensures begun { IfOk result (λ read. IsBegunBehind read) }
 {
     // 37 is the percent sign, and 48 to 57 are the digits.
     let code = ch.code();
     match begun {
-        Begun::Text if code == 37 => Ok(Step::On(Begun::Percent(place, 0, 0))),
-        Begun::Text => Ok(Step::Ends(Piece::Literal(ch))),
+        Begun::Text if code == 37 => Ok(ReadOn::On(Begun::Percent(place, 0, 0))),
+        Begun::Text => Ok(ReadOn::Ends(Piece::Literal(ch))),
         Begun::Percent(start, digits, width) if 48 <= code && code <= 57 && digits < 3 => {
             let longer = Begun::Percent(start, digits + 1, 10 * width + (code - 48));
-            Ok(Step::On(longer))
+            Ok(ReadOn::On(longer))
         }
         Begun::Percent(start, digits, width) => match piece_of(digits, width, ch) {
-            Some(piece) => Ok(Step::Ends(piece)),
+            Some(piece) => Ok(ReadOn::Ends(piece)),
             None => Err(FormatFault::BadFormat(start)),
         },
     }

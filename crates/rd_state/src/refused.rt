@@ -58,7 +58,7 @@ pub enum Refused {
     /// The window was not laid out since what it shows may have changed. It comes from the session alone, which holds the layouts.
     #[error("not shown")]
     NotShown,
-    /// There was no memory.
+    /// Want of memory, which an op that takes memory may answer at any time; then nothing has changed.
     #[error("no memory")]
     Memory,
 }
