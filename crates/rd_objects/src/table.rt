@@ -102,10 +102,7 @@ impl Table {
         ensures text { IfSome result (λ text. IsTrue (is_glyph_text text.now)) }
     {
         self.tables_are_valid();
-        match last_entry(self.entries.as_slice(), code) {
-            Some(entry) => Some(entry.text.as_slice()),
-            None => None,
-        }
+        Some(last_entry(self.entries.as_slice(), code)?.text.as_slice())
     }
 
     /// The glyph of a slot, and None exactly where none was put or None was put last. It costs one step.
