@@ -39,7 +39,7 @@ fn a_forced_start_is_scrolled()
 
 /// An anchor that is no block's start, after the lines before it were joined, and one whose row is gone.
 fn anchors_that_name_no_row()
-    ensures joined { chosen_of two_and_one twelve_columns (window 3 2 2) ≡ record { anchor = record { pos = 1; row = 0 }; point = 2 } }
+    ensures inside { chosen_of two_and_one twelve_columns (window 3 2 2) ≡ record { anchor = record { pos = 1; row = 0 }; point = 2 } }
     ensures gone { chosen_of (letters 10) twelve_columns (record (window 4 3 3) { anchor = record { pos = 3; row = 7 } }) ≡ record { anchor = record { pos = 3; row = 0 }; point = 3 } }
 {}
 

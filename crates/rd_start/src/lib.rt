@@ -18,12 +18,12 @@
 //! 5. `choice::centred`: else point's row comes to the middle of the window. Where the strip does not have that row, a
 //!    second strip begins at point's block; so a block is laid out at most twice.
 //!
-//! In Emacs this is `redisplay_window`: step 2 is its branch for `force_start`, step 3 is `try_window` at the old start, with its test that
-//! point is in view, step 4 is `try_scrolling`, and step 5 is recentring. What `try_cursor_movement` does before step 3, rd_window does.
-//! Emacs measures in pixels and its start is a position; here distances are in rows, and a start is a position and the number of a row.
-//! Where point is not in view of a forced start Emacs moves it to the middle of the window. It has `scroll-step` and the aggressive
-//! variables too, which are not here. The start here is the nearest one of all that suit, and the cost is bounded: of blocks that have no
-//! row near the window no rows are asked.
+//! In Emacs this is `redisplay_window` (xdisp.c): step 2 is its branch for `force_start`, step 3 is `try_window` at the old start, with its
+//! test that point is in view, step 4 is `try_scrolling`, and step 5 is recentring. What `try_cursor_movement` does before step 3,
+//! rd_window does. Emacs measures in pixels and its start is a position; here distances are in rows, and a start is a position and the
+//! number of a row. Where point is not in view of a forced start Emacs moves it to the middle of the window. It has `scroll-step` and the
+//! aggressive variables too, which are not here. The start here is the nearest one of all that suit, and the cost is bounded: of blocks
+//! that have no row near the window no rows are asked.
 //!
 //! The rules are in docs/RULES.md, "Where a window starts".
 #![tactic(auto)]
