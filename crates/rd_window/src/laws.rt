@@ -12,8 +12,6 @@ ghost use Rattle.rd_start.specs.declared.wanted.Wanted.{Wanted};
 ghost use Rattle.rd_window.specs.Layouts.{IsLaidOut, Stands};
 ghost use Rattle.rd_window.specs.declared.layout.Layout.{Layout};
 
-use rd_start::a_start_is_a_row;
-
 /// Without older rows no block keeps any, whatever changed, so that each window can be laid out without an older layout. The call does
 /// nothing.
 pub fn no_rows_are_kept()
@@ -24,9 +22,7 @@ pub fn no_rows_are_kept()
 pub fn new_layouts_stand()
     ensures { (last : Option Layout) (m : SourceValues) (shape : ShapeValues) (w : Wanted) (new : Layout) → IsSource m → IsShape shape → IsWithin w.point m.blocks
         → IsLaidOut last m shape w new → Stands m (chosen_of m shape w).anchor new }
-{
-    a_start_is_a_row();
-}
+{}
 
 /// A layout that stands over a source stands over each one with the same blocks, whose rows are the same at the layout's shape. The
 /// call does nothing.
