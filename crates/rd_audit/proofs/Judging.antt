@@ -1,6 +1,7 @@
 -- When verdicts come, put together from what was read.
-use Rattle.std.proofs.Common.{◌≡◌, ◌≢◌, ℕ, ◌+◌, ◌<◌, ◌≤◌, ◌⊎◌, inl, inr, if◌then◌else◌, List, [], ◌∷◌, ◌++◌, length, map, get_or, Option, None, Some, IfSome, is_some, is_ok, Result, Ok, Err, refl, sym, ap, subst, ◌∙◌, arith, append-nil, length-append, true≢false}
+use Rattle.std.proofs.Common.{◌≡◌, ◌≢◌, ℕ, ◌+◌, ◌<◌, ◌≤◌, ◌⊎◌, inl, inr, if◌then◌else◌, List, [], ◌∷◌, length, map, get_or, Option, None, Some, IfSome, is_some, is_ok, Result, Ok, Err, refl, sym, ap, subst, ◌∙◌, arith, length-append, true≢false}
 use Rattle.std.specs.Io.KnownBytes.{Consumes, IsAtEnd}
+use Rattle.std.proofs.KnownBytes.{Consumes-all}
 use Rattle.std.proofs.lemmas.Option.{same_Some}
 use Rattle.rd_base.proofs.Equals.{cell-itself}
 use Rattle.rd_base.specs.declared.cell.Cell.{Cell}
@@ -79,13 +80,10 @@ no-difference differences.Cursor p t s (sure, place, apart) = apart s.cursor
 
 -- all that a stream has was taken
 taken-all : (left after : Option (List ℕ)) (stream bytes : List ℕ) → left ≡ Some stream → Consumes left after bytes → IsAtEnd after → bytes ≡ stream
-taken-all None after stream bytes e c end = absurd (true≢false (sym (ap is_some e)))
-taken-all (Some xs) None stream bytes e c end = absurd c
-taken-all (Some xs) (Some ys) stream bytes e c end = sym (append-nil bytes) ∙ ap (λ l. bytes ++ l) (sym end) ∙ sym c ∙ same_Some xs stream e
+taken-all left after stream bytes e c end = subst (λ o. IfSome o (λ xs. bytes ≡ xs)) e (Consumes-all left after bytes [] bytes c end refl)
 
 file-is : (told : Option (List ℕ)) (file other : List ℕ) → told ≡ Some file → IfSome told (λ bytes. other ≡ bytes) → other ≡ file
-file-is None file other e h = absurd (true≢false (sym (ap is_some e)))
-file-is (Some bytes) file other e h = h ∙ same_Some bytes file e
+file-is told file other e h = subst (λ o. IfSome o (λ bytes. other ≡ bytes)) e h
 
 same-dump : (p q : Picture) (r : Result Picture ℕ) → r ≡ Ok p → r ≡ Ok q → p ≡ q
 same-dump p q r e f = let k : Ok p ≡ Ok q = sym e ∙ f in cc

@@ -5,7 +5,7 @@ use Rattle.std.specs.List.{AllByRecursion, flat_map}
 use Rattle.std.specs.Str.{all_scalars, encode_utf8_all, chars}
 use Rattle.std.proofs.lemmas.Bool.{cond-true}
 use Rattle.std.proofs.lemmas.Bool.Decides.{nat_tests}
-use Rattle.std.proofs.lemmas.Str.{chars-encodes, is_utf8-from_IsUtf8}
+use Rattle.std.proofs.lemmas.Str.{chars-encodes, encodes-append, is_utf8-from_IsUtf8}
 use Rattle.std.proofs.lemmas.List.{drop_more}
 use Rattle.unicode_width.specs.Width.{char_width}
 use Rattle.rd_base.proofs.Lists.{each-append}
@@ -46,11 +46,6 @@ IsShown code = (is_scalar code ≡ true) × ((width : ℕ) × (columns_of code �
 
 abbrev pub AreShown : List ℕ → Type 0
 AreShown codes = AllByRecursion IsShown codes
-
-encodes-append : (front back : List ℕ) → encode_utf8_all (front ++ back) ≡ encode_utf8_all front ++ encode_utf8_all back
-encodes-append [] back = refl
-encodes-append (code ∷ codes) back =
-    ap (λ l. encode_utf8 code ++ l) (encodes-append codes back) ∙ sym (append_assoc (encode_utf8 code) (encode_utf8_all codes) (encode_utf8_all back))
 
 encoded-all : (codes : List ℕ) → AreShown codes → flat_map encoded codes ≡ encode_utf8_all codes
 encoded-all [] h = refl
