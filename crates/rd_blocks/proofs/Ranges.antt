@@ -21,7 +21,6 @@ use Rattle.rd_stack.specs.Lines.{origin_of, item_class, item_code, item_turns, l
 use Rattle.rd_stack.specs.Shown.{kind_elements}
 use Rattle.rd_stack.proofs.EachElement.{item-each}
 use Rattle.rd_base.proofs.Lists.{all-at, count-cons, follow-once}
-use Rattle.std.specs.Int.{from_bool}
 use Rattle.rd_base.specs.Lists.{total}
 use Rattle.rd_blocks.proofs.Gives.{ItemsGive}
 
@@ -96,7 +95,7 @@ module _ (s : Scene) (base : ℕ) (q : ℕ × ℕ → Bool) where
   abbrev pub HasElements : Item → Type 0
   HasElements x = (odd : Bool) (origin : Origin) → q (range_of_item x) ≡ true → 1 ≤ length (put_kind kind_elements s base x.kind x.overlay odd x.face origin)
 
-  none-hit : (b : Bool) (n : ℕ) → (b ≡ true → 1 ≤ n) → n ≡ 0 → from_bool b ≡ 0
+  none-hit : (b : Bool) (n : ℕ) → (b ≡ true → 1 ≤ n) → n ≡ 0 → cond {A = ℕ} b 1 0 ≡ 0
   none-hit true n h none = let one = h refl in absurd (omega (arith, one, none))
   none-hit false n h none = refl
 
