@@ -7,6 +7,7 @@ use Rattle.std.proofs.lemmas.List.{length-take, take-append-le}
 use Rattle.std.proofs.Common.{IfSome, Result, Ok, Err, take-append-drop}
 use Rattle.std.proofs.Math.Seq.{take-append_seam, take-append-add, drop-append_seam}
 use Rattle.rd_base.proofs.Lists.{range-from}
+use Rattle.rd_base.specs.declared.limits.TheConstants.{FILE_BYTES}
 use Rattle.rd_io.specs.Devices.{Rose, AppendsFront, Fetches, Writes}
 
 -- a call that failed after others did so for the whole
@@ -86,5 +87,5 @@ pub front-begins : (told : Option (List ℕ)) (bytes : List ℕ) → bytes ≡ [
 front-begins None bytes e = tt
 front-begins (Some file) bytes e = (file, ap (λ l. l ++ file) (sym e))
 
-pub none-fits : (bytes : List ℕ) → bytes ≡ [] → length bytes ≤ 8388608
+pub none-fits : (bytes : List ℕ) → bytes ≡ [] → length bytes ≤ FILE_BYTES
 none-fits bytes e = omega (arith, ap length e)

@@ -1,9 +1,10 @@
 -- The reading of one line, step by step.
-use Rattle.std.proofs.Common.{◌≡◌, ℕ, ◌<◌, ◌≤◌, ◌⊎◌, inl, inr, List, [], ◌∷◌, ◌++◌, length, take, Option, None, Result, Ok, Err, refl, sym, ap, ◌∙◌, subst, append_assoc, append-nil, arith, length-append, Bool, true, ◌==◌}
+use Rattle.std.proofs.Common.{◌≡◌, ℕ, ◌+◌, ◌<◌, ◌≤◌, ◌⊎◌, inl, inr, List, [], ◌∷◌, ◌++◌, length, take, Option, None, Result, Ok, Err, refl, sym, ap, ◌∙◌, subst, append_assoc, append-nil, arith, length-append, Bool, true, ◌==◌}
 use Rattle.std.proofs.lemmas.Bool.{eqb-true}
 use Rattle.std.proofs.lemmas.List.{take-append-le}
 use Rattle.std.specs.Io.KnownBytes.{Consumes, IsAtEnd}
 use Rattle.std.proofs.KnownBytes.{Consumes-trans}
+use Rattle.rd_base.specs.declared.limits.TheConstants.{LINE_BYTES, LINES}
 use Rattle.rd_io.specs.Lines.{IsUnbroken}
 use Rattle.rd_io.specs.Pieces.{IsLeft, TakesPiece, Gathers}
 use Rattle.rd_io.specs.declared.lines.Found.{Found}
@@ -18,8 +19,8 @@ pub record Gathering (held : List ℕ) (first left : Option (List ℕ)) (line re
   pub taken : Consumes first left bytes
   pub split : held ++ bytes ≡ line ++ rest
   pub unbroken : IsUnbroken line
-  pub short : length line ≤ 1048576
-  pub few : (line ≡ []) ⊎ (given < 1000000)
+  pub short : length line ≤ LINE_BYTES
+  pub few : (line ≡ []) ⊎ (given < LINES)
 
 -- what came ends in this result
 abbrev pub Ends : Result Found LineFault → List ℕ → Option (List ℕ) → Option (List ℕ) → List ℕ → List ℕ → ℕ → Type 0
@@ -36,21 +37,21 @@ gathers-fault held first left line rest new behind given Memory g t = (g.bytes, 
 gathers-fault held first left line rest new behind given TooLong g t =
     let piece = t.1.0 in
     let come : held ++ g.bytes ≡ (line ++ piece) ++ t.1.1 = g.split ∙ ap (λ l. line ++ l) t.1.2 ∙ sym (append_assoc line piece t.1.1) in
-    let long : 1048576 < length (line ++ piece) = omega (arith, length-append line piece, t.1.4) in
-    let whole : 1048576 < length (held ++ g.bytes) = rw come (omega (arith, length-append (line ++ piece) t.1.1)) in
-    let bound : 1048577 ≤ length (line ++ piece) = omega arith in
-    let front : take 1048577 (held ++ g.bytes) ≡ take 1048577 (line ++ piece) = rw come (rw take-append-le refl) in
-    let unbroken = unbroken-take 1048577 (line ++ piece) (unbroken-append line piece g.unbroken t.1.3) in
+    let long : LINE_BYTES < length (line ++ piece) = omega (arith, length-append line piece, t.1.4) in
+    let whole : LINE_BYTES < length (held ++ g.bytes) = rw come (omega (arith, length-append (line ++ piece) t.1.1)) in
+    let bound : LINE_BYTES + 1 ≤ length (line ++ piece) = omega arith in
+    let front : take (LINE_BYTES + 1) (held ++ g.bytes) ≡ take (LINE_BYTES + 1) (line ++ piece) = rw come (rw take-append-le refl) in
+    let unbroken = unbroken-take (LINE_BYTES + 1) (line ++ piece) (unbroken-append line piece g.unbroken t.1.3) in
     (g.bytes, g.taken, (t.0, whole, subst IsUnbroken (sym front) unbroken))
 
-few-more : (line rest new : List ℕ) (given : ℕ) → (line ≡ []) ⊎ (given < 1000000) → new ≡ line ++ rest
-    → ((rest ≡ []) ⊎ ((given < 1000000) × (length new ≤ 1048576))) → (new ≡ []) ⊎ (given < 1000000)
+few-more : (line rest new : List ℕ) (given : ℕ) → (line ≡ []) ⊎ (given < LINES) → new ≡ line ++ rest
+    → ((rest ≡ []) ⊎ ((given < LINES) × (length new ≤ LINE_BYTES))) → (new ≡ []) ⊎ (given < LINES)
 few-more line rest new given few is (inr more) = inr more.0
 few-more line rest new given (inr few) is (inl none) = inr few
 few-more line rest new given (inl empty) is (inl none) = inl (is ∙ ap (λ l. l ++ rest) empty ∙ none)
 
-short-more : (line rest new : List ℕ) (given : ℕ) → length line ≤ 1048576 → new ≡ line ++ rest
-    → ((rest ≡ []) ⊎ ((given < 1000000) × (length new ≤ 1048576))) → length new ≤ 1048576
+short-more : (line rest new : List ℕ) (given : ℕ) → length line ≤ LINE_BYTES → new ≡ line ++ rest
+    → ((rest ≡ []) ⊎ ((given < LINES) × (length new ≤ LINE_BYTES))) → length new ≤ LINE_BYTES
 short-more line rest new given short is (inr more) = more.1
 short-more line rest new given short is (inl none) = rw (is, none, append-nil line) short
 
@@ -73,7 +74,7 @@ gathers-end held first left line rest given Whole g none end is = absurd is
 gathers-end held first left line rest given Over g none end is = (g.bytes, g.taken, (g.split ∙ ap (λ l. l ++ rest) is ∙ none, none, end))
 gathers-end held first left line rest given Last g none end is =
     let come : held ++ g.bytes ≡ line = g.split ∙ ap (λ l. line ++ l) none ∙ append-nil line in
-    let few : given < 1000000 = elim g.few [ inl empty ↦ absurd (omega (arith, ap length empty)) | inr few ↦ few ] in
+    let few : given < LINES = elim g.few [ inl empty ↦ absurd (omega (arith, ap length empty)) | inr few ↦ few ] in
     (g.bytes, g.taken, record { fits = record { unbroken = g.unbroken; short = g.short; few = few }; split = come; some = is; none = none; end = end })
 
 -- a list of no element

@@ -11,7 +11,7 @@ pub struct Calls {
 }
 
 impl Calls {
-    /// None was made, and these are to fail.
+    /// Calls of which none was made, and of which those with these numbers are to fail.
     pub fn new(failing: Vec<u64>) -> Calls
         ensures { result ≡ record { made = 0; failing = failing; faults = 0 } }
     {
@@ -22,7 +22,7 @@ impl Calls {
         }
     }
 
-    /// From here on these are to fail, counted anew. The count of faults stays.
+    /// Lets the calls with these numbers fail, counted from 1 behind this one. The count of faults stays.
     pub fn fail_at(&mut self, failing: Vec<u64>)
         ensures { self.new ≡ record { made = 0; failing = failing; faults = self.old.faults } }
     {

@@ -9,7 +9,7 @@ use std::alloc::Global;
 use std::marker::Model;
 
 /// How many bytes are read at a time.
-const ROOM: usize = 8192;
+const READ_BYTES: usize = 8192;
 
 /// Bytes in a room of a fixed size. Contracts see the list of those that were not used up yet.
 #[derive(Drop)]
@@ -35,7 +35,7 @@ impl Chunk {
         ensures { IfOk result (λ chunk. chunk ≡ []) }
     {
         Ok(Chunk {
-            room: Vec::from_elem(alloc, 0, ROOM)?,
+            room: Vec::from_elem(alloc, 0, READ_BYTES)?,
             from: 0,
             to: 0,
         })

@@ -14,7 +14,7 @@ pub enum FileFault {
     /// The file failed, or there is none.
     #[error("the file failed")]
     Failed,
-    /// It has more than 8,388,608 bytes.
+    /// The file has more than 8,388,608 bytes.
     #[error("the file is too large")]
     TooLarge,
     /// Memory was wanting.
@@ -33,11 +33,8 @@ impl From<AllocError> for FileFault {
     }
 }
 
-/// The most bytes of a file.
-const LARGEST: usize = FILE_BYTES as usize;
-
 /// How many bytes are fetched at a time.
-const ROOM: usize = 65_536;
+const FETCH_BYTES: usize = 65_536;
 
 /// Reads the file of a name whole, piece after piece until a fetch answers that there is no more. The contents of the
 /// files that contracts know stay the same.
@@ -63,7 +60,7 @@ pub fn read_file<F: Files>(alloc: Global, files: &mut F, name: &str) -> Result<V
         if n == 0 {
             return Ok(bytes);
         }
-        if !put_within(&mut bytes, buffer.split_at(n).0, LARGEST)? {
+        if !put_within(&mut bytes, buffer.split_at(n).0, FILE_BYTES as usize)? {
             return Err(FileFault::TooLarge);
         }
     }
@@ -73,5 +70,5 @@ pub fn read_file<F: Files>(alloc: Global, files: &mut F, name: &str) -> Result<V
 fn room(alloc: Global) -> Result<Vec<u8>, AllocError>
     ensures { IfOk result (λ room. 0 < length room.items) }
 {
-    Vec::from_elem(alloc, 0, ROOM)
+    Vec::from_elem(alloc, 0, FETCH_BYTES)
 }

@@ -31,9 +31,6 @@ pub enum LineFault {
     Memory,
 }
 
-/// The most bytes of a line, without its newline.
-const LONGEST: usize = LINE_BYTES as usize;
-
 /// The lines of a source, one at a time: its bytes are cut at each newline, byte 10, and what follows the last newline is a
 /// line where it is not empty.
 #[derive(Drop)]
@@ -198,7 +195,7 @@ fn take_piece(line: &mut Vec<u8>, bytes: &[u8], given: u32) -> Result<Option<usi
 fn put_piece(line: &mut Vec<u8>, piece: &[u8]) -> Result<(), LineFault>
     ensures { PutsPiece result line.old.items line.new.items piece.now }
 {
-    match put_within(line, piece, LONGEST) {
+    match put_within(line, piece, LINE_BYTES as usize) {
         Ok(true) => Ok(()),
         Ok(false) => Err(LineFault::TooLong),
         Err(_) => Err(LineFault::Memory),
@@ -212,7 +209,7 @@ fn newline_in(bytes: &[u8]) -> Option<usize>
     position_of_newline(bytes)
 }
 
-/// The same as the first index whose byte passes the test.
+/// The place of the first newline, by the definition of the first place at which a test passes.
 fn position_of_newline(bytes: &[u8]) -> Option<usize>
     ensures { result ≡ position (λ b. b == 10) bytes.now }
 {

@@ -16,7 +16,7 @@ pub struct MemFiles {
 }
 
 impl MemFiles {
-    /// These files, which never fail.
+    /// Files of these names and bytes, which never fail.
     pub fn new(files: Vec<(String, Vec<u8>)>) -> MemFiles
         ensures contents { (name : List ℕ) → ⟦<MemFiles as Files>⟧.contents result name ≡ bytes_at files.items (place_in files.items name) }
         ensures never { result.log.entries.items ≡ [] }
@@ -31,7 +31,7 @@ impl MemFiles {
         }
     }
 
-    /// The same files with the numbers of the calls that are to fail, counted from 1 and from here on. Their counts begin at 0.
+    /// These files, of which the calls with these numbers fail, counted from 1 behind this one. Their counts of faults begin at 0.
     pub fn failing(self, calls: Vec<u64>) -> MemFiles
         ensures contents { (name : List ℕ) → ⟦<MemFiles as Files>⟧.contents result name ≡ ⟦<MemFiles as Files>⟧.contents self name }
         ensures calls { result.log.entries ≡ calls }
@@ -101,7 +101,7 @@ pub struct FaultLog {
 }
 
 impl FaultLog {
-    /// These calls are to fail.
+    /// A log of calls that are to fail, by their numbers, of which none has failed.
     pub fn new(entries: Vec<u64>) -> FaultLog
         ensures entries { result.entries ≡ entries }
         ensures failed { result.failed ≡ 0 }

@@ -16,7 +16,7 @@ pub struct MemSink {
 }
 
 impl MemSink {
-    /// A sink that takes its room now, so that a write takes no memory.
+    /// A sink with room for so many bytes. All of it is taken by this call, so that a write takes no memory.
     pub fn with_room(alloc: Global, bytes: u64) -> Result<MemSink, Memory>
         ensures written { IfOk result (λ sink. ⟦<MemSink as Sink>⟧.written sink ≡ Some []) }
         ensures room { IfOk result (λ sink. length sink.room.items ≡ bytes) }
@@ -28,7 +28,7 @@ impl MemSink {
         })
     }
 
-    /// The same sink with the numbers of the calls that are to fail, counted from 1 and from here on.
+    /// This sink, of which the calls with these numbers fail, counted from 1 behind this one.
     pub fn failing(mut self, calls: Vec<u64>) -> MemSink
         ensures written { ⟦<MemSink as Sink>⟧.written result ≡ ⟦<MemSink as Sink>⟧.written self }
         ensures faults { ⟦<MemSink as Sink>⟧.faults result ≡ ⟦<MemSink as Sink>⟧.faults self }

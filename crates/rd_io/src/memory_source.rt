@@ -27,7 +27,7 @@ impl MemSource {
         }
     }
 
-    /// The same source with the numbers of the calls that are to fail, counted from 1 and from here on.
+    /// This source, of which the calls with these numbers fail, counted from 1 behind this one.
     pub fn failing(mut self, calls: Vec<u64>) -> MemSource
         ensures left { ⟦<MemSource as Source>⟧.left result ≡ ⟦<MemSource as Source>⟧.left self }
         ensures faults { ⟦<MemSource as Source>⟧.faults result ≡ ⟦<MemSource as Source>⟧.faults self }

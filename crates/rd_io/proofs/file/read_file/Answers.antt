@@ -1,4 +1,5 @@
 use Rattle.std.proofs.Common.{rules, ◌≡◌, ◌<◌, ◌≤◌, ◌++◌, ◌∙◌, ℕ, List, length, refl, sym, ap, subst, arith}
+use Rattle.rd_base.specs.declared.limits.TheConstants.{FILE_BYTES}
 use Rattle.rd_io.proofs.Bytes.{IsFront, front-begins, none-fits, front-grows, fetched-told}
 use Rattle.rd_io.proofs.file.read_file.Goals as goal
 
@@ -21,7 +22,7 @@ loop-n-preserved g c =
     let before = c.loop-n.invariant in
     let alike = before.same c.args.name.now in
     let at : from ≡ length bytes = search rules in
-    let put : (c.put_within.new.bytes.items ≡ bytes ++ c.split_at.result.0.now) × (length c.put_within.new.bytes.items ≤ 8388608) = search rules in
+    let put : (c.put_within.new.bytes.items ≡ bytes ++ c.split_at.result.0.now) × (length c.put_within.new.bytes.items ≤ FILE_BYTES) = search rules in
     let some : 0 < n = omega arith in
     record {
       room = omega (arith, some, c.in-Ok.ensures.bound);

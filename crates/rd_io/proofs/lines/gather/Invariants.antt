@@ -1,4 +1,5 @@
 use Rattle.std.proofs.Common.{◌≡◌, ◌⊎◌, ◌≤◌, ◌+◌, ◌-◌, length}
+use Rattle.rd_base.specs.declared.limits.TheConstants.{LINE_BYTES}
 use Rattle.rd_io.specs.Lines.{IsUnbroken}
 use Rattle.rd_io.proofs.Gathering.{Gathering}
 use Rattle.rd_io.proofs.lines.gather.Given as goal
@@ -12,4 +13,4 @@ invariant-loop-n g l = record {
 
 -- the line grows, but where nothing was held at first
 abbrev pub decreases-loop-n : goal.decreases-loop-n
-decreases-loop-n g l = (1048577 - length l.line.items) + (1 - length l.chunk)
+decreases-loop-n g l = (LINE_BYTES + 1 - length l.line.items) + (1 - length l.chunk)
