@@ -19,7 +19,7 @@ use Rattle.rd_props.specs.Buffers.{BufferValue}
 use Rattle.rd_props.specs.Values.{value_of, overlay_value, effective}
 use Rattle.rd_props.specs.Faces.{face_of, laid_over, face_at}
 use Rattle.rd_props.specs.Appearance.{appearance_at}
-use Rattle.rd_props.specs.Strings.{is_empty, part_of, part_in, strings_of}
+use Rattle.rd_props.specs.Strings.{is_empty, strings_put, strings_put_in, strings_of}
 use Rattle.rd_props.specs.declared.strings.StringPlace.{StringPlace}
 use Rattle.rd_props.specs.declared.strings.StringPlace.TheVariants.{Closing, Between, Opening}
 use Rattle.rd_props.specs.Seen.{accessible_char, Agree}
@@ -69,7 +69,7 @@ part_by Closing m = if m.empty then [] else option_to_list (value_by After m)
 part_by Between m = if m.empty then option_to_list (value_by Before m) ++ option_to_list (value_by After m) else []
 part_by Opening m = if m.empty then [] else option_to_list (value_by Before m)
 
-part-by : (part : StringPlace) (o : Overlay) → part_of part o ≡ part_by part (mark_of o)
+part-by : (part : StringPlace) (o : Overlay) → strings_put part o ≡ part_by part (mark_of o)
 part-by Closing o = refl
 part-by Between o = refl
 part-by Opening o = refl
@@ -86,7 +86,7 @@ no-mark o false e same = absurd (cc)
 -- an overlay that is listed, and the one that stands at its number in another list
 record GivesSame (s t : Option Overlay) : Type 0 where
   value : (kind : Kind) → value_of kind s ≡ value_of kind t
-  part : (part : StringPlace) → part_in part s ≡ part_in part t
+  part : (part : StringPlace) → strings_put_in part s ≡ strings_put_in part t
 
 slots-give : (f g : Overlay → Bool) (s t : Option Overlay) → Passes f s → picked f s ≡ picked g t → GivesSame s t
 slots-give f g None t pass same = absurd pass

@@ -12,7 +12,7 @@ use Rattle.rd_overlays.specs.Overlays.{overlay_at, starting, ending, placed, ran
 use Rattle.rd_overlays.proofs.Listed.{placed-by}
 use Rattle.rd_props.specs.Buffers.{BufferValue}
 use Rattle.rd_props.specs.Values.{value_of}
-use Rattle.rd_props.specs.Strings.{is_empty, before_string, after_string, part_in, strings_of, strings_at, strings_within}
+use Rattle.rd_props.specs.Strings.{is_empty, before_string, after_string, strings_put_in, strings_of, strings_at, strings_within}
 use Rattle.rd_props.specs.declared.strings.StringPlace.{StringPlace}
 use Rattle.rd_props.specs.declared.strings.StringPlace.TheVariants.{Closing, Between, Opening}
 
@@ -26,11 +26,11 @@ total-reverse w (x ∷ xs) =
 
 -- a number weighs the strings that a part of its overlay has
 abbrev weight : StringPlace → List (Option Overlay) → ℕ → ℕ
-weight part slots number = length (part_in part (overlay_at slots number))
+weight part slots number = length (strings_put_in part (overlay_at slots number))
 
 strings-weighed : (part : StringPlace) (slots : List (Option Overlay)) (ns : List ℕ) → length (strings_of part slots ns) ≡ total (weight part slots) ns
 strings-weighed part slots [] = refl
-strings-weighed part slots (n ∷ ns) = omega (arith, length-append (part_in part (overlay_at slots n)) (strings_of part slots ns), strings-weighed part slots ns)
+strings-weighed part slots (n ∷ ns) = omega (arith, length-append (strings_put_in part (overlay_at slots n)) (strings_of part slots ns), strings-weighed part slots ns)
 
 -- a listing weighs what the overlays in it weigh
 placed-weighed : (w : ℕ → ℕ) (r : _) (rs : List _) → total w (map number_of_rank (placed r rs)) ≡ w r.number + total w (map number_of_rank rs)
@@ -112,7 +112,7 @@ two slots n = by-slot (overlay_at slots n) where
   by-empty o true = omega (arith, length-append (before o) (after o), one (value_of Before (Some o)), one (value_of After (Some o)))
   by-empty o false = omega (arith, one (value_of Before (Some o)), one (value_of After (Some o)))
 
-  by-slot : (slot : Option Overlay) → length (part_in Closing slot) + length (part_in Between slot) + length (part_in Opening slot) ≤ 2
+  by-slot : (slot : Option Overlay) → length (strings_put_in Closing slot) + length (strings_put_in Between slot) + length (strings_put_in Opening slot) ≤ 2
   by-slot None = omega arith
   by-slot (Some o) = by-empty o (is_empty o)
 

@@ -12,7 +12,7 @@ use Rattle.rd_overlays.specs.Values.{last_given}
 use Rattle.rd_objects.specs.Things.{ObjectLists}
 use Rattle.rd_props.specs.Buffers.{BufferValue, property}
 use Rattle.rd_props.specs.Values.{value_of, overlay_value, effective}
-use Rattle.rd_props.specs.Strings.{is_empty, before_string, after_string, part_of, part_in, strings_of, strings_at}
+use Rattle.rd_props.specs.Strings.{is_empty, before_string, after_string, strings_put, strings_put_in, strings_of, strings_at}
 use Rattle.rd_props.specs.declared.strings.StringPlace.{StringPlace}
 use Rattle.rd_props.specs.declared.strings.StringPlace.TheVariants.{Closing, Between, Opening}
 use Rattle.rd_props.specs.Seen.{seen_at}
@@ -56,20 +56,20 @@ module _ (s : BufferValue) (objects : ObjectLists) (made : AreMade s objects) wh
   after-made : (number : ℕ) (o : Overlay) → overlay_at s.overlays number ≡ Some o → All IsString (after_string o)
   after-made number o lives = listed IsString (value_of After (Some o)) (if-value IsString (value_of After (Some o)) (λ v h. made.overlays number v After o lives h))
 
-  part-made : (part : StringPlace) (number : ℕ) (o : Overlay) → overlay_at s.overlays number ≡ Some o → All IsString (part_of part o)
+  part-made : (part : StringPlace) (number : ℕ) (o : Overlay) → overlay_at s.overlays number ≡ Some o → All IsString (strings_put part o)
   part-made Closing number o lives = either (All IsString) (is_empty o) [] (after_string o) (All-nil IsString) (after-made number o lives)
   part-made Between number o lives =
       either (All IsString) (is_empty o) (before_string o ++ after_string o) [] (All-append IsString (before_string o) (after_string o) (before-made number o lives) (after-made number o lives)) (All-nil IsString)
   part-made Opening number o lives = either (All IsString) (is_empty o) [] (before_string o) (All-nil IsString) (before-made number o lives)
 
-  in-made : (part : StringPlace) (number : ℕ) (slot : Option Overlay) → overlay_at s.overlays number ≡ slot → All IsString (part_in part slot)
+  in-made : (part : StringPlace) (number : ℕ) (slot : Option Overlay) → overlay_at s.overlays number ≡ slot → All IsString (strings_put_in part slot)
   in-made part number None lives = All-nil IsString
   in-made part number (Some o) lives = part-made part number o lives
 
   strings-made : (part : StringPlace) (numbers : List ℕ) → All IsString (strings_of part s.overlays numbers)
   strings-made part [] = All-nil IsString
   strings-made part (number ∷ numbers) =
-      All-append IsString (part_in part (overlay_at s.overlays number)) (strings_of part s.overlays numbers)
+      All-append IsString (strings_put_in part (overlay_at s.overlays number)) (strings_of part s.overlays numbers)
       (in-made part number (overlay_at s.overlays number) refl) (strings-made part numbers)
 
   all-made : (p : ℕ) → All IsString (strings_at s p)

@@ -21,19 +21,19 @@ after_string overlay = option_to_list (value_of After (Some overlay))
 
 -- what an overlay puts behind the text that it covers, what it puts where it covers nothing, and what it puts before the text
 -- that it covers
-abbrev pub part_of : StringPlace → Overlay → List ℕ
-part_of Closing overlay = if is_empty overlay then [] else after_string overlay
-part_of Between overlay = if is_empty overlay then before_string overlay ++ after_string overlay else []
-part_of Opening overlay = if is_empty overlay then [] else before_string overlay
+abbrev pub strings_put : StringPlace → Overlay → List ℕ
+strings_put Closing overlay = if is_empty overlay then [] else after_string overlay
+strings_put Between overlay = if is_empty overlay then before_string overlay ++ after_string overlay else []
+strings_put Opening overlay = if is_empty overlay then [] else before_string overlay
 
-abbrev pub part_in : StringPlace → Option Overlay → List ℕ
-part_in part None = []
-part_in part (Some overlay) = part_of part overlay
+abbrev pub strings_put_in : StringPlace → Option Overlay → List ℕ
+strings_put_in part None = []
+strings_put_in part (Some overlay) = strings_put part overlay
 
 -- what these overlays put, one after the other
 abbrev pub strings_of : StringPlace → List (Option Overlay) → List ℕ → List ℕ
 strings_of part slots [] = []
-strings_of part slots (number ∷ numbers) = part_in part (overlay_at slots number) ++ strings_of part slots numbers
+strings_of part slots (number ∷ numbers) = strings_put_in part (overlay_at slots number) ++ strings_of part slots numbers
 
 -- the strings at a position: the after-strings of overlays that end there, from the last by priority and number to the first,
 -- then both strings of those that are empty there, then the before-strings of those that start there

@@ -3,7 +3,7 @@ ghost use Rattle.std.specs.Prelude.{◌≡◌, ◌++◌, OnOk, IfOk};
 ghost use Rattle.rd_text.specs.Texts.{IsAccessible};
 ghost use Rattle.rd_overlays.specs.Overlays.{overlay_at};
 ghost use Rattle.rd_props.specs.Buffers.{meaning};
-ghost use Rattle.rd_props.specs.Strings.{before_string, after_string, part_of, part_in, strings_of, strings_at, is_empty};
+ghost use Rattle.rd_props.specs.Strings.{before_string, after_string, strings_put, strings_put_in, strings_of, strings_at, is_empty};
 
 use crate::state::View;
 use rd_base::{ListOf, Memory, Pos};
@@ -36,7 +36,7 @@ fn add_both(strings: &mut ListOf<u32>, overlay: &Overlay) -> Result<(), Memory>
 
 /// Adds the strings of one overlay.
 fn add_part(strings: &mut ListOf<u32>, part: StringPlace, overlay: &Overlay) -> Result<(), Memory>
-    ensures { OnOk result (strings.new ≡ strings.old ++ part_of part overlay.now) }
+    ensures { OnOk result (strings.new ≡ strings.old ++ strings_put part overlay.now) }
 {
     match (part, is_empty(overlay)) {
         (StringPlace::Between, true) => add_both(strings, overlay),
@@ -53,7 +53,7 @@ fn add_strings(
     overlays: &Overlays,
     number: u32,
 ) -> Result<(), Memory>
-    ensures { OnOk result (strings.new ≡ strings.old ++ part_in part (overlay_at overlays.now number)) }
+    ensures { OnOk result (strings.new ≡ strings.old ++ strings_put_in part (overlay_at overlays.now number)) }
 {
     match overlays.get(number) {
         None => Ok(()),
