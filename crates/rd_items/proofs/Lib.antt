@@ -2,10 +2,10 @@ mod Alike
 mod Chains
 pub mod EachItem
 pub mod Ended
-mod Growing
+pub mod Growing
 mod Listing
 mod Measured
-mod Naming
+pub mod Naming
 mod Newlines
 mod Reach
 pub mod Readings

@@ -16,4 +16,4 @@ mod Codes
 mod ReadFew
 mod Coloured
 mod Ends
-mod Stays
+pub mod Stays

@@ -19,7 +19,9 @@ use Rattle.rd_objects.proofs.Soundness.{goes_kept, named_specs, named_strings}
 use Rattle.rd_glyphs.specs.Characters.{entry_of, elements_by, elements_of}
 use Rattle.rd_glyphs.proofs.Joined.{Grows}
 use Rattle.rd_props.specs.Seen.{Seen}
-use Rattle.rd_items.specs.Growing.{ShowsMade, ShowMade, GoesOnFrom}
+use Rattle.rd_items.proofs.Growing.{same-items}
+use Rattle.rd_items.proofs.Naming.{items-made}
+use Rattle.rd_items.specs.Growing.{ShowsMade, ShowMade, ReadsMade, GoesOnFrom}
 use Rattle.rd_items.specs.Items.{items_of}
 use Rattle.rd_items.specs.Pieces.{Scene, spec_in}
 use Rattle.rd_items.specs.declared.item.Item.{Item}
@@ -197,8 +199,9 @@ module _ (old new : Scene) (goes : GoesOnFrom old new) (closed : IsClosed old.ob
       (λ turn. same-item base turn (slice_get items turn.index) (found (λ (i : Item). ShowsMade old.objects i.kind) items turn.index made))
 
   -- the line of what names made objects alone
-  pub line-stays : (base : ℕ) (es : List Seen) → items_of new es ≡ items_of old es → ShowMade old.objects (items_of old es) → line_elements new base es ≡ line_elements old base es
-  line-stays base es same made = ap (λ (items : List Item). line_of_items new base items) same ∙ same-line base (items_of old es) made
+  pub line-stays : (base : ℕ) (es : List Seen) → ReadsMade old.objects es → line_elements new base es ≡ line_elements old base es
+  line-stays base es made =
+      ap (λ (items : List Item). line_of_items new base items) (same-items old new es goes closed made) ∙ same-line base (items_of old es) (items-made old closed es made)
 
   -- the prefix that is a string which was made
   pub prefix-stays : (base number : ℕ) → number < length old.objects.strings → prefix new base number ≡ prefix old base number
