@@ -9,25 +9,22 @@ use Rattle.rd_objects.specs.Things.{ObjectLists}
 use Rattle.rd_props.specs.Buffers.{BufferValue}
 use Rattle.rd_props.specs.Made.{AreMade, SettingsMade, SeesMade}
 use Rattle.rd_props.specs.Seen.{Seen}
+use Rattle.rd_items.proofs.Growing.{scenes-go-on}
 use Rattle.rd_items.specs.Growing.{ReadsMade, GoesOnFrom}
 use Rattle.rd_items.specs.Pieces.{Scene, scene_in}
 use Rattle.rd_items.specs.Readings.{reading}
 use Rattle.rd_matrix.specs.declared.block.Block.{Block}
 use Rattle.rd_rows.specs.Rows.{cutting_of, rows_of}
 use Rattle.rd_rows.specs.Shapes.{ShapeValues}
-use Rattle.rd_stack.specs.Lines.{line_elements}
-use Rattle.rd_stack.specs.Shown.{prefix}
+use Rattle.rd_stack.proofs.Stays.{line-stays, prefix-stays}
 use Rattle.rd_blocks.specs.Rows.{prefix_of, prefix_elements, truncation_mark, continuation_mark, block_cutting, block_rows}
 use Rattle.rd_blocks.specs.Sources.{rows_in}
 
--- what is known of scenes in which objects were made
-pub record GrowthLaws : Type 0 where
-  pub read : (s : BufferValue) (objects : ObjectLists) (p : ℕ) → AreMade s objects → ReadsMade objects (reading s objects p)
-  pub scenes : (o n : ObjectLists) (a b : SettingValues) (files : Data) → Extends o n → SettingsMade o a → without_flags b ≡ without_flags a → GoesOnFrom (scene_in a o files) (scene_in b n files)
-  pub lines : (old new : Scene) (base : ℕ) (es : List Seen) → GoesOnFrom old new → IsClosed old.objects → ReadsMade old.objects es → line_elements new base es ≡ line_elements old base es
-  pub prefixes : (old new : Scene) (base number : ℕ) → GoesOnFrom old new → IsClosed old.objects → number < length old.objects.strings → prefix new base number ≡ prefix old base number
+-- what is read of a buffer that names made objects alone
+abbrev pub ReadLaw : Type 0
+ReadLaw = (s : BufferValue) (objects : ObjectLists) (p : ℕ) → AreMade s objects → ReadsMade objects (reading s objects p)
 
-module _ (laws : GrowthLaws) (old new : Scene) (goes : GoesOnFrom old new) (closed : IsClosed old.objects) (settings : SettingsMade old.objects old.parts.settings) where
+module _ (old new : Scene) (goes : GoesOnFrom old new) (closed : IsClosed old.objects) (settings : SettingsMade old.objects old.parts.settings) where
   abbrev IsString : ℕ → Type 0
   IsString n = n < length old.objects.strings
 
@@ -38,7 +35,7 @@ module _ (laws : GrowthLaws) (old new : Scene) (goes : GoesOnFrom old new) (clos
 
   same-prefix : (base : ℕ) (number : Option ℕ) → IfSome number IsString → prefix_elements new base number ≡ prefix_elements old base number
   same-prefix base None made = refl
-  same-prefix base (Some n) made = laws.prefixes old new base n goes closed made
+  same-prefix base (Some n) made = prefix-stays old new goes closed base n made
 
   same-prefix-of : (own : Seen → Option ℕ) (base : ℕ) (es : List Seen) (now setting : Option ℕ) → now ≡ setting → ((e : Seen) → SeesMade old.objects e → IfSome (own e) IsString) → IfSome setting IsString
       → ReadsMade old.objects es → prefix_elements new base (prefix_of own now es) ≡ prefix_elements old base (prefix_of own setting es)
@@ -58,14 +55,14 @@ module _ (laws : GrowthLaws) (old new : Scene) (goes : GoesOnFrom old new) (clos
       λ i. cutting_of shape base (line i) (wrap i) (same-truncation i) (same-continuation base i)
 
   pub same-rows : (base : ℕ) (shape : ShapeValues) (es : List Seen) → ReadsMade old.objects es → block_rows new base shape es ≡ block_rows old base shape es
-  same-rows base shape es made = λ i. rows_of (same-cutting base shape es made i) (laws.lines old new base es goes closed made i)
+  same-rows base shape es made = λ i. rows_of (same-cutting base shape es made i) (line-stays old new goes closed base es made i)
 
-pub rows-local : GrowthLaws → (old new : BufferValue) (made objects : ObjectLists) (files : Data) (a b : Block) (shape : ShapeValues) → without_flags new.settings ≡ without_flags old.settings → IsClosed made → AreMade old made → Extends made objects
+pub rows-local : ReadLaw → (old new : BufferValue) (made objects : ObjectLists) (files : Data) (a b : Block) (shape : ShapeValues) → without_flags new.settings ≡ without_flags old.settings → IsClosed made → AreMade old made → Extends made objects
     → a.base ≡ b.base → reading old made a.start ≡ reading new objects b.start → rows_in new objects files b shape ≡ rows_in old made files a shape
-rows-local laws old new made objects files a b shape settings closed named extends bases reads =
-    let goes = laws.scenes made objects old.settings new.settings files extends named.settings settings in
+rows-local read old new made objects files a b shape settings closed named extends bases reads =
+    let goes = scenes-go-on made objects old.settings new.settings files extends named.settings settings in
     let old_scene = scene_in old.settings made files in
     let new_scene = scene_in new.settings objects files in
     ap (λ (es : List Seen). block_rows new_scene b.base shape es) (sym reads)
     ∙ ap (λ (base : ℕ). block_rows new_scene base shape (reading old made a.start)) (sym bases)
-    ∙ same-rows laws old_scene new_scene goes closed named.settings a.base shape (reading old made a.start) (laws.read old made a.start named)
+    ∙ same-rows old_scene new_scene goes closed named.settings a.base shape (reading old made a.start) (read old made a.start named)

@@ -20,11 +20,8 @@ ghost use Rattle.rd_blocks.specs.Kept.{Follows, AreRowsAt};
 ghost use Rattle.rd_blocks.specs.Sources.{rows_in, text_source};
 
 use crate::laws::buffers_are_sources;
-use rd_items::{
-    blocks_are_listed, made_objects_alone_are_read, objects_that_are_made_change_no_item,
-};
+use rd_items::{blocks_are_listed, made_objects_alone_are_read};
 use rd_reuse::all_keeps_no_block;
-use rd_stack::objects_that_are_made_change_no_line;
 
 /// Two blocks have equal rows at a shape where the same is read of them, their base levels and the settings are the same, but for the
 /// flags of modified and of read-only text, and so are the data files and the objects that are named: wherever the blocks stand, and
@@ -36,8 +33,6 @@ pub fn rows_are_local()
         → rows_in new objects files b shape ≡ rows_in old made files a shape }
 {
     made_objects_alone_are_read();
-    objects_that_are_made_change_no_item();
-    objects_that_are_made_change_no_line();
 }
 
 /// Rows of an older state of a buffer that its blocks keep are the rows that they have now, where the change since is right: through
