@@ -34,8 +34,5 @@ impl Views {
 fn cursor_since(last: Option<&Layout>, point: Pos) -> Option<(u32, u32)>
     ensures { result ≡ cursor_since (option_map (λ l. l.now) last.entry) point }
 {
-    match last {
-        Some(layout) => layout.matrix.cursor(point),
-        None => None,
-    }
+    last?.matrix.cursor(point)
 }
