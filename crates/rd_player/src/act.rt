@@ -212,20 +212,16 @@ impl Playing {
 fn characters_of(session: &Session) -> u32
     ensures { result ≡ unwrap_or (length_of main_name session.now.state.buffers) 0 }
 {
-    match session.length("main") {
-        Some(characters) => characters,
-        None => 0,
-    }
+    session.length("main").unwrap_or(0)
 }
 
 /// Where the selected window starts.
 fn start_of(session: &Session) -> Anchor
     ensures { result ≡ (selected_window session.now.state).anchor }
 {
-    match session.start(session.selected()) {
-        Some(start) => start,
-        None => Anchor { pos: 1, row: 0 },
-    }
+    session
+        .start(session.selected())
+        .unwrap_or(Anchor { pos: 1, row: 0 })
 }
 
 /// Writes the dump of the screen where it is asked for.
