@@ -1,5 +1,6 @@
 -- The types of paired brackets (UAX 9, rule N0), over the types of one isolating run sequence.
-use Rattle.std.specs.Prelude.{ℕ, suc, ◌-◌, Bool, true, false, ◌||◌, if◌then◌else◌, List, [], ◌∷◌, length, take, drop, slice_index, slice_set, fold, Option, None, Some, unwrap_or}
+use Rattle.std.specs.Prelude.{ℕ, suc, ◌-◌, Bool, true, false, if◌then◌else◌, List, [], ◌∷◌, length, take, drop, slice_index, slice_set, fold, Option, None, Some, unwrap_or}
+use Rattle.std.specs.List.{list_any}
 use Rattle.rd_base.specs.Classes.{direction_of}
 use Rattle.rd_base.specs.declared.class.Class.{Class}
 use Rattle.rd_base.specs.declared.class.Class.TheVariants.{L, R, EN, AN, NSM, ON}
@@ -17,8 +18,7 @@ counts_as R AN = true
 counts_as side t = false
 
 abbrev pub holds : Class → List Class → Bool
-holds side [] = false
-holds side (t ∷ ts) = counts_as side t || holds side ts
+holds side ts = list_any (counts_as side) ts
 
 abbrev pub opposite : Class → Class
 opposite L = R

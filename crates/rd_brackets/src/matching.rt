@@ -25,7 +25,7 @@ pub struct Pair {
 }
 
 /// How many brackets may stand open at a time (UAX 9 BD16).
-const MOST_OPEN: usize = 63;
+pub(crate) const MOST_OPEN: usize = 63;
 
 /// The brackets that stand open, the last one at the end, and the pairs that were found, in the order of their closing brackets.
 #[derive(Drop)]
@@ -65,7 +65,7 @@ pub fn bd16_pairs_of(
 impl Matching {
     ghost use Rattle.std.specs.Prelude.{◌≡◌, ◌<◌, ◌∷◌, ◌++◌, suc, List, length, reverse, if◌then◌else◌, IfOk, OnOk, None};
     ghost use Rattle.rd_brackets.specs.Pairs.{opener, closed, pair_at};
-    ghost use Rattle.rd_brackets.specs.Matchings.{all_pairs, AreOpenedBefore, ArePairsBefore, Opens};
+    ghost use Rattle.rd_brackets.specs.Matchings.{all_pairs, AreOpenedBefore, ArePairsBefore, IsPushed};
     ghost use Rattle.rd_brackets.specs.declared.role.Role.{Role};
 
     /// BD16: goes on over the character at a place; false where a bracket opens there while 63 stand open.
@@ -89,7 +89,7 @@ impl Matching {
     /// BD16: adds a bracket that opens, unless 63 stand open.
     fn open(&mut self, place: usize, partner: u32) -> Result<bool, Memory>
         requires { AreOpenedBefore place self.old.opened }
-        ensures opened { IfOk result (λ added. Opens added place partner self.old.opened self.new.opened) }
+        ensures opened { IfOk result (λ added. IsPushed added place partner self.old.opened self.new.opened) }
         ensures before { OnOk result (AreOpenedBefore (suc place) self.new.opened) }
         ensures pairs { self.new.pairs ≡ self.old.pairs }
     {

@@ -58,13 +58,14 @@ fn n0_pair_side(
     requires closing { closing < length types.now }
     ensures { result ≡ n0_pair_side embedding (last_side sos (take opening types.now)) (between opening closing types.now) }
 {
+    let inside = between(opening, closing, types);
     // N0 b: the embedding direction stands inside.
-    if holds(embedding, opening, closing, types) {
+    if holds(embedding, inside) {
         return Some(embedding);
     }
     // N0 d: nothing strong stands inside.
     let other = opposite(embedding);
-    if !holds(other, opening, closing, types) {
+    if !holds(other, inside) {
         return None;
     }
     // N0 c: the opposite direction stands inside, and counts where it stands before the pair too.
@@ -74,18 +75,20 @@ fn n0_pair_side(
     Some(embedding)
 }
 
-/// For N0, whether a type between two places counts as this direction.
-fn holds(side: Class, opening: usize, closing: usize, types: &[Class]) -> bool
+/// For N0, the types between two places.
+fn between(opening: usize, closing: usize, types: &[Class]) -> &[Class]
     requires opening { opening < length types.now }
     requires closing { closing < length types.now }
-    ensures { result ≡ holds side (between opening closing types.now) }
+    ensures { result.now ≡ between opening closing types.now }
 {
-    for place in opening + 1..closing {
-        if counts_as(side, types[place]) {
-            return true;
-        }
-    }
-    false
+    &types[closing.min(opening + 1)..closing]
+}
+
+/// For N0, whether one of these types counts as this direction.
+fn holds(side: Class, types: &[Class]) -> bool
+    ensures { result ≡ holds side types.now }
+{
+    types.iter().any(|class| counts_as(side, *class))
 }
 
 /// For N0, the direction of the last strong type before a place, or sos where there is none.
