@@ -7,7 +7,8 @@
 //! 2. `leaf`, `content`: of each window its rectangle is looked up, and of its buffer the name, the text, the settings and the overlays.
 //! 3. `margins`: beside the first row of a line stand its number and its margin string, where the window has columns for them.
 //! 4. `mode_line`: the window's format is filled in with the buffer's name and flags, the line of point, and how much is above the start.
-//! 5. `border`, `pane`: the border is that of the buffer's display table, and rd_frame paints all this over the rectangle.
+//! 5. `border`, `pane`: the border is the one that the buffer's display table has, or else a bar, and rd_frame paints all this over
+//!    the rectangle.
 //! 6. `frame`: the echo area fills the last row, and the cursor is placed by that of the selected window.
 //!
 //! In Emacs margins come with each row (`display_line`, and `maybe_produce_line_number` for numbers), mode lines from `display_mode_lines`

@@ -3,8 +3,8 @@
 //! What goes in: bytes, cut anywhere (`Terminal::feed`). What comes out: what stands at each place, where that is known, the cursor, and
 //! whether the terminal is confused by what it read.
 //!
-//! 1. `reading`: a byte ends a character, ends a control sequence, goes on with either, or can't be read. `character` puts the bytes of
-//!    a character in UTF-8 together, `parameters` the numbers of a sequence, and `control` names the function by its last byte.
+//! 1. `reading`: a byte begins a character or a control sequence, goes on with it, ends it, or can't be read. `character` puts the
+//!    bytes of a character in UTF-8 together, `parameters` the numbers of a sequence, and `control` names the function by its last byte.
 //! 2. `printing`: a character is put at the cursor, `overwriting` what stood there; what is left of a wide one that it cuts is not known
 //!    any more. A mark joins the character that was put directly before it. Behind the last column the cursor waits.
 //! 3. `obeying`: a function moves the cursor, erases, sets the region, moves the region's rows (`shifting`) or changes the pen (`pen`).
