@@ -11,12 +11,12 @@ use Rattle.rd_explicit.specs.declared.state.Given.{Given}
 
 -- the last entry, which is the first of the list; a stack is never empty
 abbrev pub top : List DirectionalStatus → DirectionalStatus
-top [] = record { level = 0; direction = None; isolate = false }
+top [] = record { level = 0; override_status = None; isolate = false }
 top (e ∷ es) = e
 
 -- X1: the state before a line: a stack of one entry with the base level, and nothing counted
 abbrev pub x1_start : ℕ → State
-x1_start base = record { stack = record { level = base; direction = None; isolate = false } ∷ []; overflow_isolates = 0; overflow_embeddings = 0; valid_isolates = 0 }
+x1_start base = record { stack = record { level = base; override_status = None; isolate = false } ∷ []; overflow_isolates = 0; overflow_embeddings = 0; valid_isolates = 0 }
 
 -- the least level of a parity, 1 for odd and 0 for even, above another
 abbrev pub level_above : ℕ → ℕ → ℕ
@@ -28,8 +28,8 @@ is_valid level s = nat_le level MAX_DEPTH && (s.overflow_isolates == 0 && s.over
 
 -- for X2 to X5, an embedding, or an override, at a level
 abbrev pub x2_to_x5_embed : ℕ → Option Class → State → State
-x2_to_x5_embed level direction s =
-    if is_valid level s then record s { stack = record { level = level; direction = direction; isolate = false } ∷ s.stack }
+x2_to_x5_embed level override_status s =
+    if is_valid level s then record s { stack = record { level = level; override_status = override_status; isolate = false } ∷ s.stack }
     else if s.overflow_isolates == 0 then record s { overflow_embeddings = s.overflow_embeddings + 1 }
     else s
 
@@ -52,7 +52,7 @@ x5_left_to_right_override s = x2_to_x5_embed (level_above 0 (top s.stack).level)
 -- for X5a to X5c, an isolate at a level
 abbrev pub x5a_to_x5c_isolate : ℕ → State → State
 x5a_to_x5c_isolate level s =
-    if is_valid level s then record s { stack = record { level = level; direction = None; isolate = true } ∷ s.stack; valid_isolates = s.valid_isolates + 1 }
+    if is_valid level s then record s { stack = record { level = level; override_status = None; isolate = true } ∷ s.stack; valid_isolates = s.valid_isolates + 1 }
     else record s { overflow_isolates = s.overflow_isolates + 1 }
 
 -- X5a: RLI opens an isolate at the next odd level
@@ -122,7 +122,7 @@ x6_override (Some direction) c = direction
 
 -- X6: a character takes the level of the last entry, and its override, where it has one, as type. So do those of X5a to X6a.
 abbrev pub x6_level_and_override : DirectionalStatus → Class → Given
-x6_level_and_override e c = record { level = e.level; class = x6_override e.direction c }
+x6_level_and_override e c = record { level = e.level; class = x6_override e.override_status c }
 
 -- X8: B has the level of the base
 abbrev pub x8_paragraph_separator : ℕ → Given

@@ -21,8 +21,8 @@ pub struct First {
     pub level: u8,
 }
 
-/// For each index whether a sequence begins there and what follows it there, as far as the walk has come; the PDIs that nothing
-/// has matched so far, the first one last; and the first item.
+/// For each index from the one that the walk has come to whether a sequence begins there, and what follows it in its sequence; the
+/// PDIs that no initiator has matched, the first one last; and the first item.
 #[derive(Drop)]
 pub struct Links {
     pub begins: ListOf<bool>,

@@ -10,7 +10,7 @@ use std::marker::Model;
 #[derive(Clone, Copy)]
 pub struct DirectionalStatus {
     pub level: u8,
-    pub direction: Option<Class>,
+    pub override_status: Option<Class>,
     pub isolate: bool,
 }
 

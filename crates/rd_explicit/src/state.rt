@@ -34,7 +34,7 @@ impl State {
         State {
             stack: Stack::new(DirectionalStatus {
                 level: base,
-                direction: None,
+                override_status: None,
                 isolate: false,
             }),
             overflow_isolates: 0,
@@ -45,11 +45,11 @@ impl State {
 
     /// For X2 to X5c, adds an entry at a level above the last entry's, and says whether it did: not where the level is too deep (BD2), or
     /// in what has overflowed.
-    fn push_valid(&mut self, level: u8, direction: Option<Class>, isolate: bool) -> bool
+    fn push_valid(&mut self, level: u8, override_status: Option<Class>, isolate: bool) -> bool
         requires above { (top self.old.stack).level < level }
         requires rises { Rises self.old.stack }
         ensures valid { result ≡ is_valid level self.old }
-        ensures state { self.new ≡ (if is_valid level self.old then record self.old { stack = record { level = level; direction = direction; isolate = isolate } ∷ self.old.stack } else self.old) }
+        ensures state { self.new ≡ (if is_valid level self.old then record self.old { stack = record { level = level; override_status = override_status; isolate = isolate } ∷ self.old.stack } else self.old) }
         ensures rises { Rises self.new.stack }
     {
         if level > MAX_DEPTH || self.overflow_isolates > 0 || self.overflow_embeddings > 0 {
@@ -57,20 +57,20 @@ impl State {
         }
         self.stack.push(DirectionalStatus {
             level,
-            direction,
+            override_status,
             isolate,
         });
         true
     }
 
     /// For X2 to X5, an embedding, or an override, at a level above the last entry's. What can't be added overflows.
-    fn x2_to_x5_embed(&mut self, level: u8, direction: Option<Class>)
+    fn x2_to_x5_embed(&mut self, level: u8, override_status: Option<Class>)
         requires above { (top self.old.stack).level < level }
         requires ready { IsReady 4294967294 self.old }
-        ensures state { self.new ≡ x2_to_x5_embed level direction self.old }
+        ensures state { self.new ≡ x2_to_x5_embed level override_status self.old }
         ensures leaves { GoesOn self.old self.new }
     {
-        if !self.push_valid(level, direction, false) && self.overflow_isolates == 0 {
+        if !self.push_valid(level, override_status, false) && self.overflow_isolates == 0 {
             self.overflow_embeddings += 1;
         }
     }
@@ -197,7 +197,7 @@ fn x6_level_and_override(entry: DirectionalStatus, class: Class) -> Given
 {
     Given {
         level: entry.level,
-        class: entry.direction.unwrap_or(class),
+        class: entry.override_status.unwrap_or(class),
     }
 }
 
