@@ -5,16 +5,16 @@ use Rattle.rd_base.specs.declared.class.Class.{Class}
 use Rattle.rd_base.specs.declared.class.Class.TheVariants.{L, R, B, S, WS, ON, LRI, RLI, FSI, PDI}
 
 -- NI: neutrals, and the isolate formatting characters
-abbrev pub is_neutral : Class → Bool
-is_neutral B = true
-is_neutral S = true
-is_neutral WS = true
-is_neutral ON = true
-is_neutral LRI = true
-is_neutral RLI = true
-is_neutral FSI = true
-is_neutral PDI = true
-is_neutral c = false
+abbrev pub is_ni : Class → Bool
+is_ni B = true
+is_ni S = true
+is_ni WS = true
+is_ni ON = true
+is_ni LRI = true
+is_ni RLI = true
+is_ni FSI = true
+is_ni PDI = true
+is_ni c = false
 
 -- for N1, the direction of a type that is not neutral: EN and AN count as R
 abbrev pub n1_side : Class → Class
@@ -24,7 +24,7 @@ n1_side c = R
 -- for N1, the direction after a run of neutrals: that of the first type behind them, or eos
 abbrev pub n1_following : Class → List Class → Class
 n1_following eos [] = eos
-n1_following eos (c ∷ cs) = if is_neutral c then n1_following eos cs else n1_side c
+n1_following eos (c ∷ cs) = if is_ni c then n1_following eos cs else n1_side c
 
 -- N1: a neutral whose run stands between equal directions takes that direction
 abbrev pub n1_surrounding_direction : Class → Class → Class → Class
@@ -36,12 +36,12 @@ n1_surrounding_direction before after c = c
 abbrev pub n1 : Class → Class → List Class → List Class
 n1 before eos [] = []
 n1 before eos (c ∷ cs) =
-    if is_neutral c then n1_surrounding_direction before (n1_following eos cs) c ∷ n1 before eos cs
+    if is_ni c then n1_surrounding_direction before (n1_following eos cs) c ∷ n1 before eos cs
     else c ∷ n1 (n1_side c) eos cs
 
 -- N2: a neutral that N1 left takes the direction of its level
 abbrev pub n2_embedding_direction : Class → ℕ → Class
-n2_embedding_direction c level = if is_neutral c then direction_of level else c
+n2_embedding_direction c level = if is_ni c then direction_of level else c
 
 -- N2 over a sequence, with the levels of its characters
 abbrev pub n2 : List Class → List ℕ → List Class

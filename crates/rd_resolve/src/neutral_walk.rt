@@ -1,6 +1,6 @@
 //! Rules N1 and N2 of UAX 9 in one walk over an isolating run sequence. Each rule is a function here.
 ghost use Rattle.std.specs.Prelude.{◌≡◌, ◌<◌, length, All, AllPairs};
-ghost use Rattle.rd_resolve.specs.Neutral.{is_neutral, n1_side, n1_following, n1_surrounding_direction, n2_embedding_direction, neutral_types};
+ghost use Rattle.rd_resolve.specs.Neutral.{is_ni, n1_side, n1_following, n1_surrounding_direction, n2_embedding_direction, neutral_types};
 ghost use Rattle.rd_resolve.specs.Places.{types_at, levels_at, TakesTypes};
 ghost use Rattle.rd_resolve.specs.Walks.{SideIs};
 
@@ -43,7 +43,7 @@ impl WalkRules for Sides {
     ghost is_known = { λ sides types. SideIs sides.run sides.eos types };
 
     fn step(&mut self, class: Class, level: u8, types: &[Class], rest: &[u32]) -> Class {
-        if !is_neutral(class) {
+        if !is_ni(class) {
             self.before = n1_side(class);
             self.run = None;
             return class;
@@ -76,7 +76,7 @@ fn n1_following(eos: Class, types: &[Class], rest: &[u32]) -> Class
 {
     for i in rest {
         let class = types[*i as usize];
-        if !is_neutral(class) {
+        if !is_ni(class) {
             return n1_side(class);
         }
     }
@@ -84,8 +84,8 @@ fn n1_following(eos: Class, types: &[Class], rest: &[u32]) -> Class
 }
 
 /// Whether a type is neutral or an isolate formatting character (NI).
-fn is_neutral(class: Class) -> bool
-    ensures { result ≡ is_neutral class }
+fn is_ni(class: Class) -> bool
+    ensures { result ≡ is_ni class }
 {
     match class {
         Class::B | Class::S | Class::WS | Class::ON => true,
@@ -119,7 +119,7 @@ fn n1_surrounding_direction(before: Class, after: Class, class: Class) -> Class
 fn n2_embedding_direction(class: Class, level: u8) -> Class
     ensures { result ≡ n2_embedding_direction class level }
 {
-    if is_neutral(class) {
+    if is_ni(class) {
         Class::of_level(level)
     } else {
         class
