@@ -47,4 +47,4 @@ pub use laws::{
     made_objects_alone_are_read, objects_that_are_made_change_no_item,
 };
 pub use piece::{class_in_line, parts_of, spec_in};
-pub use showing::same_spec;
+pub use showing::{is_newline, same_spec};

@@ -3,7 +3,7 @@ ghost use Rattle.std.specs.Prelude.{◌≡◌, ◌<◌, option_map, slice_get};
 ghost use Rattle.rd_items.specs.Pieces.{scene_of, table_in, spec_in, gives_element, give_elements, string_gives, ellipsis_gives, class_in_line, has_element, char_by, spec_piece, open_piece, piece_at};
 
 use crate::item::ItemKind;
-use crate::showing::Showing;
+use crate::showing::{Showing, is_newline};
 use rd_base::{Ch, Class, Face, Glyph};
 use rd_glyphs::{MarkRole, Parts};
 use rd_objects::{Objects, Spec, Table, Text};
@@ -106,7 +106,7 @@ pub fn spec_in(objects: &Objects, number: u32) -> Spec
 fn gives_element(parts: &Parts, ch: Ch) -> bool
     ensures { result ≡ gives_element parts.now.table ch }
 {
-    ch.code() == 10 || !parts.is_empty(ch)
+    is_newline(ch) || !parts.is_empty(ch)
 }
 
 /// Whether the characters of a string give any element.
@@ -192,7 +192,7 @@ fn open_piece(view: &View, face: Face, ch: &Option<Ch>, at: u32) -> Piece
     match ch {
         None => Piece::ender(face, at),
         Some(ch) => {
-            if ch.code() == 10 {
+            if is_newline(*ch) {
                 return Piece::ender(face, at);
             }
             let role = parts_of(view).mark_role(*ch);

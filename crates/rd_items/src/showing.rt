@@ -1,6 +1,6 @@
 //! How the text at a position is shown, and how far a run goes.
 ghost use Rattle.std.specs.Prelude.{◌≡◌, IfOk};
-ghost use Rattle.rd_text.specs.Texts.{IsAccessible};
+ghost use Rattle.rd_text.specs.Texts.{IsAccessible, is_newline};
 ghost use Rattle.rd_props.specs.Buffers.{meaning};
 ghost use Rattle.rd_props.specs.Seen.{accessible_char};
 ghost use Rattle.rd_items.specs.Readings.{showing_at, showing_by, ends_line, is_hidden};
@@ -38,13 +38,20 @@ pub fn same_spec(a: Option<u32>, b: Option<u32>) -> bool
     }
 }
 
+/// Whether this is a newline.
+pub fn is_newline(ch: Ch) -> bool
+    ensures { result ≡ is_newline ch }
+{
+    ch.code() == 10
+}
+
 /// Whether this is a newline, or the end of the accessible text.
 fn ends_line(ch: &Option<Ch>) -> bool
     ensures { result ≡ ends_line ch.now }
 {
     match ch {
         None => true,
-        Some(ch) => ch.code() == 10,
+        Some(ch) => is_newline(*ch),
     }
 }
 

@@ -5,7 +5,7 @@ ghost use Rattle.rd_stack.specs.Strings.{place_of, ends_row, spec_class, spec_ki
 
 use rd_base::{Ch, Class, Face};
 use rd_glyphs::MarkRole;
-use rd_items::{ItemKind, class_in_line, parts_of, spec_in};
+use rd_items::{ItemKind, class_in_line, is_newline, parts_of, spec_in};
 use rd_objects::{Spec, Text};
 use rd_props::View;
 
@@ -52,7 +52,7 @@ pub fn place_of(replaced: bool, text: &Text, under: Face, i: u32) -> Place
 pub fn ends_row(place: &Place) -> bool
     ensures { result ≡ ends_row place.now }
 {
-    place.spec.is_none() && place.ch.code() == 10
+    place.spec.is_none() && is_newline(place.ch)
 }
 
 /// The class of what a spec puts.
