@@ -3,6 +3,7 @@
 use Rattle.std.specs.Prelude.{◌≡◌, ℕ, ◌+◌, ◌^◌, ◌<◌, ◌≤◌, Bool, List, Option, length, IsTrue}
 use Rattle.std.specs.List.{All}
 use Rattle.rd_base.specs.Chars.{is_code}
+use Rattle.rd_base.specs.declared.limits.TheConstants.{TAB_COLUMNS}
 use Rattle.rd_blocks.specs.Sources.{text_source}
 use Rattle.rd_items.specs.Blocks.{AreListed}
 use Rattle.rd_margins.specs.Cells.{IsMargin, row_margin}
@@ -34,7 +35,7 @@ pub record ViewLaws : Type 0 where
 
 -- of the sizes of what windows show
 pub record FitLaws : Type 0 where
-  pub whole : (s : props.BufferValue) (objects : ObjectLists) (files : Data) (shape : ShapeValues) → AreObjects objects → 1 ≤ s.settings.tab_width → s.settings.tab_width ≤ 32 → AreCodes s.text.text → IsShape shape
+  pub whole : (s : props.BufferValue) (objects : ObjectLists) (files : Data) (shape : ShapeValues) → AreObjects objects → 1 ≤ s.settings.tab_width → s.settings.tab_width ≤ TAB_COLUMNS → AreCodes s.text.text → IsShape shape
       → All (λ (e : EntryMeaning). IsWhole shape.width e.row) (rows_at (text_source s objects files) shape)
   pub margin : (classes : List Span) (widths : Widths) (row line : ℕ) (text : List ℕ) → line < 2 ^ 64 → All (λ c. IsTrue (is_code c)) text → IsMargin (widths.numbers + widths.strings) (row_margin classes widths row line text)
   pub mode_width : (classes : List Span) (facts : FactValues) (width : ℕ) (pieces : List Piece) → length (line_cells classes facts width pieces) ≡ width
