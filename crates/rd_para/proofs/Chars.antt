@@ -20,12 +20,12 @@ range_first xs p to first order last =
     ∙ ap (λ (n : ℕ). get_or xs (p - 1) 0 ∷ take (to - 1 - (p + 1 - 1)) (drop n xs)) next
 
 -- what a line decides from a character on, by that character and the rest
-pub level_by : (classes : List Span) (xs : List ℕ) (p to x depth deeper : ℕ) (class : Class) (own whole : Option ℕ)
+pub level-step : (classes : List Span) (xs : List ℕ) (p to x depth deeper : ℕ) (class : Class) (own whole : Option ℕ)
     → 1 ≤ p → p < to → to ≤ length xs + 1 → x ≡ get_or xs (p - 1) 0 → class ≡ class_of classes x
     → own ≡ strong_level depth class → deeper ≡ depth_after depth class
     → first_strong depth (map (class_of classes) (slice_range xs (p - 1) (to - 1))) ≡ whole
     → option_or own (first_strong deeper (map (class_of classes) (slice_range xs (p + 1 - 1) (to - 1)))) ≡ whole
-level_by classes xs p to x depth deeper class own whole first order last at is decides next same =
+level-step classes xs p to x depth deeper class own whole first order last at is decides next same =
     let rest = map (class_of classes) (slice_range xs (p + 1 - 1) (to - 1)) in
     ap₂ (λ (o : Option ℕ) (n : ℕ). option_or o (first_strong n rest)) decides next
     ∙ ap (λ (c : Class). first_strong depth (c ∷ rest)) (is ∙ ap (class_of classes) at)

@@ -32,7 +32,8 @@ pub fn base_level(text: &Buffer, classes: &Classes, direction: Direction, pos: P
 /// The paragraph by which the text decides the base level at an accessible position or the accessible end, up to the end of
 /// the position's line.
 ///
-/// It costs what `base_level` costs.
+/// The way back to the paragraph's start passes over stretches of the text, and then the paragraph is read from there up to its
+/// first strong character. It takes no memory.
 pub fn paragraph_at(text: &Buffer, classes: &Classes, pos: Pos) -> Paragraph
     requires { IsAccessible text.now pos }
     ensures { IsParagraph classes.now text.now pos result }
@@ -45,8 +46,8 @@ pub fn paragraph_at(text: &Buffer, classes: &Classes, pos: Pos) -> Paragraph
     Paragraph { from, to, base }
 }
 
-/// The paragraph of the line behind one that is known: the same, further, unless a text line follows a separator. So whoever
-/// reads a text line by line asks for one paragraph, and then goes on from it.
+/// The paragraph of the line behind a known one: the known one, up to this line's end, unless a text line follows a separator.
+/// So whoever reads a text line by line asks for one paragraph, and then goes on from it.
 ///
 /// It reads as much of the two lines as decides whether they are separators, and a paragraph that begins here up to its first
 /// strong character.

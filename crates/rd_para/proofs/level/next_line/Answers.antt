@@ -12,9 +12,9 @@ use Rattle.rd_para.proofs.level.next_line.Goals as goal
 use Rattle.rd_para.proofs.level.next_line.Goals.{then-prev_ink-from-via-then-prev_ink-from, then-prev_ink-from-via-else-prev_ink-from+then-prev_newline-prev_ink}
 
 -- a line that ends before the text's end has a line behind it
-behind : (classes : List Span) (t : TextValue) (right : IsText t) (p : Paragraph) → IsKnown classes t p → p.to < t.end
+next-behind : (classes : List Span) (t : TextValue) (right : IsText t) (p : Paragraph) → IsKnown classes t p → p.to < t.end
     → NextLine classes t p.to
-behind classes t right p known more =
+next-behind classes t right p known more =
     let first = known.first in
     let order = known.order in
     let ends = known.ends in
@@ -27,7 +27,7 @@ further classes t right p to known more is kind =
     let first = known.first in
     let order = known.order in
     known_to classes t right _ (p.to + 1) (omega arith) (omega arith) is first (omega arith) (λ pos low high. elim (cases_lt p.to pos) [
-      | inl past ↦ (behind classes t right p known more).kept pos (omega arith) (omega arith) kind ∙ known.same p.to order (omega arith)
+      | inl past ↦ (next-behind classes t right p known more).kept pos (omega arith) (omega arith) kind ∙ known.same p.to order (omega arith)
       | inr here ↦ known.same pos low here
     ])
 
@@ -38,7 +38,7 @@ fresh classes t right p to base known more is ink blank level =
     let first = known.first in
     let order = known.order in
     known_to classes t right _ (p.to + 1) (omega arith) (omega arith) is (omega arith) (omega arith)
-    (λ pos low high. (behind classes t right p known more).fresh pos low (omega arith) ink blank ∙ sym level)
+    (λ pos low high. (next-behind classes t right p known more).fresh pos low (omega arith) ink blank ∙ sym level)
 
 pub prev_ink-requires : goal.prev_ink-requires
 prev_ink-requires c =
