@@ -8,13 +8,14 @@
 //!
 //! 1. `blocks`: rd_items says where a block begins and ends.
 //! 2. `base`: its base level follows from the buffer's settings, or where the text decides it from the block's paragraph, which rd_para
-//!    finds. The paragraph that was found last is gone on from, line by line, so that blocks in order ask for it once.
+//!    finds. The paragraphs that were found last, one on the way up and one on the way down, are gone on from line by line, so that
+//!    blocks in order ask for each once.
 //! 3. `rows`: the properties at the block's first position are looked up once. By them, or else by the settings, a block has a line prefix
 //!    and a wrap prefix. rd_stack gives the elements of both (`string_line`) and those of the line (`Walker`).
 //! 4. rd_rows cuts the line behind its prefixes into rows. The truncation mark and the continuation mark are the display table's, or `$`
 //!    and a backslash, which is a slash in a line that is read from the right.
 //!
-//! `locality` and `changes` have the laws by which a layout may keep rows: they depend on what is read of their block alone.
+//! `locality` and `changes` have the laws by which a layout may keep rows: what a row is depends on what is read of its block alone.
 //!
 //! In Emacs (xdisp.c) step 1 is `back_to_previous_visible_line_start` and `reseat_at_next_visible_line_start`, step 2 is
 //! `bidi_paragraph_init` (bidi.c), and `display_line` does steps 3 and 4 at once, one row at each call (`handle_line_prefix`,
