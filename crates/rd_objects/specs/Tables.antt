@@ -2,7 +2,7 @@
 use Rattle.std.specs.Prelude.{◌≡◌, ℕ, nat_le, nat_lt, ◌==◌, Bool, not, ◌&&◌, ◌||◌, IsTrue, List, [], length, reverse, All, Option, None, Some}
 use Rattle.std.specs.List.{find, list_all}
 use Rattle.std.specs.Option.{option_map}
-use Rattle.rd_base.specs.declared.limits.TheConstants.{ENTRY_GLYPHS}
+use Rattle.rd_base.specs.declared.limits.TheConstants.{ENTRY_GLYPHS, GLYPH_MARKS}
 use Rattle.rd_base.specs.Chars.{is_scalar}
 use Rattle.rd_base.specs.declared.cell.Glyph.{Glyph}
 use Rattle.rd_objects.specs.declared.run.Slot.{Slot}
@@ -31,7 +31,7 @@ is_control code = nat_lt code 32 || (nat_le 127 code && nat_le code 159)
 abbrev pub is_glyph_character : Glyph → Bool
 is_glyph_character g =
     is_scalar g.base && not (is_control g.base) && (columns g.base == g.width) && nat_le 1 g.width && nat_le g.width 3
-    && (g.count == 0) && (length g.marks == 6) && list_all (λ mark. mark == 0) g.marks
+    && (g.count == 0) && (length g.marks == GLYPH_MARKS) && list_all (λ mark. mark == 0) g.marks
 
 -- whether a scalar value is no glyph character: it is a control, or has no columns
 abbrev pub has_no_glyph : ℕ → Bool
