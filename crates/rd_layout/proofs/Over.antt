@@ -11,7 +11,6 @@ use Rattle.rd_blocks.specs.Sources.{rows_in, text_source}
 use Rattle.rd_items.specs.Blocks.{IsBlock}
 use Rattle.rd_items.specs.Readings.{reading}
 use Rattle.rd_matrix.specs.Blocks.{IsAmong}
-use Rattle.rd_matrix.specs.Sources.{SourceValues}
 use Rattle.rd_matrix.specs.declared.block.Block.{Block}
 use Rattle.rd_objects.specs.Sound.{IsClosed, Extends}
 use Rattle.rd_objects.specs.Things.{ObjectLists}
@@ -27,6 +26,7 @@ use Rattle.rd_state.specs.declared.effect.Effect.{Effect}
 use Rattle.rd_state.specs.declared.effect.Effect.TheVariants.{Nothing, Edit, Moved, All, Window}
 use Rattle.rd_text.specs.Texts.{IsText}
 use Rattle.rd_ucd.specs.Data.{Data}
+use Rattle.rd_window.proofs.Standing.{stands-on}
 use Rattle.rd_window.specs.Layouts.{Stands}
 use Rattle.rd_window.specs.declared.layout.Layout.{Layout}
 use Rattle.rd_layout.specs.Changes.{change_by, if_shown, restyled}
@@ -38,7 +38,6 @@ pub record OverLaws : Type 0 where
   pub grown : (s : BufferValue) (made objects : ObjectLists) → IsClosed made → AreMade s made → Extends made objects → LeadsTo s made s objects none
   pub local : (old new : BufferValue) (made objects : ObjectLists) (files : Data) (a b : Block) (shape : ShapeValues) → without_flags new.settings ≡ without_flags old.settings → IsClosed made → AreMade old made → Extends made objects
       → a.base ≡ b.base → reading old made a.start ≡ reading new objects b.start → rows_in new objects files b shape ≡ rows_in old made files a shape
-  pub stand : (m n : SourceValues) (anchor : Anchor) (l : Layout) → n.blocks ≡ m.blocks → ((b : Block) → IsAmong m.blocks b → n.rows_of b l.shape ≡ m.rows_of b l.shape) → Stands m anchor l → Stands n anchor l
 
 -- ---- changes
 
@@ -92,4 +91,4 @@ module _ (laws : OverLaws) (s : BufferValue) (made objects : ObjectLists) (close
 
   pub objects-over : (views : ViewLaws) (files : Data) (anchor : Anchor) (l : Layout) → Stands (text_source s made files) anchor l → Stands (text_source s objects files) anchor l
   objects-over views files anchor l stands =
-      laws.stand (text_source s made files) (text_source s objects files) anchor l refl (block-rows views files l.shape) stands
+      stands-on (text_source s made files) (text_source s objects files) anchor l refl (block-rows views files l.shape) stands

@@ -40,7 +40,7 @@ use rd_margins::margins_are_whole;
 use rd_modeline::mode_lines_are_whole;
 use rd_state::{ops_leave_the_rest, steps_keep_states};
 use rd_visual::items_begin_in_the_window;
-use rd_window::{layouts_stand_over_equal_rows, new_layouts_stand, no_rows_are_kept};
+use rd_window::{new_layouts_stand, no_rows_are_kept};
 
 /// A redisplay leaves a valid state valid: the starts and the points that it chooses are accessible, and its windows have shapes. The
 /// call does nothing.
@@ -69,7 +69,6 @@ pub fn sessions_stay_known()
 {
     changes_lead_on();
     kept_rows_are_fresh();
-    layouts_stand_over_equal_rows();
     no_rows_are_kept();
     ops_leave_the_rest();
     rows_are_local();

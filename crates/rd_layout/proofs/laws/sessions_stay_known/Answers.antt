@@ -9,11 +9,7 @@ returns-clause-opened c = λ files. opened-session files c.steps_keep_states.ens
 
 pub returns-clause-step : goal.returns-clause-step
 returns-clause-step c =
-    let over : OverLaws = record {
-      grown = c.changes_lead_on.ensures.grown;
-      local = c.rows_are_local.ensures;
-      stand = c.layouts_stand_over_equal_rows.ensures;
-    } in
+    let over : OverLaws = record { grown = c.changes_lead_on.ensures.grown; local = c.rows_are_local.ensures } in
     let laws : StepLaws = record {
       valid = c.steps_keep_states.ensures.step;
       left = c.ops_leave_the_rest.ensures;
