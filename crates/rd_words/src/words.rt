@@ -11,6 +11,17 @@ use rd_base::limits::GENERATED_NUMBER;
 use std::alloc::{AllocError, Global};
 use thiserror::Error;
 
+// The names of the options and of the flag.
+const DATA: &str = "data";
+
+const MIRROR: &str = "mirror";
+
+const BRACKETS: &str = "brackets";
+
+const GENERATE: &str = "generate";
+
+const DUMP: &str = "dump";
+
 /// What the words say. The texts are those of the words.
 #[derive(Clone, Copy, Debug, PartialEq, Eq)]
 pub struct Words<'a> {
@@ -30,7 +41,7 @@ pub struct Words<'a> {
 #[derive(Clone, Copy, Debug, PartialEq, Eq, Error)]
 pub enum WordsFault {
     /// The words are faulty.
-    #[error("usage: redisplay --data FILE --mirror FILE [--brackets FILE] [--generate N] [--dump]")]
+    #[error("the words are faulty")]
     Usage,
     /// Memory was wanting.
     #[error("no memory")]
@@ -82,18 +93,14 @@ fn command<'a>(alloc: Global) -> Result<Command<'a>, AllocError>
     Command::new(alloc, "redisplay")
         .no_binary_name(true)
         .disable_help_flag(true)
-        .arg(option(alloc, "data").required(true))?
-        .arg(option(alloc, "mirror").required(true))?
-        .arg(option(alloc, "brackets"))?
-        .arg(option(alloc, "generate").value_parser(ValueParser::unsigned(
+        .arg(option(alloc, DATA).required(true))?
+        .arg(option(alloc, MIRROR).required(true))?
+        .arg(option(alloc, BRACKETS))?
+        .arg(option(alloc, GENERATE).value_parser(ValueParser::unsigned(
             0,
             GENERATED_NUMBER as u64,
         )))?
-        .arg(
-            Arg::new(alloc, "dump")
-                .long("dump")
-                .action(ArgAction::SetTrue),
-        )
+        .arg(Arg::new(alloc, DUMP).long(DUMP).action(ArgAction::SetTrue))
 }
 
 /// An option that takes a value.
@@ -108,18 +115,18 @@ fn option<'a>(alloc: Global, name: &'a str) -> Arg<'a>
 fn words_of<'a>(matches: &ArgMatches<'a>) -> Result<Words<'a>, WordsFault>
     ensures { ReadsWords result (values_of_rows (rows_of (found_of matches.now))) }
 {
-    let Some(class_file) = matches.get_str("data") else {
+    let Some(class_file) = matches.get_str(DATA) else {
         return Err(WordsFault::Usage);
     };
-    let Some(mirror_file) = matches.get_str("mirror") else {
+    let Some(mirror_file) = matches.get_str(MIRROR) else {
         return Err(WordsFault::Usage);
     };
     Ok(Words {
         class_file,
         mirror_file,
-        bracket_file: matches.get_str("brackets"),
-        generate: number_in(matches.get_str("generate")),
-        dumps: is_true(matches.get_str("dump")),
+        bracket_file: matches.get_str(BRACKETS),
+        generate: number_in(matches.get_str(GENERATE)),
+        dumps: is_true(matches.get_str(DUMP)),
     })
 }
 
