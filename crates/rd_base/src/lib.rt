@@ -1,6 +1,6 @@
 //! The words that every layer of the redisplay engine shares: characters, faces, glyphs, cells, elements of a line,
-//! lines of bidirectional classes, the settings of a buffer, a cut of bytes, the counter of steps, and in `limits` every limit of the
-//! engine with its unit.
+//! lines of bidirectional classes, the settings of a buffer, a cut of bytes, the counter of steps, and in `limits` the limits of the
+//! engine with their units.
 #![tactic(auto)]
 
 mod cell;

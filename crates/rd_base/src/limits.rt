@@ -48,7 +48,7 @@ pub const ENTRY_GLYPHS: u32 = 16;
 /// Columns from one stop of a tab to the next.
 pub const TAB_COLUMNS: u8 = 32;
 
-/// The greatest atom, by which text is invisible.
+/// The greatest atom, which is the number that stands for a symbol by which text is invisible.
 pub const ATOMS: u32 = 65_535;
 
 /// Atoms in a buffer's list of what is invisible.

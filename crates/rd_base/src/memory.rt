@@ -2,7 +2,8 @@
 use std::alloc::{AllocError, AllocFailed};
 use thiserror::Error;
 
-/// The allocator has no room: a call that has this error may answer it at any time. It is the error of the calls that have no other.
+/// Want of memory. A call that has this error may answer it at any time, whatever room there is. It is the error of the calls that
+/// have no other.
 #[derive(Clone, Copy, Debug, PartialEq, Eq, Error)]
 #[error("no memory")]
 pub struct Memory;

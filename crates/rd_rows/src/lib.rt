@@ -25,9 +25,9 @@
 //! 6. `mirror`: until then columns count from the reading edge. A row of base level 1 is turned round, glyph by glyph.
 //!
 //! In Emacs `display_line` (xdisp.c) does all this: it asks the iterator for elements, `produce_glyphs` (term.c) puts them in the row,
-//! and `produce_special_glyphs` and `insert_left_trunc_glyphs` make the marks. To wrap between words it saves the iterator at each break and
-//! goes back to it; here the iterator never goes back, and the elements wait. Emacs puts the glyphs of a row from the right edge before
-//! each other as it goes. On a window system it keeps no column for marks; here there are terminals alone.
+//! and `produce_special_glyphs` and `insert_left_trunc_glyphs` make the marks. To wrap between words it saves the iterator at each break
+//! and goes back to it; here the iterator never goes back, and the elements wait. Emacs puts the glyphs of a row from the right edge
+//! before each other as it goes. On a window system it keeps no column for marks; here there are terminals alone.
 //!
 //! The rules are in docs/RULES.md, "Rows". Which prefixes, marks and base level a line has says "Rows of a block", coded in rd_blocks.
 #![tactic(auto)]

@@ -10,7 +10,7 @@ pub enum TextFault {
     /// The text would have more than 4,194,304 characters.
     #[error("text too large")]
     TooLarge,
-    /// There was no memory.
+    /// Want of memory, which may be answered at any time; then nothing has changed.
     #[error("no memory")]
     Memory,
 }
