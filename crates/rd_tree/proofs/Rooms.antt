@@ -24,7 +24,7 @@ rows-some (Window number mode margins) = rows_for-some mode
 rows-some (Split Right size first second) = omega (arith, rows-some first)
 rows-some (Split Below size first second) = omega (arith, rows-some first)
 
-leaves-some : (windows : Windows) → 1 ≤ length (leaves windows)
+pub leaves-some : (windows : Windows) → 1 ≤ length (leaves windows)
 leaves-some (Window number mode margins) = omega arith
 leaves-some (Split side size first second) = omega (arith, leaves-some first, length-append (leaves first) (leaves second))
 

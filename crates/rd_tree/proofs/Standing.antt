@@ -1,11 +1,11 @@
 -- Where windows stand.
-use Rattle.std.proofs.Common.{◌≡◌, ℕ, zero, suc, ◌+◌, ◌-◌, ◌≤◌, Bool, true, false, if◌then◌else◌, ◌==◌, ◌&&◌, ◌||◌, List, [], ◌∷◌, ◌++◌, append_assoc, append-nil, map, Option, None, Some, ◌⊎◌, inl, inr, refl, sym, ap, ◌∙◌, arith}
+use Rattle.std.proofs.Common.{◌≡◌, ℕ, zero, suc, ◌+◌, ◌-◌, ◌≤◌, Bool, true, false, if◌then◌else◌, ◌==◌, ◌&&◌, ◌||◌, List, [], ◌∷◌, ◌++◌, append_assoc, append-nil, map, length, Option, None, Some, ◌⊎◌, inl, inr, refl, sym, ap, ◌∙◌, arith}
 use Rattle.std.specs.Prelude.{IfSome, slice_get}
 use Rattle.std.specs.List.{list_any}
 use Rattle.std.proofs.lemmas.Bool.{cases_Bool, or_left, or_right, or_parts}
 use Rattle.std.proofs.Math.Bool.{or-false, and-true, and-false}
 use Rattle.std.proofs.lemmas.Bool.Decides.{nat_tests}
-use Rattle.std.proofs.lemmas.List.{map-append}
+use Rattle.std.proofs.lemmas.List.{length-map, map-append}
 use Rattle.std.proofs.lemmas.List.Folds.{list_any-append}
 use Rattle.std.specs.Option.{option_map, option_or}
 use Rattle.rd_base.proofs.Choices.{none-of}
@@ -55,6 +55,9 @@ listed (Split side size first second) rect =
     let a = first_part side size rect in
     let b = second_part side size rect in
     rw (map-append (λ (window : Placed). window.number) (placed first a) (placed second b), listed first a, listed second b) refl
+
+pub placed-count : (windows : Windows) (rect : Rect) → length (placed windows rect) ≡ length (leaves windows)
+placed-count windows rect = sym (length-map (placed windows rect) (λ (window : Placed). window.number)) ∙ ap length (listed windows rect)
 
 pub all_room : (windows : Windows) (rect : Rect) → HasRoom windows rect → AllHaveRoom (placed windows rect)
 all_room (Window number mode margins) rect h = (h, tt)
