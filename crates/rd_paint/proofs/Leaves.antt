@@ -1,6 +1,5 @@
 -- The windows of a state in leaf order, and their views.
 use Rattle.std.proofs.Common.{◌≡◌, ℕ, ◌<◌, ◌≤◌, Option, None, Some, List, length, sym, ap, subst, ◌∙◌, arith}
-use Rattle.std.proofs.lemmas.List.{length-map}
 use Rattle.std.proofs.lemmas.Option.{none-some}
 use Rattle.std.specs.Option.{MatchOption}
 use Rattle.std.specs.Prelude.{option_map, slice_get}
@@ -12,7 +11,7 @@ use Rattle.rd_state.specs.Windows.{window_of}
 use Rattle.rd_state.specs.declared.window.WindowState.{WindowState}
 use Rattle.rd_state.proofs.Leaves.{placed-window}
 use Rattle.rd_state.proofs.Showing.{window-valid}
-use Rattle.rd_tree.proofs.Standing.{listed}
+use Rattle.rd_tree.proofs.Standing.{placed-count}
 use Rattle.rd_tree.specs.Calls.{Configuration, frame_of}
 use Rattle.rd_tree.specs.Windows.{placed, window_at}
 use Rattle.rd_tree.specs.declared.placed.Placed.{Placed}
@@ -36,11 +35,7 @@ found-of-tree s t p is h = sym (ap (λ (c : Configuration). window_at p.number c
 
 module _ (s : StateValue) (valid : IsValid s) where
   pub few : length (places s) ≤ 64
-  few =
-      let numbers = ap length (listed s.tree.windows (frame_of s.tree)) in
-      let each = length-map (places s) (λ (window : Placed). window.number) in
-      let most = valid.windows.tree.few in
-      omega (arith, numbers, each, most)
+  few = let most = valid.windows.tree.few in omega (arith, placed-count s.tree.windows (frame_of s.tree), most)
 
   -- a window of the frame lives, and shows a buffer that was made
   pub lives : (p : Placed) → place_of p.number s ≡ Some p → window_of p.number s.windows ≡ None → ⊥
