@@ -34,10 +34,10 @@ struct Numbered {
 
 /// The shift that brings the current screen nearest to the target. Of all shifts of all bands it is the first that leaves the
 /// fewest rows that differ: the bands are taken in order, then the shifts by the number of their rows from 1 on, then the one
-/// upward. None comes exactly where that many are not at least three fewer than differ without a shift. It takes no memory. Where there is no
-/// band it looks at nothing. Else it compares the rows that stand in the same place, and goes on only where at least three of them
-/// differ. Then it looks at each cell of both screens a fixed number of times, where it compares two rows cell by cell only if their
-/// prints are equal, and at the numbers of all rows once for each shift.
+/// upward. None comes exactly where that many are not at least three fewer than differ without a shift. It takes no memory. Where
+/// there is no band it looks at nothing. Else it compares the rows that stand in the same place, and goes on only where at least
+/// three of them differ. Then it looks at each cell of both screens a fixed number of times, where it compares two rows cell by cell
+/// only if their prints are equal, and at the numbers of all rows once for each shift.
 pub fn shift_of(current: &Screen, target: &Screen, bands: &[Band]) -> Option<Shift>
     requires size { HaveOneSize (Some current.now) target.now }
     requires current { IsSound current.now }
