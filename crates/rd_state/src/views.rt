@@ -13,6 +13,7 @@ ghost use Rattle.rd_state.specs.Windows.{place_in, window_of};
 
 use crate::buffers::{self, Buffers, text_at};
 use crate::effect::Effect;
+use crate::numbered::under;
 use crate::parts::StateParts;
 use crate::refused::Refused;
 use crate::window::WindowState;
@@ -138,10 +139,7 @@ impl StateParts {
     pub(crate) fn window(&self, number: u32) -> Option<&WindowState>
         ensures { option_map (λ w. w.now) result ≡ window_of number self.now.windows }
     {
-        match find(self.windows.as_slice(), number as u64) {
-            Ok(i) => Some(&self.windows[i].1),
-            Err(_absent) => None,
-        }
+        under(self.windows.as_slice(), number)
     }
 
     /// Sets the anchor and the point of a window that lives, as a layout found them; no rows are pending then, and the start is not forced.

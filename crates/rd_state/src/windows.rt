@@ -1,10 +1,11 @@
 //! The windows that live, each under its number, in order of making.
-ghost use Rattle.std.specs.Prelude.{◌≡◌, ◌==◌, ◌<◌, length, position, IfOk, OnOk, None, ◌++◌, ◌∷◌, []};
+ghost use Rattle.std.specs.Prelude.{◌≡◌, ◌<◌, length, IfOk, OnOk, None, ◌++◌, ◌∷◌, []};
 ghost use Rattle.std.specs.Vec.{vec_len, vec_capacity};
 ghost use Rattle.rd_state.specs.Windows.{place_in, window_of};
 ghost use Rattle.rd_state.specs.Answers.{Finds};
 ghost use Rattle.rd_state.specs.declared.refused.Refused.TheVariants.{NoWindow};
 
+use crate::numbered::place_of;
 use crate::refused::Refused;
 use crate::window::WindowState;
 use rd_base::{Ch, ListOf, Memory};
@@ -15,13 +16,6 @@ pub(crate) fn find(windows: &[(u32, WindowState)], number: u64) -> Result<usize,
     ensures { Finds result (λ i. (i ≡ place_in number windows.now) × (i < length windows.now)) (window_of number windows.now ≡ None) NoWindow }
 {
     place_of(windows, number).ok_or(Refused::NoWindow)
-}
-
-/// The place of the window with a number, counted from 0.
-fn place_of(windows: &[(u32, WindowState)], number: u64) -> Option<usize>
-    ensures { result ≡ position (λ e. e.0 == number) windows.now }
-{
-    windows.iter().position(|entry| entry.0 as u64 == number)
 }
 
 /// A window with all that another one has.
