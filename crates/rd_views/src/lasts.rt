@@ -1,25 +1,19 @@
 //! The last layouts of windows, each under its window's number.
-ghost use Rattle.std.specs.Prelude.{◌≡◌, ◌≢◌, ◌==◌, ℕ, ◌<◌, length, position, slice_index_or, slice_set, unwrap_or};
+ghost use Rattle.std.specs.Prelude.{◌≡◌, ◌≢◌, ℕ, ◌<◌, length, slice_index_or, slice_set, unwrap_or};
 ghost use Rattle.rd_layout.specs.Sessions.{layout_of};
 ghost use Rattle.rd_views.specs.Layings.{nobody, taken_at};
 
 use crate::desired::LaidWindow;
+use rd_state::place_of;
 use rd_window::Layout;
 use std::mem;
-
-/// The place of the first layout of the window with a number, from 0; None exactly where there is none.
-pub(crate) fn find(layouts: &[(u32, Layout)], window: u32) -> Option<usize>
-    ensures { result ≡ position (λ e. e.0 == window) layouts.now }
-{
-    layouts.iter().position(|entry| entry.0 == window)
-}
 
 /// Exchanges a layout for the last one of the window with a number, where there is one.
 pub(crate) fn exchange(layouts: &mut [(u32, Layout)], window: u32, layout: &mut Layout)
     ensures taken { layout.new ≡ unwrap_or (layout_of window layouts.old) layout.old }
     ensures others { (n : ℕ) → n ≢ window → layout_of n layouts.new ≡ layout_of n layouts.old }
 {
-    if let Some(i) = find(layouts, window) {
+    if let Some(i) = place_of(layouts, window as u64) {
         mem::swap(&mut layouts[i].1, layout);
     }
 }

@@ -3,10 +3,9 @@ ghost use Rattle.std.specs.Prelude.{◌≡◌, IfOk, option_map};
 ghost use Rattle.rd_layout.specs.Sessions.{layout_of, opened};
 ghost use Rattle.rd_layout.specs.Since.{IsSession};
 
-use crate::lasts::find;
 use rd_base::Memory;
 use rd_layout::sessions_stay_known;
-use rd_state::State;
+use rd_state::{State, under};
 use rd_ucd::{Brackets, Classes, Mirrors};
 use rd_window::Layout;
 use std::alloc::Global;
@@ -83,10 +82,7 @@ impl Views {
     pub fn layout(&self, window: u32) -> Option<&Layout>
         ensures { option_map (λ l. l.now) result ≡ layout_of window self.now.layouts }
     {
-        match find(self.layouts.as_slice(), window) {
-            Some(i) => Some(&self.layouts[i].1),
-            None => None,
-        }
+        under(self.layouts.as_slice(), window)
     }
 
     /// The windows of each session stay known: its state is valid, and what changed since the last layouts is known. The call does

@@ -10,7 +10,7 @@ pub returns-in-Some : goal.returns-in-Some
 returns-in-Some c =
     let es = c.args.layouts.now in
     let i = c.in-Some.i in
-    let place = position-is (λ (e : Last). e.0 == c.args.window) es i (sym c.find.ensures ∙ c.in-Some.is) in
+    let place = position-is (λ (e : Last). e.0 == c.args.window) es i (sym c.place_of.ensures ∙ c.in-Some.is) in
     let there = found-entry c.args.window i es c.index-layouts-i.result place.0 place.1 c.index-layouts-i.is in
     let here = sym c.index-layouts-i.is in
     record {
@@ -22,4 +22,4 @@ returns-in-Some c =
 
 pub returns-in_default-clause-taken : goal.returns-in_default-clause-taken
 returns-in_default-clause-taken c =
-    sym (ap (λ (o : Option Layout). unwrap_or o c.args.layout.now) (nowhere c.args.window c.args.layouts.now (sym c.find.ensures ∙ c.in_default.is)))
+    sym (ap (λ (o : Option Layout). unwrap_or o c.args.layout.now) (nowhere c.args.window c.args.layouts.now (sym c.place_of.ensures ∙ c.in_default.is)))
