@@ -31,9 +31,13 @@ with_content s i b c = record s { buffers = slice_set s.buffers i (record b { co
 
 -- a part of a step makes only states with a property, where the one state that it can make has it; a refusal makes none
 module _ (P : StateValue → Type 0) where
+  -- for a part that goes on from an answer: what it makes of a fault, and what it makes of the thing itself
+  goes-on : {A E : Type 0} (part : Result A E → Result StateValue Refused) (r : Result A E) → ((e : E) → IfOk (part (Err e)) P) → ((a : A) → r ≡ Ok a → IfOk (part (Ok a)) P) → IfOk (part r) P
+  goes-on part (Err e) none h = none e
+  goes-on part (Ok a) none h = h a refl
+
   pub each-if : (r : Result StateValue Refused) → ((t : StateValue) → r ≡ Ok t → P t) → IfOk r P
-  each-if (Err refusal) h = tt
-  each-if (Ok t) h = h t refl
+  each-if r h = goes-on (λ x. x) r (λ e. tt) h
 
   pub found : {A : Type 0} (refusal : Refused) (o : Option A) (f : A → Result StateValue Refused) → ((a : A) → o ≡ Some a → IfOk (f a) P) → IfOk (with_found refusal o f) P
   found refusal None f h = tt
@@ -43,33 +47,16 @@ module _ (P : StateValue → Type 0) where
   unless None r h = h refl
   unless (Some column) r h = tt
 
-  replaced-if : (s : StateValue) (i : ℕ) (b : BufferValue) (r : Result ContentValue Refused) → ((c : ContentValue) → r ≡ Ok c → P (with_content s i b c)) → IfOk (replaced s i b r) P
-  replaced-if s i b (Err refusal) h = tt
-  replaced-if s i b (Ok c) h = h c refl
-
-  moving-if : (s : StateValue) (i : ℕ) (b : BufferValue) (how : Move) (r : Result ContentValue Refused)
-      → ((c : ContentValue) → r ≡ Ok c → P (record (with_content s i b c) { windows = map (moved_in i how) s.windows })) → IfOk (moving i how (replaced s i b r)) P
-  moving-if s i b how (Err refusal) h = tt
-  moving-if s i b how (Ok c) h = h c refl
-
-  typed-if : (s : StateValue) (i : ℕ) (b : BufferValue) (how : Move) (n : ℕ) (f : WindowState → WindowState) (r : Result ContentValue Refused)
-      → ((c : ContentValue) → r ≡ Ok c → P (record (with_content s i b c) { windows = with_entry n f (map (moved_in i how) s.windows) })) → IfOk (changing n f (moving i how (replaced s i b r))) P
-  typed-if s i b how n f (Err refusal) h = tt
-  typed-if s i b how n f (Ok c) h = h c refl
-
   pub objects-if : (s : StateValue) (r : Result ObjectLists Refused) → ((o : ObjectLists) → r ≡ Ok o → P (record s { objects = o })) → IfOk (with_objects s r) P
-  objects-if s (Err refusal) h = tt
-  objects-if s (Ok o) h = h o refl
+  objects-if s r h = goes-on (with_objects s) r (λ e. tt) h
 
   pub tree-if : (r : Result Configuration TreeFault) (f : Configuration → StateValue) → ((d : Configuration) → r ≡ Ok d → P (f d)) → IfOk (on_tree r f) P
-  tree-if (Err fault) f h = tt
-  tree-if (Ok d) f h = h d refl
+  tree-if r f h = goes-on (λ x. on_tree x f) r (λ e. tt) h
 
   -- a window changed beside the tree
   pub treed-if : (s : StateValue) (r : Result Configuration TreeFault) (n : ℕ) (f : WindowState → WindowState)
       → ((d : Configuration) → r ≡ Ok d → P (record s { tree = d; windows = with_entry n f s.windows })) → IfOk (changing n f (on_tree r (λ tree. record s { tree = tree }))) P
-  treed-if s (Err fault) n f h = tt
-  treed-if s (Ok d) n f h = h d refl
+  treed-if s r n f h = goes-on (λ x. changing n f (on_tree x (λ tree. record s { tree = tree }))) r (λ e. tt) h
 
   pub making-if : (s : StateValue) (name : List ℕ)
       → (nat_lt (number_of name s.buffers) (length s.buffers) ≡ false → nat_le most_buffers (length s.buffers) ≡ false → P (record s { buffers = s.buffers ++ new_buffer name ∷ [] })) → IfOk (making s name) P
@@ -79,7 +66,7 @@ module _ (P : StateValue → Type 0) where
       → ((b : BufferValue) (c : ContentValue) → slice_get s.buffers (number_of name s.buffers) ≡ Some b → edit b.content ≡ Ok c → P (with_content s (number_of name s.buffers) b c)) → IfOk (edited s name edit) P
   edited-if s name edit h =
       let i = number_of name s.buffers in
-      found _ (slice_get s.buffers i) _ (λ b at. replaced-if s i b (edit b.content) (λ c is. h b c at is))
+      found _ (slice_get s.buffers i) _ (λ b at. goes-on (replaced s i b) (edit b.content) (λ e. tt) (λ c is. h b c at is))
 
   pub edited_moving-if : (s : StateValue) (name : List ℕ) (how : Move) (edit : ContentValue → Result ContentValue Refused)
       → ((b : BufferValue) (c : ContentValue) → slice_get s.buffers (number_of name s.buffers) ≡ Some b → edit b.content ≡ Ok c
@@ -87,7 +74,7 @@ module _ (P : StateValue → Type 0) where
       → IfOk (edited_moving s name how edit) P
   edited_moving-if s name how edit h =
       let i = number_of name s.buffers in
-      found _ (slice_get s.buffers i) _ (λ b at. moving-if s i b how (edit b.content) (λ c is. h b c at is))
+      found _ (slice_get s.buffers i) _ (λ b at. goes-on (λ r. moving i how (replaced s i b r)) (edit b.content) (λ e. tt) (λ c is. h b c at is))
 
   pub typing-if : (s : StateValue) (new : List ℕ)
       → ((w : WindowState) (b : BufferValue) (c : ContentValue) → window_of s.selected s.windows ≡ Some w → slice_get s.buffers w.buffer ≡ Some b → insertion w.point new b.content ≡ Ok c
@@ -96,7 +83,8 @@ module _ (P : StateValue → Type 0) where
   typing-if s new h =
       found _ (window_of s.selected s.windows) _
       (λ w lives. found _ (slice_get s.buffers w.buffer) _
-      (λ b at. typed-if s w.buffer b (Inserted w.point (length new)) s.selected (λ old. record old { point = w.point + length new }) (insertion w.point new b.content) (λ c is. h w b c lives at is)))
+      (λ b at. goes-on (λ r. changing s.selected (λ old. record old { point = w.point + length new }) (moving w.buffer (Inserted w.point (length new)) (replaced s w.buffer b r)))
+      (insertion w.point new b.content) (λ e. tt) (λ c is. h w b c lives at is)))
 
   pub setting-if : (s : StateValue) (n : ℕ) (f : WindowState → WindowState) → P (record s { windows = with_entry n f s.windows }) → IfOk (setting s n f) P
   setting-if s n f h = found _ (window_of n s.windows) _ (λ w lives. h)
