@@ -1,5 +1,5 @@
 -- What each window of a valid state shows has the sizes of its rectangle.
-use Rattle.std.proofs.Common.{◌≡◌, ℕ, ◌-◌, ◌^◌, ◌<◌, ◌≤◌, Bool, true, false, is_some, if◌then◌else◌, Option, None, Some, Result, Ok, Err, List, [], length, drop, sym, ap, refl, subst, ◌∙◌, arith, length-take, length-drop}
+use Rattle.std.proofs.Common.{◌≡◌, ℕ, ◌-◌, ◌^◌, ◌<◌, ◌≤◌, Bool, true, false, is_some, Option, None, Some, Result, Ok, Err, List, [], length, drop, sym, ap, refl, subst, ◌∙◌, arith, length-take, length-drop}
 use Rattle.std.proofs.lemmas.List.{length-map}
 use Rattle.std.proofs.lemmas.List.Sums.{count_by-le-length}
 use Rattle.std.proofs.lemmas.List.Elements.{All-from_recursion, All-map, All-take, All-drop}
