@@ -43,7 +43,7 @@ use Rattle.rd_layout.specs.Changes.{change_by, change_in, layouts_after}
 use Rattle.rd_layout.specs.Laws.{ViewLaws}
 use Rattle.rd_layout.specs.Pointing.{hitting_by, is_shown, pointed, stepped_to}
 use Rattle.rd_layout.specs.Sessions.{SessionValue, behind, is_frame, layout_of, opened, session_step}
-use Rattle.rd_layout.specs.Since.{FitsFrame, IsKnown, IsSession}
+use Rattle.rd_layout.specs.Since.{KnownScreenFits, IsKnown, IsSession}
 use Rattle.rd_layout.proofs.Calm.{Quiet}
 use Rattle.rd_layout.proofs.Leading.{effect-leads}
 use Rattle.rd_layout.specs.Windows.{place_of, window_shape, window_source}
@@ -157,7 +157,7 @@ module _ (laws : StepLaws) (s t : StateValue) (op : Op) (valid : IsValid s) (for
 -- ---- a session behind an op
 
 -- the screen of a frame that kept its size
-screen-stays : (framed : Bool) (effect : Effect) (current : Option Picture) (s t : StateValue) → Moves framed effect s t → FitsFrame current s → FitsFrame (if framed then None else current) t
+screen-stays : (framed : Bool) (effect : Effect) (current : Option Picture) (s t : StateValue) → Moves framed effect s t → KnownScreenFits current s → KnownScreenFits (if framed then None else current) t
 screen-stays true effect current s t g fits = tt
 screen-stays false effect None s t g fits = tt
 screen-stays false effect (Some screen) s t g fits =

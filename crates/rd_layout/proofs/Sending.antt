@@ -48,7 +48,7 @@ use Rattle.rd_layout.specs.Laws.{ViewLaws}
 use Rattle.rd_layout.specs.Redisplays.{AreLaidOut, IsLaidOutBy, IsSent, bands_of, update_of}
 use Rattle.rd_layout.specs.Screens.{laid_out, settled_by, settled_state}
 use Rattle.rd_layout.specs.Sessions.{SessionValue, layout_of}
-use Rattle.rd_layout.specs.Since.{FitsFrame, IsKnown, IsSession}
+use Rattle.rd_layout.specs.Since.{KnownScreenFits, IsKnown, IsSession}
 use Rattle.rd_layout.specs.Windows.{place_of, places, wanted_of, window_shape, window_source}
 use Rattle.rd_layout.proofs.Known.{Last}
 use Rattle.rd_state.proofs.ByNumber.{under-became, under-here, under-there}
@@ -88,14 +88,14 @@ unknown-at width height =
     }
 
 -- a current screen, where one is known, and a target of the frame's size; the current one is a screen, and sound
-pub sized : (s : StateValue) (current : Option Picture) (target : Picture) → s.width ≤ 400 → s.height ≤ 200 → FitsFrame current s → IsOfSize s.width s.height target
+pub sized : (s : StateValue) (current : Option Picture) (target : Picture) → s.width ≤ 400 → s.height ≤ 200 → KnownScreenFits current s → IsOfSize s.width s.height target
     → HaveOneSize current target × IfSome current (λ screen. IsScreen screen × IsSound screen)
 sized s None target wide tall fits size = (tt, tt)
 sized s (Some screen) target wide tall fits size = (one-size s.width s.height screen target fits.0 size, (is-screen s.width s.height screen wide tall fits.0, fits.1))
 
 module _ (laws : SendLaws) (s : StateValue) (target : Picture) (bands : List Band) (limit : Option ℕ) (wide : s.width ≤ 400) (tall : s.height ≤ 200)
     (size : IsOfSize s.width s.height target) (sound : IsSound target) (within : AreWithin s.height bands) where
-  ready : (current : Option Picture) → FitsFrame current s → IsReady s.width s.height current target (shows s.width s.height current)
+  ready : (current : Option Picture) → KnownScreenFits current s → IsReady s.width s.height current target (shows s.width s.height current)
   ready None fits = record { there = unknown-at s.width s.height; wide = wide; tall = tall; size = size; sound = sound }
   ready (Some screen) fits =
       let rows : length (known screen.rows) ≡ s.height = length-map screen.rows (map Some) ∙ fits.0.rows in
@@ -103,7 +103,7 @@ module _ (laws : SendLaws) (s : StateValue) (target : Picture) (bands : List Ban
       record { sure = refl; between = refl; rows = rows; each = grid-known s.width screen.rows fits.0.each; now = (fits.0, refl, refl) } in
       record { there = there; wide = wide; tall = tall; size = size; sound = sound }
 
-  new-screen : (current : Option Picture) → FitsFrame current s → FitsFrame (Some (shifted_update current target bands limit).screen) s
+  new-screen : (current : Option Picture) → KnownScreenFits current s → KnownScreenFits (Some (shifted_update current target bands limit).screen) s
   new-screen current fits =
       let both = sized s current target wide tall fits size in (
         (laws.read s.width s.height current target bands limit (shows s.width s.height current) (ready current fits) within).size,
@@ -176,10 +176,10 @@ module _ (laws : SendLaws) (rows : ℕ) (done : Bool) (stop : Option ℕ) (old n
   same-windows : (number : ℕ) → window_of number new.state.windows ≡ option_map (λ w. settled_by old.files s w (place_of number s)) (window_of number s.windows)
   same-windows number = ap (λ (x : StateValue). window_of number x.windows) now ∙ under-became (λ n w. settled_by old.files s w (place_of n s)) number s.windows
 
-  sent-screen : FitsFrame new.current new.state
+  sent-screen : KnownScreenFits new.current new.state
   sent-screen =
-      subst (λ (c : Option Picture). FitsFrame c new.state) (sym sent.current)
-      (subst (λ (x : StateValue). FitsFrame (Some (update_of old stop).screen) x) (sym now)
+      subst (λ (c : Option Picture). KnownScreenFits c new.state) (sym sent.current)
+      (subst (λ (x : StateValue). KnownScreenFits (Some (update_of old stop).screen) x) (sym now)
       (new-screen laws s (laid_out old.files s).picture (bands_of s) stop session.state.frame.narrow session.state.frame.low size sound
       (bands-within s session.state) old.current session.screen))
 

@@ -33,13 +33,13 @@ pub record IsKnown (files : Data) (s : StateValue) (w : WindowState) (l : Layout
   pub stands : StandsUnchanged (Some l) (window_source files s w) w.forced w.anchor
 
 -- a known screen has the frame's size and is sound
-abbrev pub FitsFrame : Option Picture → StateValue → Type 0
-FitsFrame None s = Unit {0}
-FitsFrame (Some screen) s = IsOfSize s.width s.height screen × IsSound screen
+abbrev pub KnownScreenFits : Option Picture → StateValue → Type 0
+KnownScreenFits None s = Unit {0}
+KnownScreenFits (Some screen) s = IsOfSize s.width s.height screen × IsSound screen
 
 -- the windows of the last layouts were made, if they don't live any more, so that no window that is made later has one of these
 pub record IsSession (v : SessionValue) : Type 0 where
   pub state : IsValid v.state
-  pub screen : FitsFrame v.current v.state
+  pub screen : KnownScreenFits v.current v.state
   pub made : (number : ℕ) (l : Layout) → layout_of number v.layouts ≡ Some l → number < v.state.tree.made
   pub layouts : (number : ℕ) (w : WindowState) (l : Layout) → window_of number v.state.windows ≡ Some w → layout_of number v.layouts ≡ Some l → IsKnown v.files v.state w l

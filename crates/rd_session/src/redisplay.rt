@@ -3,7 +3,7 @@ ghost use Rattle.std.specs.Prelude.{◌≡◌, ◌≤◌, ◌+◌, None, IfOk};
 ghost use Rattle.rd_io.specs.Devices.{Rose};
 ghost use Rattle.rd_layout.specs.Redisplays.{Redisplayed, allowed, bands_of, outcome_of};
 ghost use Rattle.rd_layout.specs.Screens.{laid_out};
-ghost use Rattle.rd_layout.specs.Since.{FitsFrame};
+ghost use Rattle.rd_layout.specs.Since.{KnownScreenFits};
 ghost use Rattle.rd_layout.specs.declared.outcome.Outcome.TheVariants.{NoMemory, WriteFault as Fault};
 ghost use Rattle.rd_lineshift.specs.Plans.{shifted_planned};
 ghost use Rattle.rd_session.specs.Screens.{with_screen};
@@ -77,7 +77,7 @@ fn prepare<L: Ledger>(
     current: Option<&Screen>,
     steps: &mut Steps<L>,
 ) -> Result<Prepared, Memory>
-    requires current { FitsFrame (shown current) views.now.state }
+    requires current { KnownScreenFits (shown current) views.now.state }
     ensures desired { IfOk result (λ prepared. IsDesired views.now prepared.desired) }
     ensures target { IfOk result (λ prepared. prepared.target ≡ (laid_out views.now.files views.now.state).picture) }
     ensures update { IfOk result (λ prepared. prepared.update ≡ shifted_planned (shown current.entry) (laid_out views.now.files views.now.state).picture (bands_of views.now.state)) }
@@ -111,7 +111,7 @@ fn plan(
     current: Option<&Screen>,
     target: &Screen,
 ) -> Result<Shifted, Memory>
-    requires current { FitsFrame (shown current) state.now }
+    requires current { KnownScreenFits (shown current) state.now }
     requires size { IsOfSize state.now.width state.now.height target.now }
     requires sound { IsSound target.now }
     ensures { IfOk result (λ update. update ≡ shifted_planned (shown current.entry) target.now (bands_of state.now)) }
@@ -131,7 +131,7 @@ fn send<K: Sink>(
     sink: &mut K,
     stop: Option<u32>,
 ) -> Outcome
-    requires current { FitsFrame screen.old views.old.state }
+    requires current { KnownScreenFits screen.old views.old.state }
     requires desired { IsDesired views.old prepared.desired }
     requires target { prepared.target ≡ (laid_out views.old.files views.old.state).picture }
     requires update { prepared.update ≡ shifted_planned screen.old (laid_out views.old.files views.old.state).picture (bands_of views.old.state) }
