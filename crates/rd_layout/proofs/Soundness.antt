@@ -41,7 +41,7 @@ use Rattle.rd_rows.specs.Shapes.{ShapeValues}
 use Rattle.rd_rows.specs.Whole.{IsMark}
 use Rattle.rd_script.specs.Forms.{is_buffer_name, is_name_character, is_plain_text}
 use Rattle.rd_state.specs.States.{BufferValue, ContentValue, StateValue, new_buffer, seen}
-use Rattle.rd_state.specs.Valid.{IsValid, IsWindow}
+use Rattle.rd_state.specs.Valid.{IsGoodFormat, IsValid, IsWindow}
 use Rattle.rd_state.specs.Windows.{shown_content}
 use Rattle.rd_state.specs.declared.window.WindowState.{WindowState}
 use Rattle.rd_term.specs.Pictures.{IsOfSize, IsWellFormed}
@@ -53,7 +53,7 @@ use Rattle.rd_window.specs.Views.{WindowView}
 use Rattle.rd_state.proofs.Showing.{window-valid}
 use Rattle.rd_state.proofs.Tests.{text-codes}
 use Rattle.rd_layout.specs.Laws.{FitLaws}
-use Rattle.rd_layout.specs.Panes.{border_in, border_slot, line_facts, margin_of, mode_line, widths_of}
+use Rattle.rd_layout.specs.Panes.{border_in, border_slot, line_facts, margin_of, widths_of}
 use Rattle.rd_layout.specs.Screens.{frame_in, laid_out, pane_at, pane_by}
 use Rattle.rd_layout.specs.Windows.{place_of, shown_buffer, view_in, window_shape}
 use Rattle.rd_layout.proofs.Fitting.{fits, in-view, line-small, margin-right, mode-has, place-window, view-whole}
@@ -116,20 +116,6 @@ module _ (laws : FramePartLaws) (files : Data) (s : StateValue) (valid : IsValid
       subst (λ (x : BufferValue). AreFacts (line_facts x v)) is
       (record { name = name-codes b.0.name (valid.buffers.names w.buffer b.0 b.1); line = line-small b.0.content.text v.point (valid.buffers.contents w.buffer b.0 b.1).text })
 
-  mode-whole : (w : WindowState) (v : WindowView) (width : ℕ) → IsWindow s.buffers w
-      → IsRowAfter 0 (mode_line files (line_facts (shown_buffer s w) v) width w.format)
-  mode-whole w v width window =
-      let facts = line_facts (shown_buffer s w) v in
-      mode-has (IsRowAfter 0) files facts width w.format window.format (λ none. tt)
-      (λ text ps good is. laws.mode_whole files.classes facts width text ps (facts-right w v window) (plain-codes text good.plain) is)
-
-  mode-coloured : (w : WindowState) (v : WindowView) (width : ℕ) → IsWindow s.buffers w
-      → All IsColoured (mode_line files (line_facts (shown_buffer s w) v) width w.format)
-  mode-coloured w v width window =
-      let facts = line_facts (shown_buffer s w) v in
-      mode-has (All IsColoured) files facts width w.format window.format (λ none. All-nil IsColoured)
-      (λ text ps good is. laws.mode_coloured files.classes facts width ps)
-
   -- ---- windows
 
   -- what holds of the margins, the texts, the borders, the mode lines and the echo area holds of each part of the frame
@@ -137,10 +123,10 @@ module _ (laws : FramePartLaws) (files : Data) (s : StateValue) (valid : IsValid
       → ((w : WindowState) (p : Placed) → place_of p.number s ≡ Some p → IsWindow s.buffers w
       → All (λ (e : EntryMeaning). P e.row.cells) (view_in files s w p).rows)
       → ((c : ContentValue) → P (border_cell (border_slot s.objects c) ∷ []))
-      → ((w : WindowState) (v : WindowView) (width : ℕ) → IsWindow s.buffers w
-      → P (mode_line files (line_facts (shown_buffer s w) v) width w.format))
+      → P [] → ((w : WindowState) (v : WindowView) (width : ℕ) (format : List ℕ) (ps : List Piece) → IsWindow s.buffers w → IsGoodFormat format → pieces_of format ≡ Ok ps
+      → P (line_cells files.classes (line_facts (shown_buffer s w) v) width ps))
       → P (plain_cells files.classes plain s.width s.echo) → EachPartOf P (frame_in files s)
-  parts-have P margin text border line echo = record {
+  parts-have P margin text border none line echo = record {
     windows = all-places s valid (λ (p : Placed). EachPart P (pane_at files s p) p) (λ p at.
         let x = place-window laws.fit files s valid p at in
         let w = x.0 in
@@ -152,7 +138,8 @@ module _ (laws : FramePartLaws) (files : Data) (s : StateValue) (valid : IsValid
               (λ k d less. margin p.margins _ (margin-right laws.fit files s valid w p (slice_index_or v.rows k d) window x.2));
           texts = All-map (λ (r : GlyphRow). P r.text) row v.rows (text w p at window);
           border = border (shown_content s w);
-          mode_line = λ shown. line w v p.rect.width window;
+          mode_line = λ shown. mode-has P files (line_facts (shown_buffer s w) v) p.rect.width w.format window.format (λ _. none)
+              (λ format ps good is. line w v p.rect.width format ps window good is);
         }));
     echo = echo;
   }
@@ -160,14 +147,16 @@ module _ (laws : FramePartLaws) (files : Data) (s : StateValue) (valid : IsValid
   whole-frame : IsWholeFrame (frame_in files s)
   whole-frame = parts-have (IsRowAfter 0) (λ n cells m. m.whole)
       (λ w p at window k d less. (view-whole laws.fit files s valid w p at window k d less).whole)
-      (λ c. border-whole laws (border_slot s.objects c) (slot-right c)) mode-whole
+      (λ c. border-whole laws (border_slot s.objects c) (slot-right c)) tt
+      (λ w v width format ps window good is. laws.mode_whole files.classes (line_facts (shown_buffer s w) v) width format ps (facts-right w v window) (plain-codes format good.plain) is)
       (plain-whole files.classes plain s.width s.echo (plain-codes s.echo valid.echo))
 
   coloured-frame : IsColouredFrame (frame_in files s)
   coloured-frame = parts-have (All IsColoured) (λ n cells m. m.coloured)
       (λ w p at window. in-view laws.fit files s valid (λ (e : EntryMeaning). All IsColoured e.row.cells) w p
       (laws.coloured (seen (shown_content s w)) s.objects files (window_shape s w p) valid.objects))
-      (λ c. laws.border_coloured (border_slot s.objects c)) mode-coloured
+      (λ c. laws.border_coloured (border_slot s.objects c)) (All-nil IsColoured)
+      (λ w v width format ps window good is. laws.mode_coloured files.classes (line_facts (shown_buffer s w) v) width ps)
       (line-coloured files.classes plain s.width s.echo plain-coloured)
 
   -- ---- the target
