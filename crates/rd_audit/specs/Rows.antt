@@ -1,22 +1,29 @@
 -- The lines of a dump.
 use Rattle.std.specs.Prelude.{ℕ, ◌==◌, nat_lt, nat_le, Bool, if◌then◌else◌, ◌&&◌, List, [], ◌∷◌, length, Option, None, Some, option_and_then, decimal, codes}
 use Rattle.rd_base.specs.declared.cell.Cell.{Cell}
-use Rattle.rd_base.specs.declared.limits.TheConstants.{FRAME_COLUMNS, FRAME_ROWS, LEAST_FRAME_COLUMNS}
+use Rattle.rd_base.specs.declared.limits.TheConstants.{FRAME_COLUMNS, FRAME_ROWS, LEAST_FRAME_COLUMNS, LEAST_FRAME_ROWS}
 use Rattle.rd_term.specs.Pictures.{width_of}
 use Rattle.rd_audit.specs.Cuts.{stripped, begins_with, cut_last}
 use Rattle.rd_audit.specs.Numbers.{pair_of}
 use Rattle.rd_audit.specs.Runs.{runs_over}
 use Rattle.rd_audit.specs.Texts.{text_cells}
 
+-- what the line of a row begins with, and that of a cursor
+abbrev pub row_key : List ℕ
+row_key = codes "row "
+
+abbrev pub cursor_key : List ℕ
+cursor_key = codes "cursor "
+
 abbrev pub is_row : List ℕ → Bool
-is_row line = begins_with (codes "row ") line
+is_row line = begins_with row_key line
 
 abbrev pub is_cursor : List ℕ → Bool
-is_cursor line = begins_with (codes "cursor ") line
+is_cursor line = begins_with cursor_key line
 
 -- `row N |`, and what stands behind it
 abbrev pub row_text : ℕ → List ℕ → Option (List ℕ)
-row_text number line = option_and_then (stripped (codes " |")) (option_and_then (stripped (decimal number)) (stripped (codes "row ") line))
+row_text number line = option_and_then (stripped (codes " |")) (option_and_then (stripped (decimal number)) (stripped row_key line))
 
 -- the cells of a row's line: its text up to the last `|`, and the runs of its faces behind that
 abbrev pub row_cells : ℕ → List ℕ → Option (List Cell)
@@ -37,11 +44,11 @@ next_row rows line =
 
 -- `cursor R,C`
 abbrev pub place_in : List ℕ → Option (ℕ × ℕ)
-place_in line = option_and_then (pair_of 44) (stripped (codes "cursor ") line)
+place_in line = option_and_then (pair_of 44) (stripped cursor_key line)
 
 -- the place of the cursor's line, which is on the screen, and not too early
 abbrev pub cursor_place : List (List Cell) → List ℕ → Option (ℕ × ℕ)
 cursor_place rows line =
-    if nat_le 2 (length rows) then
+    if nat_le LEAST_FRAME_ROWS (length rows) then
     option_and_then (λ place. if nat_lt place.0 (length rows) && nat_lt place.1 (width_of rows) then Some place else None) (place_in line)
     else None

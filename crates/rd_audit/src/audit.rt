@@ -2,7 +2,7 @@
 ghost use Rattle.std.specs.Prelude.{◌≡◌, ◌≤◌, ◌⊎◌, ℕ, List, length};
 ghost use Rattle.std.specs.Io.KnownBytes.{Consumes};
 ghost use Rattle.rd_io.specs.Devices.{Rose};
-ghost use Rattle.rd_base.specs.declared.limits.TheConstants.{FILE_BYTES};
+ghost use Rattle.rd_base.specs.declared.limits.TheConstants.{FILE_BYTES, LEAST_FRAME_ROWS};
 ghost use Rattle.rd_audit.specs.Results.{IsShape, JudgesBytes, picture_in};
 ghost use Rattle.rd_audit.specs.Verdicts.{Answers, Comes, JudgesFile, JudgesDump, IsSound, IsJudged, ReadFails, texts};
 
@@ -113,7 +113,7 @@ fn judge_bytes<S: Source>(alloc: Global, file: &[u8], stream: &mut S) -> Verdict
 /// The verdict by a dump, on a terminal of its size.
 fn judge_stream<S: Source>(alloc: Global, dump: &Dump, stream: &mut S) -> Verdict
     requires shape { IsShape dump.now.rows }
-    requires rows { 2 ≤ length dump.now.rows }
+    requires rows { LEAST_FRAME_ROWS ≤ length dump.now.rows }
     ensures comes { (bytes : List ℕ) × Consumes (S.left stream.old) (S.left stream.new) bytes
         × JudgesDump result (picture_in dump.now) bytes (S.left stream.new) }
     ensures read { result ≡ Verdict.ReadFault → Rose (S.faults stream.old) (S.faults stream.new) }

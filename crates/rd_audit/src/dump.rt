@@ -1,6 +1,6 @@
 //! The dump of a file.
 ghost use Rattle.std.specs.Prelude.{◌≡◌, ◌≤◌, ◌+◌, [], None, option_map, IfOk, IfSome, length};
-ghost use Rattle.rd_base.specs.declared.limits.TheConstants.{FILE_BYTES};
+ghost use Rattle.rd_base.specs.declared.limits.TheConstants.{FILE_BYTES, LEAST_FRAME_ROWS};
 ghost use Rattle.rd_io.specs.Lines.{lines_of};
 ghost use Rattle.rd_audit.specs.Dumps.{last_group, picture_from, ended_by, dump_in};
 ghost use Rattle.rd_audit.specs.Results.{IsReadAs, IsShape, lines_from};
@@ -43,7 +43,7 @@ impl From<Memory> for DumpFault {
 pub fn read_dump(alloc: Global, file: &[u8]) -> Result<Dump, DumpFault>
     requires { length file.now ≤ FILE_BYTES }
     ensures read { IsReadAs result (dump_in file.now) }
-    ensures shape { IfOk result (λ dump. IsShape dump.rows × (2 ≤ length dump.rows)) }
+    ensures shape { IfOk result (λ dump. IsShape dump.rows × (LEAST_FRAME_ROWS ≤ length dump.rows)) }
 {
     match last_group(file) {
         Some(start) => read_group(alloc, start.number, file.split_at(start.from).1),
@@ -122,7 +122,7 @@ impl Groups {
 fn read_group(alloc: Global, number: u32, lines: &[u8]) -> Result<Dump, DumpFault>
     requires { number ≤ FILE_BYTES + 1 }
     ensures read { IsReadAs result (picture_from number [] (lines_of lines.now)) }
-    ensures shape { IfOk result (λ dump. IsShape dump.rows × (2 ≤ length dump.rows)) }
+    ensures shape { IfOk result (λ dump. IsShape dump.rows × (LEAST_FRAME_ROWS ≤ length dump.rows)) }
 {
     let mut rows = ListOf::new(alloc);
     let mut rest = lines;
@@ -145,7 +145,7 @@ fn read_group(alloc: Global, number: u32, lines: &[u8]) -> Result<Dump, DumpFaul
 /// The dump of these rows by the line of the cursor, which has this number.
 fn ended(number: u32, rows: ListOf<ListOf<Cell>>, line: &[u8]) -> Result<Dump, DumpFault>
     ensures read { IsReadAs result (ended_by number rows (cursor_place rows line.now)) }
-    ensures rows { IfOk result (λ dump. (dump.rows ≡ rows) × (2 ≤ length rows)) }
+    ensures rows { IfOk result (λ dump. (dump.rows ≡ rows) × (LEAST_FRAME_ROWS ≤ length rows)) }
 {
     match cursor_place(rows.as_slice(), line) {
         Some((row, column)) => Ok(Dump { rows, row, column }),

@@ -1,5 +1,6 @@
 //! The lines of a dump.
 ghost use Rattle.std.specs.Prelude.{◌≡◌, ◌≤◌, IfOk, IfSome, length, option_map};
+ghost use Rattle.rd_base.specs.declared.limits.TheConstants.{LEAST_FRAME_ROWS};
 ghost use Rattle.rd_audit.specs.Rows.{is_row, is_cursor, row_text, row_cells, is_as_wide, next_row, place_in, cursor_place};
 
 use crate::cuts::{begins_with, cut_last, stripped};
@@ -7,22 +8,28 @@ use crate::number::pair_of;
 use crate::run::runs_over;
 use crate::text::text_cells;
 use itoa::Buffer;
-use rd_base::limits::{FRAME_COLUMNS, FRAME_ROWS, LEAST_FRAME_COLUMNS};
+use rd_base::limits::{FRAME_COLUMNS, FRAME_ROWS, LEAST_FRAME_COLUMNS, LEAST_FRAME_ROWS};
 use rd_base::{Cell, ListOf, Memory};
 use std::alloc::Global;
+
+/// What the line of a row begins with.
+const ROW: &[u8] = b"row ";
+
+/// What the line of a cursor begins with.
+const CURSOR: &[u8] = b"cursor ";
 
 /// Whether a line is that of a row.
 pub fn is_row(line: &[u8]) -> bool
     ensures { result ≡ is_row line.now }
 {
-    begins_with(b"row ", line)
+    begins_with(ROW, line)
 }
 
 /// Whether a line is that of a cursor.
 pub fn is_cursor(line: &[u8]) -> bool
     ensures { result ≡ is_cursor line.now }
 {
-    begins_with(b"cursor ", line)
+    begins_with(CURSOR, line)
 }
 
 /// The cells of the line of the next row, behind those that were read. None where it has a bad form, another number or another width,
@@ -74,18 +81,18 @@ fn row_cells(alloc: Global, number: u32, line: &[u8]) -> Result<Option<ListOf<Ce
 fn row_text(number: u32, line: &[u8]) -> Option<&[u8]>
     ensures { option_map (λ text. text.now) result ≡ row_text number line.now }
 {
-    let behind = stripped(b"row ", line)?;
+    let behind = stripped(ROW, line)?;
     let mut buffer = Buffer::new();
     let behind = stripped(buffer.format(number).as_bytes(), behind)?;
     stripped(b" |", behind)
 }
 
-/// The place of the cursor's line, which is on the screen; None where it has a bad form, or there are less than two rows.
+/// The place of the cursor's line, which is on the screen; None where it has a bad form, or there are fewer rows than a frame has.
 pub fn cursor_place(rows: &[ListOf<Cell>], line: &[u8]) -> Option<(u32, u32)>
     ensures value { result ≡ cursor_place rows.now line.now }
-    ensures enough { IfSome result (λ _. 2 ≤ length rows.now) }
+    ensures enough { IfSome result (λ _. LEAST_FRAME_ROWS ≤ length rows.now) }
 {
-    if rows.len() < 2 {
+    if rows.len() < LEAST_FRAME_ROWS as usize {
         return None;
     }
     match place_in(line) {
@@ -100,5 +107,5 @@ pub fn cursor_place(rows: &[ListOf<Cell>], line: &[u8]) -> Option<(u32, u32)>
 fn place_in(line: &[u8]) -> Option<(u32, u32)>
     ensures { result ≡ place_in line.now }
 {
-    pair_of(b',', stripped(b"cursor ", line)?)
+    pair_of(b',', stripped(CURSOR, line)?)
 }
