@@ -4,9 +4,10 @@ use Rattle.std.proofs.lemmas.List.{drop_more}
 use Rattle.std.proofs.lemmas.Bool.Decides.{nat_tests}
 use Rattle.std.specs.Char.{digit_value, is_digit}
 use Rattle.std.specs.Int.{is_in_range}
+use Rattle.rd_base.specs.declared.limits.TheConstants.{CODE_POINTS}
 use Rattle.rd_ucd.specs.Codes.{number_from, in_range, code_of}
 
-pub too_large : (n : ℕ) (digits : List ℕ) → 1114111 < n → in_range (number_from n digits) ≡ None
+pub too_large : (n : ℕ) (digits : List ℕ) → CODE_POINTS ≤ n → in_range (number_from n digits) ≡ None
 too_large n [] large = grind (arith, nat_tests)
 too_large n (b ∷ bs) large =
     elim (is_digit b 16) as (λ v. in_range (if v then number_from (16 * n + digit_value b) bs else None) ≡ None) [
@@ -16,7 +17,7 @@ too_large n (b ∷ bs) large =
 
 -- the code of digits, when those read so far already make a number that is too large
 pub code_of-too_large : (digits : List ℕ) (n i d v : ℕ) → 4 ≤ length digits → length digits ≤ 6 → i < length digits → get_or digits i 0 ≡ d
-    → (is_digit d 16 ≡ true) → digit_value d ≡ v → 1114111 < 16 * n + v → in_range (number_from n (drop i digits)) ≡ in_range (number_from 0 digits)
+    → (is_digit d 16 ≡ true) → digit_value d ≡ v → CODE_POINTS ≤ 16 * n + v → in_range (number_from n (drop i digits)) ≡ in_range (number_from 0 digits)
     → code_of digits ≡ None
 code_of-too_large digits n i d v long short within at hex value large rest =
     let four : is_in_range 4 6 (length digits) ≡ true = grind (arith, nat_tests) in

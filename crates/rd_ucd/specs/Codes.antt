@@ -1,7 +1,8 @@
 -- Codes: 4 to 6 hexadecimal digits of either case, at most 10FFFF.
-use Rattle.std.specs.Prelude.{ℕ, ◌+◌, ◌*◌, nat_le, if◌then◌else◌, List, [], ◌∷◌, length, Option, None, Some}
+use Rattle.std.specs.Prelude.{ℕ, ◌+◌, ◌*◌, nat_lt, if◌then◌else◌, List, [], ◌∷◌, length, Option, None, Some}
 use Rattle.std.specs.Char.{digit_value, is_digit}
 use Rattle.std.specs.Int.{is_in_range}
+use Rattle.rd_base.specs.declared.limits.TheConstants.{CODE_POINTS}
 
 -- the number that the digits write behind those that were read, None where one of them is no digit
 abbrev pub number_from : ℕ → List ℕ → Option ℕ
@@ -11,7 +12,7 @@ number_from n (b ∷ bs) = if is_digit b 16 then number_from (16 * n + digit_val
 -- a code point
 abbrev pub in_range : Option ℕ → Option ℕ
 in_range None = None
-in_range (Some n) = if nat_le n 1114111 then Some n else None
+in_range (Some n) = if nat_lt n CODE_POINTS then Some n else None
 
 abbrev pub code_of : List ℕ → Option ℕ
 code_of digits = if is_in_range 4 6 (length digits) then in_range (number_from 0 digits) else None

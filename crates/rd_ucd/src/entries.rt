@@ -1,5 +1,6 @@
 //! The entries of a class file.
-ghost use Rattle.std.specs.Prelude.{◌≡◌, ◌≤◌, IfOk};
+ghost use Rattle.std.specs.Prelude.{◌≡◌, ◌<◌, IfOk};
+ghost use Rattle.rd_base.specs.declared.limits.TheConstants.{CODE_POINTS};
 ghost use Rattle.rd_ucd.specs.Lines.{fields_of};
 ghost use Rattle.rd_ucd.specs.ClassFile.{entry_of_fields, kind_of_name};
 
@@ -36,7 +37,7 @@ pub struct Opened {
 /// Reads a line, which is not empty, of this number.
 pub fn read_entry(line: &[u8], number: u64) -> Result<DataEntry, UcdFault>
     ensures value { result ≡ entry_of_fields number (fields_of line.now) }
-    ensures bound { IfOk result (λ entry. entry.code ≤ 1114111) }
+    ensures bound { IfOk result (λ entry. entry.code < CODE_POINTS) }
 {
     let class = field(line, 4).ok_or(UcdFault::BadLine(number))?;
     let name = field(line, 1).ok_or(UcdFault::BadLine(number))?;

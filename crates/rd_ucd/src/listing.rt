@@ -1,5 +1,6 @@
 //! Files that list codes with something each.
-ghost use Rattle.std.specs.Prelude.{◌≡◌, IfOk, ◌≤◌};
+ghost use Rattle.std.specs.Prelude.{◌≡◌, IfOk, ◌≤◌, ◌<◌};
+ghost use Rattle.rd_base.specs.declared.limits.TheConstants.{CODE_POINTS};
 ghost use Rattle.rd_ucd.specs.Lines.{fields_of};
 ghost use Rattle.rd_ucd.specs.ListFile.{codes_of, trimmed_field};
 
@@ -14,7 +15,8 @@ use std::marker::Model;
 
 /// An entry of such a file, which is made of the fields of a line.
 pub trait Listed: Covers + Copy {
-    ghost use Rattle.std.specs.Prelude.{◌≡◌, ◌≤◌, ℕ, List, Result, IfOk};
+    ghost use Rattle.std.specs.Prelude.{◌≡◌, ◌<◌, ℕ, List, Result, IfOk};
+    ghost use Rattle.rd_base.specs.declared.limits.TheConstants.{CODE_POINTS};
     ghost use Rattle.rd_ucd.specs.declared.fault.UcdFault.{UcdFault};
     ghost use Rattle.rd_ucd.specs.Lines.{fields_of};
 
@@ -23,7 +25,7 @@ pub trait Listed: Covers + Copy {
     /// Reads the line of a number, without its comment. The entry covers one code.
     fn read(line: &[u8], number: u64) -> Result<Self, UcdFault>
         ensures value { result ≡ of_fields number (fields_of line.now) }
-        ensures bound { IfOk result (λ entry. (Self.first entry ≤ 1114111) × (Self.last entry ≡ Self.first entry)) };
+        ensures bound { IfOk result (λ entry. (Self.first entry < CODE_POINTS) × (Self.last entry ≡ Self.first entry)) };
 }
 
 /// The entries of the lines that were read, and one more than the code of the last of them.
@@ -136,7 +138,7 @@ pub struct Codes {
 pub fn read_codes(line: &[u8], count: usize, number: u64) -> Result<Codes, UcdFault>
     requires { 2 ≤ count }
     ensures value { result ≡ codes_of count number (fields_of line.now) }
-    ensures bound { IfOk result (λ both. both.code ≤ 1114111) }
+    ensures bound { IfOk result (λ both. both.code < CODE_POINTS) }
 {
     if field(line, count).is_some() || field(line, count - 1).is_none() {
         return Err(UcdFault::BadLine(number));

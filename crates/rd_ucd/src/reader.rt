@@ -20,7 +20,8 @@ pub struct Reader {
 }
 
 impl Reader {
-    ghost use Rattle.std.specs.Prelude.{◌≡◌, [], None, ◌≤◌};
+    ghost use Rattle.std.specs.Prelude.{◌≡◌, [], None, ◌<◌};
+    ghost use Rattle.rd_base.specs.declared.limits.TheConstants.{CODE_POINTS};
     ghost use Rattle.rd_ucd.specs.Reading.{IsReading, TakesEntry};
 
     /// Nothing was read.
@@ -40,7 +41,7 @@ impl Reader {
     /// Takes the entry of a line.
     fn take(&mut self, number: u64, entry: DataEntry) -> Result<(), UcdFault>
         requires reading { IsReading self.old }
-        requires code { entry.code ≤ 1114111 }
+        requires code { entry.code < CODE_POINTS }
         ensures reading { IsReading self.new }
         ensures entry { TakesEntry result self.old self.new number entry }
     {
