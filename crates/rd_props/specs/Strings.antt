@@ -27,13 +27,13 @@ strings_put Between overlay = if is_empty overlay then before_string overlay ++ 
 strings_put Opening overlay = if is_empty overlay then [] else before_string overlay
 
 abbrev pub strings_put_in : StringPlace → Option Overlay → List ℕ
-strings_put_in part None = []
-strings_put_in part (Some overlay) = strings_put part overlay
+strings_put_in place None = []
+strings_put_in place (Some overlay) = strings_put place overlay
 
 -- what these overlays put, one after the other
 abbrev pub strings_of : StringPlace → List (Option Overlay) → List ℕ → List ℕ
-strings_of part slots [] = []
-strings_of part slots (number ∷ numbers) = strings_put_in part (overlay_at slots number) ++ strings_of part slots numbers
+strings_of place slots [] = []
+strings_of place slots (number ∷ numbers) = strings_put_in place (overlay_at slots number) ++ strings_of place slots numbers
 
 -- the strings at a position: the after-strings of overlays that end there, from the last by priority and number to the first,
 -- then both strings of those that are empty there, then the before-strings of those that start there

@@ -34,11 +34,15 @@ fn add_both(strings: &mut ListOf<u32>, overlay: &Overlay) -> Result<(), Memory>
     strings.push_some(overlay.values[Kind::After as usize])
 }
 
-/// Adds the strings of one overlay.
-fn add_part(strings: &mut ListOf<u32>, part: StringPlace, overlay: &Overlay) -> Result<(), Memory>
-    ensures { OnOk result (strings.new ≡ strings.old ++ strings_put part overlay.now) }
+/// Adds what one overlay puts at such a place.
+fn add_strings_put(
+    strings: &mut ListOf<u32>,
+    place: StringPlace,
+    overlay: &Overlay,
+) -> Result<(), Memory>
+    ensures { OnOk result (strings.new ≡ strings.old ++ strings_put place overlay.now) }
 {
-    match (part, is_empty(overlay)) {
+    match (place, is_empty(overlay)) {
         (StringPlace::Between, true) => add_both(strings, overlay),
         (StringPlace::Closing, false) => strings.push_some(overlay.values[Kind::After as usize]),
         (StringPlace::Opening, false) => strings.push_some(overlay.values[Kind::Before as usize]),
@@ -49,29 +53,29 @@ fn add_part(strings: &mut ListOf<u32>, part: StringPlace, overlay: &Overlay) -> 
 /// Adds the strings of the overlay of a number.
 fn add_strings(
     strings: &mut ListOf<u32>,
-    part: StringPlace,
+    place: StringPlace,
     overlays: &Overlays,
     number: u32,
 ) -> Result<(), Memory>
-    ensures { OnOk result (strings.new ≡ strings.old ++ strings_put_in part (overlay_at overlays.now number)) }
+    ensures { OnOk result (strings.new ≡ strings.old ++ strings_put_in place (overlay_at overlays.now number)) }
 {
     match overlays.get(number) {
         None => Ok(()),
-        Some(overlay) => add_part(strings, part, overlay),
+        Some(overlay) => add_strings_put(strings, place, overlay),
     }
 }
 
 /// Adds the strings of these overlays, one overlay after the other.
 fn add_each(
     strings: &mut ListOf<u32>,
-    part: StringPlace,
+    place: StringPlace,
     overlays: &Overlays,
     numbers: &[u32],
 ) -> Result<(), Memory>
-    ensures { OnOk result (strings.new ≡ strings.old ++ strings_of part overlays.now numbers.now) }
+    ensures { OnOk result (strings.new ≡ strings.old ++ strings_of place overlays.now numbers.now) }
 {
     for number in numbers {
-        add_strings(strings, part, overlays, *number)?;
+        add_strings(strings, place, overlays, *number)?;
     }
     Ok(())
 }
