@@ -41,7 +41,8 @@ impl Model for Table {
 }
 
 impl Table {
-    ghost use Rattle.std.specs.Prelude.{◌≡◌, ◌≤◌, ◌++◌, ◌∷◌, [], Some, None, IsTrue, IfOk, OnOk, OnErr, MatchOption, IfSome};
+    ghost use Rattle.std.specs.Prelude.{◌≡◌, ◌<◌, ◌++◌, ◌∷◌, [], Some, None, IsTrue, IfOk, OnOk, OnErr, MatchOption, IfSome};
+    ghost use Rattle.rd_base.specs.declared.limits.TheConstants.{CODE_POINTS};
     ghost use Rattle.rd_objects.specs.Tables.{empty_table, entry_in, slot_of, with_slot, is_glyph_text, is_slot_glyph, IsTable};
 
     /// A table that holds nothing. It takes no memory.
@@ -63,7 +64,7 @@ impl Table {
     /// Puts what a code shows: at most 16 glyph characters. A later entry of a code wins over an earlier one.
     /// It costs a copy of the glyphs.
     pub fn put_entry(&mut self, code: u32, text: &[Glyph]) -> Result<(), Memory>
-        requires code { code ≤ 1114111 }
+        requires code { code < CODE_POINTS }
         requires text { IsTrue (is_glyph_text text.now) }
         ensures ok { OnOk result (self.new ≡ record self.old { entries = self.old.entries ++ record { code = code; text = text.now } ∷ [] }) }
         ensures err { OnErr result (self.new ≡ self.old) }
