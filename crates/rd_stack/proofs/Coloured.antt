@@ -1,5 +1,5 @@
 -- The faces of lines and prefixes have their colours in range, where those that are read and those of all objects have.
-use Rattle.std.proofs.Common.{◌≡◌, ℕ, List, Option, None, Some, All, IfSome}
+use Rattle.std.proofs.Common.{◌≡◌, ℕ, List, Some, All}
 use Rattle.std.specs.Prelude.{slice_get}
 use Rattle.std.specs.List.{AllByRecursion}
 use Rattle.std.proofs.lemmas.List.Elements.{All-from_recursion, recursion_from_All}
@@ -19,12 +19,9 @@ use Rattle.rd_items.specs.declared.item.Item.{Item}
 use Rattle.rd_items.specs.declared.item.ItemKind.{ItemKind}
 use Rattle.rd_items.specs.declared.piece.Piece.{Piece}
 use Rattle.rd_items.proofs.EachItem.{GivesOnly, items-each}
-use Rattle.rd_levels.specs.declared.turn.Turn.{Turn}
-use Rattle.rd_stack.specs.Shown.{display_elements, outside, prefix, AreColoured, kind_elements}
-use Rattle.rd_stack.specs.Lines.{origin_of, item_turns, line_elements, put_turn, put_item}
-use Rattle.rd_stack.proofs.EachElement.{display-each, item-each}
-use Rattle.rd_stack.proofs.Good.{found-by}
-use Rattle.rd_stack.proofs.Lists.{each-any, each-flat}
+use Rattle.rd_stack.specs.Shown.{display_elements, outside, prefix, AreColoured}
+use Rattle.rd_stack.specs.Lines.{origin_of, item_turns, line_elements}
+use Rattle.rd_stack.proofs.EachElement.{display-each, item-each, line-each}
 use Rattle.rd_stack.proofs.Prefixes.{before-each}
 
 abbrev IsColoured : Element → Type 0
@@ -62,19 +59,12 @@ module _ (own : (text : TextValue) (i : ℕ) → IsString text → HasColours (f
   faces : (n : ℕ) (text : TextValue) → slice_get s.objects.strings n ≡ Some text → (i : ℕ) (under : Attributes) → HasColours under → HasColours (over (face_of text i) under)
   faces n text found i under h = over-coloured (face_of text i) under (own text i (all-at (λ (t : TextValue). IsString t) s.objects.strings n text sound.strings found)) h
 
-  turn-coloured : (turn : Turn) (x : Option Item) → IfSome x ItemColours → AllByRecursion IsColoured (put_turn kind_elements s base turn x)
-  turn-coloured turn None h = tt
-  turn-coloured turn (Some x) h =
-      item-each s base (origin_of turn.index x) (λ f. HasColours f) IsColoured faces (λ extent l face inner coloured. coloured) x.kind x.overlay turn.odd x.face (λ ends. h) h
-
   pub line-coloured : (es : List Seen) → All (λ e. HasColours e.appearance.face) es → AreColoured (line_elements s base es)
   line-coloured es all =
-      let items = items_of s es in
-      let turns = item_turns s base items in
-      let coloured = items-coloured s es (recursion_from_All (λ (e : Seen). HasColours e.appearance.face) es all) in
-      All-from_recursion IsColoured (line_elements s base es)
-      (each-flat (put_item kind_elements s base items) (λ (t : Turn). Unit {0}) IsColoured
-      (λ t any. turn-coloured t (slice_get items t.index) (found-by ItemColours items t.index coloured)) turns (each-any turns))
+      line-each s base ItemColours IsColoured
+      (λ t x h. item-each s base (origin_of t.index x) (λ f. HasColours f) IsColoured faces (λ extent l face inner coloured. coloured) x.kind x.overlay t.odd x.face (λ ends. h) h)
+      (items_of s es) (item_turns s base (items_of s es))
+      (All-from_recursion ItemColours (items_of s es) (items-coloured s es (recursion_from_All (λ (e : Seen). HasColours e.appearance.face) es all)))
 
   pub prefix-coloured : (number : ℕ) → AreColoured (prefix s base number)
   prefix-coloured number =

@@ -1,8 +1,9 @@
 -- What holds of each element of strings and of items, by what holds of their faces.
-use Rattle.std.proofs.Common.{◌≡◌, ℕ, Bool, true, false, List, [], ◌∷◌, map, Option, None, Some, refl}
+use Rattle.std.proofs.Common.{◌≡◌, ℕ, Bool, true, false, List, [], ◌∷◌, map, Option, None, Some, All, IfSome, refl}
 use Rattle.std.specs.Prelude.{◌==◌, slice_get}
-use Rattle.std.specs.List.{AllByRecursion}
+use Rattle.std.specs.List.{flat_map, AllByRecursion}
 use Rattle.std.proofs.lemmas.Bool.{cond_both}
+use Rattle.std.proofs.lemmas.List.Elements.{All-from_recursion}
 use Rattle.rd_base.specs.Elements.{is_line_end}
 use Rattle.rd_base.specs.Faces.{Attributes, over}
 use Rattle.rd_base.specs.declared.cell.Glyph.{Glyph}
@@ -21,16 +22,19 @@ use Rattle.rd_glyphs.specs.declared.shown.Shown.TheVariants as glyphs
 use Rattle.rd_glyphs.specs.Characters.{element_of, look_columns, glyph_elements, tab_of, looks_of, own_shown, own_looks, slot_or, entry_of, elements_by, elements_of}
 use Rattle.rd_items.specs.Covers.{is_ender_kind}
 use Rattle.rd_items.specs.Pieces.{Scene}
+use Rattle.rd_items.specs.declared.item.Item.{Item}
 use Rattle.rd_items.specs.declared.item.ItemKind.{ItemKind}
 use Rattle.rd_items.specs.declared.item.ItemKind.TheVariants as item
+use Rattle.rd_levels.specs.declared.turn.Turn.{Turn}
 use Rattle.rd_stack.specs.Strings.{part_by, string_parts}
 use Rattle.rd_stack.specs.Shown.{ellipsis_glyphs, space_elements, kind_elements, put_part, put_string, put_text, display_elements}
-use Rattle.rd_stack.specs.Lines.{put_kind}
+use Rattle.rd_stack.specs.Lines.{put_kind, put_turn, put_item}
 use Rattle.rd_stack.specs.declared.part.Place.{Place}
 use Rattle.rd_stack.specs.declared.part.Part.{Part}
 use Rattle.rd_stack.specs.declared.part.Shown.{Shown as ShownPart}
 use Rattle.rd_stack.proofs.EachPart.{string-each}
-use Rattle.rd_stack.proofs.Lists.{each-flat}
+use Rattle.rd_stack.proofs.Good.{found}
+use Rattle.rd_stack.proofs.Lists.{each-any, each-flat}
 
 -- no look of a character ends the line
 abbrev IsOpenLook : Look → Type 0
@@ -118,3 +122,13 @@ module _ (s : Scene) (base : ℕ) (origin : Origin) (F : Attributes → Type 0) 
 
   pub item-each : (k : ItemKind) (overlay odd : Bool) (face : Attributes) → (is_ender_kind k ≡ true → P (element_of face origin look.LineEnd)) → F face → Each (put_kind kind_elements s base k overlay odd face origin)
   item-each k overlay odd face end h = kind-each look.LineEnd (put_text kind_elements s base overlay origin face) k odd face end (λ n. text-each overlay n face h) h
+
+-- what holds of each element that an item gives holds of each element of a line of such items
+pub line-each : (s : Scene) (base : ℕ) (I : Item → Type 0) (P : Element → Type 0) → ((t : Turn) (x : Item) → I x → AllByRecursion P (put_turn kind_elements s base t (Some x)))
+    → (items : List Item) (ts : List Turn) → All I items → All P (flat_map (put_item kind_elements s base items) ts)
+line-each s base I P own items ts all =
+    All-from_recursion P (flat_map (put_item kind_elements s base items) ts)
+    (each-flat (put_item kind_elements s base items) (λ (t : Turn). Unit {0}) P (λ t any. by t (slice_get items t.index) (found I items t.index all)) ts (each-any ts)) where
+      by : (t : Turn) (o : Option Item) → IfSome o I → AllByRecursion P (put_turn kind_elements s base t o)
+      by t None h = tt
+      by t (Some x) h = own t x h
