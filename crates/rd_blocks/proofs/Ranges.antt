@@ -4,7 +4,7 @@ use Rattle.std.specs.Prelude.{if◌then◌else◌, slice_get, count_by}
 use Rattle.std.specs.List.{flat_map, AllByRecursion}
 use Rattle.std.proofs.lemmas.Bool.Decides.{nat_tests}
 use Rattle.std.proofs.lemmas.Bool.{and_parts, le-leb, lt-ltb, not-true}
-use Rattle.std.proofs.lemmas.List.Elements.{All-cons, All-nil, All-append, All-tail, All-from_recursion}
+use Rattle.std.proofs.lemmas.List.Elements.{All-cons, All-nil, All-tail}
 use Rattle.rd_base.specs.declared.element.Element.{Element}
 use Rattle.rd_base.specs.declared.element.Origin.{Origin}
 use Rattle.rd_items.specs.Pieces.{Scene}
@@ -19,7 +19,7 @@ use Rattle.rd_rows.specs.Laws.{ranges_of}
 use Rattle.rd_rows.specs.Placing.{is_item}
 use Rattle.rd_stack.specs.Lines.{origin_of, item_class, item_code, item_turns, line_of_items, put_kind, put_turn, put_item}
 use Rattle.rd_stack.specs.Shown.{kind_elements}
-use Rattle.rd_stack.proofs.EachElement.{item-each}
+use Rattle.rd_stack.proofs.EachElement.{item-each, line-each}
 use Rattle.rd_base.proofs.Lists.{all-at, count-cons, follow-once}
 use Rattle.rd_base.specs.Lists.{total}
 use Rattle.rd_blocks.proofs.Gives.{ItemsGive}
@@ -166,18 +166,10 @@ module _ (size : ℕ) where
   ranges-in before (e ∷ es) all =
       range-in (is_item before e.origin.item) (e.origin.from, e.origin.to) (ranges_of (Some e.origin.item) es) (all 0 e (omega arith)) (ranges-in (Some e.origin.item) es (All-tail LiesIn e es all))
 
-  turn-in : (s : Scene) (base : ℕ) (t : Turn) (o : Option Item) → ((x : Item) → o ≡ Some x → LiesWithin size (range_of_item x)) → All LiesIn (put_turn kind_elements s base t o)
-  turn-in s base t None each = All-nil LiesIn
-  turn-in s base t (Some x) each =
-      let origin = origin_of t.index x in
-      All-from_recursion LiesIn (put_kind kind_elements s base x.kind x.overlay t.odd x.face origin)
-      (item-of LiesIn s base x t.odd origin (λ e is. subst (λ (o : Origin). LiesWithin size (o.from, o.to)) (sym is) (each x refl)))
-
   turns-in : (s : Scene) (base : ℕ) (items : List Item) (ts : List Turn) → All (λ (x : Item). LiesWithin size (range_of_item x)) items → All LiesIn (flat_map (put_item kind_elements s base items) ts)
-  turns-in s base items [] all = All-nil LiesIn
-  turns-in s base items (t ∷ ts) all =
-      All-append LiesIn (put_item kind_elements s base items t) (flat_map (put_item kind_elements s base items) ts)
-      (turn-in s base t (slice_get items t.index) (λ x at. all-at (λ (y : Item). LiesWithin size (range_of_item y)) items t.index x all at)) (turns-in s base items ts all)
+  turns-in s base =
+      line-each s base (λ (x : Item). LiesWithin size (range_of_item x)) LiesIn
+      (λ t x h. item-of LiesIn s base x t.odd (origin_of t.index x) (λ e is. subst (λ (o : Origin). LiesWithin size (o.from, o.to)) (sym is) h))
 
 -- what a range that holds an offset says of its item
 
