@@ -8,14 +8,12 @@ use Rattle.std.proofs.lemmas.Bool.Decides.{nat_tests, Decides-eqb, Decides-int_e
 use Rattle.std.proofs.lemmas.Int.{ints}
 use Rattle.std.proofs.lemmas.Option.{same_Some}
 use Rattle.rd_base.proofs.Lists.{all-at, found-passes}
-use Rattle.rd_base.specs.Settings.{SettingValues, without_flags}
+use Rattle.rd_base.specs.Settings.{SettingValues}
 use Rattle.rd_base.specs.declared.element.Element.{Element}
 use Rattle.rd_text.specs.Texts.{IsText}
 use Rattle.rd_ucd.specs.Data.{Data}
-use Rattle.rd_objects.specs.Sound.{IsClosed, Extends}
 use Rattle.rd_objects.specs.Things.{ObjectLists}
 use Rattle.rd_props.specs.Buffers.{BufferValue}
-use Rattle.rd_props.specs.Made.{AreMade}
 use Rattle.rd_items.specs.Blocks.{AreListed, IsBlock}
 use Rattle.rd_items.specs.Pieces.{scene_in}
 use Rattle.rd_items.specs.Readings.{reading}
@@ -35,9 +33,10 @@ use Rattle.rd_rows.specs.declared.cutting.Cutting.{Cutting}
 use Rattle.rd_stack.specs.Lines.{line_elements}
 use Rattle.rd_blocks.specs.Kept.{Follows, AreRowsAt}
 use Rattle.rd_blocks.specs.Rows.{block_cutting}
-use Rattle.rd_blocks.specs.Sources.{rows_in, text_source}
+use Rattle.rd_blocks.specs.Sources.{text_source}
 use Rattle.rd_blocks.proofs.EntryBlocks.{IsRowOf, row-block, same-start}
 use Rattle.rd_blocks.proofs.Listed.{among-block}
+use Rattle.rd_blocks.proofs.Local.{ReadLaw, rows-local}
 use Rattle.rd_blocks.proofs.SameReading.{reads-before, reads-behind}
 
 -- ---- rows up to the first that ends the block
@@ -154,8 +153,7 @@ is-under es c start n e found =
 pub record FreshLaws : Type 0 where
   pub listed : (s : BufferValue) → s.text.begin ≤ s.text.end → AreListed s
   pub source : (s : BufferValue) (objects : ObjectLists) (files : Data) → IsText s.text → IsSource (text_source s objects files)
-  pub local : (old new : BufferValue) (made objects : ObjectLists) (files : Data) (a b : Block) (shape : ShapeValues) → without_flags new.settings ≡ without_flags old.settings → IsClosed made → AreMade old made → Extends made objects
-      → a.base ≡ b.base → reading old made a.start ≡ reading new objects b.start → rows_in new objects files b shape ≡ rows_in old made files a shape
+  pub read : ReadLaw
 
 module _ (laws : FreshLaws) (old new : BufferValue) (made objects : ObjectLists) (files : Data) (c : Change) (shape : ShapeValues) (es : List Entry) (right : IsText old.text) (text : IsText new.text) (is : IsShape shape)
     (follows : Follows old made new objects c) (rows : AreRowsAt (text_source old made files) shape es) where
@@ -232,7 +230,7 @@ module _ (laws : FreshLaws) (old new : BufferValue) (made objects : ObjectLists)
     fresh : shown_rows (taken es c b.start) ≡ (text_source new objects files).rows_of b shape
     fresh =
         taken-rows
-        ∙ ap seen_rows (sym (laws.local old new made objects files of.0 b shape follows.settings follows.closed follows.named follows.extends bases reads))
+        ∙ ap seen_rows (sym (rows-local laws.read old new made objects files of.0 b shape follows.settings follows.closed follows.named follows.extends bases reads))
 
   pub rows-fresh : AreRight (text_source new objects files) es c shape
   rows-fresh b among kept =

@@ -50,5 +50,5 @@ pub fn kept_rows_are_fresh()
     all_keeps_no_block();
     blocks_are_listed();
     buffers_are_sources();
-    rows_are_local();
+    made_objects_alone_are_read();
 }

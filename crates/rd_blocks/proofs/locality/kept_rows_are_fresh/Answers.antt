@@ -8,7 +8,7 @@ returns-clause-changed c = λ old new made objects files change shape rows right
     rows-fresh (record {
       listed = c.blocks_are_listed.ensures;
       source = c.buffers_are_sources.ensures;
-      local = c.rows_are_local.ensures;
+      read = c.made_objects_alone_are_read.ensures.reading;
     }) old new made objects files change shape rows right text is follows all
 
 pub returns-clause-all : goal.returns-clause-all
