@@ -1,5 +1,5 @@
 -- What renditions do to the pen.
-use Rattle.std.proofs.Common.{◌≡◌, if◌then◌else◌, ℕ, ◌+◌, ◌<◌, ◌≤◌, ◌==◌, Bool, true, false, List, [], ◌∷◌, length, Option, None, Some, option_to_list, inl, inr, refl, ap, ◌∙◌, arith}
+use Rattle.std.proofs.Common.{◌≡◌, if◌then◌else◌, ℕ, ◌+◌, ◌<◌, ◌≤◌, ◌==◌, Bool, true, false, List, [], ◌∷◌, length, Option, None, Some, option_to_list, inl, inr, refl, sym, ap, subst, ◌∙◌, arith}
 use Rattle.std.specs.List.{flat_map, AllByRecursion}
 use Rattle.std.proofs.lemmas.Bool.{and_parts, cases_eq}
 use Rattle.std.proofs.lemmas.Bool.Decides.{nat_tests}
@@ -31,29 +31,31 @@ flags-worn true false true rest = refl
 flags-worn true true false rest = refl
 flags-worn true true true rest = refl
 
-front-dressed : (n : ℕ) (f : Attributes) → n < 8 → (is_rendition (30 + n) ≡ true) × (dressed (30 + n) f ≡ record f { fg = n })
-front-dressed n f lt = (grind (arith, nat_tests), grind (arith, nat_tests))
+number-worn : (n : ℕ) (rest : List (Option ℕ)) (f g : Attributes) → is_rendition n ≡ true → dressed n f ≡ g → worn (Some n ∷ rest) f ≡ worn rest g
+number-worn n rest f g right e = rw (right, e) refl
 
-back-dressed : (n : ℕ) (f : Attributes) → n < 8 → (is_rendition (40 + n) ≡ true) × (dressed (40 + n) f ≡ record f { bg = n })
-back-dressed n f lt = (grind (arith, nat_tests), grind (arith, nat_tests))
+front-worn : (n : ℕ) (rest : List (Option ℕ)) (f : Attributes) → n < 8 → worn (Some (30 + n) ∷ rest) f ≡ worn rest (record f { fg = n })
+front-worn n rest f lt = number-worn (30 + n) rest f (record f { fg = n }) (grind (arith, nat_tests)) (grind (arith, nat_tests))
 
--- a colour's number changes the pen unless the colour is the terminal's own
-colour-worn : (base n : ℕ) (rest : List (Option ℕ)) (f : Attributes) (with_colour : ℕ → Attributes) → n ≤ 8 → f ≡ with_colour 8
-    → ((k : ℕ) → k < 8 → (is_rendition (base + k) ≡ true) × (dressed (base + k) f ≡ with_colour k)) → worn (colour_number n base ∷ rest) f ≡ worn rest (with_colour n)
-colour-worn base n rest f with_colour le own changes = elim (cases_eq n 8) [
-  | inl same ↦ rw same (ap (worn rest) own)
-  | inr other ↦
+back-worn : (n : ℕ) (rest : List (Option ℕ)) (f : Attributes) → n < 8 → worn (Some (40 + n) ∷ rest) f ≡ worn rest (record f { bg = n })
+back-worn n rest f lt = number-worn (40 + n) rest f (record f { bg = n }) (grind (arith, nat_tests)) (grind (arith, nat_tests))
+
+-- what holds of no number where a colour is the terminal's own, and of its number where it is not, holds of the colour's number
+pub by-colour : (n base : ℕ) (P : Option ℕ → Type 0) → n ≤ 8 → (n ≡ 8 → P None) → (n < 8 → P (Some (base + n))) → P (colour_number n base)
+by-colour n base P le own other = elim (cases_eq n 8) [
+  | inl same ↦ subst (λ k. P (colour_number k base)) (sym same) (own same)
+  | inr apart ↦
       let differ : (n == 8) ≡ false = grind (arith, nat_tests) in
-      let changed = changes n (omega (arith, le, other)) in
-      rw (differ, changed.0, changed.1) refl
+      subst (λ t. P (if t then None else Some (base + n))) (sym differ) (other (omega (arith, le, apart)))
 ]
 
 pub face-worn : (f : Attributes) → HasColours f → worn (numbers_of_face f) plain ≡ (true, Some f)
 face-worn f h =
     let flags : ℕ → ℕ → Attributes = λ fg bg. record { fg = fg; bg = bg; bold = f.bold; underline = f.underline; inverse = f.inverse } in
-    flags-worn f.bold f.underline f.inverse (colour_number f.fg 30 ∷ colour_number f.bg 40 ∷ [])
-    ∙ colour-worn 30 f.fg (colour_number f.bg 40 ∷ []) (flags 8 8) (λ k. flags k 8) h.fg refl (λ k lt. front-dressed k (flags 8 8) lt)
-    ∙ colour-worn 40 f.bg [] (flags f.fg 8) (λ k. flags f.fg k) h.bg refl (λ k lt. back-dressed k (flags f.fg 8) lt)
+    let back : List (Option ℕ) = colour_number f.bg 40 ∷ [] in
+    flags-worn f.bold f.underline f.inverse (colour_number f.fg 30 ∷ back)
+    ∙ by-colour f.fg 30 (λ n. worn (n ∷ back) (flags 8 8) ≡ worn back (flags f.fg 8)) h.fg (λ own. ap (λ n. worn back (flags n 8)) (sym own)) (front-worn f.fg back (flags 8 8))
+    ∙ by-colour f.bg 40 (λ n. worn (n ∷ []) (flags f.fg 8) ≡ worn [] (flags f.fg f.bg)) h.bg (λ own. ap (λ n. worn [] (flags f.fg n)) (sym own)) (back-worn f.bg [] (flags f.fg 8))
 
 -- ---- few and small numbers
 
