@@ -1,13 +1,13 @@
 -- The numbers of a face, and the run that they stand in, read back.
-use Rattle.std.proofs.Common.{◌≡◌, ◌==◌, ℕ, ◌+◌, ◌<◌, ◌≤◌, ◌&&◌, not, Bool, true, false, if◌then◌else◌, Option, None, Some, option_and_then, option_to_list, nat_lt, decimal, List, [], ◌∷◌, ◌++◌, inl, inr, refl, sym, ap, ap₂, subst, ◌∙◌, arith, append-nil, true≢false}
+use Rattle.std.proofs.Common.{◌≡◌, ◌==◌, ℕ, ◌+◌, ◌<◌, ◌≤◌, ◌&&◌, not, Bool, true, false, if◌then◌else◌, Option, None, Some, option_and_then, option_to_list, nat_lt, decimal, List, [], ◌∷◌, ◌++◌, refl, sym, ap, ap₂, subst, ◌∙◌, arith, append-nil, true≢false}
 use Rattle.std.specs.List.{flat_map}
-use Rattle.std.proofs.lemmas.Bool.{and_from, and_parts, cases_eq, lt-ltb, ltb-true}
+use Rattle.std.proofs.lemmas.Bool.{and_from, and_parts, lt-ltb, ltb-true}
 use Rattle.std.proofs.lemmas.Bool.Decides.{nat_tests}
 use Rattle.rd_base.specs.Cells.{HasColours}
 use Rattle.rd_base.specs.Equals.{same_face}
 use Rattle.rd_base.specs.Faces.{Attributes, plain}
 use Rattle.rd_term.specs.Pens.{dressed, is_rendition, flag_number, colour_number, numbers_of_face, pen_by}
-use Rattle.rd_update.proofs.Dressing.{face-worn}
+use Rattle.rd_update.proofs.Dressing.{by-colour, face-worn}
 use Rattle.rd_dump.specs.Dumps.{numbers_behind, numbers_text}
 use Rattle.rd_audit.specs.Cuts.{pieces}
 use Rattle.rd_audit.specs.Numbers.{pair_of}
@@ -94,13 +94,9 @@ in-order f h =
 
     colour : (c base place : ℕ) (ns : List (Option ℕ)) → c ≤ 8 → place ≤ base → ((k : ℕ) → k < 8 → (base + k < 1000) × (comes_behind place (base + k) ≡ true) × (place_of (base + k) ≡ base))
         → AreInOrder base (there ns) → AreInOrder place (there (colour_number c base ∷ ns))
-    colour c base place ns most le stands h = elim (cases_eq c 8) [
-      | inl same ↦ rw same (sooner place base (there ns) le h)
-      | inr other ↦
-          let differ : (c == 8) ≡ false = grind (arith, nat_tests) in
-          let all = stands c (omega (arith, most, other)) in
-          rw differ (all.0, all.1, subst (λ p. AreInOrder p (there ns)) (sym all.2) h)
-    ]
+    colour c base place ns most le stands h =
+        by-colour c base (λ n. AreInOrder place (there (n ∷ ns))) most (λ own. sooner place base (there ns) le h)
+        (λ less. let all = stands c less in (all.0, all.1, subst (λ p. AreInOrder p (there ns)) (sym all.2) h))
 
 -- the text of numbers says their face
 abbrev Reads : Attributes → List ℕ → Type 0
