@@ -25,7 +25,7 @@ use Rattle.rd_state.specs.declared.moves.Move.TheVariants.{Inserted, Deleted, Na
 use Rattle.rd_state.specs.declared.refused.Refused.{Refused}
 use Rattle.rd_state.specs.declared.window.WindowState.{WindowState}
 use Rattle.rd_state.specs.States.{BufferValue, ContentValue, StateValue, opening_window, new_buffer, number_of}
-use Rattle.rd_state.specs.Valid.{IsValid}
+use Rattle.rd_state.specs.Valid.{IsContent, IsValid}
 use Rattle.rd_state.specs.Windows.{window_of, with_entry, selected_window, NumberedWindow}
 use Rattle.rd_state.specs.Changes.{Stays, StaysWhole, Leaves, LeavesTheRest}
 use Rattle.rd_state.specs.Edits.{insertion, deletion, narrowing, widening, property_putting, overlay_making, overlay_moving, overlay_dropping, overlay_putting, margin_putting, setting_putting}
@@ -136,6 +136,13 @@ range-outcome : (s t : StateValue) (i from removed added : ℕ) (edit : ContentV
     → Show s t (Edit i from removed added) → LeavesTheRest s t (Edit i from removed added)
 range-outcome s t i from removed added edit e stays show =
     edit-outcome s t i edit (Edit i from removed added) e (part-stays s t i from (from + added + 1) (pos added -ℤ pos removed) edit e stays) show
+
+-- such an edit of a buffer of a valid state, where the windows behind it are these
+ranged : (s : StateValue) (i from removed added : ℕ) (edit : ContentValue → Result ContentValue Refused) (ws : List NumberedWindow) (r : Result StateValue Refused) → IsValid s
+    → ((c d : ContentValue) → IsContent s.objects c → edit c ≡ Ok d → Stays c s.objects d s.objects from (from + added + 1) (pos added -ℤ pos removed))
+    → ((t : StateValue) → t.windows ≡ ws → Show s t (Edit i from removed added)) → IfOk r (Edited s i edit ws) → IfOk r (λ t. LeavesTheRest s t (Edit i from removed added))
+ranged s i from removed added edit ws r v stays show =
+    IfOk-weaker _ _ _ (λ t e. range-outcome s t i from removed added edit e.0 (λ b d at gives. stays b.content d (v.buffers.contents i b at) gives) (show t e.1))
 
 -- an edit of all that shows a buffer
 all-outcome : (s t : StateValue) (i : ℕ) (edit : ContentValue → Result ContentValue Refused) → IsEditOf s t i edit → Show s t (All i) → LeavesTheRest s t (All i)
@@ -248,11 +255,8 @@ inserted-outcome : (s : StateValue) (name : List ℕ) (place : ℕ) (text : List
     → IfOk (inserting s name place text) (λ t. LeavesTheRest s t (inserted_effect (number_of name s.buffers) place text))
 inserted-outcome s name place text v =
     let i = number_of name s.buffers in
-    let n = length text in
-    IfOk-weaker _ _ _
-    (λ t e. range-outcome s t i place 0 n (insertion place text) e.0 (λ b d at gives. stays-inserted s.objects place text b.content d (v.buffers.contents i b at) gives)
-    (show-each s t (Edit i place 0 n) i (Inserted place n) e.1))
-    (edited_moving-is s name (Inserted place n) (insertion place text))
+    let how = Inserted place (length text) in
+    ranged s i place 0 (length text) (insertion place text) _ _ v (stays-inserted s.objects place text) (λ t. show-each s t _ i how) (edited_moving-is s name how (insertion place text))
 
 -- ---- all ops
 
@@ -265,10 +269,8 @@ outcome s (ops.InsertRaw name place bytes) v form = inserted-outcome s name plac
 outcome s (ops.TypeText text) v form = typing-outcome s text v
 outcome s (ops.Delete name from to) v form =
     let i = number_of name s.buffers in
-    IfOk-weaker _ _ _
-    (λ t e. range-outcome s t i from (to - from) 0 (deletion from to) e.0 (λ b d at gives. stays-deleted s.objects from to b.content d (v.buffers.contents i b at) gives)
-    (show-each s t (Edit i from (to - from) 0) i (Deleted from to) e.1))
-    (edited_moving-is s name (Deleted from to) (deletion from to))
+    let edit = deletion from to in
+    ranged s i from (to - from) 0 edit _ _ v (stays-deleted s.objects from to) (λ t. show-each s t _ i (Deleted from to)) (edited_moving-is s name (Deleted from to) edit)
 outcome s (ops.Narrow name from to) v form =
     let i = number_of name s.buffers in
     IfOk-weaker _ _ _ (λ t e. all-outcome s t i (narrowing from to) e.0 (show-each s t (All i) i (Narrowed from to) e.1)) (edited_moving-is s name (Narrowed from to) (narrowing from to))
@@ -276,19 +278,13 @@ outcome s (ops.Widen name) v form =
     let i = number_of name s.buffers in
     IfOk-weaker _ _ _ (λ t e. all-outcome s t i widening e.0 (show-same s t (All i) e.1)) (edited-is s name widening)
 outcome s (ops.Put name from to kind value) v form =
-    let i = number_of name s.buffers in
+    let n = to - from in
     let edit = property_putting s.objects from to kind value in
-    IfOk-weaker _ _ _
-    (λ t e. range-outcome s t i from (to - from) (to - from) edit e.0 (λ b d at gives. stays-put s.objects from to kind value b.content d form.3 (v.buffers.contents i b at) gives)
-    (show-same s t (Edit i from (to - from) (to - from)) e.1))
-    (edited-is s name edit)
+    ranged s (number_of name s.buffers) from n n edit _ _ v (λ c d. stays-put s.objects from to kind value c d form.3) (λ t. show-same s t _) (edited-is s name edit)
 outcome s (ops.Overlay name from to priority front rear) v form =
-    let i = number_of name s.buffers in
+    let n = to - from in
     let edit = overlay_making from to priority front rear in
-    IfOk-weaker _ _ _
-    (λ t e. range-outcome s t i from (to - from) (to - from) edit e.0
-    (λ b d at gives. stays-made s.objects from to priority front rear b.content d (v.buffers.contents i b at) gives) (show-same s t (Edit i from (to - from) (to - from)) e.1))
-    (edited-is s name edit)
+    ranged s (number_of name s.buffers) from n n edit _ _ v (stays-made s.objects from to priority front rear) (λ t. show-same s t _) (edited-is s name edit)
 outcome s (ops.OverlayMove name overlay from to) v form =
     IfOk-weaker _ _ _ (λ t e. moved-outcome s t name overlay from to v e) (edited-is s name (overlay_moving overlay from to))
 outcome s (ops.OverlayDrop name overlay) v form =
