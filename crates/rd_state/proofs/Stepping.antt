@@ -1,5 +1,5 @@
 -- A step leads from a valid state to a valid one: the ops on buffers and on objects.
-use Rattle.std.proofs.Common.{◌≡◌, ℕ, ◌+◌, ◌≤◌, ◌&&◌, Bool, true, false, is_some, if◌then◌else◌, nat_lt, nat_le, ℤ, Option, Some, Result, Ok, Err, List, [], ◌∷◌, ◌++◌, length, map, min, max, subst, sym, refl, arith, IsTrue}
+use Rattle.std.proofs.Common.{◌≡◌, ℕ, ◌+◌, ◌≤◌, Bool, true, false, is_some, if◌then◌else◌, nat_lt, nat_le, ℤ, Option, Some, Result, Ok, Err, List, [], ◌∷◌, ◌++◌, length, map, min, max, subst, sym, refl, arith, IsTrue}
 use Rattle.std.proofs.lemmas.Bool.{leb-true, or_right}
 use Rattle.std.proofs.lemmas.Bool.Decides.{nat_tests}
 use Rattle.std.proofs.lemmas.List.Elements.{All-map, All-weaker}
