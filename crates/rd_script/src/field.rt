@@ -108,7 +108,7 @@ fn present<'a>(asked: &mut Asked<'a>, key: &'static str) -> Result<Option<&'a Va
     }
 }
 
-/// What was found of a member's value, and where nothing was the fault that the value is bad.
+/// What was found of a member's value; where nothing was found, the fault that the value is bad.
 pub fn good<T: Drop>(alloc: Global, key: &str, found: Option<T>) -> Result<T, OpFault>
     ensures { IsRead result (or_bad key.now found) }
 {
