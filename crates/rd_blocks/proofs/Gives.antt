@@ -61,26 +61,16 @@ part-some law s origin (item.Space spec) face odd h = absurd (let q : false ≡ 
 part-some law s origin item.Ellipsis face odd h = absurd (let q : false ≡ true = h in cc)
 part-some law s origin item.Ender face odd h = absurd (let q : false ≡ true = h in cc)
 
--- lists of elements, of which one has some
-
-some-front : (xs ys : List Element) → 1 ≤ length xs → 1 ≤ length (xs ++ ys)
-some-front xs ys h = let e = length-append xs ys in omega (arith, e, h)
-
-some-back : (xs ys : List Element) → 1 ≤ length ys → 1 ≤ length (xs ++ ys)
-some-back xs ys h = let e = length-append xs ys in omega (arith, e, h)
-
-front-more : {X : Type 0} (f : X → List Element) (xs ys : List X) → 1 ≤ length (flat_map f xs) → 1 ≤ length (flat_map f (xs ++ ys))
-front-more f xs ys h = subst (λ es. 1 ≤ length es) (sym (flat_map-append f xs ys)) (some-front (flat_map f xs) (flat_map f ys) h)
-
-back-more : {X : Type 0} (f : X → List Element) (xs ys : List X) → 1 ≤ length (flat_map f ys) → 1 ≤ length (flat_map f (xs ++ ys))
-back-more f xs ys h = subst (λ es. 1 ≤ length es) (sym (flat_map-append f xs ys)) (some-back (flat_map f xs) (flat_map f ys) h)
+-- how many elements two lists have, one behind the other
+flat-length : {X : Type 0} (f : X → List Element) (xs ys : List X) → length (flat_map f (xs ++ ys)) ≡ length (flat_map f xs) + length (flat_map f ys)
+flat-length f xs ys = ap length (flat_map-append f xs ys) ∙ length-append (flat_map f xs) (flat_map f ys)
 
 -- a part of a row in its turn
 
 turn-by : {X : Type 0} (b : Bool) (f : X → List Element) (g : Turn → List X) (k : ℕ) (t : Turn) (ts : List Turn) → nat_eq k t.index ≡ b → 1 ≤ cond b 1 0 + total_in (is_place k) ts
     → ((t : Turn) → t.index ≡ k → 1 ≤ length (flat_map f (g t))) → (1 ≤ total_in (is_place k) ts → 1 ≤ length (flat_map f (flat_map g ts))) → 1 ≤ length (flat_map f (g t ++ flat_map g ts))
-turn-by true f g k t ts h there some later = front-more f (g t) (flat_map g ts) (some t (sym (eqb-true k t.index h)))
-turn-by false f g k t ts h there some later = back-more f (g t) (flat_map g ts) (later (omega (arith, there)))
+turn-by true f g k t ts h there some later = let sum = flat-length f (g t) (flat_map g ts) in let own = some t (sym (eqb-true k t.index h)) in omega (arith, sum, own)
+turn-by false f g k t ts h there some later = let sum = flat-length f (g t) (flat_map g ts) in let rest = later (omega (arith, there)) in omega (arith, sum, rest)
 
 turn-some : {X : Type 0} (f : X → List Element) (g : Turn → List X) (k : ℕ) (ts : List Turn) → 1 ≤ total_in (is_place k) ts
     → ((t : Turn) → t.index ≡ k → 1 ≤ length (flat_map f (g t))) → 1 ≤ length (flat_map f (flat_map g ts))
@@ -90,8 +80,9 @@ turn-some f g k (t ∷ ts) there some = turn-by (nat_eq k t.index) f g k t ts re
 part-at : CharactersGive → (s : Scene) (origin : Origin) (xs : List Part) (x : Part) (t : Turn) → slice_get xs t.index ≡ Some x → part_gives s x.kind ≡ true
     → 1 ≤ length (flat_map (display_part_elements s origin) (shown_at xs t))
 part-at law s origin xs x t at gives =
-    subst (λ (o : Option Part). 1 ≤ length (flat_map (display_part_elements s origin) (shown_by t.odd o))) (sym at)
-    (some-front (display_part_elements s origin (record { kind = x.kind; face = x.face; odd = t.odd })) [] (part-some law s origin x.kind x.face t.odd gives))
+    let own = part-some law s origin x.kind x.face t.odd gives in
+    let sum = length-append (display_part_elements s origin (record { kind = x.kind; face = x.face; odd = t.odd })) [] in
+    subst (λ (o : Option Part). 1 ≤ length (flat_map (display_part_elements s origin) (shown_by t.odd o))) (sym at) (omega (arith, own, sum))
 
 order-some : CharactersGive → (s : Scene) (base : ℕ) (origin : Origin) (xs : List Part) → some_gives s xs ≡ true → 1 ≤ length (flat_map (display_part_elements s origin) (in_order s base xs))
 order-some law s base origin xs h =
@@ -164,7 +155,7 @@ rows-some law s base origin text under xs (i ∷ is) h =
     let p = bare_place text under i in
     cond_both (ends_row p) (row s base xs ++ row_end p.face ∷ rows_from s base [] (map (bare_place text under) is)) (rows_from s base (xs ++ part_of s p ∷ []) (map (bare_place text under) is))
     (λ (ys : List Shown). 1 ≤ length (flat_map (display_part_elements s origin) ys))
-    (λ e. back-more (display_part_elements s origin) (row s base xs) (row_end p.face ∷ rows_from s base [] (map (bare_place text under) is)) (omega arith))
+    (λ e. let sum = flat-length (display_part_elements s origin) (row s base xs) (row_end p.face ∷ rows_from s base [] (map (bare_place text under) is)) in omega (arith, sum))
     (λ e. rows-some law s base origin text under (xs ++ part_of s p ∷ []) is (go-on s xs text under i is e h))
 
 get-at : (front : List ℕ) (c : ℕ) (cs all : List ℕ) → all ≡ front ++ c ∷ cs → get_or all (length front) 0 ≡ c
