@@ -11,7 +11,7 @@ use rd_base::limits::GENERATED_NUMBER;
 use std::alloc::{AllocError, Global};
 use thiserror::Error;
 
-// The names of the options and of the flag.
+// The names of the options and of the flag, as `command` gives them to clap and `words_of` asks for them.
 const DATA: &str = "data";
 
 const MIRROR: &str = "mirror";
