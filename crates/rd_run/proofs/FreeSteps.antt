@@ -1,5 +1,5 @@
 -- No op is refused for want of memory, by the definitions.
-use Rattle.std.proofs.Common.{◌≢◌, ℕ, ◌+◌, ◌-◌, Bool, false, if◌then◌else◌, is_some, length, map, nat_le, slice_get, List, Option, None, Some, Result, Ok, Err, refl, ap}
+use Rattle.std.proofs.Common.{◌≡◌, ◌≢◌, ℕ, ◌+◌, ◌-◌, Bool, false, if◌then◌else◌, is_some, length, map, nat_le, slice_get, List, Option, None, Some, Result, Ok, Err, refl, ap}
 use Rattle.std.specs.Prelude.{ℤ, pos}
 use Rattle.rd_layout.specs.Pointing.{hitting_by, stepped_to}
 use Rattle.rd_layout.specs.Sessions.{SessionValue, layout_of, session_step}
@@ -52,24 +52,18 @@ shown-free s w f h = found-free NoBuffer (slice_get s.buffers w.buffer) f (λ e.
 
 -- ---- buffers
 
-replaced-free : (s : StateValue) (i : ℕ) (b : BufferValue) (r : Result ContentValue Refused) → AnswersFree r → AnswersFree (replaced s i b r)
-replaced-free s i b (Err refusal) h = λ e. h (cc)
-replaced-free s i b (Ok content) h = λ e. cc
-
-moving-free : (i : ℕ) (how : Move) (r : Result StateValue Refused) → AnswersFree r → AnswersFree (moving i how r)
-moving-free i how (Err refusal) h = h
-moving-free i how (Ok s) h = λ e. cc
-
-changing-free : (number : ℕ) (f : WindowState → WindowState) (r : Result StateValue Refused) → AnswersFree r → AnswersFree (changing number f r)
-changing-free number f (Err refusal) h = h
-changing-free number f (Ok s) h = λ e. cc
+-- a part of a step that goes on from an answer, and hands refusals on
+goes-on-free : {A B : Type 0} (part : Result A Refused → Result B Refused) (r : Result A Refused) → ((e : Refused) → part (Err e) ≡ Err e) → ((a : A) → AnswersFree (part (Ok a))) → AnswersFree r → AnswersFree (part r)
+goes-on-free part (Err refusal) same made h = let on = same refusal in λ e. h (cc)
+goes-on-free part (Ok a) same made h = made a
 
 edited-free : (s : StateValue) (name : List ℕ) (edit : ContentValue → Result ContentValue Refused) → ((c : ContentValue) → AnswersFree (edit c)) → AnswersFree (edited s name edit)
-edited-free s name edit h = named-free s name (λ i b. replaced s i b (edit b.content)) (λ i b. replaced-free s i b (edit b.content) (h b.content))
+edited-free s name edit h = named-free s name (λ i b. replaced s i b (edit b.content)) (λ i b. goes-on-free (replaced s i b) (edit b.content) (λ e. refl) (λ d. ok-free _) (h b.content))
 
 moved-free : (s : StateValue) (name : List ℕ) (how : Move) (edit : ContentValue → Result ContentValue Refused) → ((c : ContentValue) → AnswersFree (edit c)) → AnswersFree (edited_moving s name how edit)
 moved-free s name how edit h =
-    named-free s name (λ i b. moving i how (replaced s i b (edit b.content))) (λ i b. moving-free i how (replaced s i b (edit b.content)) (replaced-free s i b (edit b.content) (h b.content)))
+    named-free s name (λ i b. moving i how (replaced s i b (edit b.content)))
+    (λ i b. goes-on-free (λ r. moving i how (replaced s i b r)) (edit b.content) (λ e. refl) (λ d. ok-free _) (h b.content))
 
 insertion-free : (place : ℕ) (new : List ℕ) (c : ContentValue) → AnswersFree (insertion place new c)
 insertion-free place new c = either AnswersFree _ _ _ (either AnswersFree _ _ _ (ok-free _) (no-free TextTooLarge (λ e. cc))) (no-free OutOfRange (λ e. cc))
@@ -106,11 +100,11 @@ making-free s name = either AnswersFree _ _ _ (no-free NameTaken (λ e. cc)) (ei
 
 typing-free : (s : StateValue) (new : List ℕ) → AnswersFree (typing s new)
 typing-free s new =
-    let put : WindowState → BufferValue → Result StateValue Refused = λ w b.
-    changing s.selected (λ old. record old { point = w.point + length new }) (moving w.buffer (Inserted w.point (length new)) (replaced s w.buffer b (insertion w.point new b.content))) in
-    lives-free s s.selected (λ w. in_shown s w (put w)) (λ w. shown-free s w (put w) (λ b.
-    changing-free s.selected (λ old. record old { point = w.point + length new }) (moving w.buffer (Inserted w.point (length new)) (replaced s w.buffer b (insertion w.point new b.content)))
-    (moving-free w.buffer (Inserted w.point (length new)) (replaced s w.buffer b (insertion w.point new b.content)) (replaced-free s w.buffer b (insertion w.point new b.content) (insertion-free w.point new b.content)))))
+    let done : WindowState → BufferValue → Result ContentValue Refused → Result StateValue Refused = λ w b r.
+    changing s.selected (λ old. record old { point = w.point + length new }) (moving w.buffer (Inserted w.point (length new)) (replaced s w.buffer b r)) in
+    let put : WindowState → BufferValue → Result StateValue Refused = λ w b. done w b (insertion w.point new b.content) in
+    lives-free s s.selected (λ w. in_shown s w (put w))
+    (λ w. shown-free s w (put w) (λ b. goes-on-free (done w b) (insertion w.point new b.content) (λ e. refl) (λ d. ok-free _) (insertion-free w.point new b.content)))
 
 -- ---- objects
 
@@ -203,9 +197,9 @@ session-free v (ops.Start window place row) = placing-free v.state window place 
 session-free v (ops.Scroll window rows) = setting-free v.state window _
 session-free v (ops.Hscroll window columns) = setting-free v.state window _
 session-free v (ops.Wrap window mode) = setting-free v.state window _
-session-free v (ops.ModeLine window format) = lives-free v.state window _ (λ w. bad-free _ _ (changing-free window _ _ (tree-free _ _ (mode-free v.state.tree window (is_some format)))))
+session-free v (ops.ModeLine window format) = lives-free v.state window _ (λ w. bad-free _ _ (goes-on-free (changing window _) _ (λ e. refl) (λ t. ok-free _) (tree-free _ _ (mode-free v.state.tree window (is_some format)))))
 session-free v (ops.Go window right) = lives-free v.state window _ (λ w. point-free v.state window (stepped_to v.files v.state w right))
 session-free v (ops.Hit window row column) = lives-free v.state window _ (λ w. hit-free v.state window w (layout_of window v.layouts) (place_of window v.state) row column)
-session-free v (ops.Margin window numbers strings) = lives-free v.state window _ (λ w. changing-free window _ _ (tree-free _ _ (margins-free v.state.tree window (numbers + strings))))
+session-free v (ops.Margin window numbers strings) = lives-free v.state window _ (λ w. goes-on-free (changing window _) _ (λ e. refl) (λ t. ok-free _) (tree-free _ _ (margins-free v.state.tree window (numbers + strings))))
 session-free v (ops.MarginPut name overlay string) = edited-free v.state name (margin_putting v.state.objects overlay string) (margin_putting-free v.state.objects overlay string)
 session-free v op = λ e. cc
