@@ -18,7 +18,7 @@ use Rattle.rd_start.specs.declared.strip.StripRow.{StripRow}
 use Rattle.rd_start.specs.declared.strip.Strip.{Strip}
 use Rattle.rd_start.specs.declared.strip.Sweep.{Sweep}
 use Rattle.rd_start.proofs.Blocks.{anchor-skips, any-block, any-fit, first-row, fit-back, fit-front, row-below}
-use Rattle.rd_start.proofs.Costs.{costs-piece}
+use Rattle.rd_start.proofs.Growth.{affords-pieces}
 use Rattle.rd_start.proofs.Reaching.{paid-same, strip-same}
 
 -- the block that holds a position, and those before and behind it
@@ -101,27 +101,21 @@ have-around kind m sweep b a holds (inr there) =
     let inside = point-in-block m sweep b a there.0 (omega arith) (omega arith) in
     any-range kind first (length (rows_in m sweep b)) (point_row m sweep) inside.0 inside.1 there.1
 
+-- a strip of this block alone is paid for, within the costs of all blocks that have a row of the kind
 pub paid-around : (kind : ℕ → Bool) (base : ℕ) (m : SourceValues) (sweep : Sweep) (b : Block) (more : ℕ) → IsSource m → IsShape sweep.shape → HoldsPosition sweep.anchor.pos m.blocks b
-    → IsAsked kind m sweep → more ≤ base + cost_in m sweep b → IsPaidOf kind base m sweep (b ∷ []) (row_in_block sweep.anchor b.start (rows_in m sweep b)) more
+    → IsAsked kind m sweep → more ≤ base + cost_in m sweep b → IsPaidOf kind base m sweep (b ∷ []) (row_in_block sweep.anchor b.start (rows_in m sweep b)) more × (more ≤ base + all_costs kind m sweep)
 paid-around kind base m sweep b more source shape holds asked cost =
     let rows = λ (x : Block). rows_in m sweep x in
     let a = around m sweep b source shape holds in
     let here = have-around kind m sweep b a holds asked in
     let home = a.home in
-    let first : length (all_rows rows a.before) ≡ home_row m sweep - row_in_block sweep.anchor b.start (rows b) = omega arith in
-    record {
+    let at = row_in_block sweep.anchor b.start (rows b) in
+    let first : length (all_rows rows a.before) ≡ home_row m sweep - at = omega arith in
+    let paid : IsPaidOf kind base m sweep (b ∷ []) at more = record {
       have = (subst (λ n. list_any kind (range_with_len n (length (rows b))) ≡ true) first here, tt);
       paid = omega (arith, cost);
-    }
-
-pub fails-around : (kind : ℕ → Bool) (base : ℕ) (m : SourceValues) (sweep : Sweep) (b : Block) (more : ℕ) → IsSource m → IsShape sweep.shape → HoldsPosition sweep.anchor.pos m.blocks b
-    → IsAsked kind m sweep → more ≤ base + cost_in m sweep b → more ≤ base + all_costs kind m sweep
-fails-around kind base m sweep b more source shape holds asked cost =
-    let rows = λ (x : Block). rows_in m sweep x in
-    let a = around m sweep b source shape holds in
-    let here = have-around kind m sweep b a holds asked in
-    let bound = costs-piece kind rows (cost_in m sweep) m.blocks a.before (b ∷ []) a.after (length (all_rows rows a.before)) a.pieces refl (here, tt) in
-    omega (arith, cost, bound)
+    } in
+    (paid, affords-pieces kind base m sweep a.before (b ∷ []) a.after at more a.pieces (sym home) paid)
 
 -- the strip that was made of the block
 pub record Made (m : SourceValues) (sweep : Sweep) (b : Block) (empty new : Strip) (rows : List RowMeaning) : Type 0 where
@@ -165,7 +159,7 @@ made-paid kind base m sweep b empty new rows more h asked cost = (
   made-strip m sweep b empty new rows h,
   paid-same kind base m sweep new.sweep (b ∷ []) new.blocks.items (row_in_block sweep.anchor b.start (rows_in m sweep b)) new.home more
       (made-sweep m sweep b empty new rows h) (made-blocks m sweep b empty new rows h) (made-home m sweep b empty new rows h)
-      (paid-around kind base m sweep b more h.source h.shape h.holds asked cost),
+      (paid-around kind base m sweep b more h.source h.shape h.holds asked cost).0,
 )
 
 pub made-point : (m : SourceValues) (sweep : Sweep) (b : Block) (empty new : Strip) (rows : List RowMeaning) → Made m sweep b empty new rows → sweep.anchor.pos ≡ sweep.point → HasPoint m new

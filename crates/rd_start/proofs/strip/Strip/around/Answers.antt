@@ -6,7 +6,7 @@ use Rattle.rd_rows.specs.Copies.{shown_rows}
 use Rattle.rd_rows.specs.Shapes.{IsShape}
 use Rattle.rd_start.specs.Strips.{IsAsked, IsPaid, all_costs}
 use Rattle.rd_start.specs.declared.strip.Strip.{Strip}
-use Rattle.rd_start.proofs.Around.{Made, fails-around, made-paid, made-point, made-strip, made-sweep}
+use Rattle.rd_start.proofs.Around.{Made, made-paid, made-point, made-strip, made-sweep, paid-around}
 use Rattle.rd_start.proofs.Pushing.{count-shown}
 use Rattle.rd_start.proofs.Reaching.{cost-same, rows-same}
 use Rattle.rd_start.proofs.strip.Strip.around.Given as given
@@ -23,7 +23,7 @@ failed g c r err kind asked =
     let shape : IsShape sweep.shape = record { least = omega arith; most = omega arith } in
     let cost = cost-same m (g.B.BlockSource.meaning c.block_of.new.self) sweep c.in_ok-block.block n c.args.steps.now c.block_of.ensures.stays c.rows.ensures.steps in
     MatchResult-from_err r (λ (s : Strip). IsPaid kind c.args.steps.now m s n) (λ _. n ≤ c.args.steps.now + all_costs kind m sweep) err
-    (λ _. fails-around kind c.args.steps.now m sweep c.in_ok-block.block n c.block_of.ensures.source shape c.in_ok-block.ensures.found asked cost)
+    (λ _. (paid-around kind c.args.steps.now m sweep c.in_ok-block.block n c.block_of.ensures.source shape c.in_ok-block.ensures.found asked cost).1)
 
 pub returns-in_err-rows-clause-paid : goal.returns-in_err-rows-clause-paid
 returns-in_err-rows-clause-paid g c =
