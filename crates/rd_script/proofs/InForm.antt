@@ -8,7 +8,7 @@ use Rattle.std.specs.Prelude.{All}
 use Rattle.serde_json.specs.Data.{Data, Items, no_items, item, Members}
 use Rattle.serde_json.specs.Find.{get_member, as_number, as_u64, as_i64, as_bool, as_str, as_array}
 use Rattle.rd_base.proofs.Choices.{map-some, no-free, ok-free}
-use Rattle.rd_base.specs.declared.limits.TheConstants.{ATOMS, HSCROLL_COLUMNS, INVISIBLE_ATOMS, NUMBER_COLUMNS, SCROLL_CONSERVATIVELY, SCROLL_MARGIN, SCROLL_ROWS, START_ROW, STRING_COLUMNS, FRAME_COLUMNS, FRAME_ROWS, LEAST_FRAME_COLUMNS, LEAST_FRAME_ROWS, PRIORITY, STRING_RUNS, TABLE_ENTRIES, SPACE_COLUMNS, TAB_COLUMNS}
+use Rattle.rd_base.specs.declared.limits.TheConstants.{ATOMS, CODE_POINTS, HSCROLL_COLUMNS, INVISIBLE_ATOMS, NUMBER_COLUMNS, SCROLL_CONSERVATIVELY, SCROLL_MARGIN, SCROLL_ROWS, START_ROW, STRING_COLUMNS, FRAME_COLUMNS, FRAME_ROWS, LEAST_FRAME_COLUMNS, LEAST_FRAME_ROWS, PRIORITY, STRING_RUNS, TABLE_ENTRIES, SPACE_COLUMNS, TAB_COLUMNS}
 use Rattle.rd_base.specs.declared.settings.Invisible.{Invisible}
 use Rattle.rd_base.specs.declared.settings.Invisible.TheVariants.{Every, Listed}
 use Rattle.rd_objects.specs.declared.run.RunKind.{RunKind}
@@ -260,8 +260,8 @@ slot-finds : Finds slot (λ c. IsTrue (is_slot c))
 slot-finds = record { found = λ d c e. kept_if-found is_slot (option_and_then only (option_map chars (as_str d))) c e }
 
 entry-finds : Finds entry IsEntryInForm
-entry-finds = mapped-finds entry_of (two_items (within 0 1114111) glyph_text) (λ x. ((0 ≤ x.0) × (x.0 ≤ 1114111)) × IsTrue (is_glyph_text x.1)) IsEntryInForm
-    (two-finds (within 0 1114111) glyph_text _ _ (within-finds 0 1114111) glyph_text-finds) (λ x h. record { code = h.0.1; text = h.1 })
+entry-finds = mapped-finds entry_of (two_items (within 0 (CODE_POINTS - 1)) glyph_text) (λ x. ((0 ≤ x.0) × (x.0 ≤ CODE_POINTS - 1)) × IsTrue (is_glyph_text x.1)) IsEntryInForm
+    (two-finds (within 0 (CODE_POINTS - 1)) glyph_text _ _ (within-finds 0 (CODE_POINTS - 1)) glyph_text-finds) (λ x h. record { code = let most = h.0.1 in omega arith; text = h.1 })
 
 slot-gives : (key : List ℕ) → Gives (slot_field key) IsSlot
 slot-gives key = optional-gives key slot _ IsSlot slot-finds tt (λ c h. h)

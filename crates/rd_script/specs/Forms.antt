@@ -3,7 +3,7 @@ use Rattle.std.specs.Prelude.{ℕ, ◌≤◌, ◌<◌, ◌&&◌, ◌||◌, ◌==
 use Rattle.std.specs.List.{list_all}
 use Rattle.std.specs.Str.{chars}
 use Rattle.rd_base.specs.Chars.{is_scalar}
-use Rattle.rd_base.specs.declared.limits.TheConstants.{ATOMS, ENTRY_GLYPHS, FRAME_COLUMNS, FRAME_ROWS, HSCROLL_COLUMNS, INVISIBLE_ATOMS, LEAST_FRAME_COLUMNS, LEAST_FRAME_ROWS, NAME_CHARACTERS, NUMBER_COLUMNS, PLAIN_CHARACTERS, PRIORITY, SCROLL_CONSERVATIVELY, SCROLL_MARGIN, SCROLL_ROWS, SPACE_COLUMNS, START_ROW, STRING_COLUMNS, STRING_RUNS, TAB_COLUMNS, TABLE_ENTRIES}
+use Rattle.rd_base.specs.declared.limits.TheConstants.{ATOMS, CODE_POINTS, ENTRY_GLYPHS, FRAME_COLUMNS, FRAME_ROWS, HSCROLL_COLUMNS, INVISIBLE_ATOMS, LEAST_FRAME_COLUMNS, LEAST_FRAME_ROWS, NAME_CHARACTERS, NUMBER_COLUMNS, PLAIN_CHARACTERS, PRIORITY, SCROLL_CONSERVATIVELY, SCROLL_MARGIN, SCROLL_ROWS, SPACE_COLUMNS, START_ROW, STRING_COLUMNS, STRING_RUNS, TAB_COLUMNS, TABLE_ENTRIES}
 use Rattle.rd_base.specs.declared.settings.Invisible.{Invisible}
 use Rattle.rd_base.specs.declared.settings.Invisible.TheVariants.{Every, Listed}
 use Rattle.rd_objects.specs.Tables.{has_no_glyph}
@@ -111,7 +111,7 @@ pub record IsRunInForm (run : OpRun) : Type 0 where
   pub value : IsWhole run.value
 
 pub record IsEntryInForm (entry : OpEntry) : Type 0 where
-  pub code : entry.code ≤ 1114111
+  pub code : entry.code < CODE_POINTS
   pub text : IsTrue (is_glyph_text entry.text)
 
 abbrev pub IsSlot : Option ℕ → Type 0

@@ -1,10 +1,10 @@
 -- The objects that an op makes: strings, display specs, faces and display tables.
-use Rattle.std.specs.Prelude.{ℕ, Bool, false, List, [], ◌∷◌, Option, None, Some, option_and_then, option_map, codes}
+use Rattle.std.specs.Prelude.{ℕ, ◌-◌, Bool, false, List, [], ◌∷◌, Option, None, Some, option_and_then, option_map, codes}
 use Rattle.std.specs.Str.{chars}
 use Rattle.serde_json.specs.Data.{Data}
 use Rattle.serde_json.specs.Find.{as_bool, as_str}
 use Rattle.rd_base.specs.Faces.{Attributes}
-use Rattle.rd_base.specs.declared.limits.TheConstants.{SPACE_COLUMNS}
+use Rattle.rd_base.specs.declared.limits.TheConstants.{CODE_POINTS, SPACE_COLUMNS}
 use Rattle.rd_objects.specs.declared.run.RunKind.{RunKind}
 use Rattle.rd_objects.specs.declared.run.RunKind.TheVariants as kinds
 use Rattle.rd_script.specs.declared.object.OpEntry.{OpEntry}
@@ -73,7 +73,7 @@ entry_of parts = record { code = parts.0; text = parts.1 }
 
 -- a code and what is shown in its place
 abbrev pub entry : Data → Option OpEntry
-entry d = option_map entry_of (two_items (within 0 1114111) glyph_text d)
+entry d = option_map entry_of (two_items (within 0 (CODE_POINTS - 1)) glyph_text d)
 
 abbrev pub slot_field : List ℕ → Fields (Option ℕ)
 slot_field key = optional key slot

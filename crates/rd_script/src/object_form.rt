@@ -9,6 +9,7 @@ use crate::item::Two;
 use crate::object::{OpEntry, OpRun};
 use crate::text_form::GlyphText;
 use crate::word::Named;
+use rd_base::limits::CODE_POINTS;
 use rd_base::{Ch, ListOf, Memory};
 use rd_objects::RunKind;
 use serde_json::Value;
@@ -70,7 +71,7 @@ impl Form for EntryForm {
         let pair = Two {
             first: Within {
                 least: 0,
-                greatest: 1_114_111,
+                greatest: CODE_POINTS - 1,
             },
             second: GlyphText,
         };
