@@ -1,5 +1,5 @@
 -- What a run of a script leaves for the auditor: its stream is the terminal's, and its report has the dump of what that shows.
-use Rattle.std.proofs.Common.{◌≡◌, ℕ, ◌+◌, ◌<◌, ◌≤◌, Bool, true, false, if◌then◌else◌, is_some, inl, inr, Option, None, Some, unwrap_or, Ok, decimal, codes, List, [], ◌∷◌, ◌++◌, length, refl, sym, ap, ◌∙◌, subst, arith, append_assoc, length-append, true≢false}
+use Rattle.std.proofs.Common.{◌≡◌, ℕ, ◌+◌, ◌<◌, ◌≤◌, Bool, true, false, if◌then◌else◌, is_some, inl, inr, Option, None, Some, unwrap_or, Ok, decimal, codes, List, [], ◌∷◌, ◌++◌, length, refl, sym, ap, ◌∙◌, subst, arith, append_assoc, true≢false}
 use Rattle.std.specs.Prelude.{IsSome}
 use Rattle.std.specs.Io.KnownBytes.{Appends}
 use Rattle.std.proofs.lemmas.List.Elements.{All-nil}
@@ -29,8 +29,8 @@ use Rattle.rd_state.specs.Valid.{IsValid}
 use Rattle.rd_term.specs.Pictures.{Picture, width_of}
 use Rattle.rd_term.specs.Terminals.{Shows, feed_bytes, unknown}
 use Rattle.rd_tree.specs.Calls.{frame_of}
-use Rattle.rd_tree.specs.Windows.{Split, Window, Windows, first_part, placed, second_part}
-use Rattle.rd_tree.specs.declared.rect.Rect.{Rect}
+use Rattle.rd_tree.proofs.Rooms.{leaves-some}
+use Rattle.rd_tree.proofs.Standing.{placed-count}
 use Rattle.rd_update.specs.Updates.{Update}
 use Rattle.rd_audit.proofs.Lacking.{lacks-append, lacks-decimal}
 use Rattle.rd_audit.proofs.Leaving.{IsPassed, leaves-on, passed-line}
@@ -56,18 +56,11 @@ has-dump s p valid h =
       tall = subst (λ (x : ℕ). 2 ≤ x) (sym h.0.rows) frame.high;
     }
 
--- a frame has a window
-some-placed : (windows : Windows) (rect : Rect) → 0 < length (placed windows rect)
-some-placed (Window number mode margins) rect = omega arith
-some-placed (Split side size first second) rect =
-    let one = some-placed first (first_part side size rect) in
-    omega (arith, one, length-append (placed first (first_part side size rect)) (placed second (second_part side size rect)))
-
--- so a dump has the line of one
+-- a frame has a window, so a dump has the line of one
 windows-told : (v : SessionValue) → IsValid v.state → 0 < length (facts_of v)
 windows-told v valid =
-    let some = some-placed v.state.tree.windows (frame_of v.state.tree) in
-    omega (arith, shown-count v.state valid (fact_of v), some)
+    let tree = v.state.tree in
+    omega (arith, shown-count v.state valid (fact_of v), placed-count tree.windows (frame_of tree), leaves-some tree.windows)
 
 -- ---- what a redisplay tells that is shown
 
