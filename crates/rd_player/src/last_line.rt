@@ -2,7 +2,7 @@
 ghost use Rattle.std.specs.Prelude.{ℕ, ◌++◌, option_map, codes};
 ghost use Rattle.rd_base.specs.Chars.{encoded};
 ghost use Rattle.rd_dump.specs.Prints.{Prints};
-ghost use Rattle.rd_run.specs.Reports.{key_part, last_line, located, part_of, refused_part};
+ghost use Rattle.rd_run.specs.Reports.{named_key, last_line, located, behind_kind, named_column};
 
 use crate::names::{data_kind, file_word, kind_of, op_key};
 use rd_base::Ch;
@@ -89,15 +89,15 @@ fn print_located<'t, K: Sink>(
 
 /// Writes what stands behind the kind of a fault, and the newline.
 fn print_end<K: Sink>(sink: &mut K, fault: &ScriptFault) -> Result<(), Failed>
-    ensures { Prints (K.written sink.old) (K.written sink.new) (K.faults sink.old) (K.faults sink.new) (part_of fault.now ++ codes "\n") result }
+    ensures { Prints (K.written sink.old) (K.written sink.new) (K.faults sink.old) (K.faults sink.new) (behind_kind fault.now ++ codes "\n") result }
 {
-    print_part(sink, fault)?;
+    print_behind_kind(sink, fault)?;
     print_bytes(sink, b"\n")
 }
 
 /// Writes what stands behind the kind of a fault: the key of a field or the column of a bad format, behind a space.
-fn print_part<K: Sink>(sink: &mut K, fault: &ScriptFault) -> Result<(), Failed>
-    ensures { Prints (K.written sink.old) (K.written sink.new) (K.faults sink.old) (K.faults sink.new) (part_of fault.now) result }
+fn print_behind_kind<K: Sink>(sink: &mut K, fault: &ScriptFault) -> Result<(), Failed>
+    ensures { Prints (K.written sink.old) (K.written sink.new) (K.faults sink.old) (K.faults sink.new) (behind_kind fault.now) result }
 {
     match fault {
         ScriptFault::Op(fault) => print_key(sink, op_key(fault)),
@@ -109,7 +109,7 @@ fn print_part<K: Sink>(sink: &mut K, fault: &ScriptFault) -> Result<(), Failed>
 
 /// Writes the column of a bad format behind a space.
 fn print_column<K: Sink>(sink: &mut K, refused: Refused) -> Result<(), Failed>
-    ensures { Prints (K.written sink.old) (K.written sink.new) (K.faults sink.old) (K.faults sink.new) (refused_part refused) result }
+    ensures { Prints (K.written sink.old) (K.written sink.new) (K.faults sink.old) (K.faults sink.new) (named_column refused) result }
 {
     match refused {
         Refused::BadFormat(column) => {
@@ -121,7 +121,7 @@ fn print_column<K: Sink>(sink: &mut K, refused: Refused) -> Result<(), Failed>
 
 /// Writes the key of a field behind a space, where there is one.
 fn print_key<K: Sink>(sink: &mut K, key: Option<&[Ch]>) -> Result<(), Failed>
-    ensures { Prints (K.written sink.old) (K.written sink.new) (K.faults sink.old) (K.faults sink.new) (key_part (option_map (λ key. key.now) key.entry)) result }
+    ensures { Prints (K.written sink.old) (K.written sink.new) (K.faults sink.old) (K.faults sink.new) (named_key (option_map (λ key. key.now) key.entry)) result }
 {
     match key {
         Some(key) => {

@@ -64,19 +64,21 @@ op_key fault = None
 abbrev pub bytes_of : List ℕ → List ℕ
 bytes_of text = flat_map encoded text
 
--- what stands behind the kind: a space, and the key of a field or the column of a bad format
-abbrev pub key_part : Option (List ℕ) → List ℕ
-key_part None = []
-key_part (Some key) = 32 ∷ bytes_of key
+-- a space, and the key of a field
+abbrev pub named_key : Option (List ℕ) → List ℕ
+named_key None = []
+named_key (Some key) = 32 ∷ bytes_of key
 
-abbrev pub refused_part : Refused → List ℕ
-refused_part (refusals.BadFormat column) = 32 ∷ decimal column
-refused_part refused = []
+-- a space, and the column of a bad format
+abbrev pub named_column : Refused → List ℕ
+named_column (refusals.BadFormat column) = 32 ∷ decimal column
+named_column refused = []
 
-abbrev pub part_of : ScriptFault → List ℕ
-part_of (faults.Op fault) = key_part (op_key fault)
-part_of (faults.Refused refused) = refused_part refused
-part_of fault = []
+-- what stands behind the kind of a fault
+abbrev pub behind_kind : ScriptFault → List ℕ
+behind_kind (faults.Op fault) = named_key (op_key fault)
+behind_kind (faults.Refused refused) = named_column refused
+behind_kind fault = []
 
 -- a redisplay was shown, with so many rows sent
 abbrev pub shown_line : ℕ → ℕ → List ℕ
@@ -123,7 +125,7 @@ abbrev pub last_line : Status → ℕ → List ℕ
 last_line Done lines = codes "done " ++ (decimal lines ++ codes " lines\n")
 last_line Usage lines = usage_line
 last_line (BadData file number kind) lines = located (file_word file) number (data_kind kind) ++ codes "\n"
-last_line (BadScript number fault) lines = located (codes "script") number (kind_of fault) ++ (part_of fault ++ codes "\n")
+last_line (BadScript number fault) lines = located (codes "script") number (kind_of fault) ++ (behind_kind fault ++ codes "\n")
 last_line ReadFault lines = codes "read fault\n"
 last_line WriteFault lines = codes "write fault\n"
 last_line NoMemory lines = codes "no memory\n"
