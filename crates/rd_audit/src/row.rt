@@ -87,7 +87,7 @@ fn row_text(number: u32, line: &[u8]) -> Option<&[u8]>
     stripped(b" |", behind)
 }
 
-/// The place of the cursor's line, which is on the screen; None where it has a bad form, or there are fewer rows than a frame has.
+/// The place of the cursor's line, which is on the screen; None where it has a bad form, or there are fewer rows than the lowest frame has.
 pub fn cursor_place(rows: &[ListOf<Cell>], line: &[u8]) -> Option<(u32, u32)>
     ensures value { result ≡ cursor_place rows.now line.now }
     ensures enough { IfSome result (λ _. LEAST_FRAME_ROWS ≤ length rows.now) }

@@ -346,7 +346,7 @@ fn answered<L: Ledger, S: Source>(
     status.code()
 }
 
-/// Asserts what is to hold of a case of this name. The message is made here alone, since its proof is long.
+/// Asserts what is to hold of a case of this name.
 fn assert_of(rt: &impl Abort, name: &str, holds: bool) {
     assert!(rt; holds, "{name}");
 }

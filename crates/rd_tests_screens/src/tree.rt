@@ -70,7 +70,8 @@ fn is_leaf(tree: &Tree, place: u32, window: u32) -> bool {
     tree.leaf(place) == Some(window)
 }
 
-/// Whether a tree splits 63 windows, each of which the one before made, and which keeps three rows.
+/// Whether a tree splits its window, and then 62 times the window that the last split made; the one that is split keeps three
+/// rows.
 fn splits_each(tree: &mut Tree) -> bool {
     for window in 0..63 {
         if !is_number(tree.split(window, Side::Below, 3), window + 1) {
