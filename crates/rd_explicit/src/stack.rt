@@ -78,7 +78,7 @@ impl Stack {
     }
 
     /// For X6a, takes the entries above the topmost isolate and that isolate away. The first entry always stays.
-    pub fn close_isolate(&mut self)
+    pub fn x6a_close_isolate(&mut self)
         ensures { self.new ≡ x6a_below_isolate self.old }
     {
         while self.len() > 1 {
@@ -90,7 +90,7 @@ impl Stack {
     }
 
     /// For X7, takes the last entry away, unless it is an isolate or the only one.
-    pub fn close_embedding(&mut self)
+    pub fn x7_close_embedding(&mut self)
         ensures { self.new ≡ x7_below_embedding self.old }
     {
         if self.len() > 1 && !self.top().isolate {

@@ -115,7 +115,7 @@ impl State {
         if self.overflow_isolates > 0 {
             self.overflow_isolates -= 1;
         } else if self.valid_isolates > 0 {
-            self.stack.close_isolate();
+            self.stack.x6a_close_isolate();
             self.overflow_embeddings = 0;
             self.valid_isolates -= 1;
         }
@@ -134,7 +134,7 @@ impl State {
         if self.overflow_embeddings > 0 {
             self.overflow_embeddings -= 1;
         } else {
-            self.stack.close_embedding();
+            self.stack.x7_close_embedding();
         }
     }
 

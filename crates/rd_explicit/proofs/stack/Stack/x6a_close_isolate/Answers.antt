@@ -1,6 +1,6 @@
 use Rattle.std.proofs.Common.{◌≤◌, sym, ◌∙◌, length, arith}
 use Rattle.rd_explicit.proofs.Stacks.{x6a_below_isolate-short}
-use Rattle.rd_explicit.proofs.stack.Stack.close_isolate.Goals as goal
+use Rattle.rd_explicit.proofs.stack.Stack.x6a_close_isolate.Goals as goal
 
 pub returns : goal.returns
 returns c =
