@@ -48,7 +48,7 @@ pub const ENTRY_GLYPHS: u32 = 16;
 /// Columns from one stop of a tab to the next.
 pub const TAB_COLUMNS: u8 = 32;
 
-/// The greatest atom, which is the number that stands for a symbol by which text is invisible.
+/// The greatest atom. An atom is a number that stands for a symbol by which text is invisible.
 pub const ATOMS: u32 = 65_535;
 
 /// Atoms in a buffer's list of what is invisible.
@@ -61,7 +61,7 @@ pub const PRIORITY: i32 = 1_000_000;
 pub const MAX_DEPTH: u8 = 125;
 
 /// Entries of the stack of the explicit levels: two more than `MAX_DEPTH` (UAX 9, X1).
-pub const STACK_ENTRIES: usize = 127;
+pub const STACK_ENTRIES: usize = MAX_DEPTH as usize + 2;
 
 /// Windows that live at one time.
 pub const WINDOWS: u32 = 64;
@@ -82,10 +82,10 @@ pub const FRAME_ROWS: u32 = 200;
 pub const LEAST_TEXT_COLUMNS: u32 = 10;
 
 /// The least columns of a window without margins: those of its text and the border on its right.
-pub const LEAST_WINDOW_COLUMNS: u32 = 11;
+pub const LEAST_WINDOW_COLUMNS: u32 = LEAST_TEXT_COLUMNS + 1;
 
 /// Columns that a line prefix or wrap prefix takes at the most: half of the widest row.
-pub const PREFIX_COLUMNS: u32 = 200;
+pub const PREFIX_COLUMNS: u32 = FRAME_COLUMNS / 2;
 
 /// Columns of the line numbers beside a window's text.
 pub const NUMBER_COLUMNS: u32 = 10;
