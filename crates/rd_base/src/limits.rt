@@ -63,6 +63,9 @@ pub const MAX_DEPTH: u8 = 125;
 /// Entries of the stack of the explicit levels: two more than `MAX_DEPTH` (UAX 9, X1).
 pub const STACK_ENTRIES: usize = MAX_DEPTH as usize + 2;
 
+/// Brackets that stand open at a time: the entries of the stack of UAX 9 (BD16).
+pub const OPEN_BRACKETS: usize = 63;
+
 /// Windows that live at one time.
 pub const WINDOWS: u32 = 64;
 

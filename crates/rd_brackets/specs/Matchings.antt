@@ -1,8 +1,8 @@
 -- How one walk over a sequence keeps the brackets that stand open and the pairs that it found.
 use Rattle.std.specs.Prelude.{◌≡◌, ℕ, ◌<◌, ◌≤◌, Bool, true, false, List, ◌∷◌, ◌++◌, length, take, reverse, slice_index_or, All, Option, None, Some, option_map}
+use Rattle.rd_base.specs.declared.limits.TheConstants.{OPEN_BRACKETS}
 use Rattle.rd_brackets.specs.Pairs.{opener, below, bd16_pairs_from}
 use Rattle.rd_brackets.specs.declared.role.Role.{Role}
-use Rattle.rd_brackets.specs.declared.matching.TheConstants.{MOST_OPEN}
 use Rattle.rd_brackets.specs.declared.matching.Opened.{Opened}
 use Rattle.rd_brackets.specs.declared.matching.Pair.{Pair}
 use Rattle.rd_brackets.specs.declared.matching.Matching.{Matching}
@@ -20,8 +20,8 @@ ArePairsBefore place pairs = All (λ p. (p.opening < place) × (p.closing < plac
 
 -- a bracket that opens was added where fewer than 63 stand open, and else not
 abbrev pub IsPushed : Bool → ℕ → ℕ → List Opened → List Opened → Type 0
-IsPushed true place partner old new = (length old < MOST_OPEN) × (reverse new ≡ record { place = place; partner = partner } ∷ reverse old)
-IsPushed false place partner old new = MOST_OPEN ≤ length old
+IsPushed true place partner old new = (length old < OPEN_BRACKETS) × (reverse new ≡ record { place = place; partner = partner } ∷ reverse old)
+IsPushed false place partner old new = OPEN_BRACKETS ≤ length old
 
 -- the index of the last of these brackets that a code closes, if there is one
 abbrev pub IsLastClosed : Option ℕ → ℕ → List Opened → Type 0

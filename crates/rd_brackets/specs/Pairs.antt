@@ -3,6 +3,7 @@ use Rattle.std.specs.Prelude.{ℕ, suc, ◌==◌, nat_lt, if◌then◌else◌, L
 use Rattle.std.specs.List.{range_with_len}
 use Rattle.rd_base.specs.declared.class.Class.{Class}
 use Rattle.rd_base.specs.declared.class.Class.TheVariants.{ON}
+use Rattle.rd_base.specs.declared.limits.TheConstants.{OPEN_BRACKETS}
 use Rattle.rd_ucd.specs.declared.spans.Bracket.{Bracket}
 use Rattle.rd_ucd.specs.declared.spans.Bracket.TheVariants.{Opens, Closes}
 use Rattle.rd_ucd.specs.declared.spans.BracketEntry.{BracketEntry}
@@ -57,7 +58,7 @@ abbrev pub bd16_pairs_from : ℕ → List Opened → List Role → Option (List 
 bd16_pairs_from place os [] = Some []
 bd16_pairs_from place os (Other ∷ rs) = bd16_pairs_from (suc place) os rs
 bd16_pairs_from place os (Opening partner ∷ rs) =
-    if nat_lt (length os) 63 then bd16_pairs_from (suc place) (record { place = place; partner = partner } ∷ os) rs else None
+    if nat_lt (length os) OPEN_BRACKETS then bd16_pairs_from (suc place) (record { place = place; partner = partner } ∷ os) rs else None
 bd16_pairs_from place os (Closing code ∷ rs) =
     option_map (λ pairs. pair_at (opener code os) place ++ pairs) (bd16_pairs_from (suc place) (closed code os) rs)
 

@@ -6,6 +6,7 @@ ghost use Rattle.rd_brackets.specs.Sides.{codes_at};
 ghost use Rattle.rd_brackets.specs.Matchings.{ArePairsBefore, IsLastClosed};
 
 use crate::role::{Role, bd14_bd15_role};
+use rd_base::limits::OPEN_BRACKETS;
 use rd_base::{Line, ListOf, Memory, Seq};
 use rd_ucd::Brackets;
 use std::alloc::Global;
@@ -23,9 +24,6 @@ pub struct Pair {
     pub opening: usize,
     pub closing: usize,
 }
-
-/// How many brackets may stand open at a time (UAX 9 BD16).
-pub(crate) const MOST_OPEN: usize = 63;
 
 /// The brackets that stand open, the last one at the end, and the pairs that were found, in the order of their closing brackets.
 #[derive(Drop)]
@@ -93,7 +91,7 @@ impl Matching {
         ensures before { OnOk result (AreOpenedBefore (suc place) self.new.opened) }
         ensures pairs { self.new.pairs ≡ self.old.pairs }
     {
-        if self.opened.len() >= MOST_OPEN {
+        if self.opened.len() >= OPEN_BRACKETS {
             return Ok(false);
         }
         self.opened.push(Opened { place, partner })?;
