@@ -117,6 +117,12 @@ pub const SCROLL_CONSERVATIVELY: u32 = 100;
 /// Characters of a mode line's format, and of the echo area's text.
 pub const PLAIN_CHARACTERS: u32 = 4_096;
 
+/// Numbers of a control sequence.
+pub const SEQUENCE_NUMBERS: usize = 16;
+
+/// The greatest value of a number of a control sequence; one above it, which no sequence can use, counts as this one.
+pub const SEQUENCE_VALUE: u32 = 65_535;
+
 /// Bytes in a line of a script, its newline not counted.
 pub const LINE_BYTES: u32 = 1_048_576;
 

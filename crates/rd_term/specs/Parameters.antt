@@ -1,6 +1,6 @@
--- The numbers of a control sequence (ECMA-48, 5.4): decimal, without leading zeros, between semicolons, at most `MOST_NUMBERS`.
+-- The numbers of a control sequence (ECMA-48, 5.4): decimal, without leading zeros, between semicolons, at most `SEQUENCE_NUMBERS`.
 use Rattle.std.specs.Prelude.{ℕ, zero, suc, ◌+◌, ◌*◌, nat_lt, ◌<◌, ◌≤◌, min, Bool, true, false, if◌then◌else◌, List, [], ◌∷◌, ◌++◌, length, Option, None, Some}
-use Rattle.rd_term.specs.declared.parameters.TheConstants.{GREATEST_NUMBER, MOST_NUMBERS}
+use Rattle.rd_base.specs.declared.limits.TheConstants.{SEQUENCE_NUMBERS, SEQUENCE_VALUE}
 
 -- the numbers that a semicolon ended, the number that is being read, and whether a semicolon ended one without digits
 pub record ParametersRead : Type 0 where
@@ -13,11 +13,11 @@ no_parameters = record { ended = []; last = None; gap = false }
 
 -- a number with one more digit; numbers above the greatest, which no sequence can use, count as the greatest
 abbrev pub longer : ℕ → ℕ → ℕ
-longer n digit = min GREATEST_NUMBER (10 * n + digit)
+longer n digit = min SEQUENCE_VALUE (10 * n + digit)
 
 -- One more digit. None where it follows a leading zero, or would begin a seventeenth number.
 abbrev pub digit_after : ParametersRead → Option ℕ → ℕ → Option ParametersRead
-digit_after p None digit = if nat_lt (length p.ended) MOST_NUMBERS then Some (record p { last = Some digit }) else None
+digit_after p None digit = if nat_lt (length p.ended) SEQUENCE_NUMBERS then Some (record p { last = Some digit }) else None
 digit_after p (Some zero) digit = None
 digit_after p (Some (suc n)) digit = Some (record p { last = Some (longer (suc n) digit) })
 
@@ -43,5 +43,5 @@ numbers_of p = if p.gap then None else numbers_from p.ended p.last
 
 -- there is room for the number that is being read, and it is no greater than the greatest
 abbrev pub HasRoom : List ℕ → Option ℕ → Type 0
-HasRoom ended None = length ended ≤ MOST_NUMBERS
-HasRoom ended (Some n) = (length ended < MOST_NUMBERS) × (n ≤ GREATEST_NUMBER)
+HasRoom ended None = length ended ≤ SEQUENCE_NUMBERS
+HasRoom ended (Some n) = (length ended < SEQUENCE_NUMBERS) × (n ≤ SEQUENCE_VALUE)

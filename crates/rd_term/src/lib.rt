@@ -34,7 +34,6 @@ mod terminal;
 mod walk;
 
 pub use laws::{a_cut_makes_no_difference, characters_are_read};
-pub use parameters::{GREATEST_NUMBER, MOST_NUMBERS};
 pub use pen::{dressed, is_rendition, numbers_of_face};
 pub use screen::{Screen, first_blanks};
 pub use terminal::Terminal;

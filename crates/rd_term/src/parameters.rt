@@ -3,18 +3,13 @@ ghost use Rattle.std.specs.Prelude.{◌≡◌, ◌<◌, ◌≤◌, [], ◌∷◌
 ghost use Rattle.rd_term.specs.Parameters.{no_parameters, with_digit, separated, numbers_of, longer as one_longer};
 
 use arrayvec::ArrayVec;
+use rd_base::limits::{SEQUENCE_NUMBERS, SEQUENCE_VALUE};
 use std::marker::Model;
 
-/// The most numbers that a sequence may have.
-pub const MOST_NUMBERS: usize = 16;
-
-/// Numbers above this one, which no sequence can use, count as this one.
-pub const GREATEST_NUMBER: u32 = 65_535;
-
-/// At most `MOST_NUMBERS` numbers, in order.
+/// At most `SEQUENCE_NUMBERS` numbers, in order.
 #[derive(Drop)]
 pub(crate) struct Numbers {
-    items: ArrayVec<u32, MOST_NUMBERS>,
+    items: ArrayVec<u32, SEQUENCE_NUMBERS>,
 }
 
 impl Model for Numbers {
@@ -38,14 +33,14 @@ impl Numbers {
     /// How many there are.
     fn len(&self) -> usize
         ensures value { result ≡ length self.now }
-        ensures most { length self.now ≤ MOST_NUMBERS }
+        ensures most { length self.now ≤ SEQUENCE_NUMBERS }
     {
         self.items.len()
     }
 
     /// One more at the end.
     fn push(&mut self, n: u32)
-        requires { length self.old < MOST_NUMBERS }
+        requires { length self.old < SEQUENCE_NUMBERS }
         ensures { self.new ≡ self.old ++ n ∷ [] }
     {
         self.items.push(n);
@@ -96,7 +91,7 @@ impl Parameters {
     {
         let last = match self.last {
             None => {
-                if self.ended.len() >= MOST_NUMBERS {
+                if self.ended.len() >= SEQUENCE_NUMBERS {
                     return None;
                 }
                 digit as u32
@@ -159,9 +154,9 @@ impl Parameters {
 
 /// A number with one more digit.
 fn longer(n: u32, digit: u8) -> u32
-    requires small { n ≤ GREATEST_NUMBER }
+    requires small { n ≤ SEQUENCE_VALUE }
     requires digit { digit < 10 }
     ensures { result ≡ one_longer n digit }
 {
-    (10 * n + digit as u32).min(GREATEST_NUMBER)
+    (10 * n + digit as u32).min(SEQUENCE_VALUE)
 }

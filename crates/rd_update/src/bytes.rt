@@ -5,7 +5,7 @@ ghost use Rattle.rd_base.specs.Cells.{face_after};
 ghost use Rattle.rd_base.specs.Faces.{plain};
 ghost use Rattle.rd_base.specs.Chars.{encoded};
 ghost use Rattle.rd_base.specs.Glyphs.{glyph_bytes};
-ghost use Rattle.rd_term.specs.declared.parameters.TheConstants.{GREATEST_NUMBER};
+ghost use Rattle.rd_base.specs.declared.limits.TheConstants.{SEQUENCE_VALUE};
 ghost use Rattle.rd_update.specs.Updates.{move as move_bytes, renditions, parameter, sequence, dress, text_of_cell, text_by, pen_behind, row_bytes, first_difference as first_column, end_of_differences as end_column};
 
 use crate::span::{Columns, interval, used};
@@ -15,8 +15,8 @@ use rd_term::numbers_of_face;
 
 /// Adds a move of the cursor to a row and a column, from 0.
 pub(crate) fn push_move(bytes: &mut ListOf<u8>, row: u32, column: u32) -> Result<(), Memory>
-    requires row { row < GREATEST_NUMBER }
-    requires column { column < GREATEST_NUMBER }
+    requires row { row < SEQUENCE_VALUE }
+    requires column { column < SEQUENCE_VALUE }
     ensures { OnOk result (bytes.new ≡ bytes.old ++ move_bytes row column) }
 {
     push_sequence(bytes, row + 1, &[column + 1], b'H')
@@ -58,8 +58,8 @@ pub(crate) fn push_row(
     new: &[Cell],
     differing: Columns,
 ) -> Result<(), Memory>
-    requires row { row < GREATEST_NUMBER }
-    requires width { length new.now < GREATEST_NUMBER }
+    requires row { row < SEQUENCE_VALUE }
+    requires width { length new.now < SEQUENCE_VALUE }
     requires old { length old.now ≡ length new.now }
     requires differ { 0 < end_column old.now new.now }
     requires from { differing.from ≡ first_column old.now new.now }

@@ -3,11 +3,11 @@ ghost use Rattle.std.specs.Prelude.{◌≡◌, ◌<◌, ◌≤◌, ◌==◌, ℕ
 ghost use Rattle.std.specs.Char.{is_ascii_digit};
 ghost use Rattle.rd_base.specs.Glyphs.{IsRowAfter};
 ghost use Rattle.rd_base.specs.declared.cell.Cell.{Cell};
+ghost use Rattle.rd_base.specs.declared.limits.TheConstants.{SEQUENCE_NUMBERS, SEQUENCE_VALUE};
 ghost use Rattle.rd_term.specs.Pictures.{Picture};
 ghost use Rattle.rd_term.specs.Controls.{control_of};
 ghost use Rattle.rd_term.specs.Steps.{at_end};
 ghost use Rattle.rd_term.specs.Terminals.{Tty, feed_bytes, perform};
-ghost use Rattle.rd_term.specs.declared.parameters.TheConstants.{GREATEST_NUMBER, MOST_NUMBERS};
 ghost use Rattle.rd_term.specs.declared.reading.Reading.TheVariants.{Between};
 ghost use Rattle.rd_update.specs.Plans.{HaveOneSize};
 ghost use Rattle.rd_update.specs.Updates.{sequence, update, end_of_differences, begin_of, end_of};
@@ -23,11 +23,11 @@ pub fn update_law()
         → IsUpdated width height (update current target limit) target (feed_bytes t (update current target limit).bytes) }
 {}
 
-/// The bytes of a control sequence of up to `MOST_NUMBERS` numbers, none above `GREATEST_NUMBER`, do what its last byte says. They are
+/// The bytes of a control sequence of up to `SEQUENCE_NUMBERS` numbers, none above `SEQUENCE_VALUE`, do what its last byte says. They are
 /// read by a terminal that is not confused and stands between two sequences, and no mark joins behind them.
 pub fn sequences_are_read()
     ensures { (t : Tty) (last n : ℕ) (ns : List ℕ) → t.confused ≡ false → t.reading ≡ Between → is_ascii_digit last ≡ false → (last == 59) ≡ false
-        → n ≤ GREATEST_NUMBER → All (λ k. k ≤ GREATEST_NUMBER) ns → length ns < MOST_NUMBERS
+        → n ≤ SEQUENCE_VALUE → All (λ k. k ≤ SEQUENCE_VALUE) ns → length ns < SEQUENCE_NUMBERS
         → feed_bytes t (sequence n ns last) ≡ perform (at_end (control_of last) (Some (n ∷ ns))) (record t { latest = None }) }
 {}
 

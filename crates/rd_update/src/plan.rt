@@ -1,9 +1,9 @@
 //! An update that is prepared before any of it is sent, so that sending takes no memory.
 ghost use Rattle.std.specs.Prelude.{◌≡◌, ℕ, ◌<◌, ◌≤◌, ◌++◌, ◌-◌, length, Option, All, IfSome, IfOk, OnOk, OnErr, take, drop, replicate, slice_index_or};
 ghost use Rattle.rd_base.specs.Cells.{IsSmall, row_at};
+ghost use Rattle.rd_base.specs.declared.limits.TheConstants.{SEQUENCE_VALUE};
 ghost use Rattle.rd_io.specs.Devices.{Rose};
 ghost use Rattle.rd_term.specs.Pictures.{Picture, IsScreen, blank_row, width_of};
-ghost use Rattle.rd_term.specs.declared.parameters.TheConstants.{GREATEST_NUMBER};
 ghost use Rattle.rd_update.specs.Updates.{Update, update, opening as opening_of, start, row_bytes, rows_bytes, blank_like, differs};
 ghost use Rattle.rd_update.specs.Laws.{IsSound};
 ghost use Rattle.rd_update.specs.Plans.{Prepared, planned, shown, HaveOneSize, Sends, sent_of, parts_from, old_row as old_row_of, IsRowOf, no_part, front_within, part_if, bytes_if};
@@ -199,7 +199,7 @@ fn push_part(
     old: &[Cell],
     new: &[Cell],
 ) -> Result<(), Memory>
-    requires row { row < GREATEST_NUMBER }
+    requires row { row < SEQUENCE_VALUE }
     requires width { length new.now ≤ FRAME_COLUMNS }
     requires length { length old.now ≡ length new.now }
     requires old { All IsSmall old.now }
