@@ -85,8 +85,8 @@ impl Terminal {
         }
     }
 
-    /// Moves the rows from the cursor's to the region's last down, as rows that are inserted do, or up, as deleted ones do. Blank ones come in
-    /// their place.
+    /// Moves the rows from the cursor's to the region's last down, as rows that are inserted do, or up, as deleted ones do. Blank ones come
+    /// in their place.
     pub(crate) fn shift_rows(&mut self, way: RowMove, numbers: &[u32])
         ensures { self.new ≡ shift_rows way numbers.now self.old }
     {
