@@ -8,11 +8,11 @@ ghost use Rattle.rd_script.specs.declared.name.PropertyOp.TheVariants as propert
 
 use crate::asked::Asked;
 use crate::fault::OpFault;
-use crate::field::{VALUE, bad, defaulted, named, number, optional};
+use crate::field::{VALUE, bad, defaulted, named, optional};
 use crate::form::{Flag, Signed, Whole};
 use crate::name::PropertyOp;
 use crate::op::Op;
-use crate::place_field::{buffer, range, stretch};
+use crate::place_field::{buffer, overlay, range, stretch};
 use crate::property_form::Property;
 use crate::setting_field::setting;
 use rd_base::limits::PRIORITY;
@@ -28,7 +28,7 @@ pub fn read_property(alloc: Global, asked: &mut Asked, op: PropertyOp) -> Result
         PropertyOp::Overlay => read_overlay(alloc, asked),
         PropertyOp::OverlayMove => {
             let buffer = buffer(alloc, asked)?;
-            let overlay = number(alloc, asked, "overlay")?;
+            let overlay = overlay(alloc, asked)?;
             let (from, to) = range(alloc, asked)?;
             Ok(Op::OverlayMove {
                 buffer,
@@ -39,12 +39,12 @@ pub fn read_property(alloc: Global, asked: &mut Asked, op: PropertyOp) -> Result
         }
         PropertyOp::OverlayDrop => Ok(Op::OverlayDrop {
             buffer: buffer(alloc, asked)?,
-            overlay: number(alloc, asked, "overlay")?,
+            overlay: overlay(alloc, asked)?,
         }),
         PropertyOp::OverlayPut => read_overlay_put(alloc, asked),
         PropertyOp::MarginPut => Ok(Op::MarginPut {
             buffer: buffer(alloc, asked)?,
-            overlay: number(alloc, asked, "overlay")?,
+            overlay: overlay(alloc, asked)?,
             string: optional(alloc, asked, "string", &Whole)?,
         }),
         PropertyOp::Setting => Ok(Op::Setting {
@@ -114,7 +114,7 @@ fn read_overlay_put(alloc: Global, asked: &mut Asked) -> Result<Op, OpFault>
     ensures { IsTaken result (property_row properties.OverlayPut) asked.old asked.new }
 {
     let buffer = buffer(alloc, asked)?;
-    let overlay = number(alloc, asked, "overlay")?;
+    let overlay = overlay(alloc, asked)?;
     let kind = named(alloc, asked, "kind")?;
     let value = optional(alloc, asked, VALUE, &Property { kind })?;
     Ok(Op::OverlayPut {
