@@ -94,6 +94,9 @@ window_field = number_field (codes "window")
 abbrev pub overlay_field : Fields ℕ
 overlay_field = number_field (codes "overlay")
 
+abbrev pub position_field : Fields ℕ
+position_field = number_field (codes "pos")
+
 abbrev pub range_fields : Fields (ℕ × ℕ)
 range_fields = both (number_field (codes "from")) (number_field (codes "to"))
 
@@ -110,8 +113,8 @@ overlay_manner = both (defaulted (pos 0) (codes "priority") (signed PRIORITY)) (
 -- the ops about buffers and their texts
 abbrev pub text_row : TextOp → Fields Op
 text_row texts.Buffer = made ops.Buffer (required (codes "name") buffer_name)
-text_row texts.Insert = made (λ f. ops.Insert f.0 f.1.0 f.1.1) (both buffer_field (both (number_field (codes "pos")) (required (codes "text") text)))
-text_row texts.InsertRaw = made (λ f. ops.InsertRaw f.0 f.1.0 f.1.1) (both buffer_field (both (number_field (codes "pos")) (required (codes "bytes") (items_of (within 128 255)))))
+text_row texts.Insert = made (λ f. ops.Insert f.0 f.1.0 f.1.1) (both buffer_field (both position_field (required (codes "text") text)))
+text_row texts.InsertRaw = made (λ f. ops.InsertRaw f.0 f.1.0 f.1.1) (both buffer_field (both position_field (required (codes "bytes") (items_of (within 128 255)))))
 text_row texts.Type = made ops.TypeText (required (codes "text") text)
 text_row texts.Delete = made (λ f. ops.Delete f.0 f.1.0 f.1.1) stretch_fields
 text_row texts.Narrow = made (λ f. ops.Narrow f.0 f.1.0 f.1.1) stretch_fields
@@ -142,8 +145,8 @@ window_row windows.Split = made (λ f. ops.Split f.0 f.1.0 f.1.1) (both window_f
 window_row windows.Remove = made ops.Remove window_field
 window_row windows.Select = made ops.Select window_field
 window_row windows.Show = made (λ f. ops.Show f.0 f.1) (both window_field buffer_field)
-window_row windows.Point = made (λ f. ops.Point f.0 f.1) (both window_field (number_field (codes "pos")))
-window_row windows.Start = made (λ f. ops.Start f.0 f.1.0 f.1.1) (both window_field (both (number_field (codes "pos")) (required (codes "row") (within 0 START_ROW))))
+window_row windows.Point = made (λ f. ops.Point f.0 f.1) (both window_field position_field)
+window_row windows.Start = made (λ f. ops.Start f.0 f.1.0 f.1.1) (both window_field (both position_field (required (codes "row") (within 0 START_ROW))))
 window_row windows.Scroll = made (λ f. ops.Scroll f.0 f.1) (both window_field (required (codes "rows") (signed (pos SCROLL_ROWS))))
 window_row windows.Hscroll = made (λ f. ops.Hscroll f.0 f.1) (both window_field (required (codes "columns") (within 0 HSCROLL_COLUMNS)))
 window_row windows.Wrap = made (λ f. ops.Wrap f.0 f.1) (both window_field (required (codes "mode") (word wrap_modes)))

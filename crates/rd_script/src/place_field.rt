@@ -1,7 +1,7 @@
-//! The fields that several ops have: the buffer and the overlay that an op is about, a range of positions, that of a buffer, and a
-//! number of a range.
+//! The fields that several ops have: the buffer and the overlay that an op is about, a position, a range of positions, that of a
+//! buffer, and a number of a range.
 ghost use Rattle.rd_script.specs.Fields.{within, required, IsTaken};
-ghost use Rattle.rd_script.specs.Table.{buffer_field, overlay_field, range_fields, stretch_fields};
+ghost use Rattle.rd_script.specs.Table.{buffer_field, overlay_field, position_field, range_fields, stretch_fields};
 
 use crate::asked::Asked;
 use crate::buffer_name::BufferName;
@@ -23,6 +23,13 @@ pub fn overlay(alloc: Global, asked: &mut Asked) -> Result<u64, OpFault>
     ensures { IsTaken result overlay_field asked.old asked.new }
 {
     number(alloc, asked, "overlay")
+}
+
+/// A position.
+pub fn position(alloc: Global, asked: &mut Asked) -> Result<u64, OpFault>
+    ensures { IsTaken result position_field asked.old asked.new }
+{
+    number(alloc, asked, "pos")
 }
 
 /// A range, by its first position and the one behind its last.

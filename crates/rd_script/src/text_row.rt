@@ -4,11 +4,11 @@ ghost use Rattle.rd_script.specs.Table.{text_row};
 
 use crate::asked::Asked;
 use crate::fault::OpFault;
-use crate::field::{number, required};
+use crate::field::required;
 use crate::item::RawBytes;
 use crate::name::TextOp;
 use crate::op::Op;
-use crate::place_field::{buffer, stretch};
+use crate::place_field::{buffer, position, stretch};
 use crate::text_form::{NameOfBuffer, Text};
 use std::alloc::Global;
 
@@ -22,12 +22,12 @@ pub fn read_text(alloc: Global, asked: &mut Asked, op: TextOp) -> Result<Op, OpF
         }),
         TextOp::Insert => Ok(Op::Insert {
             buffer: buffer(alloc, asked)?,
-            pos: number(alloc, asked, "pos")?,
+            pos: position(alloc, asked)?,
             text: required(alloc, asked, "text", &Text)?,
         }),
         TextOp::InsertRaw => Ok(Op::InsertRaw {
             buffer: buffer(alloc, asked)?,
-            pos: number(alloc, asked, "pos")?,
+            pos: position(alloc, asked)?,
             bytes: required(alloc, asked, "bytes", &RawBytes)?,
         }),
         TextOp::Type => Ok(Op::TypeText {

@@ -8,7 +8,7 @@ use crate::field::{named, number, optional, required};
 use crate::form::Signed;
 use crate::name::WindowOp;
 use crate::op::Op;
-use crate::place_field::{buffer, within};
+use crate::place_field::{buffer, position, within};
 use crate::text_form::PlainText;
 use crate::word::Way;
 use rd_base::limits::{
@@ -36,11 +36,11 @@ pub fn read_window(alloc: Global, asked: &mut Asked, op: WindowOp) -> Result<Op,
         }),
         WindowOp::Point => Ok(Op::Point {
             window,
-            pos: number(alloc, asked, "pos")?,
+            pos: position(alloc, asked)?,
         }),
         WindowOp::Start => Ok(Op::Start {
             window,
-            pos: number(alloc, asked, "pos")?,
+            pos: position(alloc, asked)?,
             row: within(alloc, asked, "row", 0, START_ROW)?,
         }),
         WindowOp::Scroll => Ok(Op::Scroll {
