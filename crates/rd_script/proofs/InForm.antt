@@ -171,17 +171,17 @@ both-gives f g P Q hf hg =
 any-finds : {T : Type 0} (kind : Data → Option T) → Finds kind (λ x. Unit {0})
 any-finds kind = record { found = λ d x e. tt }
 
-name_field : (key : List ℕ) → Gives (required key buffer_name) (λ t. IsTrue (is_buffer_name t))
-name_field key = required-gives key buffer_name _ buffer_name-finds
+name_field : {key : List ℕ} → Gives (required key buffer_name) (λ t. IsTrue (is_buffer_name t))
+name_field = required-gives _ buffer_name _ buffer_name-finds
 
-text_field : (key : List ℕ) → Gives (required key text) (λ t. IsTrue (is_text t))
-text_field key = required-gives key text _ text-finds
+text_field : {key : List ℕ} → Gives (required key text) (λ t. IsTrue (is_text t))
+text_field = required-gives _ text _ text-finds
 
-whole_field : (key : List ℕ) → Gives (required key whole) IsWhole
-whole_field key = required-gives key whole IsWhole whole-finds
+whole_field : {key : List ℕ} → Gives (required key whole) IsWhole
+whole_field = required-gives _ whole IsWhole whole-finds
 
-range_field : (key : List ℕ) (least greatest : ℕ) → Gives (required key (within least greatest)) (λ n. (least ≤ n) × (n ≤ greatest))
-range_field key least greatest = required-gives key (within least greatest) _ (within-finds least greatest)
+range_field : {key : List ℕ} (least greatest : ℕ) → Gives (required key (within least greatest)) (λ n. (least ≤ n) × (n ≤ greatest))
+range_field least greatest = required-gives _ (within least greatest) _ (within-finds least greatest)
 
 -- ---- arrays
 
@@ -263,11 +263,11 @@ entry-finds : Finds entry IsEntryInForm
 entry-finds = mapped-finds entry_of (two_items (within 0 (CODE_POINTS - 1)) glyph_text) (λ x. ((0 ≤ x.0) × (x.0 ≤ CODE_POINTS - 1)) × IsTrue (is_glyph_text x.1)) IsEntryInForm
     (two-finds (within 0 (CODE_POINTS - 1)) glyph_text _ _ (within-finds 0 (CODE_POINTS - 1)) glyph_text-finds) (λ x h. record { code = let most = h.0.1 in omega arith; text = h.1 })
 
-slot-gives : (key : List ℕ) → Gives (slot_field key) IsSlot
-slot-gives key = optional-gives key slot _ IsSlot slot-finds tt (λ c h. h)
+slot-gives : {key : List ℕ} → Gives (slot_field key) IsSlot
+slot-gives = optional-gives _ slot _ IsSlot slot-finds tt (λ c h. h)
 
-number-gives : (key : List ℕ) → Gives (optional key whole) IsNumber
-number-gives key = optional-gives key whole IsWhole IsNumber whole-finds tt (λ n h. h)
+number-gives : {key : List ℕ} → Gives (optional key whole) IsNumber
+number-gives = optional-gives _ whole IsWhole IsNumber whole-finds tt (λ n h. h)
 
 invisible-some : (b : Option Bool) (o : Option (List (ℕ × Bool))) (x : Invisible) → ((pairs : List (ℕ × Bool)) → o ≡ Some pairs → IsInvisible (Listed pairs))
     → invisible_by b o ≡ Some x → IsInvisible x
@@ -282,32 +282,32 @@ pairs-finds = list-finds INVISIBLE_ATOMS (two_items (within 0 ATOMS) as_bool) (�
 invisible-finds : Finds invisible IsInvisible
 invisible-finds = record { found = λ d x e. invisible-some (as_bool d) (list_of INVISIBLE_ATOMS (two_items (within 0 ATOMS) as_bool) d) x (pairs-finds.found d) e }
 
-any-gives : {T : Type 0} (key : List ℕ) (kind : Data → Option T) → Gives (required key kind) (λ x. Unit {0})
-any-gives key kind = required-gives key kind _ (any-finds kind)
+any-gives : {T : Type 0} {key : List ℕ} (kind : Data → Option T) → Gives (required key kind) (λ x. Unit {0})
+any-gives kind = required-gives _ kind _ (any-finds kind)
 
 value-gives : (n : SettingName) (key : List ℕ) → Gives (value_of_setting n key) IsSettingInForm
 value-gives setting_names.TabWidth key = made-as _ _ _ IsSettingInForm (required-gives key (within 1 TAB_COLUMNS) _ (within-finds 1 TAB_COLUMNS)) (λ n h. h)
-value-gives setting_names.CtlArrow key = made-as _ _ _ IsSettingInForm (any-gives key as_bool) (λ x h. h)
-value-gives setting_names.Direction key = made-as _ _ _ IsSettingInForm (any-gives key (word direction_names)) (λ x h. h)
-value-gives setting_names.Reorder key = made-as _ _ _ IsSettingInForm (any-gives key as_bool) (λ x h. h)
-value-gives setting_names.Table key = made-as _ _ _ IsSettingInForm (number-gives key) (λ x h. h)
+value-gives setting_names.CtlArrow key = made-as _ _ _ IsSettingInForm (any-gives as_bool) (λ x h. h)
+value-gives setting_names.Direction key = made-as _ _ _ IsSettingInForm (any-gives (word direction_names)) (λ x h. h)
+value-gives setting_names.Reorder key = made-as _ _ _ IsSettingInForm (any-gives as_bool) (λ x h. h)
+value-gives setting_names.Table key = made-as _ _ _ IsSettingInForm number-gives (λ x h. h)
 value-gives setting_names.Invisible key = made-as _ _ _ IsSettingInForm (required-gives key invisible _ invisible-finds) (λ x h. h)
-value-gives setting_names.LinePrefix key = made-as _ _ _ IsSettingInForm (number-gives key) (λ x h. h)
-value-gives setting_names.WrapPrefix key = made-as _ _ _ IsSettingInForm (number-gives key) (λ x h. h)
-value-gives setting_names.Modified key = made-as _ _ _ IsSettingInForm (any-gives key as_bool) (λ x h. h)
-value-gives setting_names.ReadOnly key = made-as _ _ _ IsSettingInForm (any-gives key as_bool) (λ x h. h)
+value-gives setting_names.LinePrefix key = made-as _ _ _ IsSettingInForm number-gives (λ x h. h)
+value-gives setting_names.WrapPrefix key = made-as _ _ _ IsSettingInForm number-gives (λ x h. h)
+value-gives setting_names.Modified key = made-as _ _ _ IsSettingInForm (any-gives as_bool) (λ x h. h)
+value-gives setting_names.ReadOnly key = made-as _ _ _ IsSettingInForm (any-gives as_bool) (λ x h. h)
 
 spec-gives : (n : SpecName) (key : List ℕ) → Gives (spec_value n key) IsSpecInForm
-spec-gives spec_names.Text key = made-as _ _ _ IsSpecInForm (whole_field key) (λ n h. h)
-spec-gives spec_names.Width key = made-as _ _ _ IsSpecInForm (range_field key 0 SPACE_COLUMNS) (λ n h. h.1)
-spec-gives spec_names.Align key = made-as _ _ _ IsSpecInForm (range_field key 0 SPACE_COLUMNS) (λ n h. h.1)
+spec-gives spec_names.Text key = made-as _ _ _ IsSpecInForm whole_field (λ n h. h)
+spec-gives spec_names.Width key = made-as _ _ _ IsSpecInForm (range_field 0 SPACE_COLUMNS) (λ n h. h.1)
+spec-gives spec_names.Align key = made-as _ _ _ IsSpecInForm (range_field 0 SPACE_COLUMNS) (λ n h. h.1)
 
-colour-gives : (key : List ℕ) → Gives (defaulted 8 key (within 0 7)) (λ n. n ≤ 8)
-colour-gives key = defaulted-gives 8 key (within 0 7) (λ n. n ≤ 8)
+colour-gives : {key : List ℕ} → Gives (defaulted 8 key (within 0 7)) (λ n. n ≤ 8)
+colour-gives = defaulted-gives 8 _ (within 0 7) (λ n. n ≤ 8)
     (record { found = λ d n e. let h = (within-finds 0 7).found d n e in let most = h.1 in omega arith }) (omega arith)
 
-flag-gives : (key : List ℕ) → Gives (defaulted false key as_bool) (λ b. Unit {0})
-flag-gives key = defaulted-gives false key as_bool _ (any-finds as_bool) tt
+flag-gives : {key : List ℕ} → Gives (defaulted false key as_bool) (λ b. Unit {0})
+flag-gives = defaulted-gives false _ as_bool _ (any-finds as_bool) tt
 
 -- ---- rows
 
@@ -325,8 +325,8 @@ raw_bytes-finds = record {
 below-finds : (most end : ℕ) → most < end → Finds (within 0 most) (λ n. n < end)
 below-finds most end less = record { found = λ d n e. let h = (within-finds 0 most).found d n e in let up = h.1 in omega (arith, up, less) }
 
-to_field : (key : List ℕ) (most : ℕ) → Gives (required key (within 0 most)) (λ n. n ≤ most)
-to_field key most = required-gives key (within 0 most) _ (record { found = λ d n e. ((within-finds 0 most).found d n e).1 })
+to_field : {key : List ℕ} (most : ℕ) → Gives (required key (within 0 most)) (λ n. n ≤ most)
+to_field most = required-gives _ (within 0 most) _ (record { found = λ d n e. ((within-finds 0 most).found d n e).1 })
 
 property_value-form : (kind : Kind) (value : Option ℕ) → ((n : ℕ) → value ≡ Some n → n ≤ greatest_value kind) → IsPropertyValue kind value
 property_value-form kind None h = tt
@@ -342,88 +342,87 @@ value-at_most key most = optional-gives key (within 0 most) (λ n. n ≤ most) (
 
 -- a kind and its value
 property-gives : (of : Data → Option Kind) (P : Kind → Type 0) → Finds of P → Gives (property of) (λ x. P x.0 × IsPropertyValue x.0 x.1)
-property-gives of P finds = then_by-gives _ _ (λ kind. property_value kind value_key) P (λ x. P x.0 × IsPropertyValue x.0 x.1) (required-gives (codes "kind") of P finds)
+property-gives of P finds = then_by-gives _ _ (λ kind. property_value kind value_key) P (λ x. P x.0 × IsPropertyValue x.0 x.1) (required-gives _ of P finds)
     (λ kind h. made-as _ _ (AtMost (greatest_value kind)) _ (value-at_most value_key (greatest_value kind)) (λ value most. (h, property_value-form kind value most)))
 
 text_kind-finds : Finds text_kind (λ kind. IsTrue (is_text_kind kind))
 text_kind-finds = record { found = λ d kind e. kept_if-found is_text_kind (overlay_kind d) kind e }
 
 stretch-gives : Gives stretch_fields (λ x. IsTrue (is_buffer_name x.0) × (IsWhole x.1.0 × IsWhole x.1.1))
-stretch-gives = both-gives _ _ _ (λ x. IsWhole x.0 × IsWhole x.1) (name_field (codes "buffer")) (both-gives _ _ _ _ (whole_field (codes "from")) (whole_field (codes "to")))
+stretch-gives = both-gives _ _ _ (λ x. IsWhole x.0 × IsWhole x.1) name_field (both-gives _ _ _ _ whole_field whole_field)
 
 manner-gives : Gives overlay_manner (λ x. IsTrue (is_near_zero PRIORITY x.0) × (Unit {0} × Unit {0}))
-manner-gives = both-gives _ _ _ (λ x. Unit {0} × Unit {0}) (defaulted-gives (pos 0) (codes "priority") (signed PRIORITY) (λ z. IsTrue (is_near_zero PRIORITY z)) (near-finds PRIORITY) refl)
-    (both-gives _ _ _ _ (flag-gives (codes "front")) (flag-gives (codes "rear")))
+manner-gives = both-gives _ _ _ (λ x. Unit {0} × Unit {0}) (defaulted-gives (pos 0) _ (signed PRIORITY) (λ z. IsTrue (is_near_zero PRIORITY z)) (near-finds PRIORITY) refl)
+    (both-gives _ _ _ _ flag-gives flag-gives)
 
 text-gives : (op : TextOp) → Gives (text_row op) IsInForm
-text-gives texts.Buffer = made-gives _ _ _ (name_field (codes "name")) (λ x h. h)
-text-gives texts.Insert = made-gives _ _ _ (both-gives _ _ _ _ (name_field (codes "buffer")) (both-gives _ _ _ _ (whole_field (codes "pos")) (text_field (codes "text")))) (λ x h. (h.0, h.1.0, h.1.1))
-text-gives texts.InsertRaw = made-gives _ _ _ (both-gives _ _ _ _ (name_field (codes "buffer")) (both-gives _ _ _ _ (whole_field (codes "pos"))
-    (required-gives (codes "bytes") (items_of (within 128 255)) _ raw_bytes-finds))) (λ x h. (h.0, h.1.0, h.1.1))
-text-gives texts.Type = made-gives _ _ _ (text_field (codes "text")) (λ x h. h)
+text-gives texts.Buffer = made-gives _ _ _ name_field (λ x h. h)
+text-gives texts.Insert = made-gives _ _ _ (both-gives _ _ _ _ name_field (both-gives _ _ _ _ whole_field text_field)) (λ x h. (h.0, h.1.0, h.1.1))
+text-gives texts.InsertRaw = made-gives _ _ _ (both-gives _ _ _ _ name_field (both-gives _ _ _ _ whole_field
+    (required-gives _ (items_of (within 128 255)) _ raw_bytes-finds))) (λ x h. (h.0, h.1.0, h.1.1))
+text-gives texts.Type = made-gives _ _ _ text_field (λ x h. h)
 text-gives texts.Delete = made-gives _ _ _ stretch-gives (λ x h. (h.0, h.1.0, h.1.1))
 text-gives texts.Narrow = made-gives _ _ _ stretch-gives (λ x h. (h.0, h.1.0, h.1.1))
-text-gives texts.Widen = made-gives _ _ _ (name_field (codes "buffer")) (λ x h. h)
+text-gives texts.Widen = made-gives _ _ _ name_field (λ x h. h)
 
 properties-give : (op : PropertyOp) → Gives (property_row op) IsInForm
 properties-give properties.Put = made-gives _ _ _ (both-gives _ _ _ _ stretch-gives (property-gives text_kind (λ kind. IsTrue (is_text_kind kind)) text_kind-finds))
     (λ x h. (h.0.0, h.0.1.0, h.0.1.1, h.1.0, h.1.1))
 properties-give properties.Overlay = made-gives _ _ _ (both-gives _ _ _ _ stretch-gives manner-gives) (λ x h. (h.0.0, h.0.1.0, h.0.1.1, h.1.0))
 properties-give properties.OverlayMove = made-gives _ _ _
-    (both-gives _ _ _ _ (name_field (codes "buffer")) (both-gives _ _ _ _ (whole_field (codes "overlay")) (both-gives _ _ _ _ (whole_field (codes "from")) (whole_field (codes "to")))))
+    (both-gives _ _ _ _ name_field (both-gives _ _ _ _ whole_field (both-gives _ _ _ _ whole_field whole_field)))
     (λ x h. (h.0, h.1.0, h.1.1.0, h.1.1.1))
-properties-give properties.OverlayDrop = made-gives _ _ _ (both-gives _ _ _ _ (name_field (codes "buffer")) (whole_field (codes "overlay"))) (λ x h. (h.0, h.1))
+properties-give properties.OverlayDrop = made-gives _ _ _ (both-gives _ _ _ _ name_field whole_field) (λ x h. (h.0, h.1))
 properties-give properties.OverlayPut = made-gives _ _ _
-    (both-gives _ _ _ _ (name_field (codes "buffer")) (both-gives _ _ _ _ (whole_field (codes "overlay")) (property-gives overlay_kind (λ kind. Unit {0}) (any-finds overlay_kind))))
+    (both-gives _ _ _ _ name_field (both-gives _ _ _ _ whole_field (property-gives overlay_kind (λ kind. Unit {0}) (any-finds overlay_kind))))
     (λ x h. (h.0, h.1.0, h.1.1.1))
 properties-give properties.MarginPut = made-gives _ _ _
-    (both-gives _ _ _ _ (name_field (codes "buffer")) (both-gives _ _ _ _ (whole_field (codes "overlay")) (number-gives (codes "string")))) (λ x h. (h.0, h.1.0, h.1.1))
+    (both-gives _ _ _ _ name_field (both-gives _ _ _ _ whole_field number-gives)) (λ x h. (h.0, h.1.0, h.1.1))
 properties-give properties.Setting = made-gives _ _ _
-    (both-gives _ _ _ _ (name_field (codes "buffer")) (then_by-gives _ _ (λ n. value_of_setting n value_key) _ IsSettingInForm (any-gives (codes "name") (word setting_words)) (λ n any. value-gives n value_key)))
+    (both-gives _ _ _ _ name_field (then_by-gives _ _ (λ n. value_of_setting n value_key) _ IsSettingInForm (any-gives (word setting_words)) (λ n any. value-gives n value_key)))
     (λ x h. (h.0, h.1))
 
 object-gives : (op : ObjectOp) → Gives (object_row op) IsInForm
 object-gives objects.String = made-gives _ _ _
-    (both-gives _ _ _ _ (text_field (codes "text")) (defaulted-gives [] (codes "runs") (list_of STRING_RUNS run) _ (list-finds STRING_RUNS run IsRunInForm run-finds) (omega arith, All-nil _)))
+    (both-gives _ _ _ _ text_field (defaulted-gives [] _ (list_of STRING_RUNS run) _ (list-finds STRING_RUNS run IsRunInForm run-finds) (omega arith, All-nil _)))
     (λ x h. (h.0, h.1.0, h.1.1))
-object-gives objects.Spec = made-gives _ _ _ (then_by-gives _ _ (λ n. spec_value n value_key) _ IsSpecInForm (any-gives (codes "kind") (word spec_words)) (λ n any. spec-gives n value_key)) (λ x h. h)
+object-gives objects.Spec = made-gives _ _ _ (then_by-gives _ _ (λ n. spec_value n value_key) _ IsSpecInForm (any-gives (word spec_words)) (λ n any. spec-gives n value_key)) (λ x h. h)
 object-gives objects.Face = made-gives _ _ _
-    (made-as face_of _ _ (λ f. (f.fg ≤ 8) × (f.bg ≤ 8)) (both-gives _ _ _ _ (colour-gives (codes "fg")) (both-gives _ _ _ _ (colour-gives (codes "bg"))
-    (both-gives _ _ _ _ (flag-gives (codes "bold")) (both-gives _ _ _ _ (flag-gives (codes "underline")) (flag-gives (codes "inverse"))))))
+    (made-as face_of _ _ (λ f. (f.fg ≤ 8) × (f.bg ≤ 8)) (both-gives _ _ _ _ colour-gives (both-gives _ _ _ _ colour-gives
+    (both-gives _ _ _ _ flag-gives (both-gives _ _ _ _ flag-gives flag-gives))))
     (λ x h. (h.0, h.1.0))) (λ x h. h)
 object-gives objects.Table = made-gives _ _ _
-    (both-gives _ _ _ _ (defaulted-gives [] (codes "entries") (list_of TABLE_ENTRIES entry) _ (list-finds TABLE_ENTRIES entry IsEntryInForm entry-finds) (omega arith, All-nil _))
-    (both-gives _ _ _ _ (slot-gives (codes "truncation")) (both-gives _ _ _ _ (slot-gives (codes "continuation")) (both-gives _ _ _ _ (slot-gives (codes "escape"))
-    (both-gives _ _ _ _ (slot-gives (codes "control"))
-    (both-gives _ _ _ _ (optional-gives (codes "ellipsis") glyph_text _ IsEllipsis glyph_text-finds tt (λ t h. h)) (slot-gives (codes "border"))))))))
+    (both-gives _ _ _ _ (defaulted-gives [] _ (list_of TABLE_ENTRIES entry) _ (list-finds TABLE_ENTRIES entry IsEntryInForm entry-finds) (omega arith, All-nil _))
+    (both-gives _ _ _ _ slot-gives (both-gives _ _ _ _ slot-gives (both-gives _ _ _ _ slot-gives (both-gives _ _ _ _ slot-gives
+    (both-gives _ _ _ _ (optional-gives _ glyph_text _ IsEllipsis glyph_text-finds tt (λ t h. h)) slot-gives))))))
     (λ x h. (h.0.0, h.0.1, h.1.0, h.1.1.0, h.1.1.1.0, h.1.1.1.1.0, h.1.1.1.1.1.0, h.1.1.1.1.1.1))
 
 window-gives : (op : WindowOp) → Gives (window_row op) IsInForm
-window-gives windows.Split = made-gives _ _ _ (both-gives _ _ _ _ (whole_field (codes "window")) (both-gives _ _ _ _ (any-gives (codes "side") (word split_sides)) (whole_field (codes "size")))) (λ x h. (h.0, h.1.1))
-window-gives windows.Remove = made-gives _ _ _ (whole_field (codes "window")) (λ x h. h)
-window-gives windows.Select = made-gives _ _ _ (whole_field (codes "window")) (λ x h. h)
-window-gives windows.Show = made-gives _ _ _ (both-gives _ _ _ _ (whole_field (codes "window")) (name_field (codes "buffer"))) (λ x h. h)
-window-gives windows.Point = made-gives _ _ _ (both-gives _ _ _ _ (whole_field (codes "window")) (whole_field (codes "pos"))) (λ x h. h)
-window-gives windows.Start = made-gives _ _ _ (both-gives _ _ _ _ (whole_field (codes "window")) (both-gives _ _ _ _ (whole_field (codes "pos")) (to_field (codes "row") START_ROW))) (λ x h. (h.0, h.1.0, h.1.1))
-window-gives windows.Scroll = made-gives _ _ _ (both-gives _ _ _ _ (whole_field (codes "window"))
-    (required-gives (codes "rows") (signed (pos SCROLL_ROWS)) _ (near-finds (pos SCROLL_ROWS)))) (λ x h. h)
-window-gives windows.Hscroll = made-gives _ _ _ (both-gives _ _ _ _ (whole_field (codes "window")) (to_field (codes "columns") HSCROLL_COLUMNS)) (λ x h. h)
-window-gives windows.Wrap = made-gives _ _ _ (both-gives _ _ _ _ (whole_field (codes "window")) (any-gives (codes "mode") (word wrap_modes))) (λ x h. h.0)
-window-gives windows.ModeLine = made-gives _ _ _ (both-gives _ _ _ _ (whole_field (codes "window"))
-    (optional-gives (codes "format") plain_text _ IsFormat plain_text-finds tt (λ t h. h))) (λ x h. h)
-window-gives windows.Go = made-gives _ _ _ (both-gives _ _ _ _ (whole_field (codes "window")) (any-gives (codes "side") (word ways))) (λ x h. h.0)
-window-gives windows.Hit = made-gives _ _ _ (both-gives _ _ _ _ (whole_field (codes "window"))
-    (both-gives _ _ _ _ (required-gives (codes "row") (within 0 (FRAME_ROWS - 1)) _ (below-finds (FRAME_ROWS - 1) FRAME_ROWS (omega arith)))
-    (required-gives (codes "column") (within 0 (FRAME_COLUMNS - 1)) _ (below-finds (FRAME_COLUMNS - 1) FRAME_COLUMNS (omega arith))))) (λ x h. (h.0, h.1.0, h.1.1))
-window-gives windows.Margin = made-gives _ _ _ (both-gives _ _ _ _ (whole_field (codes "window"))
-    (both-gives _ _ _ _ (to_field (codes "numbers") NUMBER_COLUMNS) (to_field (codes "strings") STRING_COLUMNS))) (λ x h. (h.0, h.1.0, h.1.1))
+window-gives windows.Split = made-gives _ _ _ (both-gives _ _ _ _ whole_field (both-gives _ _ _ _ (any-gives (word split_sides)) whole_field)) (λ x h. (h.0, h.1.1))
+window-gives windows.Remove = made-gives _ _ _ whole_field (λ x h. h)
+window-gives windows.Select = made-gives _ _ _ whole_field (λ x h. h)
+window-gives windows.Show = made-gives _ _ _ (both-gives _ _ _ _ whole_field name_field) (λ x h. h)
+window-gives windows.Point = made-gives _ _ _ (both-gives _ _ _ _ whole_field whole_field) (λ x h. h)
+window-gives windows.Start = made-gives _ _ _ (both-gives _ _ _ _ whole_field (both-gives _ _ _ _ whole_field (to_field START_ROW))) (λ x h. (h.0, h.1.0, h.1.1))
+window-gives windows.Scroll = made-gives _ _ _ (both-gives _ _ _ _ whole_field
+    (required-gives _ (signed (pos SCROLL_ROWS)) _ (near-finds (pos SCROLL_ROWS)))) (λ x h. h)
+window-gives windows.Hscroll = made-gives _ _ _ (both-gives _ _ _ _ whole_field (to_field HSCROLL_COLUMNS)) (λ x h. h)
+window-gives windows.Wrap = made-gives _ _ _ (both-gives _ _ _ _ whole_field (any-gives (word wrap_modes))) (λ x h. h.0)
+window-gives windows.ModeLine = made-gives _ _ _ (both-gives _ _ _ _ whole_field
+    (optional-gives _ plain_text _ IsFormat plain_text-finds tt (λ t h. h))) (λ x h. h)
+window-gives windows.Go = made-gives _ _ _ (both-gives _ _ _ _ whole_field (any-gives (word ways))) (λ x h. h.0)
+window-gives windows.Hit = made-gives _ _ _ (both-gives _ _ _ _ whole_field
+    (both-gives _ _ _ _ (required-gives _ (within 0 (FRAME_ROWS - 1)) _ (below-finds (FRAME_ROWS - 1) FRAME_ROWS (omega arith)))
+    (required-gives _ (within 0 (FRAME_COLUMNS - 1)) _ (below-finds (FRAME_COLUMNS - 1) FRAME_COLUMNS (omega arith))))) (λ x h. (h.0, h.1.0, h.1.1))
+window-gives windows.Margin = made-gives _ _ _ (both-gives _ _ _ _ whole_field
+    (both-gives _ _ _ _ (to_field NUMBER_COLUMNS) (to_field STRING_COLUMNS))) (λ x h. (h.0, h.1.0, h.1.1))
 
 screen-gives : (op : ScreenOp) → Gives (screen_row op) IsInForm
-screen-gives screens.Frame = made-gives _ _ _ (both-gives _ _ _ _ (range_field (codes "width") LEAST_FRAME_COLUMNS FRAME_COLUMNS) (range_field (codes "height") LEAST_FRAME_ROWS FRAME_ROWS)) (λ x h. (h.0.0, h.0.1, h.1.0, h.1.1))
-screen-gives screens.Scrolling = made-gives _ _ _ (both-gives _ _ _ _ (to_field (codes "margin") SCROLL_MARGIN) (to_field (codes "conservatively") SCROLL_CONSERVATIVELY)) (λ x h. h)
-screen-gives screens.Echo = made-gives _ _ _ (required-gives (codes "text") plain_text _ plain_text-finds) (λ x h. h)
-screen-gives screens.Redisplay = made-gives _ _ IsStop (optional-gives (codes "stop") (within 0 FRAME_ROWS) _ IsStop (within-finds 0 FRAME_ROWS) tt (λ y h. h.1)) (λ x h. h)
-screen-gives screens.Shift = made-gives _ _ _ (any-gives (codes "on") as_bool) (λ x h. h)
+screen-gives screens.Frame = made-gives _ _ _ (both-gives _ _ _ _ (range_field LEAST_FRAME_COLUMNS FRAME_COLUMNS) (range_field LEAST_FRAME_ROWS FRAME_ROWS)) (λ x h. (h.0.0, h.0.1, h.1.0, h.1.1))
+screen-gives screens.Scrolling = made-gives _ _ _ (both-gives _ _ _ _ (to_field SCROLL_MARGIN) (to_field SCROLL_CONSERVATIVELY)) (λ x h. h)
+screen-gives screens.Echo = made-gives _ _ _ (required-gives _ plain_text _ plain_text-finds) (λ x h. h)
+screen-gives screens.Redisplay = made-gives _ _ IsStop (optional-gives _ (within 0 FRAME_ROWS) _ IsStop (within-finds 0 FRAME_ROWS) tt (λ y h. h.1)) (λ x h. h)
+screen-gives screens.Shift = made-gives _ _ _ (any-gives as_bool) (λ x h. h)
 
 pub row-gives : (n : Name) → Gives (row n) IsInForm
 row-gives (names.Text op) = text-gives op
