@@ -134,11 +134,11 @@ fn around<'a>(
     let stretch = at / STRETCH;
     let start = from.max(stretch * STRETCH);
     let stop = to.min((stretch + 1) * STRETCH);
-    part_of(codes, stretches, start, stop)
+    piece_between(codes, stretches, start, stop)
 }
 
 /// The codes at places of one stretch.
-fn part_of<'a>(codes: &'a [u32], stretches: &[Stretch], from: usize, to: usize) -> Piece<'a>
+fn piece_between<'a>(codes: &'a [u32], stretches: &[Stretch], from: usize, to: usize) -> Piece<'a>
     requires order { from ≤ to }
     requires stretch { to ≤ (from / 1024 + 1) * 1024 }
     requires right { AreStretches codes.now stretches.now from to }

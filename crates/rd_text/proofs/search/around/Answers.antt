@@ -8,13 +8,13 @@ returns-clause-part c =
     let order = c.requires.order in
     let low = c.max-start.ensures in
     let high = c.min-stop.ensures in
-    let size = c.part_of.ensures.len in
-    let stop : c.min-stop.result ≡ c.max-start.result + length c.part_of.result.codes.now = omega arith in
+    let size = c.piece_between.ensures.len in
+    let stop : c.min-stop.result ≡ c.max-start.result + length c.piece_between.result.codes.now = omega arith in
     record {
       start = c.max-start.result;
       first = omega arith;
       before = omega arith;
       behind = omega arith;
       last = omega arith;
-      same = c.part_of.ensures.value ∙ ap (slice_range c.args.codes.now c.max-start.result) stop;
+      same = c.piece_between.ensures.value ∙ ap (slice_range c.args.codes.now c.max-start.result) stop;
     }
