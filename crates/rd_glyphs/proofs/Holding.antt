@@ -13,7 +13,7 @@ use Rattle.rd_glyphs.specs.declared.shown.Shown.TheVariants.{Caret, Octal, Space
 use Rattle.rd_glyphs.specs.Characters.{shown_as, on_blank}
 use Rattle.rd_glyphs.specs.MarkRoles.{base_of, mark_of}
 use Rattle.rd_glyphs.specs.Marks.{marked_glyph, marks_joined_from, marks_joined, with_held}
-use Rattle.rd_glyphs.specs.Lines.{PlainPart, part_of, plain_part, plain_joins, looks_of_parts, plain_looks}
+use Rattle.rd_glyphs.specs.Lines.{PlainPart, shown_part, plain_part, plain_joins, looks_of_parts, plain_looks}
 use Rattle.rd_glyphs.specs.Held.{given, held_after, looks_from}
 
 -- a glyph that is held, as a part
@@ -46,24 +46,24 @@ mark-read : (g : Glyph) (code : ℕ) (room : Bool) (xs : List PlainPart) (rest :
     rest ≡ looks_of_parts (marks_joined_from plain_joins (held_part (if room then with_mark g code else on_blank code)) xs) →
     (if room then [] else look.Glyph g ∷ []) ++ rest
     ≡ looks_of_parts ((if is_some (option_map held_part (if room then Some (with_mark g code) else None)) then [] else held_part g ∷ [])
-    ++ marks_joined_from plain_joins (unwrap_or (option_map held_part (if room then Some (with_mark g code) else None)) (part_of (Mark code))) xs)
+    ++ marks_joined_from plain_joins (unwrap_or (option_map held_part (if room then Some (with_mark g code) else None)) (shown_part (Mark code))) xs)
 mark-read g code true xs rest e = e
 mark-read g code false xs rest e =
-    ap (λ (ls : List Look). look.Glyph g ∷ ls) (e ∙ same-behind (held_part (on_blank code)) (part_of (Mark code)) xs refl refl)
+    ap (λ (ls : List Look). look.Glyph g ∷ ls) (e ∙ same-behind (held_part (on_blank code)) (shown_part (Mark code)) xs refl refl)
 
 -- what comes out when a character is read is what its part adds
 read-one : (held : Option Glyph) (s : Shown) (xs : List PlainPart) (rest : List Look) →
-    rest ≡ looks_of_parts (parts_behind (held_after held s) xs) → given held s ++ rest ≡ looks_of_parts (parts_behind held (part_of s ∷ xs))
-read-one None (Mark code) xs rest e = e ∙ same-behind (held_part (on_blank code)) (part_of (Mark code)) xs refl refl
+    rest ≡ looks_of_parts (parts_behind (held_after held s) xs) → given held s ++ rest ≡ looks_of_parts (parts_behind held (shown_part s ∷ xs))
+read-one None (Mark code) xs rest e = e ∙ same-behind (held_part (on_blank code)) (shown_part (Mark code)) xs refl refl
 read-one (Some g) (Mark code) xs rest e = mark-read g code (nat_lt g.count 6) xs rest e
 read-one None (Itself code width) xs rest e = e
 read-one (Some g) (Itself code width) xs rest e = ap (λ (ls : List Look). look.Glyph g ∷ ls) e
-read-one None (Caret letter) xs rest e = rw e (rw (alone (part_of (Caret letter)) xs refl) refl)
-read-one None (Octal byte) xs rest e = rw e (rw (alone (part_of (Octal byte)) xs refl) refl)
-read-one None Space xs rest e = rw e (rw (alone (part_of Space) xs refl) refl)
-read-one (Some g) (Caret letter) xs rest e = rw e (rw (alone (part_of (Caret letter)) xs refl) refl)
-read-one (Some g) (Octal byte) xs rest e = rw e (rw (alone (part_of (Octal byte)) xs refl) refl)
-read-one (Some g) Space xs rest e = rw e (rw (alone (part_of Space) xs refl) refl)
+read-one None (Caret letter) xs rest e = rw e (rw (alone (shown_part (Caret letter)) xs refl) refl)
+read-one None (Octal byte) xs rest e = rw e (rw (alone (shown_part (Octal byte)) xs refl) refl)
+read-one None Space xs rest e = rw e (rw (alone (shown_part Space) xs refl) refl)
+read-one (Some g) (Caret letter) xs rest e = rw e (rw (alone (shown_part (Caret letter)) xs refl) refl)
+read-one (Some g) (Octal byte) xs rest e = rw e (rw (alone (shown_part (Octal byte)) xs refl) refl)
+read-one (Some g) Space xs rest e = rw e (rw (alone (shown_part Space) xs refl) refl)
 
 read-behind : (classes : List Span) (held : Option Glyph) (text : List ℕ) →
     looks_from classes held text ≡ looks_of_parts (parts_behind held (map (plain_part classes) text))

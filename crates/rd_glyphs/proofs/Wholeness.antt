@@ -26,7 +26,7 @@ use Rattle.rd_glyphs.specs.declared.shown.Shown.TheVariants.{Caret, Octal, Space
 use Rattle.rd_glyphs.specs.Characters.{PartValues, TakesColumns, ShowsColumns, shown_as, look_columns, entry_of}
 use Rattle.rd_glyphs.specs.MarkRoles.{mark_role_by, mark_role_of, base_of, mark_of, IsMark, IsMeasuredRole}
 use Rattle.rd_glyphs.specs.Marks.{marked_glyph}
-use Rattle.rd_glyphs.specs.Lines.{PlainPart, part_of, plain_part, plain_joins, looks_of_parts, plain_looks, cells_of, fitted, plain_cells}
+use Rattle.rd_glyphs.specs.Lines.{PlainPart, shown_part, plain_part, plain_joins, looks_of_parts, plain_looks, cells_of, fitted, plain_cells}
 use Rattle.rd_glyphs.proofs.Elements.{shown_as-columns, looks-columns}
 use Rattle.rd_glyphs.proofs.Joined.{Grows, marks_joined-all}
 use Rattle.rd_glyphs.proofs.Measures.{ShowsMeasured, marked-measured, on_blank-measured, shown_as-measured, looks-measured, role-measured}
@@ -114,9 +114,9 @@ module _ (P : Look → Type 0) (M : MarkRole → Type 0) (classes : List Span) (
       recursion_from_All P (plain_looks classes text)
       (looks-all _ (marks_joined-all plain_joins (Has P M) grows (map (plain_part classes) text) (parts-have text each)))
 
-part-measured : (shown : Shown) → ShowsMeasured shown → Has IsMeasuredLook IsMeasuredRole (part_of shown)
+part-measured : (shown : Shown) → ShowsMeasured shown → Has IsMeasuredLook IsMeasuredRole (shown_part shown)
 part-measured shown is = record {
-  looks = recursion_from_All IsMeasuredLook (part_of shown).looks
+  looks = recursion_from_All IsMeasuredLook (shown_part shown).looks
       (looks-measured (single 92 1) (single 94 1) shown (printable-measured 92 (omega arith) (omega arith)) (printable-measured 94 (omega arith) (omega arith)) is);
   role = role-measured shown is;
 }
@@ -140,9 +140,9 @@ plain-whole classes face width text codes =
 abbrev HasNarrowBase : MarkRole → Type 0
 HasNarrowBase j = IfSome (base_of j) (λ g. TakesColumns (look.Glyph g))
 
-part-narrow : (shown : Shown) → ShowsColumns shown → Has TakesColumns HasNarrowBase (part_of shown)
+part-narrow : (shown : Shown) → ShowsColumns shown → Has TakesColumns HasNarrowBase (shown_part shown)
 part-narrow shown is = record { looks = looks-columns (single 92 1) (single 94 1) shown refl refl is; role = base shown is } where
-  base : (shown : Shown) → ShowsColumns shown → HasNarrowBase (part_of shown).role
+  base : (shown : Shown) → ShowsColumns shown → HasNarrowBase (shown_part shown).role
   base (Caret letter) is = tt
   base (Octal byte) is = tt
   base Space is = tt

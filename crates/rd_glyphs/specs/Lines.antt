@@ -23,12 +23,12 @@ pub record PlainPart : Type 0 where
   pub role : MarkRole
 
 -- what is put for a character that is shown so, with a backslash for escapes and a circumflex for controls
-abbrev pub part_of : Shown → PlainPart
-part_of s = record { looks = looks_of (single 92 1) (single 94 1) s; role = mark_role_by None s }
+abbrev pub shown_part : Shown → PlainPart
+shown_part s = record { looks = looks_of (single 92 1) (single 94 1) s; role = mark_role_by None s }
 
 -- a character: no table shows it, and a control character is a circumflex and a letter
 abbrev pub plain_part : List Span → ℕ → PlainPart
-plain_part classes c = part_of (shown_as true (class_of classes c) c)
+plain_part classes c = shown_part (shown_as true (class_of classes c) c)
 
 -- a part that a mark joins becomes the longer glyph
 abbrev pub plain_joins : Joins PlainPart
