@@ -27,24 +27,24 @@ between x y tail begin d e is behind low = by (pos x +ℤ d) refl where
   by (pos m) same = (m, omega (arith, ints), omega (arith, ints), same, omega (arith, ints))
   by (negsuc m) same = absurd (omega (arith, ints))
 
-module _ (old changed new : BufferValue) (a b c : ObjectLists) (head later_head tail later_tail joined : ℕ) (d e : ℤ)
+module _ (old changed new : BufferValue) (a b c : ObjectLists) (head later_head tail later_tail both_tail : ℕ) (d e : ℤ)
     (one : Unchanged old a changed b head tail d) (two : Unchanged changed b new c later_head later_tail e) (low : (pos changed.text.begin +ℤ e) ≤ℤ pos (max changed.text.begin later_tail))
-    (first : (pos tail +ℤ e) ≤ℤ pos joined) (second : later_tail ≤ joined) where
-  joined-before : (x : ℕ) → new.text.begin ≤ x → x < min head later_head → IsInReach old x new x → IsSame old a x new c x
-  joined-before x begin less =
+    (first : (pos tail +ℤ e) ≤ℤ pos both_tail) (second : later_tail ≤ both_tail) where
+  both-before : (x : ℕ) → new.text.begin ≤ x → x < min head later_head → IsInReach old x new x → IsSame old a x new c x
+  both-before x begin less =
       let same = two.begin in
       through old changed new a b c x x x (one.before x (omega arith) (omega arith)) (two.before x begin (omega arith))
 
-  joined-behind : (x y : ℕ) → new.text.begin ≤ y → joined ≤ y → pos x +ℤ (d +ℤ e) ≡ pos y → IsInReach old x new y → IsSame old a x new c y
-  joined-behind x y begin more is =
+  both-behind : (x y : ℕ) → new.text.begin ≤ y → both_tail ≤ y → pos x +ℤ (d +ℤ e) ≡ pos y → IsInReach old x new y → IsSame old a x new c y
+  both-behind x y begin more is =
       let same = two.begin in
       let most : max changed.text.begin later_tail ≤ y = omega arith in
       let found = between x y tail changed.text.begin d e is (omega (arith, ints)) (omega (arith, ints)) in
       let m = found.0 in
       through old changed new a b c x m y (one.behind x m found.2 found.1 found.3) (two.behind m y begin (omega arith) found.4)
 
-  pub join : Unchanged old a new c (min head later_head) joined (d +ℤ e)
-  join = record { begin = two.begin ∙ one.begin; before = joined-before; behind = joined-behind }
+  pub join : Unchanged old a new c (min head later_head) both_tail (d +ℤ e)
+  join = record { begin = two.begin ∙ one.begin; before = both-before; behind = both-behind }
 
 pub widen : (old new : BufferValue) (a b : ObjectLists) (head tail lesser greater : ℕ) (added : ℤ) → Unchanged old a new b head tail added → lesser ≤ head → tail ≤ greater
     → Unchanged old a new b lesser greater added

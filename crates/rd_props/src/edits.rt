@@ -16,7 +16,7 @@ ghost use Rattle.rd_props.specs.Made.{AreMade};
 /// both tails on, where the earlier tail moves by what the later change added. What the later change added stands between the
 /// accessible beginning and its tail, as an insertion's characters do. The call does nothing.
 pub fn changes_join()
-    ensures { (old changed new : BufferValue) (a b c : ObjectLists) (head later_head tail later_tail joined : ℕ) (added later_added : ℤ) → Unchanged old a changed b head tail added → Unchanged changed b new c later_head later_tail later_added → (pos changed.text.begin +ℤ later_added) ≤ℤ pos (max changed.text.begin later_tail) → (pos tail +ℤ later_added) ≤ℤ pos joined → later_tail ≤ joined → Unchanged old a new c (min head later_head) joined (added +ℤ later_added) }
+    ensures { (old changed new : BufferValue) (a b c : ObjectLists) (head later_head tail later_tail both_tail : ℕ) (added later_added : ℤ) → Unchanged old a changed b head tail added → Unchanged changed b new c later_head later_tail later_added → (pos changed.text.begin +ℤ later_added) ≤ℤ pos (max changed.text.begin later_tail) → (pos tail +ℤ later_added) ≤ℤ pos both_tail → later_tail ≤ both_tail → Unchanged old a new c (min head later_head) both_tail (added +ℤ later_added) }
 {}
 
 /// An insertion leaves what stood before its place, and what stood behind it, moved by the characters that were put in. What stands
