@@ -11,7 +11,7 @@ use Rattle.clap.specs.Simple.{built, matches_of}
 use Rattle.clap.specs.Faults.{fault_of, react_fault, settle_fault, use_fault}
 use Rattle.rd_words.specs.Words.{Text, Setting, dump, name_of, named, has_value, Use, with_use, begun, last, uses_from, fits, is_flag, WordValues, values_from, values_of}
 use Rattle.rd_words.specs.Command.{command, values_of_rows}
-use Rattle.rd_words.proofs.Turns.{awaiting, at_end, held, is_none, later, met, outcome, outcome-is, rule, shape, turn, unless, unless-first, waits}
+use Rattle.rd_words.proofs.WordByWord.{awaiting, at_end, held, is_none, later, met, outcome, outcome-is, outcome-word, rule, shape, unless, unless-first, waits}
 use Rattle.rd_words.proofs.Uses.{ended-is, flag-fits, flag-used, named-is, rows, value-fits, value-used}
 
 -- what uses say behind these
@@ -114,7 +114,7 @@ mutual
   pub starts : (words : List Text) (us : List Use) → start us words ≡ after us (uses_from None words)
   starts [] us = ended-is us
   starts (word ∷ words) us =
-      turn (rows us) None word words
+      outcome-word (rows us) None word words
       ∙ word-is us words (bytes_eq word (45 ∷ 45 ∷ [])) (long_of word) (starts words) (waits-is words us)
 
   waits-is : (words : List Text) (us : List Use) (s : Setting) → has_value s ≡ true → wait us s words ≡ after us (uses_from (Some s) words)

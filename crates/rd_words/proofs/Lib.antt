@@ -1,3 +1,3 @@
-mod Turns
+mod WordByWord
 mod Uses
 mod Exact

@@ -19,7 +19,7 @@ use Rattle.clap.specs.declared.error.kind.ErrorKind.TheVariants as kind
 use Rattle.clap.specs.declared.parser.matches.ValueSource.TheVariants.{CommandLine, DefaultValue}
 use Rattle.rd_words.specs.Words.{Text, Setting, class_file, mirror_file, bracket_file, generate, dump, settings, name_of, named, has_value, Use, is_of, is_true, is_used, is_in_form, is_number, value_of, fits, values_by, values_in}
 use Rattle.rd_words.specs.Command.{values_of_rows}
-use Rattle.rd_words.proofs.Turns.{ended, held, is_none, rule, shape, unless}
+use Rattle.rd_words.proofs.WordByWord.{ended, held, is_none, rule, shape, unless}
 
 -- the row of a use
 abbrev pub row : Use → Row

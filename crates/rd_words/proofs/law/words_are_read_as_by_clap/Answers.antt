@@ -2,7 +2,7 @@ use Rattle.std.proofs.Common.{◌≡◌, ◌∙◌, [], ◌∷◌, Option, refl,
 use Rattle.clap.specs.Words.{Kinds, fault_of, matches_of}
 use Rattle.rd_words.specs.Words.{WordValues}
 use Rattle.rd_words.specs.Command.{command, values_of_rows, without_fault}
-use Rattle.rd_words.proofs.Turns.{unless}
+use Rattle.rd_words.proofs.WordByWord.{unless}
 use Rattle.rd_words.proofs.Exact.{exact}
 use Rattle.rd_words.proofs.law.words_are_read_as_by_clap.Goals as goal
 

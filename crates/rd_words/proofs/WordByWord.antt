@@ -88,12 +88,12 @@ outcome-is w (word ∷ words) =
 -- ---- one word
 
 -- a word with this fault and this meaning, and then the rest
-abbrev pub turned : Walk → Text → List Text → Kinds → Held × Step → Option WordValues
-turned w word rest fault m = unless (or_else fault (step_fault shape 1 m.0 m.1)) (outcome (after_step shape.rules word w m.0 m.1) rest)
+abbrev pub after_word : Walk → Text → List Text → Kinds → Held × Step → Option WordValues
+after_word w word rest fault m = unless (or_else fault (step_fault shape 1 m.0 m.1)) (outcome (after_step shape.rules word w m.0 m.1) rest)
 
 -- the same of a word that names flags or an option
 abbrev pub flagged : Walk → Text → List Text → Kinds → Held × Outcome → Option WordValues
-flagged w word rest fault m = turned w word rest fault (after_flag shape.rules w.waiting word m.0 m.1)
+flagged w word rest fault m = after_word w word rest fault (after_flag shape.rules w.waiting word m.0 m.1)
 
 -- behind an option whose value is still to come, and behind `--`
 abbrev pub awaiting : Held → Text → Walk
@@ -136,7 +136,7 @@ module _ (rows : List Row) (pending : Option (Text × List Text)) (word : Text) 
   bundled k flags (Some x) = refl
 
   stray : (short : Option Text)
-      → turned (walk_from (held rows pending)) word rest (option_map_or (λ flags. bundle_fault shape.rules false flags (held rows pending)) short [])
+      → after_word (walk_from (held rows pending)) word rest (option_map_or (λ flags. bundle_fault shape.rules false flags (held rows pending)) short [])
       (short_or_plain shape.rules idle word short (held rows pending)) ≡ None
   unfolding flags_fault bundle_met
   stray None = refl
@@ -159,7 +159,7 @@ module _ (rows : List Row) (pending : Option (Text × List Text)) (word : Text) 
   long (Some a) v = by_kind a v (takes_values a)
 
   by_word : (b : Bool) (l : Option (Text × Option Text))
-      → turned (walk_from (held rows pending)) word rest (if b then [] else flag_word_fault shape.rules false l word (held rows pending))
+      → after_word (walk_from (held rows pending)) word rest (if b then [] else flag_word_fault shape.rules false l word (held rows pending))
       (if b then (held rows pending, trailing 1) else long_or_other shape.rules idle word l (held rows pending))
       ≡ (if b then at_end (held rows pending) rest else option_and_then (λ p. met (held rows pending) (arg_by_long shape.rules p.0) p.1 rest) l)
   by_word true l = dashes (held rows pending) rest
@@ -167,9 +167,9 @@ module _ (rows : List Row) (pending : Option (Text × List Text)) (word : Text) 
   by_word false (Some p) = long (arg_by_long shape.rules p.0) p.1
 
   -- a word behind what is held
-  pub turn : outcome (walk_from (held rows pending)) (word ∷ rest) ≡ met_word (held rows pending) word rest
+  pub outcome-word : outcome (walk_from (held rows pending)) (word ∷ rest) ≡ met_word (held rows pending) word rest
   unfolding walked
-  turn = by_word (bytes_eq word (45 ∷ 45 ∷ [])) (long_of word)
+  outcome-word = by_word (bytes_eq word (45 ∷ 45 ∷ [])) (long_of word)
 
 -- ---- what is pending is used by the next word, or by the end
 
@@ -210,9 +210,9 @@ module _ (rows : List Row) (pending : Option (Text × List Text)) where
   pub later : (words : List Text) → outcome (walk_from (held rows pending)) words ≡ late (outcome (walk_from then_held) words)
   later [] = late_end
   later (word ∷ rest) =
-      turn rows pending word rest
+      outcome-word rows pending word rest
       ∙ (late_word rest (bytes_eq word (45 ∷ 45 ∷ [])) (long_of word)
-      ∙ ap (λ (o : Option WordValues). late o) (sym (turn (settled_rows shape.rules pending rows) None word rest)))
+      ∙ ap (λ (o : Option WordValues). late o) (sym (outcome-word (settled_rows shape.rules pending rows) None word rest)))
 
 -- ---- a word behind an option whose value is still to come
 
@@ -264,10 +264,10 @@ module _ (rows : List Row) (id : Text) (word : Text) (rest : List Text) where
   met_by None short = short_or_plain shape.rules (option id) word short waiting_held
 
   abbrev waits_by : Bool → Option (Text × Option Text) → Option Text → Option WordValues
-  waits_by b l short = turned waiting_walk word rest (if b then [] else fault_by l short) (if b then (waiting_held, trailing 1) else met_by l short)
+  waits_by b l short = after_word waiting_walk word rest (if b then [] else fault_by l short) (if b then (waiting_held, trailing 1) else met_by l short)
 
   split : (b : Bool) (l : Option (Text × Option Text))
-      → turned waiting_walk word rest (if b then [] else flag_word_fault shape.rules false l word waiting_held)
+      → after_word waiting_walk word rest (if b then [] else flag_word_fault shape.rules false l word waiting_held)
       (if b then (waiting_held, trailing 1) else long_or_other shape.rules (option id) word l waiting_held)
       ≡ waits_by b l (short_of word)
   split true l = refl
@@ -280,7 +280,7 @@ module _ (rows : List Row) (id : Text) (word : Text) (rest : List Text) where
 
   -- the option has no value yet, and takes the word
   module _ (unsettled : is_none (settle_fault shape.rules false waiting_held) ≡ false)
-      (takes : turned waiting_walk word rest [] (plain_word shape.rules (option id) word waiting_held) ≡ outcome (walk_from (held rows (Some (id, word ∷ [])))) rest) where
+      (takes : after_word waiting_walk word rest [] (plain_word shape.rules (option id) word waiting_held) ≡ outcome (walk_from (held rows (Some (id, word ∷ [])))) rest) where
     waits_dashes : (words : List Text) → outcome (trailing_at waiting_walk) words ≡ None
     waits_dashes [] = unless-first (settle_fault shape.rules false waiting_held) _ _ unsettled
     waits_dashes (w ∷ ws) = refl
