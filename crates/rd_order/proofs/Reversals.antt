@@ -94,8 +94,8 @@ l2_reversed-moves levels k run (x ∷ xs) ys e high q r within moves =
             | inl same ↦ subst (λ (j : ℕ). k ≤ level_in levels ys j) same (subst (λ (v : ℕ). k ≤ v) (sym same_here) more)
             | inr other ↦ high p from (omega arith)
           ] in
-          let joined : ys ≡ reverse (x ∷ run) ++ xs = e ∙ sym (append_assoc (reverse run) (x ∷ []) xs) ∙ ap (λ (zs : List ℕ). zs ++ xs) (sym (reverse-append (x ∷ []) run)) in
-          subst W (sym (le-leb k (get_or levels x 0) more)) (l2_reversed-moves levels k (x ∷ run) xs ys joined more_high q r within moves)
+          let whole : ys ≡ reverse (x ∷ run) ++ xs = e ∙ sym (append_assoc (reverse run) (x ∷ []) xs) ∙ ap (λ (zs : List ℕ). zs ++ xs) (sym (reverse-append (x ∷ []) run)) in
+          subst W (sym (le-leb k (get_or levels x 0) more)) (l2_reversed-moves levels k (x ∷ run) xs ys whole more_high q r within moves)
       | inl less ↦
           let low : level_in levels ys (length run) < k = subst (λ (v : ℕ). v < k) (sym same_here) less in
           let goal : get_or (run ++ (x ∷ l2_reversed levels k [] xs)) q 0 ≡ get_or ys r 0 = elim (cases_lt q (length run)) [
