@@ -79,8 +79,8 @@ seen-length true from to p h fills =
     rw h (whole ∙ (let k : p.columns ≡ min to (p.start + p.columns) - max from p.start = omega (arith, low, high) in k))
 seen-length false from to p h fills = rw h (length-replicate _ _)
 
-columns-joined : (from to a b n c x y : ℕ) → a + n ≡ b → b ≤ c → x ≡ min to (a + n) - max from a → y ≡ min to c - max from b → x + y ≡ min to c - max from a
-columns-joined from to a b n c x y h i j k = omega arith
+columns-beside : (from to a b n c x y : ℕ) → a + n ≡ b → b ≤ c → x ≡ min to (a + n) - max from a → y ≡ min to c - max from b → x + y ≡ min to c - max from a
+columns-beside from to a b n c x y h i j k = omega arith
 
 pub stand-length : (from to a b : ℕ) (ps : List Placed) → StandFrom a ps b → length (flat_map (seen from to) ps) ≡ min to b - max from a
 stand-length from to a b [] h = let e = h in omega (arith, e)
@@ -90,7 +90,7 @@ stand-length from to a b (p ∷ ps) h =
     let rest = stand-length from to (a + p.columns) b ps h.2 in
     let end = stand-columns (a + p.columns) b ps h.2 in
     let first : length (seen from to p) ≡ min to (a + p.columns) - max from a = one ∙ ap (λ (k : ℕ). min to (k + p.columns) - max from k) start in
-    length-append (seen from to p) (flat_map (seen from to) ps) ∙ columns-joined from to a (a + p.columns) p.columns b _ _ refl (omega (arith, end)) first rest
+    length-append (seen from to p) (flat_map (seen from to) ps) ∙ columns-beside from to a (a + p.columns) p.columns b _ _ refl (omega (arith, end)) first rest
 
 pub room-length : (shape : ShapeValues) (b : ℕ) (ps : List Placed) → StandFrom 0 ps b → length (flat_map (seen_in shape) ps) ≤ shape.hscroll + room shape - first_seen shape
 room-length shape b ps h = let e = stand-length (first_seen shape) (shape.hscroll + room shape) 0 b ps h in omega (arith, e)
