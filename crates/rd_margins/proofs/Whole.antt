@@ -52,8 +52,8 @@ signs-coloured : (cs : List ℕ) → All IsColoured (map sign cs)
 signs-coloured [] = All-nil IsColoured
 signs-coloured (c ∷ cs) = All-cons IsColoured (sign c) (map sign cs) plain-coloured (signs-coloured cs)
 
-pub joined-margin : (n m : ℕ) (cells more : List Cell) → IsMargin n cells → IsMargin m more → IsMargin (n + m) (cells ++ more)
-joined-margin n m cells more a b = record {
+pub beside-margin : (n m : ℕ) (cells more : List Cell) → IsMargin n cells → IsMargin m more → IsMargin (n + m) (cells ++ more)
+beside-margin n m cells more a b = record {
   count = length-append cells more ∙ ap (λ (k : ℕ). k + length more) a.count ∙ ap (λ (k : ℕ). n + k) b.count;
   whole = behind-whole 0 cells more a.whole b.whole;
   coloured = All-append IsColoured cells more a.coloured b.coloured;
@@ -68,7 +68,7 @@ digits-margin columns cs digits = by-room (nat_le (length cs) columns) refl wher
       let all : columns - length cs + length cs ≡ columns = omega arith in
       let signs : IsMargin (length cs) (map sign cs) = record { count = length-map cs sign; whole = signs-whole cs digits; coloured = signs-coloured cs } in
       subst (λ (n : ℕ). IsMargin n (blanks (columns - length cs) plain ++ map sign cs)) all
-      (joined-margin (columns - length cs) (length cs) (blanks (columns - length cs) plain) (map sign cs) (blanks-margin (columns - length cs)) signs)
+      (beside-margin (columns - length cs) (length cs) (blanks (columns - length cs) plain) (map sign cs) (blanks-margin (columns - length cs)) signs)
   by-room false e = record {
     count = length-replicate columns (sign 43);
     whole = pluses-whole columns;
@@ -77,7 +77,7 @@ digits-margin columns cs digits = by-room (nat_le (length cs) columns) refl wher
 
 pub number-margin : (columns line : ℕ) → line < 2 ^ 64 → IsMargin (columns + 1) (number_cells (suc columns) (Some line))
 number-margin columns line fits =
-    joined-margin columns 1 (digit_cells columns (decimal line)) (Blank plain ∷ [])
+    beside-margin columns 1 (digit_cells columns (decimal line)) (Blank plain ∷ [])
     (digits-margin columns (decimal line) (λ i p. digit_at (decimal line) i (decimal_is_IsNumeral line fits).0.1 p)) (blanks-margin 1)
 
 -- a line's number, or none

@@ -8,7 +8,7 @@ use Rattle.rd_glyphs.specs.Lines.{plain_cells}
 use Rattle.rd_ucd.specs.declared.spans.Span.{Span}
 use Rattle.rd_margins.specs.declared.rows.Widths.{Widths}
 use Rattle.rd_margins.specs.Cells.{IsMargin, margin_cells, number_cells}
-use Rattle.rd_margins.proofs.Whole.{joined-margin, numbers-margin}
+use Rattle.rd_margins.proofs.Whole.{beside-margin, numbers-margin}
 use Rattle.rd_margins.proofs.laws.margins_are_whole.Goals as goal
 
 pub returns : goal.returns
@@ -21,7 +21,7 @@ returns c = λ classes widths row line text fits codes. by-row classes widths li
   both : (classes : List Span) (widths : Widths) (line : Option ℕ) (text : List ℕ) → IfSome line (λ n. n < 2 ^ 64) → All (λ c. IsTrue (is_code c)) text
       → IsMargin (widths.numbers + widths.strings) (margin_cells classes widths line text)
   both classes widths line text fits codes =
-      joined-margin widths.numbers widths.strings (number_cells widths.numbers line) (plain_cells classes plain widths.strings text)
+      beside-margin widths.numbers widths.strings (number_cells widths.numbers line) (plain_cells classes plain widths.strings text)
       (numbers-margin widths.numbers line fits) (string classes widths.strings text codes)
 
   by-row : (classes : List Span) (widths : Widths) (line : ℕ) (text : List ℕ) → line < 2 ^ 64 → All (λ c. IsTrue (is_code c)) text → (first : Bool)

@@ -3,7 +3,7 @@ use Rattle.rd_base.specs.Cells.{IsColoured}
 use Rattle.rd_base.specs.Faces.{plain}
 use Rattle.rd_base.proofs.Colours.{plain-coloured}
 use Rattle.rd_margins.specs.Cells.{IsMargin}
-use Rattle.rd_margins.proofs.Whole.{joined-margin}
+use Rattle.rd_margins.proofs.Whole.{beside-margin}
 use Rattle.rd_margins.proofs.rows.row_margin.Goals as goal
 
 pub returns-clause-margin : goal.returns-clause-margin
@@ -17,4 +17,4 @@ returns-clause-margin c =
       coloured = subst (All IsColoured) (sym c.in_ok-string.ensures.value) coloured;
     } in
     subst (IsMargin (w.numbers + w.strings)) (sym (c.in_ok-extend_from_slice.ensures.ok ∙ ap (λ cells. c.in_ok-cells.cells ++ cells) c.as_slice.ensures))
-    (joined-margin w.numbers w.strings c.in_ok-cells.cells c.in_ok-string.string c.in_ok-cells.ensures.margin string)
+    (beside-margin w.numbers w.strings c.in_ok-cells.cells c.in_ok-string.string c.in_ok-cells.ensures.margin string)
