@@ -9,7 +9,7 @@ use Rattle.rd_matrix.specs.Entries.{EntryMeaning, all_rows, entries_of}
 use Rattle.rd_matrix.specs.Sources.{SourceValues}
 use Rattle.rd_matrix.specs.declared.block.Block.{Block}
 use Rattle.rd_rows.specs.Rows.{RowMeaning}
-use Rattle.rd_start.specs.Strips.{HaveRows, IsPaidOf, IsStripOf, all_costs, cost_in, count_in, home_row, strip_row_of, lists_joined_at, moved_at, rows_in}
+use Rattle.rd_start.specs.Strips.{HaveRows, IsPaidOf, IsStripOf, all_costs, cost_in, count_in, home_row, strip_row_of, pushed_at, moved_at, rows_in}
 use Rattle.rd_start.specs.declared.strip.Edge.{Edge}
 use Rattle.rd_start.specs.declared.strip.Edge.TheVariants.{Bottom, Top}
 use Rattle.rd_start.specs.declared.strip.StripRow.{StripRow}
@@ -68,37 +68,37 @@ pieces-above all before bs after front b pieces is =
     pieces ∙ (ap (λ ys. ys ++ (bs ++ after)) is ∙ append_assoc front (b ∷ []) (bs ++ after))
 
 -- lists to which more was added at an edge
-pub length-joined : {X : Type 0} (edge : Edge) (xs more : List X) → length (lists_joined_at edge xs more) ≡ length xs + length more
-length-joined Top xs more = let size = length-append more xs in omega (arith, size)
-length-joined Bottom xs more = length-append xs more
+pub length-pushed : {X : Type 0} (edge : Edge) (xs more : List X) → length (pushed_at edge xs more) ≡ length xs + length more
+length-pushed Top xs more = let size = length-append more xs in omega (arith, size)
+length-pushed Bottom xs more = length-append xs more
 
-each-joined : (P : Block → Type 0) (edge : Edge) (bs : List Block) (b : Block) → AllByRecursion P bs → P b → AllByRecursion P (lists_joined_at edge bs (b ∷ []))
-each-joined P Top bs b all here = (here, all)
-each-joined P Bottom bs b all here = each-append P bs (b ∷ []) all (here, tt)
+each-pushed : (P : Block → Type 0) (edge : Edge) (bs : List Block) (b : Block) → AllByRecursion P bs → P b → AllByRecursion P (pushed_at edge bs (b ∷ []))
+each-pushed P Top bs b all here = (here, all)
+each-pushed P Bottom bs b all here = each-append P bs (b ∷ []) all (here, tt)
 
-strip_rows-joined : (edge : Edge) (rows : Block → List RowMeaning) (strip_row : EntryMeaning → StripRow) (bs : List Block) (ls : List StripRow) (b : Block) → ls ≡ map strip_row (all_rows rows bs)
-    → lists_joined_at edge ls (map strip_row (entries_of rows b)) ≡ map strip_row (all_rows rows (lists_joined_at edge bs (b ∷ [])))
-strip_rows-joined Top rows strip_row bs ls b strip_rows = ap (λ ys. map strip_row (entries_of rows b) ++ ys) strip_rows ∙ sym (map-append strip_row (entries_of rows b) (all_rows rows bs))
-strip_rows-joined Bottom rows strip_row bs ls b strip_rows =
+strip_rows-pushed : (edge : Edge) (rows : Block → List RowMeaning) (strip_row : EntryMeaning → StripRow) (bs : List Block) (ls : List StripRow) (b : Block) → ls ≡ map strip_row (all_rows rows bs)
+    → pushed_at edge ls (map strip_row (entries_of rows b)) ≡ map strip_row (all_rows rows (pushed_at edge bs (b ∷ [])))
+strip_rows-pushed Top rows strip_row bs ls b strip_rows = ap (λ ys. map strip_row (entries_of rows b) ++ ys) strip_rows ∙ sym (map-append strip_row (entries_of rows b) (all_rows rows bs))
+strip_rows-pushed Bottom rows strip_row bs ls b strip_rows =
     ap (λ ys. ys ++ map strip_row (entries_of rows b)) strip_rows
     ∙ (sym (map-append strip_row (all_rows rows bs) (entries_of rows b))
     ∙ ap (map strip_row) (ap (λ ys. all_rows rows bs ++ ys) (sym (append-nil (entries_of rows b))) ∙ sym (all-append rows bs (b ∷ []))))
 
-inside-joined : (edge : Edge) (at count : ℕ) (ls more : List StripRow) → at < length ls → length more ≡ count → moved_at edge at count < length (lists_joined_at edge ls more)
-inside-joined Top at count ls more inside size = omega (arith, length-append more ls)
-inside-joined Bottom at count ls more inside size = omega (arith, length-append ls more)
+inside-pushed : (edge : Edge) (at count : ℕ) (ls more : List StripRow) → at < length ls → length more ≡ count → moved_at edge at count < length (pushed_at edge ls more)
+inside-pushed Top at count ls more inside size = omega (arith, length-append more ls)
+inside-pushed Bottom at count ls more inside size = omega (arith, length-append ls more)
 
 pub length-strip_rows : (rows : Block → List RowMeaning) (strip_row : EntryMeaning → StripRow) (b : Block) → length (map strip_row (entries_of rows b)) ≡ length (rows b)
 length-strip_rows rows strip_row b = length-map (entries_of rows b) strip_row ∙ length-numbered b.start 0 (rows b)
 
 -- one more block at an edge
-pub strip-joined : (edge : Edge) (m : SourceValues) (sweep : Sweep) (bs : List Block) (ls : List StripRow) (at : ℕ) (b : Block) (before after : List Block) → IsStripOf m sweep bs ls at
-    → m.blocks ≡ before ++ (lists_joined_at edge bs (b ∷ []) ++ after) → count_in m sweep before + moved_at edge at (length (rows_in m sweep b)) ≡ home_row m sweep → b.end < 2 ^ 32
-    → IsStripOf m sweep (lists_joined_at edge bs (b ∷ [])) (lists_joined_at edge ls (map (strip_row_of sweep.point) (entries_of (rows_in m sweep) b))) (moved_at edge at (length (rows_in m sweep b)))
-strip-joined edge m sweep bs ls at b before after h pieces home small =
+pub strip-pushed : (edge : Edge) (m : SourceValues) (sweep : Sweep) (bs : List Block) (ls : List StripRow) (at : ℕ) (b : Block) (before after : List Block) → IsStripOf m sweep bs ls at
+    → m.blocks ≡ before ++ (pushed_at edge bs (b ∷ []) ++ after) → count_in m sweep before + moved_at edge at (length (rows_in m sweep b)) ≡ home_row m sweep → b.end < 2 ^ 32
+    → IsStripOf m sweep (pushed_at edge bs (b ∷ [])) (pushed_at edge ls (map (strip_row_of sweep.point) (entries_of (rows_in m sweep) b))) (moved_at edge at (length (rows_in m sweep b)))
+strip-pushed edge m sweep bs ls at b before after h pieces home small =
     let rows = λ (c : Block). rows_in m sweep c in
     let strip_row = strip_row_of sweep.point in
-    let size = length-joined edge bs (b ∷ []) in
+    let size = length-pushed edge bs (b ∷ []) in
     record {
       source = h.source;
       shape = h.shape;
@@ -107,10 +107,10 @@ strip-joined edge m sweep bs ls at b before after h pieces home small =
       after = after;
       pieces = pieces;
       some = omega (arith, size);
-      small = each-joined (λ (x : Block). x.end < 2 ^ 32) edge bs b h.small small;
-      strip_rows = strip_rows-joined edge rows strip_row bs ls b h.strip_rows;
+      small = each-pushed (λ (x : Block). x.end < 2 ^ 32) edge bs b h.small small;
+      strip_rows = strip_rows-pushed edge rows strip_row bs ls b h.strip_rows;
       home = home;
-      inside = inside-joined edge at (length (rows b)) ls (map strip_row (entries_of rows b)) h.inside (length-strip_rows rows strip_row b);
+      inside = inside-pushed edge at (length (rows b)) ls (map strip_row (entries_of rows b)) h.inside (length-strip_rows rows strip_row b);
     }
 
 -- what was paid for a strip is not more than all blocks with such rows cost

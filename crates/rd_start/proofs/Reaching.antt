@@ -12,13 +12,13 @@ use Rattle.rd_matrix.specs.Entries.{all_rows, entries_of, numbered}
 use Rattle.rd_matrix.specs.Sources.{SourceValues}
 use Rattle.rd_matrix.specs.declared.block.Block.{Block}
 use Rattle.rd_rows.specs.Rows.{RowMeaning}
-use Rattle.rd_start.specs.Strips.{IsBeyond, IsPaid, IsPaidOf, IsPushed, IsStrip, IsStripOf, AsksAt, GrowsAt, PaysOn, StandsBeyond, all_costs, cost_in, count_in, extent, first_row, home_row, lists_joined_at, strip_row_of, moved_at, rows_in}
+use Rattle.rd_start.specs.Strips.{IsBeyond, IsPaid, IsPaidOf, IsPushed, IsStrip, IsStripOf, AsksAt, GrowsAt, PaysOn, StandsBeyond, all_costs, cost_in, count_in, extent, first_row, home_row, pushed_at, strip_row_of, moved_at, rows_in}
 use Rattle.rd_start.specs.declared.strip.Edge.{Edge}
 use Rattle.rd_start.specs.declared.strip.Edge.TheVariants.{Bottom, Top}
 use Rattle.rd_start.specs.declared.strip.StripRow.{StripRow}
 use Rattle.rd_start.specs.declared.strip.Strip.{Strip}
 use Rattle.rd_start.specs.declared.strip.Sweep.{Sweep}
-use Rattle.rd_start.proofs.Growth.{affords, affords-pieces, before-none, before-some, first-place, last-place, length-joined, length-strip_rows, paid-above, paid-below, pieces-above, pieces-below, some-of, strip-joined}
+use Rattle.rd_start.proofs.Growth.{affords, affords-pieces, before-none, before-some, first-place, last-place, length-pushed, length-strip_rows, paid-above, paid-below, pieces-above, pieces-below, some-of, strip-pushed}
 use Rattle.rd_start.proofs.Rows.{rows_around}
 
 pub strip-same : (m : SourceValues) (sweep sweep' : Sweep) (bs bs' : List Block) (ls ls' : List StripRow) (at at' : ℕ) → sweep' ≡ sweep → bs' ≡ bs → ls' ≡ ls → at' ≡ at
@@ -143,7 +143,7 @@ asked-given edge m at other s steps more o b e beyond is f cost = record { next 
 
 grown-paid : (edge : Edge) (kind : ℕ → Bool) (base : ℕ) (m : SourceValues) (old s : Strip) (n steps more count : ℕ) (b : Block) → Grown edge m old s n steps count → Asked edge m s steps more b
     → extent edge s < count → IsPaid kind base m old n → AsksAt edge kind m old count
-    → IsPaidOf kind base m s.sweep (lists_joined_at edge s.blocks.items (b ∷ [])) (moved_at edge s.home (length (rows_in m s.sweep b))) more
+    → IsPaidOf kind base m s.sweep (pushed_at edge s.blocks.items (b ∷ [])) (moved_at edge s.home (length (rows_in m s.sweep b))) more
 grown-paid Top kind base m old s n steps more count b grown asked low paid asks =
     let next = asked.next in
     let some = some-of m s.sweep s.blocks.items s.strip_rows.items s.home b grown.strip next.among in
@@ -166,7 +166,7 @@ grows-none : (edge : Edge) (s : Strip) → GrowsAt edge s s
 grows-none Top s = (refl, omega arith)
 grows-none Bottom s = (refl, omega arith)
 
-grows-more : (edge : Edge) (old s new : Strip) (own : List StripRow) (count : ℕ) → GrowsAt edge old s → new.home ≡ moved_at edge s.home count → new.strip_rows.items ≡ lists_joined_at edge s.strip_rows.items own
+grows-more : (edge : Edge) (old s new : Strip) (own : List StripRow) (count : ℕ) → GrowsAt edge old s → new.home ≡ moved_at edge s.home count → new.strip_rows.items ≡ pushed_at edge s.strip_rows.items own
     → length own ≡ count → GrowsAt edge old new
 grows-more Top old s new own count grows home strip_rows size =
     let now = ap length strip_rows in
@@ -187,15 +187,15 @@ grown-more edge m old s new n steps more count b rows grown asked low same pushe
     let strip_row = strip_row_of s.sweep.point in
     let own = map strip_row (entries_of (rows_in m s.sweep) b) in
     let added = length (rows_in m s.sweep b) in
-    let strip_rows = pushed.strip_rows ∙ ap (λ (r : List RowMeaning). lists_joined_at edge s.strip_rows.items (map strip_row (numbered b.start 0 r))) same in
+    let strip_rows = pushed.strip_rows ∙ ap (λ (r : List RowMeaning). pushed_at edge s.strip_rows.items (map strip_row (numbered b.start 0 r))) same in
     let home = pushed.home ∙ ap (λ (r : List RowMeaning). moved_at edge s.home (length r)) same in
     record {
-      strip = strip-same m s.sweep new.sweep (lists_joined_at edge s.blocks.items (b ∷ [])) new.blocks.items (lists_joined_at edge s.strip_rows.items own) new.strip_rows.items (moved_at edge s.home added) new.home
+      strip = strip-same m s.sweep new.sweep (pushed_at edge s.blocks.items (b ∷ [])) new.blocks.items (pushed_at edge s.strip_rows.items own) new.strip_rows.items (moved_at edge s.home added) new.home
           pushed.sweep pushed.blocks strip_rows home
-          (strip-joined edge m s.sweep s.blocks.items s.strip_rows.items s.home b next.before next.after grown.strip next.pieces next.home pushed.small);
+          (strip-pushed edge m s.sweep s.blocks.items s.strip_rows.items s.home b next.before next.after grown.strip next.pieces next.home pushed.small);
       sweep = pushed.sweep ∙ grown.sweep;
       grows = grows-more edge old s new own added grown.grows home strip_rows (length-strip_rows (rows_in m s.sweep) strip_row b);
-      paid = λ kind base paid asks. paid-same kind base m s.sweep new.sweep (lists_joined_at edge s.blocks.items (b ∷ [])) new.blocks.items (moved_at edge s.home added) new.home more
+      paid = λ kind base paid asks. paid-same kind base m s.sweep new.sweep (pushed_at edge s.blocks.items (b ∷ [])) new.blocks.items (moved_at edge s.home added) new.home more
           pushed.sweep pushed.blocks home (grown-paid edge kind base m old s n steps more count b grown asked low paid asks);
     }
 
@@ -219,7 +219,7 @@ pub grown-fails : (edge : Edge) (m : SourceValues) (old s : Strip) (n steps more
     → EdgeFails edge m old n more count
 grown-fails edge m old s n steps more count b grown asked low = λ kind base paid asks.
     let next = asked.next in
-    let bound = affords-pieces kind base m s.sweep next.before (lists_joined_at edge s.blocks.items (b ∷ [])) next.after (moved_at edge s.home (length (rows_in m s.sweep b))) more next.pieces next.home
+    let bound = affords-pieces kind base m s.sweep next.before (pushed_at edge s.blocks.items (b ∷ [])) next.after (moved_at edge s.home (length (rows_in m s.sweep b))) more next.pieces next.home
     (grown-paid edge kind base m old s n steps more count b grown asked low paid asks) in
     let same = ap (λ (x : Sweep). all_costs kind m x) grown.sweep in
     omega arith
@@ -233,11 +233,11 @@ edge-failed edge r m old new n steps count err fails = λ kind base paid asks.
 pub grown-smaller : (edge : Edge) (m : SourceValues) (s new : Strip) (b : Block) (rows : List RowMeaning) → StandsBeyond m s edge b → IsPushed edge s new b rows
     → (length new.blocks.items ≡ length s.blocks.items + 1) × (length s.blocks.items < length m.blocks)
 grown-smaller edge m s new b rows next pushed =
-    let joined = length-joined edge s.blocks.items (b ∷ []) in
+    let longer = length-pushed edge s.blocks.items (b ∷ []) in
     let size = ap length pushed.blocks in
     let all = ap length next.pieces in
-    let front = length-append next.before (lists_joined_at edge s.blocks.items (b ∷ []) ++ next.after) in
-    let back = length-append (lists_joined_at edge s.blocks.items (b ∷ [])) next.after in
+    let front = length-append next.before (pushed_at edge s.blocks.items (b ∷ []) ++ next.after) in
+    let back = length-append (pushed_at edge s.blocks.items (b ∷ [])) next.after in
     (omega arith, omega arith)
 
 -- what is said of one source, as it was said of the same

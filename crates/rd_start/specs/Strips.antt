@@ -151,9 +151,9 @@ PaysOn m Asks old new before after result =
     → MatchResult result (λ _. IsPaid kind base m new after) (λ _. after ≤ base + all_costs kind m old.sweep)
 
 -- a list to which more was added at an edge, and the place of one of its elements behind so many
-abbrev pub lists_joined_at : {X : Type 0} → Edge → List X → List X → List X
-lists_joined_at Top xs more = more ++ xs
-lists_joined_at Bottom xs more = xs ++ more
+abbrev pub pushed_at : {X : Type 0} → Edge → List X → List X → List X
+pushed_at Top xs more = more ++ xs
+pushed_at Bottom xs more = xs ++ more
 
 abbrev pub moved_at : Edge → ℕ → ℕ → ℕ
 moved_at Top place count = place + count
@@ -164,8 +164,8 @@ pub record IsPushed (edge : Edge) (old new : Strip) (b : Block) (rows : List Row
   pub small : b.end < 2 ^ 32
   pub sweep : new.sweep ≡ old.sweep
   pub home : new.home ≡ moved_at edge old.home (length rows)
-  pub blocks : new.blocks.items ≡ lists_joined_at edge old.blocks.items (b ∷ [])
-  pub strip_rows : new.strip_rows.items ≡ lists_joined_at edge old.strip_rows.items (map (strip_row_of old.sweep.point) (numbered b.start 0 rows))
+  pub blocks : new.blocks.items ≡ pushed_at edge old.blocks.items (b ∷ [])
+  pub strip_rows : new.strip_rows.items ≡ pushed_at edge old.strip_rows.items (map (strip_row_of old.sweep.point) (numbered b.start 0 rows))
 
 -- a strip that rows were added to at an edge
 abbrev pub GrowsAt : Edge → Strip → Strip → Type 0
@@ -176,7 +176,7 @@ GrowsAt Bottom old new = (new.home ≡ old.home) × (length old.strip_rows.items
 pub record StandsBeyond (m : SourceValues) (s : Strip) (edge : Edge) (b : Block) : Type 0 where
   pub before : List Block
   pub after : List Block
-  pub pieces : m.blocks ≡ before ++ (lists_joined_at edge s.blocks.items (b ∷ []) ++ after)
+  pub pieces : m.blocks ≡ before ++ (pushed_at edge s.blocks.items (b ∷ []) ++ after)
   pub home : count_in m s.sweep before + moved_at edge s.home (length (rows_in m s.sweep b)) ≡ home_row m s.sweep
   pub among : IsAmong m.blocks b
 
