@@ -10,7 +10,7 @@ use Rattle.std.proofs.lemmas.Option.{none-some}
 pub opposite : (a b : Bool) → a ≡ not b → b ≡ not a
 opposite a b e = sym (ap not e ∙ not-not b)
 
--- where the first of two doesn't hold
+-- of two tests of which one holds, the second does where the first does not
 pub second-holds : (a b : Bool) → a ≡ false → (a || b) ≡ true → b ≡ true
 second-holds a b fails holds = sym (ap (λ t. t || b) fails) ∙ holds
 
@@ -65,7 +65,7 @@ pub map-some : {X Y : Type 0} (f : X → Y) (o : Option X) (y : Y) → option_ma
 map-some f None y e = absurd (none-some y e)
 map-some f (Some x) y e = (x, refl, cc)
 
--- where there is none
+-- an option that has nothing is None
 pub none-of : {X : Type 0} (o : Option X) → is_some o ≡ false → o ≡ None
 none-of None e = refl
 none-of (Some x) e = absurd (cc)
@@ -74,7 +74,7 @@ pub none-both : {X : Type 0} (o p : Option X) → option_or o p ≡ None → (o 
 none-both None p e = (refl, e)
 none-both (Some x) p e = absurd (none-some x (sym e))
 
--- where there is a first one
+-- the first of two options, where it has something
 pub or-first : {X : Type 0} (o p : Option X) → is_some o ≡ true → option_or o p ≡ o
 or-first None p e = absurd (cc)
 or-first (Some x) p e = refl

@@ -21,7 +21,7 @@ drop-read xs i x inside here = drop_more xs i x inside ∙ ap (λ y. y ∷ drop 
 pub drop-at : {X : Type 0} (xs : List X) (i : ℕ) (x : X) → slice_get xs i ≡ Some x → drop i xs ≡ x ∷ drop (i + 1) xs
 drop-at xs i x found = drop-read xs i x (slice_get_within xs i x found) (sym (get_or_from_slice_get xs i x x found))
 
--- up to behind it stands one element more
+-- the elements up to one at a place, with it, are those before it and that one
 pub take-at : {X : Type 0} (xs : List X) (i : ℕ) (x : X) → slice_get xs i ≡ Some x → take (i + 1) xs ≡ take i xs ++ x ∷ []
 take-at xs i x found = take_more xs i x (slice_get_within xs i x found) ∙ ap (λ y. take i xs ++ y ∷ []) (get_or_from_slice_get xs i x x found)
 
@@ -101,7 +101,7 @@ element-at [] i low = absurd (omega (arith, low))
 element-at (x ∷ xs) zero low = (x, refl)
 element-at (x ∷ xs) (suc i) low = element-at xs i (omega (arith, low))
 
--- the first behind a seam
+-- of two lists put together, the first element of the second stands at the length of the first
 pub at-seam : {X : Type 0} (xs : List X) (y : X) (ys : List X) → slice_get (xs ++ y ∷ ys) (length xs) ≡ Some y
 at-seam [] y ys = refl
 at-seam (x ∷ xs) y ys = at-seam xs y ys
@@ -122,7 +122,7 @@ get-set (x ∷ xs) (suc i) (suc k) c b h = elim (get-set xs i k c b h) [
   | inr p ↦ inr (λ e. p.0 (omega arith), p.1)
 ]
 
--- and after one more was put at its end
+-- what stands at a place of a list with one element more at its end
 pub get-end : {X : Type 0} (xs : List X) (y : X) (k : ℕ) (b : X) → slice_get (xs ++ y ∷ []) k ≡ Some b → (slice_get xs k ≡ Some b) ⊎ ((k ≡ length xs) × (b ≡ y))
 get-end [] y zero b h = inr (refl, cc)
 get-end [] y (suc k) b h = absurd (cc)
@@ -179,7 +179,7 @@ pub total-append : {X : Type 0} (f : X → ℕ) (xs ys : List X) → total f (xs
 total-append f [] ys = omega arith
 total-append f (x ∷ xs) ys = omega (arith, total-append f xs ys)
 
--- one for each element
+-- a sum of ones is how many elements there are
 pub total-ones : {X : Type 0} (xs : List X) → total (λ _. 1) xs ≡ length xs
 total-ones [] = refl
 total-ones (x ∷ xs) = omega (arith, total-ones xs)
@@ -234,7 +234,7 @@ range-more a n m same = ap (λ (k : ℕ). range_with_len a n ++ k ∷ []) same �
 pub all-at : {X : Type 0} (P : X → Type 0) (xs : List X) (i : ℕ) (x : X) → All P xs → slice_get xs i ≡ Some x → P x
 all-at P xs i x all found = subst P (get_or_from_slice_get xs i x x found) (all i x (slice_get_within xs i x found))
 
--- of what is found
+-- what holds of all elements holds of the one that a search finds
 pub found-each : {X : Type 0} (P : X → Type 0) (p : X → Bool) (xs : List X) → All P xs → IfSome (find p xs) P
 found-each P p xs all = if-value P (find p xs) (λ x e. let at = found-passes p xs x e in all-at P xs at.1 x all at.2)
 

@@ -59,7 +59,7 @@ glyph_length columns g face some =
     let rests = length-replicate (columns - 1) Rest in
     grind arith
 
--- so has a look
+-- a look has as many cells as columns
 pub look_length : (columns : ℕ) (l : Look) (face : Attributes) → 1 ≤ columns → length (look_cells columns l face) ≡ columns
 look_length columns (look.Glyph g) face some = glyph_length columns g face some
 look_length columns other face some = length-replicate columns (Blank face)
@@ -105,7 +105,7 @@ spare-marks g h =
 abbrev pub upto : Glyph → ℕ → Glyph
 upto g k = record { base = g.base; marks = take k g.marks ++ replicate (6 - k) 0; count = k; width = g.width }
 
--- one mark more
+-- the first marks of a glyph, with the next one written behind them
 pub more-marks : (marks : List ℕ) (k code : ℕ) → length marks ≡ 6 → k < 6 → get_or marks k 0 ≡ code
     → set (take k marks ++ replicate (6 - k) 0) k code ≡ take (suc k) marks ++ replicate (6 - suc k) 0
 more-marks marks k code six lt e =

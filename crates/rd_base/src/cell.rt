@@ -56,7 +56,7 @@ impl Glyph {
         Some(more)
     }
 
-    /// The marks that join it, which count.
+    /// The marks of this glyph: the first `count` of `marks`.
     pub fn joining(&self) -> &[u32]
         ensures { result.now ≡ take self.now.count self.now.marks }
     {

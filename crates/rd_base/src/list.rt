@@ -79,7 +79,7 @@ impl<T: Drop> ListOf<T> {
         Ok(())
     }
 
-    /// Adds what there is at the end.
+    /// Adds the value at the end, if there is one.
     pub fn push_some(&mut self, value: Option<T>) -> Result<(), Memory>
         ensures ok { OnOk result (self.new ≡ self.old ++ option_to_list value) }
         ensures err { OnErr result (self.new ≡ self.old) }

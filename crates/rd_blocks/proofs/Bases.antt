@@ -6,7 +6,7 @@ use Rattle.std.proofs.lemmas.Bool.{cond_both}
 use Rattle.std.proofs.lemmas.List.Elements.{All-nil, All-append, All-replicate}
 use Rattle.rd_base.proofs.Choices.{if-else, if-or}
 use Rattle.rd_base.proofs.Lists.{all-read}
-use Rattle.rd_base.specs.Classes.{strong_level, depth_after, first_strong}
+use Rattle.rd_base.specs.Classes.{p2_p3_strong_level, p2_depth_after, p2_p3_first_strong}
 use Rattle.rd_base.specs.declared.class.Class.{Class}
 use Rattle.rd_base.specs.declared.class.Class.TheVariants.{L, R, AL}
 use Rattle.rd_base.specs.declared.settings.Direction.{Direction}
@@ -21,22 +21,22 @@ use Rattle.rd_blocks.specs.Bases.{block_base}
 abbrev IsLow : ℕ → Type 0
 IsLow level = level ≤ 1
 
-strong_level-low : (depth : ℕ) (c : Class) → IfSome (strong_level depth c) IsLow
-strong_level-low zero L = omega arith
-strong_level-low zero R = omega arith
-strong_level-low zero AL = omega arith
-strong_level-low depth c = tt
+p2_p3_strong_level-low : (depth : ℕ) (c : Class) → IfSome (p2_p3_strong_level depth c) IsLow
+p2_p3_strong_level-low zero L = omega arith
+p2_p3_strong_level-low zero R = omega arith
+p2_p3_strong_level-low zero AL = omega arith
+p2_p3_strong_level-low depth c = tt
 
-first_strong-low : (depth : ℕ) (cs : List Class) → IfSome (first_strong depth cs) IsLow
-first_strong-low depth [] = tt
-first_strong-low depth (c ∷ cs) =
-    if-or IsLow (strong_level depth c) (first_strong (depth_after depth c) cs) (strong_level-low depth c) (first_strong-low (depth_after depth c) cs)
+p2_p3_first_strong-low : (depth : ℕ) (cs : List Class) → IfSome (p2_p3_first_strong depth cs) IsLow
+p2_p3_first_strong-low depth [] = tt
+p2_p3_first_strong-low depth (c ∷ cs) =
+    if-or IsLow (p2_p3_strong_level depth c) (p2_p3_first_strong (p2_depth_after depth c) cs) (p2_p3_strong_level-low depth c) (p2_p3_first_strong-low (p2_depth_after depth c) cs)
 
 decided-low : (classes : List Span) (lines : List (List ℕ)) → IfSome (decided classes lines) IsLow
 decided-low classes [] = tt
 decided-low classes (line ∷ lines) =
     cond_both (is_separator line) None (option_or (p2_p3_level_of_line classes line) (decided classes lines)) (λ o. IfSome o IsLow) (λ _. tt)
-    (λ _. if-or IsLow (p2_p3_level_of_line classes line) (decided classes lines) (first_strong-low 0 (map (class_of classes) line)) (decided-low classes lines))
+    (λ _. if-or IsLow (p2_p3_level_of_line classes line) (decided classes lines) (p2_p3_first_strong-low 0 (map (class_of classes) line)) (decided-low classes lines))
 
 levels-low : (classes : List Span) (last : ℕ) (inside : Bool) (lines : List (List ℕ)) → last ≤ 1 → All IsLow (levels_of classes last inside lines)
 levels-low classes last inside [] h = All-nil IsLow

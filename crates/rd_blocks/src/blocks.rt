@@ -18,9 +18,9 @@ use std::sync::ledger::Ledger;
 #[derive(Drop)]
 pub struct Blocks<'a> {
     view: View<'a>,
-    /// The paragraph of the block that was found last at a position or before another.
+    /// The paragraph of the block that `block_of` or `prev` found last.
     above: Option<Paragraph>,
-    /// The one of the block that was found last at a position or behind another.
+    /// The paragraph of the block that `block_of` or `next` found last.
     below: Option<Paragraph>,
 }
 
@@ -55,7 +55,7 @@ impl<'a> Blocks<'a> {
         }
     }
 
-    /// What holds of a buffer's blocks as a source.
+    /// A buffer's blocks are a source. The call does nothing.
     fn rules(&self)
         ensures { IsSource (source_of self.now) }
     {

@@ -1,4 +1,4 @@
-//! The blocks of a buffer and their rows: the source from which windows are laid out, as definitions and the law that it is one.
+//! The blocks of a buffer and their rows: the source from which windows are laid out, with the law that it is one.
 //!
 //! A block is what Emacs calls a visible line.
 //!

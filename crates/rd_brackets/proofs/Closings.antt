@@ -9,7 +9,7 @@ use Rattle.rd_brackets.specs.Pairs.{closing_of}
 use Rattle.rd_brackets.specs.Sides.{n0_with_pairs, became, followed, side_taken, n0_with_marks}
 use Rattle.rd_brackets.specs.declared.matching.Pair.{Pair}
 
--- without pairs
+-- without pairs none closes
 pub none-close : (a n : ℕ) → map (closing_of []) (range_with_len a n) ≡ replicate n None
 none-close a zero = refl
 none-close a (suc n) = ap (λ l. None ∷ l) (none-close (a + 1) n)
@@ -50,7 +50,7 @@ follows-none c t = refl
 taken-none : (c t : Class) → side_taken None c t t ≡ None
 taken-none c t = ap (λ b. if b then Some t else followed None c t) (became-same t) ∙ follows-none c t
 
--- and so do marks
+-- without pairs the marks keep their types
 pub none-marked : (cs ts : List Class) → n0_with_marks None cs ts ts ≡ ts
 none-marked [] ts = refl
 none-marked (c ∷ cs) [] = refl

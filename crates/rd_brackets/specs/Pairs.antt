@@ -71,6 +71,6 @@ abbrev pub closing_of : List Pair → ℕ → Option ℕ
 closing_of [] place = None
 closing_of (p ∷ ps) place = if p.opening == place then Some p.closing else closing_of ps place
 
--- the same for each of so many places: the pairs in the order of their opening brackets
+-- for each of so many places, where the pair closes that opens there: the pairs in the order of their opening brackets
 abbrev pub closings : List Pair → ℕ → List (Option ℕ)
 closings pairs count = map (closing_of pairs) (range_with_len 0 count)

@@ -29,7 +29,7 @@ pub fn bd14_bd15_role(brackets: &Brackets, class: Class, code: u32) -> Role
     }
 }
 
-/// What a character is whose code is listed so, or nowhere.
+/// For BD14 and BD15, the role of a code by what the brackets list for it.
 fn role_by(code: u32, bracket: Option<Bracket>) -> Role
     ensures { result ≡ role_by code bracket }
 {

@@ -4,7 +4,7 @@ use Rattle.std.proofs.lemmas.List.{get_or-drop, drop-set-add, set-get_or, drop-d
 use Rattle.std.proofs.lemmas.List.Elements.{All-cons, All-nil}
 use Rattle.std.proofs.lemmas.Bool.{cases_Bool, eq-eqb, ne_eqb, ltb-true}
 use Rattle.rd_base.proofs.Choices.{either}
-use Rattle.rd_base.specs.Classes.{direction_of, is_initiator, is_removed}
+use Rattle.rd_base.specs.Classes.{direction_of, is_initiator, x9_is_removed}
 use Rattle.rd_base.specs.declared.class.Class.{Class}
 use Rattle.rd_base.specs.declared.line.Seq.{Seq}
 use Rattle.rd_explicit.specs.declared.links.Link.{Link}
@@ -12,7 +12,7 @@ use Rattle.rd_explicit.specs.declared.links.First.{First}
 use Rattle.rd_explicit.specs.Follow.{bd13_follower, x10_level_behind}
 use Rattle.rd_explicit.specs.Isolates.{content}
 use Rattle.rd_explicit.specs.Links.{link_at, chain, chain_end, chained, gathered, sequences_from, first_of, beginning, without_beginning}
-use Rattle.rd_explicit.specs.Sequences.{Item, item_at, first_level, partner_of, x9_items, bd7_level_runs, begins, continued, others, bd13_joined_runs, x10_eos, sequence}
+use Rattle.rd_explicit.specs.Sequences.{Item, item_at, first_level, bd9_partner, x9_items, bd7_level_runs, begins, continued, others, bd13_joined_runs, x10_eos, sequence}
 use Rattle.rd_explicit.proofs.Groups.{bd13_joined_runs-step}
 
 abbrev pub starts : ℕ → List ℕ → Bool
@@ -83,8 +83,8 @@ absent-from (c ∷ cs) (l ∷ ls) [] bs b i p h = record { others = refl; indexe
 absent-from (c ∷ cs) (l ∷ ls) (k ∷ ks) [] b i p h = record { others = refl; indexes = refl; ends = λ e. refl }
 absent-from (c ∷ cs) (l ∷ ls) (k ∷ ks) (true ∷ bs) b i p h =
     absent-cons (Some p) (chained i (direction_of (max l b)) k ks) _ (ne_eqb p i (λ e. let f : true ≡ false = h 0 (omega (arith, e)) in absurd cc))
-    (absent-from cs ls ks bs (if is_removed c then b else l) (i + 1) p (λ j e. h (suc j) (omega (arith, e))))
-absent-from (c ∷ cs) (l ∷ ls) (k ∷ ks) (false ∷ bs) b i p h = absent-from cs ls ks bs (if is_removed c then b else l) (i + 1) p (λ j e. h (suc j) (omega (arith, e)))
+    (absent-from cs ls ks bs (if x9_is_removed c then b else l) (i + 1) p (λ j e. h (suc j) (omega (arith, e))))
+absent-from (c ∷ cs) (l ∷ ls) (k ∷ ks) (false ∷ bs) b i p h = absent-from cs ls ks bs (if x9_is_removed c then b else l) (i + 1) p (λ j e. h (suc j) (omega (arith, e)))
 
 absent-at : (cs : List Class) (ls : List ℕ) (ks : List Link) (bs : List Bool) (b i j p : ℕ) → p ≡ i + j → get_or bs j false ≡ false
     → Absent (Some p) (gathered b i cs ls ks bs)
@@ -110,11 +110,11 @@ present (c ∷ cs) (l ∷ ls) (k ∷ ks) (true ∷ bs) b i zero p at same_ls sam
     record { others = rw e refl; indexes = rw e refl; ends = λ t. rw e refl }
 present (c ∷ cs) (l ∷ ls) (k ∷ ks) (true ∷ bs) b i (suc j) p at same_ls same_ks within h =
     let e : (p == i) ≡ false = ne_eqb p i (λ q. omega arith) in
-    let r = present cs ls ks bs (if is_removed c then b else l) (i + 1) j p (omega arith) (omega arith) (omega arith) (omega arith) h in
+    let r = present cs ls ks bs (if x9_is_removed c then b else l) (i + 1) j p (omega arith) (omega arith) (omega arith) (omega arith) h in
     record { others = rw e (ap (λ ss. chained i (direction_of (max l b)) k ks ∷ ss) r.others); indexes = rw e r.indexes; ends = λ t. rw e (r.ends t) }
 present (c ∷ cs) (l ∷ ls) (k ∷ ks) (false ∷ bs) b i (suc j) p at same_ls same_ks within h =
     let e : (p == i) ≡ false = ne_eqb p i (λ q. omega arith) in
-    let r = present cs ls ks bs (if is_removed c then b else l) (i + 1) j p (omega arith) (omega arith) (omega arith) (omega arith) h in
+    let r = present cs ls ks bs (if x9_is_removed c then b else l) (i + 1) j p (omega arith) (omega arith) (omega arith) (omega arith) h in
     record { others = r.others; indexes = rw e r.indexes; ends = λ t. rw e (r.ends t) }
 
 abbrev pub Within : ℕ → ℕ → Option ℕ → Type 0
@@ -163,7 +163,7 @@ first-within : (base : ℕ) (cs : List Class) (ls : List ℕ) (b i : ℕ) → Fi
 first-within base [] ls b i = tt
 first-within base (c ∷ cs) [] b i = tt
 first-within base (c ∷ cs) (l ∷ ls) b i =
-    either (λ xs. FirstWithin i (suc (length cs)) (first_of xs)) (is_removed c) _ _ (one_more i (length cs) _ (first-within base cs ls b (i + 1))) (omega arith, omega arith)
+    either (λ xs. FirstWithin i (suc (length cs)) (first_of xs)) (x9_is_removed c) _ _ (one_more i (length cs) _ (first-within base cs ls b (i + 1))) (omega arith, omega arith)
 
 bd9_matching_pdi-within : (i a n : ℕ) → Within i n (if nat_lt a n then Some (i + a) else None)
 bd9_matching_pdi-within i a n = elim (cases_Bool (nat_lt a n)) [
@@ -171,7 +171,7 @@ bd9_matching_pdi-within i a n = elim (cases_Bool (nat_lt a n)) [
   | inr f ↦ rw f tt
 ]
 
-partner-within : (i : ℕ) (c : Class) (cs : List Class) → Within (i + 1) (length cs) (partner_of i c cs)
+partner-within : (i : ℕ) (c : Class) (cs : List Class) → Within (i + 1) (length cs) (bd9_partner i c cs)
 partner-within i c cs = either (Within (i + 1) (length cs)) (is_initiator c) _ None (bd9_matching_pdi-within (i + 1) (length (content cs)) (length cs)) tt
 
 bd13_follower-in : (i n l : ℕ) (o : Option First) (partner : Option ℕ) → FirstWithin i n o → Within i n partner → Within i n (bd13_follower o l partner)
@@ -179,7 +179,7 @@ bd13_follower-in i n l None partner first within = within
 bd13_follower-in i n l (Some y) partner first within = either (Within i n) (l == y.level) (Some y.index) partner first within
 
 pub bd13_follower-within : (base : ℕ) (c : Class) (cs : List Class) (ls : List ℕ) (b i l : ℕ)
-    → Within (i + 1) (length cs) (bd13_follower (first_of (x9_items base b (i + 1) cs ls)) l (partner_of i c cs))
+    → Within (i + 1) (length cs) (bd13_follower (first_of (x9_items base b (i + 1) cs ls)) l (bd9_partner i c cs))
 bd13_follower-within base c cs ls b i l =
     bd13_follower-in (i + 1) (length cs) l _ _ (first-within base cs ls b (i + 1)) (partner-within i c cs)
 
@@ -196,10 +196,10 @@ same_seq is js sos e f p q = cc
 pub gathered-step : (base before i : ℕ) (c : Class) (cs : List Class) (l : ℕ) (ls : List ℕ) (k : Link) (ks : List Link) (all : List Bool) (f : Option ℕ)
     → length ls ≡ length cs → length ks ≡ length cs
     → gathered l (i + 1) cs ls ks (drop (i + 1) all) ≡ sequences_from base l (i + 1) cs ls
-    → is_removed c ≡ false
-    → f ≡ bd13_follower (first_of (x9_items base l (i + 1) cs ls)) l (partner_of i c cs)
+    → x9_is_removed c ≡ false
+    → f ≡ bd13_follower (first_of (x9_items base l (i + 1) cs ls)) l (bd9_partner i c cs)
     → k.next ≡ beginning f all
-    → k.eos ≡ direction_of (max l (x10_level_behind (first_of (x9_items base l (i + 1) cs ls)) base (is_initiator c && is_none (partner_of i c cs))))
+    → k.eos ≡ direction_of (max l (x10_level_behind (first_of (x9_items base l (i + 1) cs ls)) base (is_initiator c && is_none (bd9_partner i c cs))))
     → gathered before i (c ∷ cs) (l ∷ ls) (k ∷ ks) (true ∷ drop (i + 1) (without_beginning f all)) ≡ sequences_from base before i (c ∷ cs) (l ∷ ls)
 gathered-step base before i c cs l ls k ks all f same_ls same_ks ih stays follows next eos =
     let xs = x9_items base l (i + 1) cs ls in
@@ -207,7 +207,7 @@ gathered-step base before i c cs l ls k ks all f same_ls same_ks ih stays follow
     let G = bd13_joined_runs (bd7_level_runs xs) in
     let within : Within (i + 1) (length cs) f = rw follows (bd13_follower-within base c cs ls l i l) in
     let g = goes cs ls ks all l (i + 1) f same_ls same_ks within in
-    let one : direction_of (max x.level x.after) ≡ k.eos = sym (eos ∙ ap (λ a. direction_of (max l a)) (x10_level_behind-is xs base (is_initiator c && is_none (partner_of i c cs)))) in
+    let one : direction_of (max x.level x.after) ≡ k.eos = sym (eos ∙ ap (λ a. direction_of (max l a)) (x10_level_behind-is xs base (is_initiator c && is_none (bd9_partner i c cs)))) in
     let indexes : map (λ (y : Item). y.index) (continued f G) ≡ chain (i + 1) k.next ks =
     continued-indexes f G ∙ ap (rest_indexes f) (sym ih) ∙ g.indexes ∙ ap (λ n. chain (i + 1) n ks) (sym next) in
     let ends : x10_eos (x ∷ continued f G) ≡ chain_end k.eos (i + 1) k.next ks =
@@ -270,8 +270,8 @@ gathered-ascends (c ∷ cs) [] ks bs b i n h j d within = absurd (omega arith)
 gathered-ascends (c ∷ cs) (l ∷ ls) [] bs b i n h j d within = absurd (omega arith)
 gathered-ascends (c ∷ cs) (l ∷ ls) (k ∷ ks) [] b i n h j d within = absurd (omega arith)
 gathered-ascends (c ∷ cs) (l ∷ ls) (k ∷ ks) (true ∷ bs) b i n h zero d within = (omega arith, omega arith, chain-ascends ks (i + 1) n k.next (omega arith))
-gathered-ascends (c ∷ cs) (l ∷ ls) (k ∷ ks) (true ∷ bs) b i n h (suc j) d within = gathered-ascends cs ls ks bs (if is_removed c then b else l) (i + 1) n (omega arith) j d (omega arith)
-gathered-ascends (c ∷ cs) (l ∷ ls) (k ∷ ks) (false ∷ bs) b i n h j d within = gathered-ascends cs ls ks bs (if is_removed c then b else l) (i + 1) n (omega arith) j d within
+gathered-ascends (c ∷ cs) (l ∷ ls) (k ∷ ks) (true ∷ bs) b i n h (suc j) d within = gathered-ascends cs ls ks bs (if x9_is_removed c then b else l) (i + 1) n (omega arith) j d (omega arith)
+gathered-ascends (c ∷ cs) (l ∷ ls) (k ∷ ks) (false ∷ bs) b i n h j d within = gathered-ascends cs ls ks bs (if x9_is_removed c then b else l) (i + 1) n (omega arith) j d within
 
 -- the same by places
 pub ascends-within : (i n : ℕ) (xs : List ℕ) → Ascends i n xs → All (λ x. (i ≤ x) × (x < n)) xs

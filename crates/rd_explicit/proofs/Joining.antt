@@ -3,7 +3,7 @@ use Rattle.std.proofs.Common.{◌≡◌, ℕ, ◌+◌, ◌<◌, ◌≤◌, max, 
 use Rattle.std.proofs.lemmas.List.{drop-set, drop_more, append-nil, append_assoc, length-drop, length-set, get_or-set_same, get_or-set_other}
 use Rattle.std.proofs.lemmas.Option.{get_or_from_slice_get}
 use Rattle.std.proofs.lemmas.Bool.{cases_eq}
-use Rattle.rd_base.specs.Classes.{direction_of, is_initiator, is_removed}
+use Rattle.rd_base.specs.Classes.{direction_of, is_initiator, x9_is_removed}
 use Rattle.rd_base.specs.declared.class.Class.{Class}
 use Rattle.rd_base.specs.declared.class.Class.TheVariants.{L}
 use Rattle.rd_explicit.specs.declared.links.Link.{Link}
@@ -11,7 +11,7 @@ use Rattle.rd_explicit.specs.declared.links.First.{First}
 use Rattle.rd_explicit.specs.declared.links.Links.{Links}
 use Rattle.rd_explicit.specs.Follow.{bd13_follower, x10_level_behind}
 use Rattle.rd_explicit.specs.Links.{link_at, chain, chain_end, gathered, seq_at, IsLinkedFrom, LeadsOn, unmatched, first_of, beginning, without_beginning}
-use Rattle.rd_explicit.specs.Sequences.{partner_of, x9_items}
+use Rattle.rd_explicit.specs.Sequences.{bd9_partner, x9_items}
 use Rattle.rd_explicit.proofs.Chains.{gathered-step, bd13_follower-within, Within, jumps-on}
 use Rattle.rd_base.proofs.Choices.{either}
 use Rattle.rd_base.proofs.Lists.{drop-at}
@@ -27,7 +27,7 @@ module _ (base i : ℕ) (classes : List Class) (levels : List ℕ) (c : Class) (
     (same_links : length old.links ≡ length classes) (same_begins : length old.begins ≡ length classes)
     (joins : IsLinkedFrom base (i + 1) (drop (i + 1) classes) (drop (i + 1) levels) old)
     (pdis : new.pdis ≡ reverse (unmatched i (c ∷ drop (i + 1) classes))) where
-  pub joins-removed : is_removed c ≡ true → new.links ≡ old.links → new.begins ≡ set old.begins i false → new.first ≡ old.first
+  pub joins-removed : x9_is_removed c ≡ true → new.links ≡ old.links → new.begins ≡ set old.begins i false → new.first ≡ old.first
       → IsLinkedFrom base i (drop i classes) (drop i levels) new
   joins-removed removed links begins first =
       let at_class = drop-at classes i c read_class in
@@ -40,7 +40,7 @@ module _ (base i : ℕ) (classes : List Class) (levels : List ℕ) (c : Class) (
         pdis = pdis ∙ ap (λ cs. reverse (unmatched i cs)) (sym at_class);
       }
 
-  pub joins-item : (partner f : Option ℕ) (k : Link) → is_removed c ≡ false → partner ≡ partner_of i c (drop (i + 1) classes)
+  pub joins-item : (partner f : Option ℕ) (k : Link) → x9_is_removed c ≡ false → partner ≡ bd9_partner i c (drop (i + 1) classes)
       → f ≡ bd13_follower old.first l partner → k.next ≡ beginning f old.begins
       → k.eos ≡ direction_of (max l (x10_level_behind old.first base (is_initiator c && is_none partner)))
       → new.links ≡ set old.links i k → new.begins ≡ set (without_beginning f old.begins) i true
@@ -54,9 +54,9 @@ module _ (base i : ℕ) (classes : List Class) (levels : List ℕ) (c : Class) (
       let at_links : drop i new.links ≡ k ∷ drop (i + 1) old.links = ap (drop i) links ∙ drop-set old.links i k (omega arith) in
       let at_begins : drop i new.begins ≡ true ∷ drop (i + 1) (without_beginning f old.begins) =
       ap (drop i) begins ∙ drop-set (without_beginning f old.begins) i true (omega (arith, length-without f old.begins)) in
-      let behind : f ≡ bd13_follower (first_of (x9_items base l (i + 1) cs ls)) l (partner_of i c cs) =
+      let behind : f ≡ bd13_follower (first_of (x9_items base l (i + 1) cs ls)) l (bd9_partner i c cs) =
       follows ∙ ap₂ (λ o p. bd13_follower o l p) (sym (joins.first l)) matches in
-      let ends : k.eos ≡ direction_of (max l (x10_level_behind (first_of (x9_items base l (i + 1) cs ls)) base (is_initiator c && is_none (partner_of i c cs)))) =
+      let ends : k.eos ≡ direction_of (max l (x10_level_behind (first_of (x9_items base l (i + 1) cs ls)) base (is_initiator c && is_none (bd9_partner i c cs)))) =
       eos ∙ ap₂ (λ o p. direction_of (max l (x10_level_behind o base (is_initiator c && is_none p)))) (sym (joins.first l)) matches in
       record {
         sequences = λ before. rw (at_class, at_level, at_links, at_begins)
@@ -74,11 +74,11 @@ placed i n m (Some w) h fits = (omega arith, omega arith)
 -- where the next item of a sequence may lie
 pub follows-within : (base i l : ℕ) (c : Class) (classes : List Class) (levels : List ℕ) (old : Links) (partner f : Option ℕ)
     → i < length classes → IsLinkedFrom base (i + 1) (drop (i + 1) classes) (drop (i + 1) levels) old
-    → partner ≡ partner_of i c (drop (i + 1) classes) → f ≡ bd13_follower old.first l partner
+    → partner ≡ bd9_partner i c (drop (i + 1) classes) → f ≡ bd13_follower old.first l partner
     → IfSome f (λ w. (i < w) × (w < length classes))
 follows-within base i l c classes levels old partner f within joins matches follows =
     let cs = drop (i + 1) classes in
-    let behind : f ≡ bd13_follower (first_of (x9_items base l (i + 1) cs (drop (i + 1) levels))) l (partner_of i c cs) =
+    let behind : f ≡ bd13_follower (first_of (x9_items base l (i + 1) cs (drop (i + 1) levels))) l (bd9_partner i c cs) =
     follows ∙ ap₂ (λ o p. bd13_follower o l p) (sym (joins.first l)) matches in
     let w : Within (i + 1) (length cs) f = rw behind (bd13_follower-within base c cs (drop (i + 1) levels) l i l) in
     placed i (length classes) (length cs) f w (omega (arith, length-drop (i + 1) classes))
@@ -142,16 +142,16 @@ pub gathered-next : (before i : ℕ) (classes : List Class) (levels : List ℕ) 
     → slice_get classes i ≡ Some c → slice_get levels i ≡ Some l
     → gathered before i (drop i classes) (drop i levels) (drop i links) (drop i begins)
     ≡ (if get_or begins i false then seq_at links i (direction_of (max l before)) ∷ [] else [])
-    ++ gathered (if is_removed c then before else l) (i + 1) (drop (i + 1) classes) (drop (i + 1) levels) (drop (i + 1) links) (drop (i + 1) begins)
+    ++ gathered (if x9_is_removed c then before else l) (i + 1) (drop (i + 1) classes) (drop (i + 1) levels) (drop (i + 1) links) (drop (i + 1) begins)
 gathered-next before i classes levels links begins c l within same_levels same_links same_begins read_class read_level =
     let within_links : i < length links = omega arith in
     let within_begins : i < length begins = omega arith in
     let none : Link = record { next = None; eos = L } in
     rw (drop-at classes i c read_class, drop-at levels i l read_level, drop_more links i none within_links, drop_more begins i false within_begins)
     (elim (get_or begins i false) as (λ b.
-    (if b then seq_at links i (direction_of (max l before)) ∷ gathered (if is_removed c then before else l) (i + 1) (drop (i + 1) classes) (drop (i + 1) levels) (drop (i + 1) links) (drop (i + 1) begins)
-    else gathered (if is_removed c then before else l) (i + 1) (drop (i + 1) classes) (drop (i + 1) levels) (drop (i + 1) links) (drop (i + 1) begins))
-    ≡ (if b then seq_at links i (direction_of (max l before)) ∷ [] else []) ++ gathered (if is_removed c then before else l) (i + 1) (drop (i + 1) classes) (drop (i + 1) levels) (drop (i + 1) links) (drop (i + 1) begins)) [
+    (if b then seq_at links i (direction_of (max l before)) ∷ gathered (if x9_is_removed c then before else l) (i + 1) (drop (i + 1) classes) (drop (i + 1) levels) (drop (i + 1) links) (drop (i + 1) begins)
+    else gathered (if x9_is_removed c then before else l) (i + 1) (drop (i + 1) classes) (drop (i + 1) levels) (drop (i + 1) links) (drop (i + 1) begins))
+    ≡ (if b then seq_at links i (direction_of (max l before)) ∷ [] else []) ++ gathered (if x9_is_removed c then before else l) (i + 1) (drop (i + 1) classes) (drop (i + 1) levels) (drop (i + 1) links) (drop (i + 1) begins)) [
       | true ↦ refl
       | false ↦ refl
     ])

@@ -9,6 +9,6 @@ pub written : {X : Type 0} (xs : List X) (i : ℕ) (y : X) (rest all : List X) �
 written xs i y rest all within same =
     ap (λ front. front ++ rest) (take_more_set xs i y within) ∙ append_assoc (take i xs) (y ∷ []) rest ∙ same
 
--- a place that is false already
+-- writing false at a place that has it changes nothing
 pub unset-same : (bs : List Bool) (i : ℕ) (b : Bool) → slice_get bs i ≡ Some b → b ≡ false → bs ≡ set bs i false
 unset-same bs i b read is = sym (ap (set bs i) (sym is ∙ sym (get_or_from_slice_get bs i b false read)) ∙ set-get_or bs i false)

@@ -1,6 +1,6 @@
 -- Explicit levels (UAX 9, rules X1 to X8). Each rule is a definition here; `after` and `given` say which rule a class takes.
 use Rattle.std.specs.Prelude.{ℕ, ◌+◌, ◌-◌, ◌%◌, ◌==◌, ◌<◌, ◌≤◌, nat_le, nat_lt, Bool, true, false, ◌&&◌, if◌then◌else◌, List, [], ◌∷◌, length, map, Option, None, Some}
-use Rattle.rd_base.specs.Classes.{is_removed, first_strong}
+use Rattle.rd_base.specs.Classes.{x9_is_removed, p2_p3_first_strong}
 use Rattle.rd_base.specs.declared.class.Class.{Class}
 use Rattle.rd_base.specs.declared.class.Class.TheVariants.{L, R, B, LRE, LRO, RLE, RLO, PDF, LRI, RLI, FSI, PDI}
 use Rattle.rd_base.specs.declared.limits.TheConstants.{MAX_DEPTH}
@@ -70,7 +70,7 @@ is_level_one (Some level) = level == 1
 
 -- for X5c, whether P2 and P3 find the level 1 in what an FSI isolates, of the classes after it
 abbrev pub x5c_starts_right : List Class → Bool
-x5c_starts_right cs = is_level_one (first_strong 0 (content cs))
+x5c_starts_right cs = is_level_one (p2_p3_first_strong 0 (content cs))
 
 -- X5c: FSI, with these classes after it, is taken as RLI where what it isolates starts right, else as LRI
 abbrev pub x5c_first_strong_isolate : State → List Class → State
@@ -138,7 +138,7 @@ x9_removed base c = record { level = base; class = c }
 abbrev pub given : ℕ → State → Class → List Class → Given
 given base s B cs = x8_paragraph_separator base
 given base s PDI cs = x6_level_and_override (top (after s PDI cs).stack) PDI
-given base s c cs = if is_removed c then x9_removed base c else x6_level_and_override (top s.stack) c
+given base s c cs = if x9_is_removed c then x9_removed base c else x6_level_and_override (top s.stack) c
 
 -- the levels and types of the classes that are left, from a state on
 abbrev pub explicit_from : ℕ → State → List Class → List Given

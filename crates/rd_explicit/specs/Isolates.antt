@@ -1,6 +1,6 @@
 -- The matching of isolates (UAX 9 BD9): by nesting alone, over the whole line, whatever levels the explicit rules give.
 use Rattle.std.specs.Prelude.{ℕ, zero, ◌+◌, if◌then◌else◌, nat_lt, List, [], ◌∷◌, length, Option, None, Some}
-use Rattle.rd_base.specs.Classes.{depth_after}
+use Rattle.rd_base.specs.Classes.{p2_depth_after}
 use Rattle.rd_base.specs.declared.class.Class.{Class}
 use Rattle.rd_base.specs.declared.class.Class.TheVariants.{PDI}
 
@@ -8,7 +8,7 @@ use Rattle.rd_base.specs.declared.class.Class.TheVariants.{PDI}
 abbrev pub inside : List Class → ℕ → List Class
 inside [] depth = []
 inside (PDI ∷ cs) zero = []
-inside (c ∷ cs) depth = c ∷ inside cs (depth_after depth c)
+inside (c ∷ cs) depth = c ∷ inside cs (p2_depth_after depth c)
 
 -- what an isolate initiator isolates, of the classes after it
 abbrev pub content : List Class → List Class

@@ -1,7 +1,7 @@
 -- How the walk from a line's end keeps the isolating run sequences: for each index whether a sequence begins there, and the next
 -- index of the sequence that it is in.
 use Rattle.std.specs.Prelude.{◌≡◌, ℕ, ◌+◌, ◌<◌, ◌==◌, max, Bool, false, if◌then◌else◌, List, [], ◌∷◌, length, map, drop, reverse, Option, None, Some, IfSome, slice_index_or, slice_set}
-use Rattle.rd_base.specs.Classes.{is_initiator, is_removed, direction_of}
+use Rattle.rd_base.specs.Classes.{is_initiator, x9_is_removed, direction_of}
 use Rattle.rd_base.specs.declared.class.Class.{Class}
 use Rattle.rd_base.specs.declared.class.Class.TheVariants.{L, PDI}
 use Rattle.rd_base.specs.declared.line.Seq.{Seq}
@@ -37,8 +37,8 @@ gathered before i (c ∷ cs) [] ks bs = []
 gathered before i (c ∷ cs) (l ∷ ls) [] bs = []
 gathered before i (c ∷ cs) (l ∷ ls) (k ∷ ks) [] = []
 gathered before i (c ∷ cs) (l ∷ ls) (k ∷ ks) (b ∷ bs) =
-    if b then chained i (direction_of (max l before)) k ks ∷ gathered (if is_removed c then before else l) (i + 1) cs ls ks bs
-    else gathered (if is_removed c then before else l) (i + 1) cs ls ks bs
+    if b then chained i (direction_of (max l before)) k ks ∷ gathered (if x9_is_removed c then before else l) (i + 1) cs ls ks bs
+    else gathered (if x9_is_removed c then before else l) (i + 1) cs ls ks bs
 
 -- the sequences of the items from index i on
 abbrev pub sequences_from : ℕ → ℕ → ℕ → List Class → List ℕ → List Seq
@@ -65,7 +65,7 @@ link_at ks i = slice_index_or ks i (record { next = None; eos = L })
 abbrev pub seq_at : List Link → ℕ → Class → Seq
 seq_at ks i sos = chained i sos (link_at ks i) (drop (i + 1) ks)
 
--- an index where a sequence begins there
+-- an index, if a sequence begins there
 abbrev pub beginning : Option ℕ → List Bool → Option ℕ
 beginning None bs = None
 beginning (Some f) bs = if slice_index_or bs f false then Some f else None

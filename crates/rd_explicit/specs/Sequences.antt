@@ -1,7 +1,7 @@
 -- Isolating run sequences (UAX 9, BD7, BD13, X9, X10).
 use Rattle.std.specs.Prelude.{ℕ, ◌+◌, ◌==◌, max, Bool, false, ◌&&◌, if◌then◌else◌, List, [], ◌∷◌, ◌++◌, map, Option, None, Some, is_none, option_and_then, option_map, unwrap_or}
 use Rattle.std.specs.List.{last_or}
-use Rattle.rd_base.specs.Classes.{is_removed, is_initiator, direction_of}
+use Rattle.rd_base.specs.Classes.{x9_is_removed, is_initiator, direction_of}
 use Rattle.rd_base.specs.declared.class.Class.{Class}
 use Rattle.rd_base.specs.declared.class.Class.TheVariants.{L}
 use Rattle.rd_base.specs.declared.line.Seq.{Seq}
@@ -18,8 +18,8 @@ pub record Item : Type 0 where
   pub after : ℕ
 
 -- BD9: where the PDI is that matches a class at an index, the classes after it being cs
-abbrev pub partner_of : ℕ → Class → List Class → Option ℕ
-partner_of i c cs = if is_initiator c then bd9_matching_pdi (i + 1) cs else None
+abbrev pub bd9_partner : ℕ → Class → List Class → Option ℕ
+bd9_partner i c cs = if is_initiator c then bd9_matching_pdi (i + 1) cs else None
 
 -- the level of the first item, or the base
 abbrev pub first_level : ℕ → List Item → ℕ
@@ -30,9 +30,9 @@ abbrev pub item_at : ℕ → ℕ → ℕ → Class → List Class → ℕ → Li
 item_at base before i c cs level xs = record {
   index = i;
   level = level;
-  partner = partner_of i c cs;
+  partner = bd9_partner i c cs;
   before = before;
-  after = if is_initiator c && is_none (partner_of i c cs) then base else first_level base xs;
+  after = if is_initiator c && is_none (bd9_partner i c cs) then base else first_level base xs;
 }
 
 -- X9: the items of the classes and levels from index i on, the item before them having a level or there being none and the base
@@ -41,7 +41,7 @@ abbrev pub x9_items : ℕ → ℕ → ℕ → List Class → List ℕ → List I
 x9_items base before i [] ls = []
 x9_items base before i (c ∷ cs) [] = []
 x9_items base before i (c ∷ cs) (l ∷ ls) =
-    if is_removed c then x9_items base before (i + 1) cs ls
+    if x9_is_removed c then x9_items base before (i + 1) cs ls
     else item_at base before i c cs l (x9_items base l (i + 1) cs ls) ∷ x9_items base l (i + 1) cs ls
 
 -- for BD7, whether the run after an item has its level

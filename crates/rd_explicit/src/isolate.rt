@@ -12,10 +12,10 @@ pub fn x5c_starts_right(rest: &[Class]) -> bool
 {
     let mut depth = 0u32;
     for class in rest {
-        match class.strong_level(depth) {
+        match class.p2_p3_strong_level(depth) {
             Some(level) => return level == 1,
             None if depth == 0 && *class == Class::PDI => return false,
-            None => depth = class.depth_after(depth),
+            None => depth = class.p2_depth_after(depth),
         }
     }
     false

@@ -35,7 +35,7 @@ impl Links {
     ghost use Rattle.std.specs.Prelude.{◌≡◌, ℕ, List, IfSome, ◌<◌, ◌+◌, ◌^◌, ◌∷◌, [], length, drop, reverse, OnOk, IfOk, None, is_none, ◌&&◌};
     ghost use Rattle.rd_base.specs.Classes.{is_initiator};
     ghost use Rattle.rd_explicit.specs.Links.{IsLinkedFrom, LeadsOn, KeepsLinks, unmatched, seq_at, beginning, without_beginning, gathered, sequences_from};
-    ghost use Rattle.rd_explicit.specs.Sequences.{partner_of};
+    ghost use Rattle.rd_explicit.specs.Sequences.{bd9_partner};
     ghost use Rattle.rd_base.specs.declared.class.Class.{Class};
 
     /// Nothing is done yet of a line of so many characters.
@@ -65,7 +65,7 @@ impl Links {
     /// BD9: the index of the PDI that matches a class, if that is an isolate initiator and has one. A PDI itself waits from then on.
     fn bd9_partner(&mut self, class: Class, i: usize) -> Result<Option<u32>, Memory>
         requires { i < 2 ^ 32 }
-        ensures partner { (cs : List Class) → self.old.pdis ≡ reverse (unmatched (i + 1) cs) → IfOk result (λ p. p ≡ partner_of i class cs) }
+        ensures partner { (cs : List Class) → self.old.pdis ≡ reverse (unmatched (i + 1) cs) → IfOk result (λ p. p ≡ bd9_partner i class cs) }
         ensures pdis { (cs : List Class) → self.old.pdis ≡ reverse (unmatched (i + 1) cs) → OnOk result (self.new.pdis ≡ reverse (unmatched i (class ∷ cs))) }
         ensures rest { KeepsLinks self.old self.new }
     {
@@ -78,7 +78,7 @@ impl Links {
         Ok(None)
     }
 
-    /// The index itself where a sequence begins there, which from then on goes on from another index.
+    /// For BD13, the follower where a sequence begins there; from then on none begins there.
     fn join(&mut self, follower: Option<u32>) -> Option<u32>
         requires { IfSome follower (λ f. f < length self.old.begins) }
         ensures next { result ≡ beginning follower self.old.begins }
@@ -111,7 +111,7 @@ impl Links {
         let class = line.classes.at(i);
         let level = line.levels.at(i);
         let partner = self.bd9_partner(class, i)?;
-        if class.is_removed() {
+        if class.x9_is_removed() {
             self.begins.set(i, false);
             return Ok(());
         }

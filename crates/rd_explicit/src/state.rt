@@ -170,7 +170,7 @@ impl State {
             Class::B => return x8_paragraph_separator(base),
             _ => {}
         }
-        if class.is_removed() {
+        if class.x9_is_removed() {
             x9_removed(base, class)
         } else {
             x6_level_and_override(entry, class)

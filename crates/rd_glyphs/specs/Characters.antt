@@ -2,7 +2,7 @@
 use Rattle.std.specs.Prelude.{◌≡◌, ℕ, ◌+◌, ◌-◌, ◌*◌, ◌/◌, ◌%◌, ◌≤◌, nat_le, nat_lt, ◌==◌, Bool, true, false, ◌||◌, ◌&&◌, if◌then◌else◌, List, [], ◌∷◌, length, map, replicate, All, Option, None, Some, IfSome, unwrap_or}
 use Rattle.rd_base.specs.Faces.{Attributes}
 use Rattle.rd_base.specs.Settings.{SettingValues}
-use Rattle.rd_base.specs.Classes.{is_initiator, is_removed}
+use Rattle.rd_base.specs.Classes.{is_initiator, x9_is_removed}
 use Rattle.rd_base.specs.Cells.{single}
 use Rattle.rd_base.specs.declared.class.Class.{Class}
 use Rattle.rd_base.specs.declared.class.Class.TheVariants.{PDI}
@@ -41,9 +41,9 @@ abbrev pub is_pop : Class → Bool
 is_pop PDI = true
 is_pop c = false
 
--- what only steers the order: BN, embeddings, overrides, isolates and their ends, and three marks that have a strong class
+-- what only steers the order: BN, embeddings, overrides, isolates and their ends, and the directional characters U+061C, U+200E and U+200F
 abbrev pub is_formatting : Class → ℕ → Bool
-is_formatting class code = is_removed class || is_initiator class || is_pop class || (code == 1564) || (code == 8206) || (code == 8207)
+is_formatting class code = x9_is_removed class || is_initiator class || is_pop class || (code == 1564) || (code == 8206) || (code == 8207)
 
 -- a control character's code with bit 64 turned, so that 1 shows as A and 127 as a question mark
 abbrev pub caret : ℕ → ℕ

@@ -50,7 +50,7 @@ fn is_pop(class: Class) -> bool
 fn is_formatting(class: Class, code: u32) -> bool
     ensures { result ≡ is_formatting class code }
 {
-    class.is_removed()
+    class.x9_is_removed()
         || class.is_initiator()
         || is_pop(class)
         || code == 0x061C

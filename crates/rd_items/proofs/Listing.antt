@@ -37,7 +37,7 @@ not-later s p a b c d one other inside first less = by-start other.begins where
   by-start (inl begin) = omega (arith, one.first)
   by-start (inr newline) = both_ways (is_shown_newline s (c - 1)) (one.inside (c - 1) (omega arith) (omega arith)) newline
 
--- nor is its end
+-- the end of one is not behind the end of the other
 not-longer : (s : BufferValue) (p a b c d : ℕ) → IsBlock s a b → IsBlock s c d → p < b → c ≤ p → b < d → ⊥
 not-longer s p a b c d one other inside first less = by-end one.ends where
   by-end : EndsBlock s b → ⊥

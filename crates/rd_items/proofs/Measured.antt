@@ -48,7 +48,7 @@ grows laws held next glyph h n e =
 
 -- ---- the items
 
--- of what has codes
+-- the items of what has codes are measured
 pub reading-measured : (laws : MarkLaws) → (s : Scene) (es : List Seen) → HaveCodes es → AreMeasuredItems (items_of s es)
 reading-measured laws s es codes =
     All-from_recursion (λ (i : Item). IsMeasuredKind i.kind) (items_of s es)

@@ -42,7 +42,7 @@ module _ (s : Scene) (closed : IsClosed s.objects) where
 
   -- ---- the items
 
-  -- of what names made objects alone
+  -- the items of what names made objects alone show made strings alone
   pub items-made : (es : List Seen) → ReadsMade s.objects es → ShowMade s.objects (items_of s es)
   items-made es made =
       All-from_recursion (λ (i : Item). ShowsMade s.objects i.kind) (items_of s es)

@@ -62,7 +62,7 @@ reading-step s o p before =
     let n : s.text.end - p ≡ suc (s.text.end - suc p) = omega arith in
     rw n
 
--- and at one that is no ender
+-- what is read at a position that is no ender: what is seen there, and what is read behind it
 pub reading-more : (s : BufferValue) (o : ObjectLists) (p : ℕ) → p ≤ s.text.end → ends_block s p ≡ false → reading s o p ≡ seen_at s o p ∷ reading s o (suc p)
 reading-more s o p within ender =
     reading-step s o p (before-end s o p within ender) ∙ ap (λ (es : List Seen). seen_at s o p ∷ es) (cond-false (ends_block s p) [] (reading s o (suc p)) ender)

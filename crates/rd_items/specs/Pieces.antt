@@ -154,7 +154,7 @@ goes_on first next = same_spec first.display next.display || (is_hidden first.hi
 abbrev pub run_length : Invisible → Showing → List Seen → ℕ
 run_length setting first es = prefix_len (λ e. goes_on first (showing_of setting e)) es
 
--- the same by the setting of a scene
+-- how many characters go on with the first one, by the setting of a scene
 abbrev pub run_in : Scene → Seen → List Seen → ℕ
 run_in s first es = run_length s.parts.settings.invisible (showing_of s.parts.settings.invisible first) es
 

@@ -31,18 +31,18 @@ ends_block s p = (not (is_replaced s p) && not (is_hidden (hidden s p))) && ends
 abbrev pub showing_by : Invisible → Appearance → Showing
 showing_by setting appearance = record { display = appearance.display; hidden = hidden_by setting appearance; face = appearance.face }
 
--- the same of a position where this is seen
+-- how a position shows where this is seen
 abbrev pub showing_of : Invisible → Seen → Showing
 showing_of setting seen = showing_by setting seen.appearance
 
 abbrev pub showing_at : BufferValue → ObjectLists → ℕ → Showing
 showing_at s objects p = showing_of s.settings.invisible (seen_at s objects p)
 
--- neither replaced nor hidden
+-- whether text that is shown so is neither replaced nor hidden
 abbrev pub is_open : Showing → Bool
 is_open showing = not (is_some showing.display) && not (is_hidden showing.hidden)
 
--- the same of what is seen: it ends a block
+-- whether what is seen at a position ends a block
 abbrev pub is_ender : Invisible → Seen → Bool
 is_ender setting seen = is_open (showing_of setting seen) && ends_line seen.character
 
@@ -66,7 +66,7 @@ IsReading setting (e ∷ f ∷ es) = (is_ender setting e ≡ false) × IsReading
 abbrev pub HasCode : Seen → Type 0
 HasCode e = IfSome e.character (λ c. IsTrue (is_code c))
 
--- each that is seen has one
+-- each character that is seen has a code
 abbrev pub HaveCodes : List Seen → Type 0
 HaveCodes es = All HasCode es
 

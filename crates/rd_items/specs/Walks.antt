@@ -30,7 +30,7 @@ abbrev pub TakesMark : Bool → Piece → Piece → Piece → Type 0
 TakesMark true old new next = marked piece_joins old next ≡ Some new
 TakesMark false old new next = (marked piece_joins old next ≡ None) × (new ≡ old)
 
--- the same of a piece that may be held
+-- whether a piece that may be held took a mark, and what is held then
 abbrev pub TakesMarkIn : Bool → Option Piece → Option Piece → Piece → Type 0
 TakesMarkIn true old new next = (xs : List Piece) → with_held piece_joins new xs ≡ with_held piece_joins old (next ∷ xs)
 TakesMarkIn false old new next = (new ≡ old) × ((held : Piece) → old ≡ Some held → marked piece_joins held next ≡ None)

@@ -19,19 +19,19 @@ abbrev pub is_item : Class → Bool
 is_item BN = false
 is_item c = is_leveled c
 
--- what it has after W1
+-- the classes that such a sequence can have after W1
 abbrev pub is_plain : Class → Bool
 is_plain NSM = false
 is_plain c = is_item c
 
--- after W6
+-- the classes that it can have after W6
 abbrev pub is_few : Class → Bool
 is_few ES = false
 is_few ET = false
 is_few CS = false
 is_few c = is_plain c
 
--- and after W7
+-- the classes that it can have after W7
 abbrev pub is_calm : Class → Bool
 is_calm EN = false
 is_calm c = is_few c

@@ -7,13 +7,13 @@ use Rattle.std.proofs.lemmas.List.{length-map, length-replicate, get_or-set_same
 use Rattle.std.proofs.lemmas.Option.{get_or_from_slice_get}
 use Rattle.rd_base.proofs.Choices.{either}
 use Rattle.rd_base.proofs.Lists.{drop-cons, read-or}
-use Rattle.rd_base.specs.Classes.{is_removed, is_initiator, direction_of}
+use Rattle.rd_base.specs.Classes.{x9_is_removed, is_initiator, direction_of}
 use Rattle.rd_base.specs.declared.class.Class.{Class}
 use Rattle.rd_base.specs.declared.class.Class.TheVariants.{L, BN, LRE, LRO, RLE, RLO, PDF, LRI, RLI, FSI, PDI}
 use Rattle.rd_base.specs.declared.line.Seq.{Seq}
 use Rattle.rd_ucd.specs.declared.spans.BracketEntry.{BracketEntry}
 use Rattle.rd_explicit.specs.Explicit.{x1_start, after, given, explicit_from, levels_of, types_of}
-use Rattle.rd_explicit.specs.Sequences.{Item, partner_of, first_level, item_at, x9_items, has_level, with_item, bd7_level_runs, bd13_joined_runs, x10_sos, x10_eos, sequence, sequences_of}
+use Rattle.rd_explicit.specs.Sequences.{Item, bd9_partner, first_level, item_at, x9_items, has_level, with_item, bd7_level_runs, bd13_joined_runs, x10_sos, x10_eos, sequence, sequences_of}
 use Rattle.rd_explicit.specs.declared.state.State.{State}
 use Rattle.rd_explicit.specs.declared.state.Given.{Given}
 use Rattle.rd_resolve.specs.Places.{types_at, levels_at, put_at}
@@ -76,7 +76,7 @@ item-zero : (i : ℕ) (c : Class) (cs : List Class) (xs : List Item) → Each Is
 item-zero i c cs xs zs = record {
   level = refl;
   before = refl;
-  after = either (λ n. n ≡ 0) (is_initiator c && is_none (partner_of i c cs)) 0 (first_level 0 xs) refl (first-zero xs zs);
+  after = either (λ n. n ≡ 0) (is_initiator c && is_none (bd9_partner i c cs)) 0 (first_level 0 xs) refl (first-zero xs zs);
 }
 
 abbrev all_items : ℕ → List Class → List Item
@@ -86,7 +86,7 @@ x9_items-zero : (i : ℕ) (cs : List Class) → Each IsZero (all_items i cs)
 x9_items-zero i [] = tt
 x9_items-zero i (c ∷ cs) =
     let rest = x9_items-zero (i + 1) cs in
-    cond_both (is_removed c) (all_items (i + 1) cs) (item_at 0 0 i c cs 0 (all_items (i + 1) cs) ∷ all_items (i + 1) cs) (Each IsZero)
+    cond_both (x9_is_removed c) (all_items (i + 1) cs) (item_at 0 0 i c cs 0 (all_items (i + 1) cs) ∷ all_items (i + 1) cs) (Each IsZero)
     (λ _. rest) (λ _. (item-zero i c cs (all_items (i + 1) cs) rest, rest))
 
 -- so there is one level run, and one sequence
@@ -149,7 +149,7 @@ covered i (c ∷ cs) h (suc j) inside =
     let parts = and_parts (is_leveled c) (are_leveled cs) h in
     further (indexes (all_items (i + 1) cs)) i (i + 1 + j) (i + suc j) (get_or cs j L) e (covered (i + 1) cs parts.1 j (omega arith))
 
-leveled-item : (c : Class) → IsLeveled c → is_removed c ≡ false → IsItem c
+leveled-item : (c : Class) → IsLeveled c → x9_is_removed c ≡ false → IsItem c
 leveled-item BN h other = absurd (cc)
 leveled-item c h other = h
 
@@ -164,7 +164,7 @@ module _ (whole : List Class) where
       let parts = and_parts (is_leveled c) (are_leveled cs) h in
       let step = drop-cons whole i c cs at in
       let rest = items-at (i + 1) cs step.1 parts.1 in
-      cond_both (is_removed c) (all_items (i + 1) cs) (item_at 0 0 i c cs 0 (all_items (i + 1) cs) ∷ all_items (i + 1) cs) (Each IsItemAt)
+      cond_both (x9_is_removed c) (all_items (i + 1) cs) (item_at 0 0 i c cs 0 (all_items (i + 1) cs) ∷ all_items (i + 1) cs) (Each IsItemAt)
       (λ _. rest) (λ other. (subst IsItem (sym (get_or_from_slice_get whole i c L step.0)) (leveled-item c parts.0 other), rest))
 
   types-item : (xs : List Item) → Each IsItemAt xs → Each IsItem (types_at (indexes xs) whole)
@@ -328,7 +328,7 @@ raised-zero (suc n) (t ∷ ts) flat = ap₂ (λ (l : ℕ) (ls : List ℕ). l ∷
 kept-zero : (n : ℕ) (cs : List Class) → kept 0 cs (replicate n 0) ≡ replicate n 0
 kept-zero n [] = refl
 kept-zero zero (c ∷ cs) = refl
-kept-zero (suc n) (c ∷ cs) = same-either (is_removed c) (0 ∷ kept 0 cs (replicate n 0)) ∙ ap (λ ls. 0 ∷ ls) (kept-zero n cs)
+kept-zero (suc n) (c ∷ cs) = same-either (x9_is_removed c) (0 ∷ kept 0 cs (replicate n 0)) ∙ ap (λ ls. 0 ∷ ls) (kept-zero n cs)
 
 l1-zero : (n : ℕ) (cs : List Class) → l1 0 cs (replicate n 0) ≡ replicate n 0
 l1-zero n [] = refl

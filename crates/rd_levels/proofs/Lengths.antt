@@ -3,7 +3,7 @@ use Rattle.std.proofs.Common.{◌≡◌, ℕ, suc, ◌≤◌, Bool, true, false,
 use Rattle.std.specs.Prelude.{slice_index, slice_set}
 use Rattle.std.proofs.lemmas.Bool.{cond_both}
 use Rattle.std.proofs.lemmas.List.{length-map, length-set, length-replicate, get_or-replicate}
-use Rattle.rd_base.specs.Classes.{is_removed}
+use Rattle.rd_base.specs.Classes.{x9_is_removed}
 use Rattle.rd_base.specs.declared.class.Class.{Class}
 use Rattle.rd_base.specs.declared.class.Class.TheVariants.{B}
 use Rattle.rd_base.specs.declared.line.Seq.{Seq}
@@ -44,7 +44,7 @@ kept-length : (before : ℕ) (cs : List Class) (ls : List ℕ) → length cs ≡
 kept-length before [] ls size = refl
 kept-length before (c ∷ cs) [] size = refl
 kept-length before (c ∷ cs) (l ∷ ls) size =
-    cond_both (is_removed c) (before ∷ kept before cs ls) (l ∷ kept l cs ls) (λ xs. length xs ≡ suc (length ls))
+    cond_both (x9_is_removed c) (before ∷ kept before cs ls) (l ∷ kept l cs ls) (λ xs. length xs ≡ suc (length ls))
     (λ _. ap (λ n. suc n) (kept-length before cs ls (omega arith))) (λ _. ap (λ n. suc n) (kept-length l cs ls (omega arith)))
 
 l1-length : (base : ℕ) (cs : List Class) (ls : List ℕ) → length cs ≡ length ls → length (l1 base cs ls) ≡ length ls

@@ -24,7 +24,7 @@ use Rattle.rd_rows.specs.Shapes.{IsShape, ShapeValues}
 abbrev pub covering : ℕ → EntryMeaning → ℕ
 covering point e = count_by (covers e.start point) e.row.begins
 
--- how many items of these rows do
+-- how many items of rows cover a point
 abbrev pub count_at : ℕ → List EntryMeaning → ℕ
 count_at point es = total (covering point) es
 
@@ -53,7 +53,7 @@ fit : (rows : Block → List RowMeaning) (from : ℕ) (bs : List Block) → Stan
 fit rows from [] h each = tt
 fit rows from (b ∷ bs) h each = (h.0, h.1, each b (0, refl), fit rows b.end bs h.2 (λ c k. each c (suc k.0, k.1)))
 
--- those of a source
+-- the blocks of a source fit
 pub whole-fit : (m : SourceValues) (shape : ShapeValues) → IsSource m → IsShape shape → Fit (λ b. m.rows_of b shape) (first_start m.blocks) m.blocks
 whole-fit m shape source is = fit (λ b. m.rows_of b shape) (first_start m.blocks) m.blocks source.blocks.stand (λ b among. source.rows b shape among is)
 
@@ -89,7 +89,7 @@ cursor-by point e es None (Some p) place here later at =
     let found = later p refl in
     subst (HasCursor point (e ∷ es)) (same_Some (p.0 + 1, p.1) place at) (found.0, rw add-one found.1, found.2)
 
--- so does the row at the cursor's place
+-- the row at the cursor's place has the cursor
 pub cursor-row : (point : ℕ) (es : List EntryMeaning) (place : ℕ × ℕ) → cursor_in point es ≡ Some place → HasCursor point es place
 cursor-row point [] place at = absurd cc
 cursor-row point (e ∷ es) place at = cursor-by point e es (column_shown point e) (cursor_in point es) place refl (cursor-row point es) at

@@ -41,7 +41,7 @@ entries-each P rows (b ∷ bs) own =
     (λ j k r is found. let same : j ≡ k = omega (arith, is) in own b k r (0, refl) (subst (λ (n : ℕ). slice_get (rows b) n ≡ Some r) same found)))
     (entries-each P rows bs (λ d k r among found. own d k r (suc among.0, among.1) found))
 
--- of the row alone
+-- what holds of each row of each block holds of each row in the list of all
 pub rows-each : (P : RowMeaning → Type 0) (rows : Block → List RowMeaning) (bs : List Block) → ((b : Block) → All P (rows b)) → All (λ (e : EntryMeaning). P e.row) (all_rows rows bs)
 rows-each P rows bs own =
     All-from_recursion (λ (e : EntryMeaning). P e.row) (all_rows rows bs) (entries-each (λ (e : EntryMeaning). P e.row) rows bs (λ b k r among found. all-at P (rows b) k r (own b) found))
@@ -51,7 +51,7 @@ begins-at P [] k r all found = absurd cc
 begins-at P (s ∷ rows) zero r all found = let same : s ≡ r = cc in subst (λ (x : RowMeaning). All P x.begins) same (all-front P s.begins (begins_of rows) all)
 begins-at P (s ∷ rows) (suc k) r all found = begins-at P rows k r (all-back P s.begins (begins_of rows) all) found
 
--- of the items that begin in the row, by the start of its block
+-- what holds of the items of each block, by its start, holds of those that begin in each row
 pub begins-each : (P : ℕ → Begin → Type 0) (rows : Block → List RowMeaning) (bs : List Block) → ((b : Block) → IsAmong bs b → All (P b.start) (begins_of (rows b)))
     → All (λ (e : EntryMeaning). All (P e.start) e.row.begins) (all_rows rows bs)
 begins-each P rows bs own =

@@ -67,7 +67,7 @@ impl MemBlocks {
         Ok(())
     }
 
-    /// What holds of blocks in memory as a source, where there is a block.
+    /// Blocks in memory are a source, where there is a block. The call does nothing.
     fn rules(&self)
         ensures among { (block : Block) → IsAmong (blocks_held self.now) block → IsSource (source_of self.now) }
         ensures within { (pos : _) → IsWithin pos (blocks_held self.now) → IsSource (source_of self.now) }

@@ -7,7 +7,7 @@ use Rattle.rd_base.proofs.Lists.{found-each}
 use Rattle.rd_objects.specs.declared.table.TableEntry.{TableEntry}
 use Rattle.rd_objects.specs.Tables.{entry_in, is_glyph_text}
 
--- what holds of all that is given holds of it
+-- what holds of what each element gives holds of what the last that passes gives
 pub last-gives : {X Y : Type 0} (P : Y → Type 0) (f : X → Y) (p : X → Bool) (xs : List X) → All (λ x. P (f x)) xs
     → IfSome (option_map f (find p (reverse xs))) P
 last-gives {X} P f p xs all =

@@ -1,4 +1,4 @@
--- What the fields of a table are seen as.
+-- What contracts see in place of the fields of a table.
 use Rattle.rd_objects.specs.declared.table.Table.TheInside.{Inside}
 use Rattle.rd_objects.specs.Tables.{TableValue}
 

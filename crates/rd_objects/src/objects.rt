@@ -79,7 +79,7 @@ impl Objects {
     }
 
     /// Makes a display spec, of at most 400 columns, and answers its number. NoObject comes exactly where it names a string
-    /// that was not made, and else TooMany exactly where 4,096 specs were made. It costs one step.
+    /// that was not made, and else TooMany exactly where 4,096 specs were made. The cost is constant.
     pub fn add_spec(&mut self, spec: Spec) -> Result<u32, ObjectFault>
         requires { IsSmallSpec spec }
         ensures adds { Adds result (spec_fault self.old spec) (length self.old.specs) self.old self.new (spec_added self.old spec) }
@@ -93,7 +93,7 @@ impl Objects {
         Ok(number)
     }
 
-    /// Makes a face, and answers its number. TooMany comes exactly where 1,024 faces were made. It costs one step.
+    /// Makes a face, and answers its number. TooMany comes exactly where 1,024 faces were made. The cost is constant.
     pub fn add_face(&mut self, face: Face) -> Result<u32, ObjectFault>
         ensures adds { Adds result (full_fault FACES (length self.old.faces)) (length self.old.faces) self.old self.new (face_added self.old face) }
         ensures extends { Extends self.old self.new }
@@ -104,8 +104,7 @@ impl Objects {
         Ok(number)
     }
 
-    /// Makes a display table, and answers its number. TooMany comes exactly where 64 tables were made. It costs one
-    /// step.
+    /// Makes a display table, and answers its number. TooMany comes exactly where 64 tables were made. The cost is constant.
     pub fn add_table(&mut self, table: Table) -> Result<u32, ObjectFault>
         ensures adds { Adds result (full_fault TABLES (length self.old.tables)) (length self.old.tables) self.old self.new (table_added self.old table) }
         ensures extends { Extends self.old self.new }
@@ -116,28 +115,28 @@ impl Objects {
         Ok(number)
     }
 
-    /// The string of a number, and None exactly where it was not made. It costs one step.
+    /// The string of a number, and None exactly where it was not made. The cost is constant.
     pub fn string(&self, number: u32) -> Option<&Text>
         ensures { MatchOption result (length self.now.strings ≤ number) (λ text. slice_get self.now.strings number ≡ Some text.now) }
     {
         self.strings.as_slice().get(number as usize)
     }
 
-    /// The spec of a number, and None exactly where it was not made. It costs one step.
+    /// The spec of a number, and None exactly where it was not made. The cost is constant.
     pub fn spec(&self, number: u32) -> Option<Spec>
         ensures { result ≡ slice_get self.now.specs number }
     {
         self.specs.as_slice().get(number as usize).copied()
     }
 
-    /// The face of a number, and None exactly where it was not made. It costs one step.
+    /// The face of a number, and None exactly where it was not made. The cost is constant.
     pub fn face(&self, number: u32) -> Option<Face>
         ensures { result ≡ slice_get self.now.faces number }
     {
         self.faces.as_slice().get(number as usize).copied()
     }
 
-    /// The table of a number, and None exactly where it was not made. It costs one step.
+    /// The table of a number, and None exactly where it was not made. The cost is constant.
     pub fn table(&self, number: u32) -> Option<&Table>
         ensures { MatchOption result (length self.now.tables ≤ number) (λ table. slice_get self.now.tables number ≡ Some table.now) }
     {

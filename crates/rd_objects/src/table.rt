@@ -73,7 +73,7 @@ impl Table {
         self.entries.push(TableEntry { code, text })
     }
 
-    /// Puts the glyph of a slot, a glyph character of one column, or takes it away. It costs one step.
+    /// Puts the glyph of a slot, a glyph character of one column, or takes it away. The cost is constant.
     pub fn put_slot(&mut self, slot: Slot, glyph: Option<Glyph>)
         requires { IfSome glyph (λ g. IsTrue (is_slot_glyph g)) }
         ensures { self.new ≡ with_slot slot glyph self.old }
@@ -106,7 +106,7 @@ impl Table {
         Some(last_entry(self.entries.as_slice(), code)?.text.as_slice())
     }
 
-    /// The glyph of a slot, and None exactly where none was put or None was put last. It costs one step.
+    /// The glyph of a slot, and None exactly where none was put or None was put last. The cost is constant.
     pub fn slot(&self, slot: Slot) -> Option<Glyph>
         ensures value { result ≡ slot_of slot self.now }
         ensures glyph { IfSome result (λ g. IsTrue (is_slot_glyph g)) }
@@ -120,7 +120,7 @@ impl Table {
         }
     }
 
-    /// What stands for hidden text, and None exactly where nothing was put. It costs one step.
+    /// What stands for hidden text, and None exactly where nothing was put. The cost is constant.
     pub fn ellipsis(&self) -> Option<&[Glyph]>
         ensures value { MatchOption result (self.now.ellipsis ≡ None) (λ text. self.now.ellipsis ≡ Some text.now) }
         ensures text { IfSome result (λ text. IsTrue (is_glyph_text text.now)) }

@@ -57,14 +57,14 @@ impl Text {
         })
     }
 
-    /// How many characters there are. It costs one step.
+    /// How many characters there are. The cost is constant.
     pub fn len(&self) -> u32
         ensures { result ≡ length self.now.chars }
     {
         self.chars.len() as u32
     }
 
-    /// The character at a place, counted from 0. It costs one step.
+    /// The character at a place, counted from 0. The cost is constant.
     pub fn ch(&self, i: u32) -> Ch
         requires { i < length self.now.chars }
         ensures { slice_get self.now.chars i ≡ Some result }
@@ -72,7 +72,7 @@ impl Text {
         self.chars.at(i as usize)
     }
 
-    /// The characters. It costs one step.
+    /// The characters. The cost is constant.
     pub fn chars(&self) -> &[Ch]
         ensures { result.now ≡ self.now.chars }
     {

@@ -185,7 +185,7 @@ widened-bounded slots order old new number slot size kept holds h =
           (kept (place / 256) c (overlay_at slots k) (λ b at_old. h.holds place k b there at_old) at);
     }
 
--- so can what has no other edges
+-- an overlay with no other edges can come in place of one, and the bounds hold
 pub kept-bounded : (slots : List (Option Overlay)) (order : List ℕ) (bounds : List Bounds) (number : ℕ) (before after : Option Overlay)
     → ((b : Bounds) → SlotHolds b before → SlotHolds b after) → slice_get slots number ≡ Some before → IsBounded slots order bounds
     → IsBounded (slice_set slots number after) order bounds

@@ -14,7 +14,7 @@ use Rattle.rd_overlays.specs.Listings.{Passes, HoldsExactly, Ascends, rank_of}
 use Rattle.rd_overlays.proofs.Sorting.{Rises}
 use Rattle.rd_overlays.proofs.Listed.{weak, placed-by, Stands, ranked-stand, ranked-rises}
 
--- some element
+-- what holds of some element
 abbrev Some_one : (Rank → Type 0) → List Rank → Type 0
 Some_one P rs = (i : ℕ) × (i < length rs) × ((d : Rank) → P (slice_index_or rs i d))
 

@@ -24,7 +24,7 @@ pub record IsBounded (slots : List (Option Overlay)) (order : List ℕ) (bounds 
   pub room : length order ≤ length bounds * BLOCK
   pub holds : (place number : ℕ) (b : Bounds) → slice_get order place ≡ Some number → slice_get bounds (place / BLOCK) ≡ Some b → SlotHolds b (overlay_at slots number)
 
--- the same of the numbers before a place alone
+-- bounds that hold of the numbers before a place alone
 pub record IsBoundedTo (place : ℕ) (slots : List (Option Overlay)) (order : List ℕ) (bounds : List Bounds) : Type 0 where
   pub room : place ≤ length bounds * BLOCK
   pub holds : (k number : ℕ) (b : Bounds) → k < place → slice_get order k ≡ Some number → slice_get bounds (k / BLOCK) ≡ Some b → SlotHolds b (overlay_at slots number)

@@ -54,7 +54,7 @@ abbrev pub Answers : Result ⊤ OverlayFault → Option OverlayFault → List (O
 Answers (Ok _) fault old new changed = (fault ≡ None) × (new ≡ changed)
 Answers (Err cause) fault old new changed = (fault ≡ Some cause) × (new ≡ old)
 
--- the same of a call that may find no memory
+-- what a call answers and leaves that may find no memory too, and then changes nothing
 abbrev pub Moves : Result ⊤ OverlayFault → Option OverlayFault → List (Option Overlay) → List (Option Overlay) → List (Option Overlay) → Type 0
 Moves (Err Memory) fault old new changed = new ≡ old
 Moves result fault old new changed = Answers result fault old new changed
@@ -109,7 +109,7 @@ abbrev pub placed : Rank → List Rank → List Rank
 placed rank [] = rank ∷ []
 placed rank (r ∷ rs) = if precedes r rank then r ∷ placed rank rs else rank ∷ r ∷ rs
 
--- the same where an overlay stands at a number and passes a test
+-- ranks with that of the overlay of a number, where it lives and passes a test
 abbrev pub with_slot : (Overlay → Bool) → ℕ → Option Overlay → List Rank → List Rank
 with_slot test number None ranks = ranks
 with_slot test number (Some overlay) ranks =
@@ -141,7 +141,7 @@ abbrev pub closer : Way → ℕ → ℕ → ℕ
 closer Next x y = min x y
 closer Last x y = max x y
 
--- the same where they may be missing
+-- the nearer of two places on the way, where either may be missing
 abbrev pub nearer : Way → Option ℕ → Option ℕ → Option ℕ
 nearer way None b = b
 nearer way (Some x) None = Some x

@@ -57,10 +57,10 @@ impl Overlays {
         let _slots = &self.slots;
     }
 
-    /// Makes an overlay without values from `from` to `to - 1`, and answers its number, which is the count of those made so far.
-    /// The first of these faults counts: OutOfRange, where the start stands behind the end; TooMany, where 65,536 overlays were
-    /// made. Costs one step, and now and then the making of the blocks: the number of the overlays times its logarithm, which
-    /// comes to some hundred steps for each that is made. It takes memory for this; where there is none nothing changes.
+    /// Makes an overlay without values from `from` to `to - 1`, and answers its number, which is the count of those made so far. The first
+    /// of these faults counts: OutOfRange, where the start stands behind the end; TooMany, where 65,536 overlays were made. The cost is
+    /// constant, and now and then that of making the blocks: the number of the overlays times its logarithm, which comes to looking at some
+    /// hundred numbers for each that is made. It takes memory for this; where there is none nothing changes.
     pub fn make(
         &mut self,
         from: Pos,
@@ -107,7 +107,7 @@ impl Overlays {
     }
 
     /// Takes an overlay away; its number is never used again. NoOverlay comes exactly where no such overlay lives.
-    /// Costs one step.
+    /// The cost is constant.
     pub fn drop_one(&mut self, number: u32) -> Result<(), OverlayFault>
         ensures { Answers result (number_fault self.old number) self.old self.new (dropped self.old number) }
     {
@@ -117,7 +117,7 @@ impl Overlays {
     }
 
     /// Gives an overlay a value of a kind, or takes it away where `value` is None. NoOverlay comes exactly where no
-    /// such overlay lives. Costs one step.
+    /// such overlay lives. The cost is constant.
     pub fn set(&mut self, number: u32, kind: Kind, value: Option<u32>) -> Result<(), OverlayFault>
         ensures { Answers result (number_fault self.old number) self.old self.new (given self.old number kind value) }
     {
@@ -126,7 +126,7 @@ impl Overlays {
         Ok(())
     }
 
-    /// The overlay of a number with it. NoOverlay comes exactly where it does not live. Costs one step.
+    /// The overlay of a number with it. NoOverlay comes exactly where it does not live. The cost is constant.
     pub fn find(&self, number: u32) -> Result<Living, OverlayFault>
         ensures { MatchResult result (λ living. (living.number ≡ number) × IsLiving self.now living) (λ fault. (fault ≡ NoOverlay) × (overlay_at self.now number ≡ None)) }
     {
@@ -169,7 +169,7 @@ impl Overlays {
         self.slots.put(living.number, Some(overlay));
     }
 
-    /// The overlay of a number, and None exactly where it does not live. Costs one step.
+    /// The overlay of a number, and None exactly where it does not live. The cost is constant.
     pub fn get(&self, number: u32) -> Option<&Overlay>
         ensures { MatchOption result (overlay_at self.now number ≡ None) (λ overlay. overlay_at self.now number ≡ Some overlay.now) }
     {

@@ -3,7 +3,7 @@ use Rattle.std.proofs.Common.{◌≡◌, ℕ, suc, ◌+◌, ◌-◌, ◌<◌, �
 use Rattle.std.specs.Prelude.{slice_range}
 use Rattle.std.specs.Option.{option_or}
 use Rattle.std.proofs.lemmas.List.{drop_more}
-use Rattle.rd_base.specs.Classes.{strong_level, depth_after, first_strong}
+use Rattle.rd_base.specs.Classes.{p2_p3_strong_level, p2_depth_after, p2_p3_first_strong}
 use Rattle.rd_base.specs.declared.class.Class.{Class}
 use Rattle.rd_ucd.specs.declared.spans.Span.{Span}
 use Rattle.rd_ucd.specs.Lookup.{class_of}
@@ -22,11 +22,11 @@ range_first xs p to first order last =
 -- what a line decides from a character on, by that character and the rest
 pub level-step : (classes : List Span) (xs : List ℕ) (p to x depth deeper : ℕ) (class : Class) (own whole : Option ℕ)
     → 1 ≤ p → p < to → to ≤ length xs + 1 → x ≡ get_or xs (p - 1) 0 → class ≡ class_of classes x
-    → own ≡ strong_level depth class → deeper ≡ depth_after depth class
-    → first_strong depth (map (class_of classes) (slice_range xs (p - 1) (to - 1))) ≡ whole
-    → option_or own (first_strong deeper (map (class_of classes) (slice_range xs (p + 1 - 1) (to - 1)))) ≡ whole
+    → own ≡ p2_p3_strong_level depth class → deeper ≡ p2_depth_after depth class
+    → p2_p3_first_strong depth (map (class_of classes) (slice_range xs (p - 1) (to - 1))) ≡ whole
+    → option_or own (p2_p3_first_strong deeper (map (class_of classes) (slice_range xs (p + 1 - 1) (to - 1)))) ≡ whole
 level-step classes xs p to x depth deeper class own whole first order last at is decides next same =
     let rest = map (class_of classes) (slice_range xs (p + 1 - 1) (to - 1)) in
-    ap₂ (λ (o : Option ℕ) (n : ℕ). option_or o (first_strong n rest)) decides next
-    ∙ ap (λ (c : Class). first_strong depth (c ∷ rest)) (is ∙ ap (class_of classes) at)
-    ∙ ap (λ (ys : List ℕ). first_strong depth (map (class_of classes) ys)) (sym (range_first xs p to first order last)) ∙ same
+    ap₂ (λ (o : Option ℕ) (n : ℕ). option_or o (p2_p3_first_strong n rest)) decides next
+    ∙ ap (λ (c : Class). p2_p3_first_strong depth (c ∷ rest)) (is ∙ ap (class_of classes) at)
+    ∙ ap (λ (ys : List ℕ). p2_p3_first_strong depth (map (class_of classes) ys)) (sym (range_first xs p to first order last)) ∙ same

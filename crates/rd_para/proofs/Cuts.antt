@@ -72,7 +72,7 @@ decided_from classes line lines pieces blank level cut is found =
     ap (decided classes) cut ∙ ap (λ (v : Bool). if v then None else option_or (p2_p3_level_of_line classes line) (decided classes lines)) is
     ∙ ap (λ (o : Option ℕ). if blank then None else option_or o (decided classes lines)) (sym found)
 
--- there is a first line
+-- a text from a cut on has a first line
 pub some_line : (t : TextValue) (from to : ℕ) → IsCut t from to → (lines : List (List ℕ)) × (slice_split is_newline (between t from t.end) ≡ between t from to ∷ lines)
 some_line t from to cut = elim (cases_lt to t.end) [
   | inl less ↦ (slice_split is_newline (between t (to + 1) t.end), cut.more less)

@@ -3,7 +3,7 @@
 use Rattle.std.specs.Prelude.{ℕ, ◌+◌, ◌-◌, Bool, false, not, ◌||◌, max, if◌then◌else◌, List, [], ◌∷◌, ◌++◌, length, map, replicate, slice_index, Option, None, unwrap_or}
 use Rattle.std.specs.List.{slice_split}
 use Rattle.std.specs.Option.{option_or}
-use Rattle.rd_base.specs.Classes.{first_strong}
+use Rattle.rd_base.specs.Classes.{p2_p3_first_strong}
 use Rattle.rd_base.specs.declared.settings.Direction.{Direction}
 use Rattle.rd_base.specs.declared.settings.Direction.TheVariants.{Auto, Left, Right}
 use Rattle.rd_text.specs.Texts.{TextValue, between, is_newline, is_separator, next_newline, prev_ink}
@@ -12,7 +12,7 @@ use Rattle.rd_ucd.specs.Lookup.{class_of}
 
 -- the level that rules P2 and P3 find in a line
 abbrev pub p2_p3_level_of_line : List Span → List ℕ → Option ℕ
-p2_p3_level_of_line classes line = first_strong 0 (map (class_of classes) line)
+p2_p3_level_of_line classes line = p2_p3_first_strong 0 (map (class_of classes) line)
 
 -- the level that the first deciding line of a paragraph gives, from its first line on
 abbrev pub decided : List Span → List (List ℕ) → Option ℕ

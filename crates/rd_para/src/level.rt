@@ -11,10 +11,9 @@ use rd_base::{Direction, Pos};
 use rd_text::Buffer;
 use rd_ucd::Classes;
 
-/// The base level at an accessible position or the accessible end, with reordering on: 0 where the direction is to the right
-/// from the left edge, 1 where it is the other way, and where the text decides by the paragraph of the position's line. A
-/// line of only spaces, tabs and form feeds separates paragraphs and has the level of the line before, else 0. The first line
-/// of a paragraph in which UAX 9 P2 finds a strong character gives its level (P3), else it is 0.
+/// The base level at an accessible position or the accessible end, with reordering on: `Left` gives 0, `Right` 1, and `Auto` goes by the
+/// paragraph of the position's line. A line of only spaces, tabs and form feeds separates paragraphs and has the level of the line before,
+/// else 0. The first line of a paragraph in which UAX 9 P2 finds a strong character gives its level (P3), else it is 0.
 ///
 /// Where the text decides, the way back to the paragraph's start passes over stretches of the text, and then the paragraph is
 /// read from there up to its first strong character; else the cost is constant. It takes no memory.

@@ -29,10 +29,10 @@ pub fn p2_p3_level_of_line(text: &Buffer, classes: &Classes, from: Pos, to: Pos)
     let mut depth = 0;
     while pos < to {
         let class = classes.class(char_at(text, pos));
-        if let Some(level) = class.strong_level(depth) {
+        if let Some(level) = class.p2_p3_strong_level(depth) {
             return Some(level);
         }
-        depth = class.depth_after(depth);
+        depth = class.p2_depth_after(depth);
         pos += 1;
     }
     None

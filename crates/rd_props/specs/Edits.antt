@@ -11,11 +11,11 @@ use Rattle.rd_props.specs.Buffers.{BufferValue}
 abbrev pub opened : (ℕ → ℕ → Option ℕ) → ℕ → ℕ → ℕ → ℕ → Option ℕ
 opened values place n kind p = values_opened (values kind) place n p
 
--- the same after the positions from one to another, that one not included, were taken away
+-- the values of each kind after the positions from one to another, that one not included, were taken away
 abbrev pub closed : (ℕ → ℕ → Option ℕ) → ℕ → ℕ → ℕ → ℕ → Option ℕ
 closed values from to kind p = values_closed (values kind) from to p
 
--- the same after those of one kind were given a value from one position up to another
+-- the values of each kind after those of one kind were given a value from one position up to another
 abbrev pub put_on : (ℕ → ℕ → Option ℕ) → Kind → ℕ → ℕ → Option ℕ → ℕ → ℕ → Option ℕ
 put_on values chosen from to value kind p = if kind == place_of chosen then values_put (values kind) from to value p else values kind p
 

@@ -23,7 +23,7 @@ abbrev pub value_of : Kind → Option Overlay → Option ℕ
 value_of kind None = None
 value_of kind (Some overlay) = get_or overlay.values (place_of kind) None
 
--- the same of the overlay of a number
+-- the value of a kind that the overlay of a number has
 abbrev pub overlay_value : List (Option Overlay) → Kind → ℕ → Option ℕ
 overlay_value slots kind number = value_of kind (overlay_at slots number)
 

@@ -34,7 +34,7 @@ fn add_both(strings: &mut ListOf<u32>, overlay: &Overlay) -> Result<(), Memory>
     strings.push_some(overlay.values[Kind::After as usize])
 }
 
-/// Adds what one overlay puts at such a place.
+/// Adds the strings that an overlay puts at a place.
 fn add_strings_put(
     strings: &mut ListOf<u32>,
     place: StringPlace,

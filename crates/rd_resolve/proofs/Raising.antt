@@ -3,7 +3,7 @@ use Rattle.std.proofs.Common.{◌≡◌, ℕ, ◌+◌, ◌<◌, ◌≤◌, true,
 use Rattle.std.proofs.lemmas.List.{take_more_set, get_or-drop, append_assoc}
 use Rattle.std.proofs.lemmas.Option.{get_or_from_slice_get}
 use Rattle.rd_base.proofs.Lists.{drop-at}
-use Rattle.rd_base.specs.Classes.{is_removed}
+use Rattle.rd_base.specs.Classes.{x9_is_removed}
 use Rattle.rd_base.specs.declared.limits.TheConstants.{MAX_DEPTH}
 use Rattle.rd_base.specs.declared.class.Class.{Class}
 use Rattle.rd_resolve.specs.Implicit.{raised, i1_i2, kept}
@@ -17,9 +17,9 @@ bounded xs ys i r all same within read =
     let e : r ≡ get_or ys i 0 = sym (get_or_from_slice_get xs i r 0 read) ∙ sym (front xs i) ∙ ap (λ zs. get_or zs 0 0) same ∙ front ys i in
     omega arith
 
-kept-step : (before own : ℕ) (c : Class) (cs : List Class) (ls : List ℕ) (v : ℕ) → v ≡ (if is_removed c then before else own)
+kept-step : (before own : ℕ) (c : Class) (cs : List Class) (ls : List ℕ) (v : ℕ) → v ≡ (if x9_is_removed c then before else own)
     → kept before (c ∷ cs) (own ∷ ls) ≡ v ∷ kept v cs ls
-kept-step before own c cs ls v e = rw e (elim (is_removed c) as (λ b. (if b then before ∷ kept before cs ls else own ∷ kept own cs ls) ≡ (if b then before else own) ∷ kept (if b then before else own) cs ls) [
+kept-step before own c cs ls v e = rw e (elim (x9_is_removed c) as (λ b. (if b then before ∷ kept before cs ls else own ∷ kept own cs ls) ≡ (if b then before else own) ∷ kept (if b then before else own) cs ls) [
   | true ↦ refl
   | false ↦ refl
 ])
@@ -27,7 +27,7 @@ kept-step before own c cs ls v e = rw e (elim (is_removed c) as (λ b. (if b the
 pub raise-step : (before v i : ℕ) (cs ts : List Class) (ls all : List ℕ) (c t : Class) (l : ℕ)
     → i < length cs → length ts ≡ length cs → length ls ≡ length cs
     → slice_get cs i ≡ Some c → slice_get ts i ≡ Some t → slice_get ls i ≡ Some l
-    → v ≡ (if is_removed c then before else raised l t)
+    → v ≡ (if x9_is_removed c then before else raised l t)
     → take i ls ++ kept before (drop i cs) (i1_i2 (drop i ts) (drop i ls)) ≡ all
     → take (i + 1) (set ls i v) ++ kept v (drop (i + 1) cs) (i1_i2 (drop (i + 1) ts) (drop (i + 1) ls)) ≡ all
 raise-step before v i cs ts ls all c t l within same_ts same_ls read_c read_t read_l e h =

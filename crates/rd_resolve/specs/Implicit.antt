@@ -1,6 +1,6 @@
 -- The implicit levels (UAX 9, rules I1 and I2), the levels of what X9 took out, and rule L1, each a pass over a whole line.
 use Rattle.std.specs.Prelude.{ℕ, ◌+◌, ◌%◌, ◌==◌, Bool, true, false, ◌&&◌, ◌||◌, if◌then◌else◌, List, [], ◌∷◌}
-use Rattle.rd_base.specs.Classes.{is_removed, is_initiator}
+use Rattle.rd_base.specs.Classes.{x9_is_removed, is_initiator}
 use Rattle.rd_base.specs.declared.class.Class.{Class}
 use Rattle.rd_base.specs.declared.class.Class.TheVariants.{L, R, EN, AN, B, S, WS, PDI}
 
@@ -33,7 +33,7 @@ i1_i2 (c ∷ cs) (l ∷ ls) = raised l c ∷ i1_i2 cs ls
 abbrev pub kept : ℕ → List Class → List ℕ → List ℕ
 kept before [] ls = ls
 kept before (c ∷ cs) [] = []
-kept before (c ∷ cs) (l ∷ ls) = if is_removed c then before ∷ kept before cs ls else l ∷ kept l cs ls
+kept before (c ∷ cs) (l ∷ ls) = if x9_is_removed c then before ∷ kept before cs ls else l ∷ kept l cs ls
 
 -- for L1, what ends a segment or a paragraph
 abbrev pub is_separator : Class → Bool
@@ -45,7 +45,7 @@ is_separator c = false
 abbrev pub is_white : Class → Bool
 is_white WS = true
 is_white PDI = true
-is_white c = is_initiator c || is_removed c
+is_white c = is_initiator c || x9_is_removed c
 
 -- L1: whether the base is taken by the first of these characters, by their classes: it is a separator, or begins a run of white space
 -- that ends at a separator or at the line's end

@@ -19,7 +19,7 @@ abbrev pub w5_run_of : Class → Bool → Option Bool
 w5_run_of ET ends = Some ends
 w5_run_of c ends = None
 
--- for W5, what is known of that run is so
+-- for W5, what is known of whether EN comes behind the run of ET is right
 abbrev pub RunIs : Option Bool → Before → List Class → Type 0
 RunIs None b cs = Unit {0}
 RunIs (Some ends) b cs = (b.w1_before ≡ ET) × (b.w4_before ≡ ET) × (ends ≡ w5_run_ends b.w2_strong cs)

@@ -30,7 +30,7 @@ fn l1_resets(class: Class, behind: bool) -> bool
     match class {
         Class::S | Class::B => true,
         Class::WS | Class::PDI => behind,
-        _ => behind && (class.is_initiator() || class.is_removed()),
+        _ => behind && (class.is_initiator() || class.x9_is_removed()),
     }
 }
 

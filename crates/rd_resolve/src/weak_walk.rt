@@ -84,7 +84,7 @@ impl Before {
         if let Class::ET = class {
             match self.w5_run {
                 Some(ends) => Some(ends),
-                None => Some(w5_comes_number(self.w2_strong, types, rest)),
+                None => Some(w5_comes_en(self.w2_strong, types, rest)),
             }
         } else {
             None
@@ -161,7 +161,7 @@ fn w4_separators(before: Class, class: Class, next: Class) -> Class
 }
 
 /// For W5, whether the characters at these indexes, behind an ET, are ET after W4 up to an EN.
-fn w5_comes_number(strong: Class, types: &[Class], rest: &[u32]) -> bool
+fn w5_comes_en(strong: Class, types: &[Class], rest: &[u32]) -> bool
     requires { All (λ i. i < length types.now) rest.now }
     ensures { result ≡ w5_run_ends strong (types_at rest.now types.now) }
 {

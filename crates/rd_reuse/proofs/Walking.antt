@@ -170,7 +170,7 @@ module _ {m : SourceValues} {old : List Entry} {c : Change} {shape : ShapeValues
   seen-size : first < length seen
   seen-size = let size = length-numbered block.start 0 (m.rows_of block shape) in let inside = w.inside in omega (arith, size, inside)
 
-  -- and what is left then
+  -- what is still to be laid out behind the block
   left : (laid : List RowValues) → shown_rows laid ≡ m.rows_of block shape
       → shown_entries (grown laid) ++ take (most - length (shown_entries (grown laid))) (all_rows (λ b. m.rows_of b shape) w.after) ≡ take most (drop place (rows_at m shape))
   left laid e =
@@ -258,7 +258,7 @@ module _ {m : SourceValues} {old : List Entry} {c : Change} {shape : ShapeValues
       ∙ (ap (λ bs. shown_entries (grown laid) ++ take (most - length (shown_entries (grown laid))) (all_rows (λ b. m.rows_of b shape) bs)) (sym (none-left w.after 0 (next-first None next)))
       ∙ left laid e))
 
-  -- and with enough rows
+  -- the walk ends with enough rows
   pub enough : most ≤ length rows → shown_entries rows ≡ take most (drop place (rows_at m shape))
   enough high =
       let count = length-map rows shown_entry in

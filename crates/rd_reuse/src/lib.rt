@@ -5,9 +5,8 @@
 //! `try_window_reusing_current_matrix`, where only the start moved.
 //!
 //! What goes in: a source of blocks and their rows, the older rows (`rd_matrix::Matrix`) at one shape, and a `Change`, which says what
-//! stands as it did since then. What comes out: the same rows that the source would give, where the older rows of blocks that did not
-//! change are the source's. Those of a block that did not change are copies of the older ones and cost nothing; a copy counts how often it
-//! was copied.
+//! stands as it did since then. What comes out: the same rows that the source would give, where the older rows of blocks that keep theirs
+//! are the source's. Those of such a block are copies of the older ones and cost nothing; a copy counts how often it was copied.
 //!
 //! 1. `change`: what ends before the head stands as it did, and what starts at the tail or later does too, moved by the positions that were
 //!    added. In Emacs these are `BEG_UNCHANGED` and `END_UNCHANGED` of the buffer. An edit makes such a change, and a later one is joined

@@ -50,7 +50,7 @@ asked m es making on asks =
     let few = line.columns in
     record { sound = All-append IsSound m.held es making.sound line.sound; end = once-before m.held es making.on line.end; columns = omega (arith, sum, few) }
 
--- and the other way round
+-- a line that is left is what a maker asks
 pub asks-again : (m : MakerValues) (es : List Element) → ends_some m.held ≡ false → (m.finished ≡ false → IsLine m.spot.column (m.held ++ es)) → Asks m es
 unfolding columns_held is_finished
 asks-again m es waits line on =

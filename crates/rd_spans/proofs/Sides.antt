@@ -24,7 +24,7 @@ value-decides a b = (λ e. absurd (cc), λ e. absurd (cc))
 value-swap : (a b : Option ℕ) → option_eq nat_eq a b ≡ option_eq nat_eq b a
 value-swap a b = same_from_decides (option_eq nat_eq a b) (option_eq nat_eq b a) (value-decides a b) (Decides-like (option_eq nat_eq b a) (λ e. sym e) (λ e. sym e) (value-decides b a))
 
--- runs and a last one
+-- where runs end with one more behind them
 
 pub reach-push : (k : ℕ) (rs : List ValueRun) (r : ValueRun) → reach k (rs ++ r ∷ []) ≡ r.end
 reach-push k rs r = fold_push _ k rs r
@@ -163,7 +163,7 @@ found-within es i p below within =
 pub size-last : (rs : List ValueRun) (r : ValueRun) → Some r ≡ slice_get rs (length rs - 1) → r.end ≡ size_of rs
 size-last rs r e = sym (size-top rs r (sym (last-read rs) ∙ sym e) 0)
 
--- what is left where the last run is taken
+-- the runs before the last still rise, and end before it
 pub popped-rises : (old rs : List ValueRun) (r : ValueRun) → old ≡ rs ++ r ∷ [] → Rises 0 old → Rises 0 rs × ((size_of rs < r.end) × (size_of old ≡ r.end))
 popped-rises old rs r e h =
     let parts = rises-parts 0 rs r (subst (Rises 0) e h) in
@@ -338,6 +338,6 @@ pub some-value : (o : Option ℕ) → is_some o ≡ true → o ≡ None → ⊥
 some-value None h e = cc
 some-value (Some v) h e = cc
 
--- the gap is where it was to be
+-- after the runs were moved the gap stands at the position, or at the end
 pub gap-moved : (front back a b : List ValueRun) (pos : ℕ) → AreMoved front back a b → size_of a + size_of b ≡ size_of front + size_of back → size_of a ≡ min pos (size_of front + size_of back) → GapMoved front back a b pos
 gap-moved front back a b pos m size gap = record { same = m.same; at = record { front_rises = m.from_rises; back_rises = m.to_rises; gap = omega (arith, gap, size) }; needs = m.needs; size = size }

@@ -39,9 +39,9 @@ impl Spans {
         })
     }
 
-    /// Gives the positions from `from` up to `to`, which is not one of them, a value, or takes theirs away where `value` is None;
-    /// `from` is at most `to`. Where memory is wanting nothing changes. Costs a step for each run between `from` and the place of the
-    /// edit before, and for each that lies in the range.
+    /// Gives the positions from `from` up to `to`, which is not one of them, a value, or takes theirs away where `value` is None; `from` is
+    /// at most `to`. Where memory is wanting nothing changes. It goes over each run between `from` and the place of the edit before, and
+    /// over each that lies in the range.
     pub fn put(&mut self, from: Pos, to: Pos, value: Option<u32>) -> Result<(), Memory>
         requires { from ≤ to }
         ensures ok { OnOk result ((p : ℕ) → value_at self.new p ≡ values_put (value_at self.old) from to value p) }
@@ -83,9 +83,8 @@ impl Spans {
         gap::first_alike(self.front.as_slice(), self.back.as_slice(), pos as u64)
     }
 
-    /// Opens `n` positions without a value at `pos`; what stands at `pos` or later moves on by `n`. Each position with a value, and
-    /// `n` more, is below 2^32. Where memory is wanting nothing changes. Costs a step for each run between `pos` and the place of
-    /// the edit before.
+    /// Opens `n` positions without a value at `pos`; what stands at `pos` or later moves on by `n`. Each position with a value, and `n`
+    /// more, is below 2^32. Where memory is wanting nothing changes. It goes over each run between `pos` and the place of the edit before.
     pub fn inserted(&mut self, pos: Pos, n: u32) -> Result<(), Memory>
         requires { CanMove self.old n }
         ensures ok { OnOk result ((p : ℕ) → value_at self.new p ≡ values_opened (value_at self.old) pos n p) }
@@ -96,9 +95,9 @@ impl Spans {
         Ok(())
     }
 
-    /// Takes the positions from `from` up to `to`, which is not one of them, away; what stands at `to` or later moves back. `from` is
-    /// at most `to`. It takes no memory. Costs a step for each run between `from` and the place of the edit before, and for each that
-    /// lies in the range.
+    /// Takes the positions from `from` up to `to`, which is not one of them, away; what stands at `to` or later moves back. `from` is at
+    /// most `to`. It takes no memory. It goes over each run between `from` and the place of the edit before, and over each that lies in the
+    /// range.
     pub fn deleted(&mut self, from: Pos, to: Pos)
         requires { from ≤ to }
         ensures { (p : ℕ) → value_at self.new p ≡ values_closed (value_at self.old) from to p }

@@ -40,7 +40,7 @@ module _ (C : ℕ → Type 0) (S : Spec → Type 0) (s : Scene) (specs : (number
   pub items-hold : (es : List Seen) → AllByRecursion (λ (e : Seen). IfSome e.character C) es → AllByRecursion (λ (i : Item). IsKind C S i.kind) (items_of s es)
   items-hold = items-each s Holds (λ (i : Item). IsKind C S i.kind) (λ (e : Seen). IfSome e.character C) of-seen grows (λ since x holds. holds)
 
--- whatever is read
+-- nothing is asked of what is read
 pub all-read : (es : List Seen) → AllByRecursion (λ (e : Seen). IfSome e.character (λ c. Unit {0})) es
 all-read [] = tt
 all-read (e ∷ es) = (if-value (λ c. Unit {0}) e.character (λ c is. tt), all-read es)

@@ -37,7 +37,7 @@ ends-append (x ∷ y ∷ ys) e each is = ap₂ (λ a b. not a && b) each.0 (ends
 abbrev pub LastLaw : Type 0
 LastLaw = (entries : List BracketEntry) (reorder : Bool) (base : ℕ) (classes : List Class) (codes : List ℕ) → ComesLast (turns_of entries reorder base (classes ++ B ∷ []) codes) (length classes)
 
--- so does the ender of items
+-- the ender of items comes last
 pub ender-last : LastLaw → (s : Scene) (base : ℕ) (items : List Item) (e : Ended items) → ComesLast (item_turns s base items) (length e.others)
 ender-last law s base items e =
     let fronts = map item_class e.others in

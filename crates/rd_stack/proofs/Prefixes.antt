@@ -15,7 +15,7 @@ one-first : (e : Element) (es : List Element) (ends : Bool) → is_row_end e.loo
 one-first e es true here rest = λ k d inside. absurd (omega arith)
 one-first e es false here rest = All-cons (λ (x : Element). is_row_end x.look ≡ false) e es here rest
 
--- none of them ends a row
+-- no element before the first row end ends a row
 pub of-one-row : (es : List Element) → AreOfOneRow (before_row_end es)
 of-one-row [] = λ k d inside. absurd (omega arith)
 of-one-row (e ∷ es) = one-first e (before_row_end es) (is_row_end e.look) refl (of-one-row es)

@@ -57,6 +57,6 @@ pub record StepsInnermost (step : Step) (few : List Element) (old new : List Fra
   pub is : new ≡ below ++ after ∷ []
   pub takes : IsStep step few (frame_left before) (frame_left after)
 
--- how often frames can still be stepped
+-- a number that falls with each step of the frames
 abbrev pub work : List Frame → ℕ
 work frames = 2 * length (frames_left frames) + length frames

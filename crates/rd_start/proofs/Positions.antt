@@ -14,7 +14,7 @@ use Rattle.rd_start.specs.Chosen.{first_covered, first_positions, positions_of}
 use Rattle.rd_start.proofs.Lists.{all-flat}
 
 module _ (P : ℕ → Type 0) where
-  -- of those that the items of a row cover
+  -- what holds of each position that the items of a row cover
   abbrev pub OfRow : EntryMeaning → Type 0
   OfRow e = All P (positions_of e)
 

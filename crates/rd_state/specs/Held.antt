@@ -1,4 +1,4 @@
--- What the fields of a buffer are seen as, and which numbers of ops have 32 bits.
+-- What contracts see in place of the fields of a buffer, and which numbers of ops have 32 bits.
 use Rattle.std.specs.Prelude.{ℕ, ◌<◌, IfSome, if◌then◌else◌, min}
 use Rattle.rd_base.specs.declared.limits.TheConstants.{STRINGS}
 use Rattle.rd_objects.specs.Things.{is_inside}

@@ -123,7 +123,7 @@ impl Screen {
     }
 }
 
-/// So many of the blank cells of the widest row.
+/// The first `columns` of a row of blanks that is as wide as a row can be.
 pub fn first_blanks(blanks: &[Cell], columns: u32) -> &[Cell]
     requires blanks { blanks.now ≡ blank_row FRAME_COLUMNS }
     requires columns { columns ≤ FRAME_COLUMNS }

@@ -10,7 +10,7 @@ use Rattle.rd_text.specs.Pieces.{IsOpening}
 use Rattle.rd_text.proofs.Summaries.{separated-append}
 use Rattle.rd_text.proofs.Ranges.{IsLastPiece, range_split}
 
--- it does stop where there is such a place
+-- a search back along lines that did not stop met no line of blanks alone
 pub some_opening : (codes : List ℕ) (opened : Bool) → (separated codes || (closes codes && opened)) ≡ true
     → ((rest : List ℕ) → opens rest ≡ opened → separated rest ≡ false → separated (codes ++ rest) ≡ false) → false ≡ true
 some_opening codes true some none =

@@ -38,13 +38,13 @@ separated-append (c ∷ cs) ys =
     ∙ ap (λ b. (is_newline c && (opens cs || (list_all is_blank cs && opens ys))) || b) (separated-append cs ys)
     ∙ joined_gap (is_newline c) (opens cs) (list_all is_blank cs) (opens ys) (separated cs) (closes cs) (separated ys)
 
--- what is seen nowhere
+-- where no element of a list passes a test, none at any place does
 pub none_seen : (p : ℕ → Bool) (xs : List ℕ) (k : ℕ) → list_any p xs ≡ false → k < length xs → p (get_or xs k 0) ≡ false
 none_seen p [] k e less = absurd (omega arith)
 none_seen p (x ∷ xs) zero e less = (or_parts (p x) (list_any p xs) e).0
 none_seen p (x ∷ xs) (suc k) e less = none_seen p xs k (or_parts (p x) (list_any p xs) e).1 (omega arith)
 
--- so a search passes over them
+-- a search passes over a list of which no element passes
 pub prefix_passes : (p : ℕ → Bool) (xs : List ℕ) → ((k : ℕ) → k < length xs → p (get_or xs k 0) ≡ false) → length xs ≡ position_or_len p xs
 prefix_passes p xs fails = sym (position_or_len_is p xs (length xs) 0 (omega arith) fails (λ h. absurd (omega arith)))
 
@@ -53,7 +53,7 @@ suffix_passes p xs fails =
     let e = suffix_len_is (λ c. not (p c)) xs 0 0 (omega arith) (λ k low less. ap not (fails k less)) (λ h. absurd (omega arith)) in
     sym (e ∙ (let z : length xs - 0 ≡ length xs = omega arith in z))
 
--- nor is there a place
+-- where a search finds no place, it passed over the whole list
 pub prefix_absent : (p : ℕ → Bool) (xs : List ℕ) → None ≡ position p xs → length xs ≡ position_or_len p xs
 prefix_absent p xs e =
     let past = ltb-false (position_or_len p xs) (length xs) (none-chosen (ltb (position_or_len p xs) (length xs)) (position_or_len p xs) None (sym e)).0 in

@@ -130,8 +130,7 @@ impl GapText {
         }
     }
 
-    /// Copies the codes from one place up to another to the places from a third one on, and counts the stretches from one number to
-    /// another, that one not included, anew.
+    /// Copies the codes at `from` to `to - 1` to the places from `place` on, and counts the stretches `first` to `last - 1` anew.
     fn copy(&mut self, from: usize, to: usize, place: usize, first: usize, last: usize)
         requires order { from ≤ to }
         requires within { to ≤ length self.old.codes.items }

@@ -92,7 +92,7 @@ impl GapText {
         at
     }
 
-    /// The part of the text around an index that lies together in memory, from another index on and up to a third one at most.
+    /// The part of the text around `at` that lies together in memory, within `from` to `to - 1`.
     fn piece_at(&self, at: usize, from: usize, to: usize) -> Piece<'_>
         requires right { IsGapText self.now }
         requires first { from ≤ at }
@@ -117,7 +117,7 @@ impl GapText {
     }
 }
 
-/// The codes in the stretch of a place, from another place on and before a third one.
+/// The codes of the stretch in which `at` lies, within `from` to `to - 1`.
 fn around<'a>(
     codes: &'a [u32],
     stretches: &[Stretch],

@@ -60,7 +60,7 @@ apart-found (p ∷ ps) (suc i) window apart e =
       | inr other ↦ placed-there window.number p ps other ∙ found
     ]
 
--- so is each of a tree
+-- each window of a tree is found by its number
 pub listed_found : (windows : Windows) (rect : Rect) → ((n : ℕ) → times n windows ≤ 1) → (i : ℕ) (window : Placed) → slice_get (placed windows rect) i ≡ Some window → window_at window.number windows rect ≡ Some window
 listed_found windows rect once i window e = apart-found (placed windows rect) i window (placed-apart windows rect once) e
 

@@ -228,7 +228,7 @@ stands_listed (Split side size first second) rect i window h e =
       | inr p ↦ stands_further window b rect (stands_listed second b p.0 window h.1 p.1) (parts_within side size first second rect h).1
     ]
 
--- and each that is found
+-- a window that is found stands in the rectangle
 pub stands_in : (number : ℕ) (windows : Windows) (rect : Rect) (window : Placed) → HasRoom windows rect → window_at number windows rect ≡ Some window → StandsIn window rect
 stands_in number windows rect window h e =
     let found = found-passes (λ (p : Placed). p.number == number) (placed windows rect) window e in stands_listed windows rect found.1 window h found.2

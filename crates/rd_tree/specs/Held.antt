@@ -1,4 +1,4 @@
--- What the fields of a tree are seen as.
+-- What contracts see in place of the fields of a tree.
 use Rattle.rd_tree.specs.declared.tree.Tree.TheInside.{Inside}
 use Rattle.rd_tree.specs.Calls.{Configuration}
 use Rattle.rd_tree.specs.Shapes.{shape}

@@ -34,7 +34,7 @@ module _ {E : Type 0} (first last : E → ℕ) (es : List E) (code below : ℕ) 
       (λ _. inside (first (get_or es below d)) (last (get_or es below d)) code from ends))
       ∙ slice_get-get_or es below d within)
 
-  -- else none does
+  -- where the next entry begins behind the code, no entry covers it
   pub entry_in-miss : ((d : E) → below < length es → code < first (get_or es below d)) → entry_in first last es code ≡ None
   entry_in-miss from =
       find-none _ es

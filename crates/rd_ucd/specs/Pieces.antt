@@ -10,7 +10,7 @@ uncommented line = slice_index_or (slice_split (λ b. b == 35) line) 0 []
 abbrev pub is_blank : ℕ → Bool
 is_blank b = (b == 32) || (b == 9)
 
--- without the blanks at the beginning, at the end, and at both
+-- bytes without the spaces and tabs at their beginning, at their end, and at both
 abbrev pub trimmed_front : List ℕ → List ℕ
 trimmed_front bs = drop (prefix_len is_blank bs) bs
 

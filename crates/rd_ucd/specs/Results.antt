@@ -3,7 +3,7 @@ use Rattle.std.specs.Prelude.{◌≡◌, List, ◌++◌, Result, Ok, Err}
 use Rattle.rd_ucd.specs.declared.fault.UcdFault.{UcdFault}
 use Rattle.rd_ucd.specs.declared.fault.UcdFault.TheVariants.{Memory}
 
--- the same with other values in front, where it is no fault
+-- a result with these values before its own; a fault stays
 abbrev pub behind : {T : Type 0} → List T → Result (List T) UcdFault → Result (List T) UcdFault
 behind values (Ok more) = Ok (values ++ more)
 behind values (Err fault) = Err fault

@@ -114,7 +114,7 @@ fn span(opened: Option<Opened>, entry: DataEntry) -> Option<Span>
     })
 }
 
-/// What an entry leaves to be closed.
+/// The range that an entry opens, where it is the first of one.
 fn opened(number: u64, entry: DataEntry) -> Option<Opened>
     ensures { result ≡ opened_by entry.kind number entry }
 {

@@ -78,7 +78,7 @@ module _ (s : BufferValue) (objects : ObjectLists) (files : Data) (b : Block) (t
 
 -- the blocks of a text
 module _ (s : BufferValue) (objects : ObjectLists) (files : Data) (are : AreTiled s) where
-  -- what each covers
+  -- the ranges of blocks
   abbrev pub covered : List (ℕ × ℕ) → List Range
   covered bs = map (λ (b : ℕ × ℕ). record { from = b.0; to = b.1 }) bs
 

@@ -1,6 +1,6 @@
 //! Which position a cell of a window shows, and in which cell a position is shown; and motion from item to item in visual order.
 //!
-//! In Emacs these are `buffer_posn_from_coords` and `pos_visible_p` (xdisp.c), and `move-point-visually`. The rules are in
+//! In Emacs these are `buffer_posn_from_coords` (dispnew.c), `pos_visible_p` and `move-point-visually` (xdisp.c). The rules are in
 //! docs/RULES.md, "Hits and motion".
 #![tactic(auto)]
 

@@ -80,7 +80,7 @@ module _ {m : SourceValues} {shape : ShapeValues} (w : Wanted) (source : IsSourc
       let few = few-whole m shape w.point source is in
       (one-position (begins_item w.point) rows (i + place.0) found.0 (omega (arith, less, few)) there begins, low, slice_get_within rows (i + place.0) found.0 there)
 
-  -- and where it does not
+  -- where a view does not show point
   pub point-hidden : (i height : ℕ) → IsWithin w.point m.blocks → cursor_in w.point (take height (drop i (rows_at m shape))) ≡ None
       → i ≤ (places_of m shape w).point → (places_of m shape w).point < i + height → false ≡ true
   point-hidden i height within at low high =

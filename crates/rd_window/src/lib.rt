@@ -12,7 +12,7 @@
 //!    copied. In Emacs this is `try_cursor_movement`.
 //! 2. `again`: else the rows of the last layout may be kept if they have the window's shape; a window of another shape keeps none.
 //! 3. `window`: the source is put behind two others. `remembered` lays each block out once, though both of the next steps ask for its rows;
-//!    `rd_reuse::Kept` copies the rows of blocks that did not change.
+//!    `rd_reuse::Kept` copies the rows of blocks that keep theirs.
 //! 4. `rd_start::choose` chooses the start and the point.
 //! 5. `rd_reuse::relay` takes the rows in view from there on. They are the new layout, since which nothing changed.
 //! 6. `window`: whether the text's first row and its last one are in view is noted, for step 1 of the next redisplay and for the mode line.

@@ -1,5 +1,5 @@
 use Rattle.std.proofs.Common.{◌≡◌, ◌+◌, ◌-◌, ◌≤◌, map}
-use Rattle.rd_base.specs.Classes.{first_strong}
+use Rattle.rd_base.specs.Classes.{p2_p3_first_strong}
 use Rattle.rd_text.specs.Texts.{between}
 use Rattle.rd_ucd.specs.Lookup.{class_of}
 use Rattle.rd_para.specs.Paragraphs.{p2_p3_level_of_line}
@@ -10,7 +10,7 @@ invariant-loop-pos l = record {
   from : l.from ≤ l.pos;
   to : l.pos ≤ l.to;
   depth : l.depth + l.from ≤ l.pos;
-  rest : first_strong l.depth (map (class_of l.classes) (between l.text l.pos l.to)) ≡ p2_p3_level_of_line l.classes (between l.text l.from l.to);
+  rest : p2_p3_first_strong l.depth (map (class_of l.classes) (between l.text l.pos l.to)) ≡ p2_p3_level_of_line l.classes (between l.text l.from l.to);
 }
 
 abbrev pub decreases-loop-pos : goal.decreases-loop-pos

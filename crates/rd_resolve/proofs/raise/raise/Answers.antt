@@ -1,6 +1,6 @@
 use Rattle.std.proofs.Common.{◌≡◌, ◌<◌, ◌+◌, if◌then◌else◌, length, drop, set, refl, ap, ◌∙◌, arith}
 use Rattle.rd_base.proofs.Lists.{drop-next}
-use Rattle.rd_base.specs.Classes.{is_removed}
+use Rattle.rd_base.specs.Classes.{x9_is_removed}
 use Rattle.rd_resolve.specs.Implicit.{raised}
 use Rattle.rd_resolve.proofs.Raising.{bounded, raise-step}
 use Rattle.rd_resolve.proofs.raise.raise.Goals as goal
@@ -22,8 +22,8 @@ loop-i-preserved c =
     let inv = c.loop-i.invariant in
     let new = c.set_level.ensures in
     let within : i < length line.classes = omega (arith, c.loop-i-test.true, c.len-i-end.ensures, ap length inv.keeps.classes) in
-    let given : v ≡ (if is_removed c.at-in-loop-i-2.result then c.loop-i.before else raised c.at.result c.at-in-loop-i.result) =
-    c.level_behind-before.ensures ∙ ap (λ own. if is_removed c.at-in-loop-i-2.result then c.loop-i.before else own) c.raised-own.ensures in
+    let given : v ≡ (if x9_is_removed c.at-in-loop-i-2.result then c.loop-i.before else raised c.at.result c.at-in-loop-i.result) =
+    c.level_behind-before.ensures ∙ ap (λ own. if x9_is_removed c.at-in-loop-i-2.result then c.loop-i.before else own) c.raised-own.ensures in
     let left : drop (i + 1) (set line.levels i v) ≡ drop (i + 1) old.levels = drop-next line.levels old.levels i v inv.left in
     let behind : drop (i + 1) (set line.levels i v) ≡ drop (i + 1) line.levels = drop-next line.levels line.levels i v refl in
     let step = raise-step c.loop-i.before v i line.classes line.types line.levels _ c.at-in-loop-i-2.result c.at-in-loop-i.result c.at.result

@@ -6,14 +6,14 @@ use Rattle.rd_explicit.specs.Links.{beginning, without_beginning}
 use Rattle.rd_explicit.proofs.Joining.{joins-removed, joins-item, follows-within, beginning-within, leads-on, below-end}
 use Rattle.rd_explicit.proofs.links.Links.step.Goals as goal
 
-pub returns-then-is_removed-clause-joins : goal.returns-then-is_removed-clause-joins
-returns-then-is_removed-clause-joins c =
+pub returns-then-x9_is_removed-clause-joins : goal.returns-then-x9_is_removed-clause-joins
+returns-then-x9_is_removed-clause-joins c =
     let line = c.args.line.now in
     let rest = c.bd9_partner.ensures.rest in
     joins-removed line.base c.args.i line.classes line.levels c.at-class.result c.at-level.result c.args.self.now _
     c.requires.within line.same_levels c.at-class.ensures c.at-level.ensures c.requires.links c.requires.begins c.requires.joins
     (c.in_ok-partner.ensures.pdis (drop (c.args.i + 1) line.classes) c.requires.joins.pdis)
-    (sym c.is_removed.ensures ∙ c.if-is_removed.true) rest.links (c.set.ensures ∙ ap (λ bs. set bs c.args.i false) rest.begins) rest.first
+    (sym c.x9_is_removed.ensures ∙ c.if-x9_is_removed.true) rest.links (c.set.ensures ∙ ap (λ bs. set bs c.args.i false) rest.begins) rest.first
 
 pub join-next-requires : goal.join-next-requires
 join-next-requires c =
@@ -50,7 +50,7 @@ returns-clause-joins c =
     joins-item line.base c.args.i line.classes line.levels c.at-class.result l c.args.self.now _
     c.requires.within line.same_levels c.at-class.ensures c.at-level.ensures c.requires.links c.requires.begins c.requires.joins
     (c.join-next.ensures.pdis ∙ c.in_ok-partner.ensures.pdis (drop (c.args.i + 1) line.classes) c.requires.joins.pdis)
-    partner f k (sym c.is_removed.ensures ∙ c.if-is_removed.false)
+    partner f k (sym c.x9_is_removed.ensures ∙ c.if-x9_is_removed.false)
     (c.in_ok-partner.ensures.partner (drop (c.args.i + 1) line.classes) c.requires.joins.pdis)
     (c.bd13_follower.ensures ∙ ap (λ o. bd13_follower o l partner) rest.first)
     (c.join-next.ensures.next ∙ ap (beginning f) rest.begins) eos
