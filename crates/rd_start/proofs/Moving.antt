@@ -1,9 +1,8 @@
 -- What is asked of the rows near a window, and what is chosen from them.
 use Rattle.std.proofs.Common.{◌≡◌, ℕ, ◌+◌, ◌-◌, ◌*◌, ◌/◌, ◌<◌, ◌≤◌, inl, inr, Bool, true, false, min, max, List, length, take, drop, Option, None, Some, Result, Ok, Err, refl, sym, ap, subst, subst₂, ◌∙◌, arith}
 use Rattle.std.specs.List.{find}
-use Rattle.std.specs.Option.{option_map, unwrap_or}
-use Rattle.std.specs.Prelude.{IfOk, MatchResult, is_some}
-use Rattle.rd_base.proofs.Choices.{some-of}
+use Rattle.std.specs.Option.{option_map}
+use Rattle.std.specs.Prelude.{IfOk}
 use Rattle.rd_base.specs.declared.memory.Memory.{Memory}
 use Rattle.rd_base.specs.declared.settings.Anchor.{Anchor}
 use Rattle.rd_matrix.specs.Entries.{EntryMeaning, all_rows}
@@ -13,7 +12,7 @@ use Rattle.rd_rows.specs.Shapes.{ShapeValues}
 use Rattle.rd_start.specs.Chosen.{anchor_at, chosen_of, forced_point, places_of, row_of}
 use Rattle.rd_start.specs.Near.{is_near, near_costs}
 use Rattle.rd_start.specs.Starts.{around, centred, following, moved, scrolled, suits}
-use Rattle.rd_start.specs.Strips.{Affords, FindsNear, HasPoint, IsFor, IsLaidOut, IsPaid, IsStrip, IsUnsuited, AsksAt, BeginsAbove, Between, all_costs, centred_chosen, count_in, first_row, home_row, moved_row, point_row, rows_in}
+use Rattle.rd_start.specs.Strips.{Affords, FindsNear, IsFor, IsLaidOut, IsPaid, IsStrip, IsUnsuited, AsksAt, BeginsAbove, Between, all_costs, centred_chosen, count_in, first_row, home_row, moved_row, point_row, rows_in}
 use Rattle.rd_start.specs.declared.strip.Edge.TheVariants.{Bottom, Top}
 use Rattle.rd_start.specs.declared.strip.Strip.{Strip}
 use Rattle.rd_start.specs.declared.strip.Sweep.{Sweep}
@@ -24,8 +23,6 @@ use Rattle.rd_start.proofs.Choosing.{chosen-forced, chosen-free, follows-found, 
 use Rattle.rd_start.proofs.NearRows.{forced-near, moving-near, old-near, point-near, view-near}
 use Rattle.rd_start.proofs.Growth.{affords}
 use Rattle.rd_start.proofs.Reaching.{EdgePays}
-use Rattle.rd_start.proofs.Rows.{find_point}
-use Rattle.rd_start.proofs.Sides.{point-told}
 use Rattle.rd_start.proofs.Suits.{old-is, point-is}
 
 abbrev pub near_of : SourceValues → Sweep → Wanted → ℕ → Bool
@@ -149,21 +146,6 @@ value-centred : (m : SourceValues) (sweep : Sweep) (s : Strip) (w : Wanted) (cho
 value-centred m sweep s w chosen e free follows is =
     is ∙ (ap (λ (x : Sweep). centred_chosen m x.shape w) e ∙ chosen-free m sweep.shape w (centred w (places_of m sweep.shape w)) free follows)
 
--- point's row in a strip that has it
-pub has-found : (m : SourceValues) (s : Strip) → IsStrip m s → is_some (find_point s.strip_rows.items) ≡ true → HasPoint m s
-has-found m s h some =
-    let o = some-of (find_point s.strip_rows.items) some in
-    let place = point-told m s (Some o.0) h o.1 in
-    let inside = place.0 in
-    let here = place.1 in
-    record { strip = h; from = omega arith; to = omega arith }
-
-pub row-found : (m : SourceValues) (s : Strip) (d : ℕ) → HasPoint m s → (unwrap_or (find_point s.strip_rows.items) d < length s.strip_rows.items) × (first_row m s + unwrap_or (find_point s.strip_rows.items) d ≡ point_row m s.sweep)
-row-found m s d h = by (find_point s.strip_rows.items) refl where
-  by : (o : Option ℕ) → find_point s.strip_rows.items ≡ o → (unwrap_or o d < length s.strip_rows.items) × (first_row m s + unwrap_or o d ≡ point_row m s.sweep)
-  by (Some row) found = point-told m s (Some row) h.strip found
-  by None lost = absurd (elim (point-told m s None h.strip lost) [ inl above ↦ omega (arith, above, h.from) | inr below ↦ omega (arith, below.0, h.to) ])
-
 -- sweeps for one point at one shape
 pub points-same : (m : SourceValues) (a b : Sweep) → b.point ≡ a.point → b.shape ≡ a.shape → point_row m b ≡ point_row m a
 points-same m a b e f = ap (λ p. row_of p (rows_at m b.shape)) e ∙ ap (λ (x : ShapeValues). row_of a.point (rows_at m x)) f
@@ -255,20 +237,6 @@ chosen-same m other sweep s w r = subst₂ (λ (y : SourceValues) (z : Sweep). I
 
 pub first-same : (m : SourceValues) (s new : Strip) → new.sweep ≡ s.sweep → new.home ≡ s.home → first_row m new ≡ first_row m s
 first-same m s new e f = ap (λ (x : Sweep). home_row m x - new.home) e ∙ ap (λ n. home_row m s.sweep - n) f
-
--- a strip round point's block
-pub with-point : (r : Result Strip Memory) (m : SourceValues) (old sweep : Sweep) → IfOk r (λ s. IsStrip m s × (s.sweep ≡ sweep)) → IfOk r (λ s. sweep.anchor.pos ≡ sweep.point → HasPoint m s)
-    → sweep.anchor.pos ≡ sweep.point → sweep.point ≡ old.point → sweep.shape ≡ old.shape → IfOk r (λ found. (found.sweep.point ≡ old.point) × (found.sweep.shape ≡ old.shape) × HasPoint m found)
-with-point (Ok s) m old sweep strip has same point shape =
-    (ap (λ (x : Sweep). x.point) strip.1 ∙ point, ap (λ (x : Sweep). x.shape) strip.1 ∙ shape, has same)
-with-point (Err x) m old sweep strip has same point shape = tt
-
-pub paid-again : (kind : ℕ → Bool) (base n more costs : ℕ) (m : SourceValues) (r : Result Strip Memory) → n ≤ base + costs
-    → MatchResult r (λ s. IsPaid kind n m s more) (λ _. more ≤ n + costs) → MatchResult r (λ s. IsPaid kind (base + costs) m s more) (λ _. more ≤ base + 2 * costs)
-paid-again kind base n more costs m (Ok s) low paid =
-    let old = paid.1.paid in
-    (paid.0, record { have = paid.1.have; paid = omega (arith, old, low) })
-paid-again kind base n more costs m (Err x) low paid = omega (arith, paid, low)
 
 abbrev pub CentredPays : SourceValues → Strip → Wanted → ℕ → ℕ → Type 0
 CentredPays m s w n steps = (kind : ℕ → Bool) (base : ℕ) → IsPaid kind base m s n → Between kind (point_row m s.sweep - w.height) (point_row m s.sweep + 1) → steps ≤ base + 2 * all_costs kind m s.sweep

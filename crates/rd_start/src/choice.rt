@@ -5,7 +5,7 @@ ghost use Rattle.rd_matrix.specs.Entries.{all_rows};
 ghost use Rattle.rd_matrix.specs.Sources.{SourceValues, IsSource};
 ghost use Rattle.rd_start.specs.Chosen.{anchor_at, chosen_of, forced_point};
 ghost use Rattle.rd_start.specs.Near.{near_costs};
-ghost use Rattle.rd_start.specs.Strips.{Affords, IsStrip, IsLaidOut, IsUnsuited, IsPaid, Between, HasPoint, Reaches, all_costs, centred_chosen, first_row, point_row, rows_in, window_chosen};
+ghost use Rattle.rd_start.specs.Strips.{Affords, IsStrip, IsLaidOut, IsUnsuited, IsPaid, Between, Reaches, all_costs, centred_chosen, first_row, point_row, rows_in, window_chosen};
 
 use crate::strip::{Edge, PointSide, Strip, Sweep};
 use crate::view::{home_suits, nearest};
@@ -164,48 +164,47 @@ fn centred<B: BlockSource, L: Ledger>(
     ensures stays { B.meaning source.new ≡ B.meaning source.old }
 {
     let wanted = window.wanted;
-    let strip = with_point(alloc, source, window.strip, steps)?;
+    let (strip, row) = with_point(alloc, source, window.strip, steps)?;
     let mut window = Window { wanted, strip };
     let half = wanted.height as usize / 2;
     let home = window.strip.home();
-    let row = row_of_point(&window.strip);
     let above = (home + half).saturating_sub(row);
     window.strip.reach(alloc, source, Edge::Top, above, steps)?;
     let row = row + (window.strip.home() - home);
     Ok(starting_at(&window, row.saturating_sub(half)))
 }
 
-/// The place of point's row in a strip that has it.
-fn row_of_point(strip: &Strip) -> usize
-    ensures { (m : SourceValues) → HasPoint m strip.now → (result < length strip.now.strip_rows.items) × (first_row m strip.now + result ≡ point_row m strip.now.sweep) }
-{
-    strip.point_row().unwrap_or(strip.home())
-}
-
-/// A strip that has point's row: this one, or one round point's block.
+/// A strip that has point's row, and the place of that row: this strip, or one round point's block.
 fn with_point<B: BlockSource, L: Ledger>(
     alloc: Global,
     source: &mut B,
     strip: Strip,
     steps: &mut Steps<L>,
-) -> Result<Strip, Memory>
+) -> Result<(Strip, usize), Memory>
     requires strip { IsStrip (B.meaning source.old) strip }
-    ensures point { IfOk result (λ found. (found.sweep.point ≡ strip.sweep.point) × (found.sweep.shape ≡ strip.sweep.shape) × HasPoint (B.meaning source.old) found) }
+    ensures strip { IfOk result (λ found. IsStrip (B.meaning source.old) found.0
+        × (found.0.sweep.point ≡ strip.sweep.point) × (found.0.sweep.shape ≡ strip.sweep.shape)) }
+    ensures place { IfOk result (λ found. (found.1 < length found.0.strip_rows.items)
+        × (first_row (B.meaning source.old) found.0 + found.1 ≡ point_row (B.meaning source.old) found.0.sweep)) }
     ensures paid { (kind : ℕ → Bool) (base : ℕ) → IsPaid kind base (B.meaning source.old) strip steps.old
         → kind (point_row (B.meaning source.old) strip.sweep) ≡ true
-        → MatchResult result (λ found. IsPaid kind (base + all_costs kind (B.meaning source.old) strip.sweep) (B.meaning source.old) found steps.new)
+        → MatchResult result (λ found. IsPaid kind (base + all_costs kind (B.meaning source.old) strip.sweep) (B.meaning source.old) found.0 steps.new)
         (λ _. steps.new ≤ base + 2 * all_costs kind (B.meaning source.old) strip.sweep) }
     ensures stays { B.meaning source.new ≡ B.meaning source.old }
 {
-    if strip.point_row().is_some() {
-        return Ok(strip);
+    if let Some(row) = strip.point_row() {
+        return Ok((strip, row));
     }
     let sweep = strip.sweep();
     let anchor = Anchor {
         pos: sweep.point,
         row: 0,
     };
-    Strip::around(alloc, source, Sweep { anchor, ..sweep }, steps)
+    let found = Strip::around(alloc, source, Sweep { anchor, ..sweep }, steps)?;
+    match found.point_row() {
+        Some(row) => Ok((found, row)),
+        None => unreachable!(),
+    }
 }
 
 /// The choice of the row at a place of a window's strip; point stays.

@@ -22,16 +22,16 @@ spent g c steps fails = λ kind base paid asks.
     let old = c.args.window.strip.sweep in
     let w = c.args.window.wanted in
     let s = c.in_ok-strip.strip in
-    let row = c.row_of_point-row.result in
+    let row = c.in_ok-strip.row in
     let up = c.saturating_sub-above.result in
-    let found = c.in_ok-strip.ensures.point in
-    let at = c.row_of_point-row.ensures m found.2 in
+    let found = c.in_ok-strip.ensures.strip in
+    let at = c.in_ok-strip.ensures.place in
     let rows : up ≡ s.home + w.height / 2 - row = omega (arith, c.saturating_sub-above.ensures, c.home-home.ensures) in
     let had = c.in_ok-strip.ensures.paid kind base paid (asks (point_row m old) (omega arith) (omega arith)) in
-    let above = asks-above kind m old s w row (w.height / 2) up found.2.strip at.0 at.1 (omega arith) rows found.0 found.1 asks in
+    let above = asks-above kind m old s w row (w.height / 2) up found.0 at.0 at.1 (omega arith) rows found.1 found.2 asks in
     let here = at-source (λ (x : SourceValues). EdgeFails Top x s c.with_point.new.steps steps up) m (g.B.BlockSource.meaning c.with_point.new.source) c.with_point.ensures.stays fails in
     let bound = here kind (base + all_costs kind m old) had above in
-    let costs = costs-same kind m old s.sweep found.1 in
+    let costs = costs-same kind m old s.sweep found.2 in
     omega (arith, bound, costs)
 
 pub returns-in_err-reach-clause-steps : goal.returns-in_err-reach-clause-steps
@@ -47,18 +47,18 @@ returns-clause-value g c =
     let new = c.reach.new.self in
     let w = c.args.window.wanted in
     let half = w.height / 2 in
-    let found = c.in_ok-strip.ensures.point in
-    let row = c.row_of_point-row.result in
-    let at = c.row_of_point-row.ensures m found.2 in
+    let found = c.in_ok-strip.ensures.strip in
+    let row = c.in_ok-strip.row in
+    let at = c.in_ok-strip.ensures.place in
     let up = c.saturating_sub-above.result in
     let rows : up ≡ s.home + half - row = omega (arith, c.saturating_sub-above.ensures, c.home-home.ensures) in
     let strip = at-source (λ (x : SourceValues). IsStrip x new) m other c.with_point.ensures.stays c.in_ok-reach.ensures.strip in
     let begins = subst (λ n. BeginsAbove m new n) rows (at-source (λ (x : SourceValues). BeginsAbove x new up) m other c.with_point.ensures.stays c.in_ok-reach.ensures.reached) in
     let grows = c.in_ok-reach.ensures.grows in
-    let place = centre-place m s new row half found.2.strip strip c.in_ok-reach.ensures.sweep at.0 at.1 grows.0 grows.1 begins in
+    let place = centre-place m s new row half found.0 strip c.in_ok-reach.ensures.sweep at.0 at.1 grows.0 grows.1 begins in
     let start = c.saturating_sub.result in
     let is : start ≡ row + (new.home - s.home) - half = omega (arith, c.saturating_sub.ensures, c.home-home.ensures, c.home.ensures) in
-    value-centre m old.shape s new w start c.starting_at.result c.in_ok-reach.ensures.sweep found.1 (found.0 ∙ c.requires.point)
+    value-centre m old.shape s new w start c.starting_at.result c.in_ok-reach.ensures.sweep found.2 (found.1 ∙ c.requires.point)
     (ap (λ n. first_row m new + n) is ∙ place.1) (c.starting_at.ensures m strip)
 
 pub returns-clause-steps : goal.returns-clause-steps
