@@ -20,7 +20,8 @@ ArePairsBefore place pairs = All (λ p. (p.opening < place) × (p.closing < plac
 
 -- a bracket that opens was added where fewer than 63 stand open, and else not
 abbrev pub IsPushed : Bool → ℕ → ℕ → List Opened → List Opened → Type 0
-IsPushed true place partner old new = (length old < OPEN_BRACKETS) × (reverse new ≡ record { place = place; partner = partner } ∷ reverse old)
+IsPushed true place partner old new =
+    (length old < OPEN_BRACKETS) × (reverse new ≡ record { place = place; partner = partner } ∷ reverse old)
 IsPushed false place partner old new = OPEN_BRACKETS ≤ length old
 
 -- the index of the last of these brackets that a code closes, if there is one
