@@ -188,7 +188,8 @@ fn with_point<B: BlockSource, L: Ledger>(
         × (first_row (B.meaning source.old) found.0 + found.1 ≡ point_row (B.meaning source.old) found.0.sweep)) }
     ensures paid { (kind : ℕ → Bool) (base : ℕ) → IsPaid kind base (B.meaning source.old) strip steps.old
         → kind (point_row (B.meaning source.old) strip.sweep) ≡ true
-        → MatchResult result (λ found. IsPaid kind (base + all_costs kind (B.meaning source.old) strip.sweep) (B.meaning source.old) found.0 steps.new)
+        → MatchResult result
+        (λ found. IsPaid kind (base + all_costs kind (B.meaning source.old) strip.sweep) (B.meaning source.old) found.0 steps.new)
         (λ _. steps.new ≤ base + 2 * all_costs kind (B.meaning source.old) strip.sweep) }
     ensures stays { B.meaning source.new ≡ B.meaning source.old }
 {

@@ -10,7 +10,8 @@ use Rattle.rd_start.proofs.choice.with_point.Goals as goal
 
 pub returns-in-Some-clause-place : goal.returns-in-Some-clause-place
 returns-in-Some-clause-place g c =
-    point-told (g.B.BlockSource.meaning c.args.source.now) c.args.strip (Some c.in-Some.row) c.requires.strip (sym c.point_row.ensures ∙ c.in-Some.is)
+    point-told (g.B.BlockSource.meaning c.args.source.now) c.args.strip (Some c.in-Some.row) c.requires.strip
+    (sym c.point_row.ensures ∙ c.in-Some.is)
 
 pub returns-in_err-found-clause-paid : goal.returns-in_err-found-clause-paid
 returns-in_err-found-clause-paid g c = λ kind base paid here.
@@ -24,8 +25,9 @@ returns-in_err-found-clause-paid g c = λ kind base paid here.
 
 pub unreachable-requires : goal.unreachable-requires
 unreachable-requires g c =
+    let m = g.B.BlockSource.meaning c.args.source.now in
     let has = c.in_ok-found.ensures.point refl in
-    elim (point-told (g.B.BlockSource.meaning c.args.source.now) c.in_ok-found.found None has.strip (sym c.point_row-2.ensures ∙ c.in-None.is)) [
+    elim (point-told m c.in_ok-found.found None has.strip (sym c.point_row-2.ensures ∙ c.in-None.is)) [
       | inl above ↦ omega (arith, above, has.from)
       | inr below ↦ omega (arith, below.0, has.to)
     ]
