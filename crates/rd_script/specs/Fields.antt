@@ -144,6 +144,10 @@ then_by first keys second = record {
 abbrev pub both : {A B : Type 0} → Fields A → Fields B → Fields (A × B)
 both first second = then_by first second.keys (λ a. made (λ b. (a, b)) second)
 
+-- the key of what a property or a display spec is
+abbrev pub kind_key : List ℕ
+kind_key = codes "kind"
+
 -- the key of a value whose form depends on the field before it
 abbrev pub value_key : List ℕ
 value_key = codes "value"

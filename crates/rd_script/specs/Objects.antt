@@ -13,7 +13,7 @@ use Rattle.rd_script.specs.declared.object.OpSpec.{OpSpec}
 use Rattle.rd_script.specs.declared.object.OpSpec.TheVariants as specs
 use Rattle.rd_script.specs.declared.object.SpecName.{SpecName}
 use Rattle.rd_script.specs.declared.object.SpecName.TheVariants as names
-use Rattle.rd_script.specs.Fields.{Fields, kept_if, whole, within, word, two_items, four_items, required, optional, defaulted, both, made, then_value}
+use Rattle.rd_script.specs.Fields.{Fields, kept_if, whole, within, word, two_items, four_items, required, optional, defaulted, both, made, kind_key, then_value}
 use Rattle.rd_script.specs.Forms.{is_glyph_text, is_slot}
 
 -- ---- strings
@@ -41,7 +41,7 @@ spec_value names.Align key = made specs.Align (required key (within 0 SPACE_COLU
 
 -- what a spec is, and then its string or its columns
 abbrev pub spec : Fields OpSpec
-spec = then_value (required (codes "kind") (word spec_names)) spec_value
+spec = then_value (required kind_key (word spec_names)) spec_value
 
 -- ---- faces
 

@@ -4,7 +4,7 @@ use Rattle.serde_json.specs.Data.{Data}
 use Rattle.rd_base.specs.declared.limits.TheConstants.{ATOMS}
 use Rattle.rd_overlays.specs.declared.overlay.Kind.{Kind}
 use Rattle.rd_overlays.specs.declared.overlay.Kind.TheVariants as kinds
-use Rattle.rd_script.specs.Fields.{Fields, kept_if, within, word, required, optional, made, then_value}
+use Rattle.rd_script.specs.Fields.{Fields, kept_if, within, word, required, optional, made, kind_key, then_value}
 use Rattle.rd_script.specs.Forms.{is_text_kind}
 
 abbrev pub kind_names : List (List ℕ × Kind)
@@ -31,4 +31,4 @@ property_value kind key = made (λ value. (kind, value)) (optional key (within 0
 
 -- a kind and its value
 abbrev pub property : (Data → Option Kind) → Fields (Kind × Option ℕ)
-property of = then_value (required (codes "kind") of) property_value
+property of = then_value (required kind_key of) property_value

@@ -14,6 +14,9 @@ use rd_base::{Memory, characters};
 use serde_json::Value;
 use std::alloc::Global;
 
+/// The key of what a property or a display spec is.
+pub const KIND: &'static str = "kind";
+
 /// The key of a value whose form depends on a field before it.
 pub const VALUE: &'static str = "value";
 

@@ -9,7 +9,7 @@ ghost use Rattle.rd_script.specs.declared.name.ObjectOp.TheVariants as objects;
 
 use crate::asked::Asked;
 use crate::fault::OpFault;
-use crate::field::{VALUE, defaulted, named, number, optional, required};
+use crate::field::{KIND, VALUE, defaulted, named, number, optional, required};
 use crate::form::{Flag, Form, Within};
 use crate::item::AtMost;
 use crate::name::ObjectOp;
@@ -80,7 +80,7 @@ fn some_items<F: Form + Drop>(
 fn spec(alloc: Global, asked: &mut Asked) -> Result<OpSpec, OpFault>
     ensures { IsTaken result spec asked.old asked.new }
 {
-    let name = named(alloc, asked, "kind")?;
+    let name = named(alloc, asked, KIND)?;
     spec_value(alloc, asked, name, VALUE)
 }
 

@@ -1,6 +1,6 @@
 //! The ops about properties, overlays and settings: their fields.
-ghost use Rattle.std.specs.Prelude.{◌≡◌, codes};
-ghost use Rattle.rd_script.specs.Fields.{required, IsTaken};
+ghost use Rattle.std.specs.Prelude.{◌≡◌};
+ghost use Rattle.rd_script.specs.Fields.{required, kind_key, IsTaken};
 ghost use Rattle.rd_script.specs.Forms.{is_text_kind};
 ghost use Rattle.rd_script.specs.Properties.{text_kind};
 ghost use Rattle.rd_script.specs.Table.{property_row, overlay_manner};
@@ -8,7 +8,7 @@ ghost use Rattle.rd_script.specs.declared.name.PropertyOp.TheVariants as propert
 
 use crate::asked::Asked;
 use crate::fault::OpFault;
-use crate::field::{VALUE, bad, defaulted, named, optional};
+use crate::field::{KIND, VALUE, bad, defaulted, named, optional};
 use crate::form::{Flag, Signed, Whole};
 use crate::name::PropertyOp;
 use crate::op::Op;
@@ -72,14 +72,13 @@ fn read_put(alloc: Global, asked: &mut Asked) -> Result<Op, OpFault>
 
 /// A kind of properties that text may have.
 fn text_kind(alloc: Global, asked: &mut Asked) -> Result<Kind, OpFault>
-    ensures { IsTaken result (required (codes "kind") text_kind) asked.old asked.new }
+    ensures { IsTaken result (required kind_key text_kind) asked.old asked.new }
 {
-    let key = "kind";
-    let kind = named(alloc, asked, key)?;
+    let kind = named(alloc, asked, KIND)?;
     if is_text_kind(kind) {
         Ok(kind)
     } else {
-        bad(alloc, key)
+        bad(alloc, KIND)
     }
 }
 
@@ -115,7 +114,7 @@ fn read_overlay_put(alloc: Global, asked: &mut Asked) -> Result<Op, OpFault>
 {
     let buffer = buffer(alloc, asked)?;
     let overlay = overlay(alloc, asked)?;
-    let kind = named(alloc, asked, "kind")?;
+    let kind = named(alloc, asked, KIND)?;
     let value = optional(alloc, asked, VALUE, &Property { kind })?;
     Ok(Op::OverlayPut {
         buffer,
