@@ -40,7 +40,7 @@ use Rattle.rd_script.specs.Objects.{run_kinds, run_of, run, spec_names as spec_w
 use Rattle.rd_script.specs.Settings.{setting_names as setting_words, direction_names, invisible_by, invisible, value_of as value_of_setting}
 use Rattle.rd_script.specs.Properties.{overlay_kind, text_kind, greatest_value, property_value, property}
 use Rattle.rd_script.specs.Reading.{reading, reading_name, reading_row, reading_members, object_of, closed, extra_key, unless_extra}
-use Rattle.rd_script.specs.Table.{row, text_row, property_row, object_row, window_row, screen_row, stretch_fields, overlay_manner, split_sides, ways, wrap_modes}
+use Rattle.rd_script.specs.Table.{row, text_row, property_row, object_row, window_row, screen_row, stretch_fields, text_field, overlay_manner, split_sides, ways, wrap_modes}
 
 -- what is said is no want of memory
 abbrev pub IsFree : {T : Type 0} → Result T OpFault → Type 0
@@ -174,8 +174,8 @@ any-finds kind = record { found = λ d x e. tt }
 name_field : {key : List ℕ} → Gives (required key buffer_name) (λ t. IsTrue (is_buffer_name t))
 name_field = required-gives _ buffer_name _ buffer_name-finds
 
-text_field : {key : List ℕ} → Gives (required key text) (λ t. IsTrue (is_text t))
-text_field = required-gives _ text _ text-finds
+text_field-gives : Gives text_field (λ t. IsTrue (is_text t))
+text_field-gives = required-gives _ text _ text-finds
 
 whole_field : {key : List ℕ} → Gives (required key whole) IsWhole
 whole_field = required-gives _ whole IsWhole whole-finds
@@ -357,10 +357,10 @@ manner-gives = both-gives _ _ _ (λ x. Unit {0} × Unit {0}) (defaulted-gives (p
 
 text-gives : (op : TextOp) → Gives (text_row op) IsInForm
 text-gives texts.Buffer = made-gives _ _ _ name_field (λ x h. h)
-text-gives texts.Insert = made-gives _ _ _ (both-gives _ _ _ _ name_field (both-gives _ _ _ _ whole_field text_field)) (λ x h. (h.0, h.1.0, h.1.1))
+text-gives texts.Insert = made-gives _ _ _ (both-gives _ _ _ _ name_field (both-gives _ _ _ _ whole_field text_field-gives)) (λ x h. (h.0, h.1.0, h.1.1))
 text-gives texts.InsertRaw = made-gives _ _ _ (both-gives _ _ _ _ name_field (both-gives _ _ _ _ whole_field
     (required-gives _ (items_of (within 128 255)) _ raw_bytes-finds))) (λ x h. (h.0, h.1.0, h.1.1))
-text-gives texts.Type = made-gives _ _ _ text_field (λ x h. h)
+text-gives texts.Type = made-gives _ _ _ text_field-gives (λ x h. h)
 text-gives texts.Delete = made-gives _ _ _ stretch-gives (λ x h. (h.0, h.1.0, h.1.1))
 text-gives texts.Narrow = made-gives _ _ _ stretch-gives (λ x h. (h.0, h.1.0, h.1.1))
 text-gives texts.Widen = made-gives _ _ _ name_field (λ x h. h)
@@ -384,7 +384,7 @@ properties-give properties.Setting = made-gives _ _ _
 
 object-gives : (op : ObjectOp) → Gives (object_row op) IsInForm
 object-gives objects.String = made-gives _ _ _
-    (both-gives _ _ _ _ text_field (defaulted-gives [] _ (list_of STRING_RUNS run) _ (list-finds STRING_RUNS run IsRunInForm run-finds) (omega arith, All-nil _)))
+    (both-gives _ _ _ _ text_field-gives (defaulted-gives [] _ (list_of STRING_RUNS run) _ (list-finds STRING_RUNS run IsRunInForm run-finds) (omega arith, All-nil _)))
     (λ x h. (h.0, h.1.0, h.1.1))
 object-gives objects.Spec = made-gives _ _ _ (then_by-gives _ _ (λ n. spec_value n value_key) _ IsSpecInForm (any-gives (word spec_words)) (λ n any. spec-gives n value_key)) (λ x h. h)
 object-gives objects.Face = made-gives _ _ _

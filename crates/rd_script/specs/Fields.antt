@@ -148,6 +148,10 @@ both first second = then_by first second.keys (λ a. made (λ b. (a, b)) second)
 abbrev pub kind_key : List ℕ
 kind_key = codes "kind"
 
+-- the key of a text
+abbrev pub text_key : List ℕ
+text_key = codes "text"
+
 -- the key of a value whose form depends on the field before it
 abbrev pub value_key : List ℕ
 value_key = codes "value"

@@ -21,7 +21,7 @@ use Rattle.rd_script.specs.declared.name.ScreenOp.TheVariants as screens
 use Rattle.rd_script.specs.declared.op.Op.{Op}
 use Rattle.rd_script.specs.declared.op.Op.TheVariants as ops
 use Rattle.rd_script.specs.declared.word.Way.{Way}
-use Rattle.rd_script.specs.Fields.{Fields, whole, within, signed, text, plain_text, buffer_name, beside, word, list_of, items_of, required, optional, defaulted, both, made}
+use Rattle.rd_script.specs.Fields.{Fields, whole, within, signed, text, plain_text, buffer_name, beside, word, list_of, items_of, required, optional, defaulted, both, made, text_key}
 use Rattle.rd_script.specs.Objects.{run, spec, face, entry, glyph_text, slot_field}
 use Rattle.rd_script.specs.Properties.{text_kind, overlay_kind, property}
 use Rattle.rd_script.specs.Settings.{setting}
@@ -104,6 +104,9 @@ range_fields = both (number_field (codes "from")) (number_field (codes "to"))
 abbrev pub stretch_fields : Fields (List ℕ × (ℕ × ℕ))
 stretch_fields = both buffer_field range_fields
 
+abbrev pub text_field : Fields (List ℕ)
+text_field = required text_key text
+
 -- the priority of an overlay and its flags
 abbrev pub overlay_manner : Fields (ℤ × (Bool × Bool))
 overlay_manner = both (defaulted (pos 0) (codes "priority") (signed PRIORITY)) (both (defaulted false (codes "front") as_bool) (defaulted false (codes "rear") as_bool))
@@ -113,9 +116,9 @@ overlay_manner = both (defaulted (pos 0) (codes "priority") (signed PRIORITY)) (
 -- the ops about buffers and their texts
 abbrev pub text_row : TextOp → Fields Op
 text_row texts.Buffer = made ops.Buffer (required (codes "name") buffer_name)
-text_row texts.Insert = made (λ f. ops.Insert f.0 f.1.0 f.1.1) (both buffer_field (both position_field (required (codes "text") text)))
+text_row texts.Insert = made (λ f. ops.Insert f.0 f.1.0 f.1.1) (both buffer_field (both position_field text_field))
 text_row texts.InsertRaw = made (λ f. ops.InsertRaw f.0 f.1.0 f.1.1) (both buffer_field (both position_field (required (codes "bytes") (items_of (within 128 255)))))
-text_row texts.Type = made ops.TypeText (required (codes "text") text)
+text_row texts.Type = made ops.TypeText text_field
 text_row texts.Delete = made (λ f. ops.Delete f.0 f.1.0 f.1.1) stretch_fields
 text_row texts.Narrow = made (λ f. ops.Narrow f.0 f.1.0 f.1.1) stretch_fields
 text_row texts.Widen = made ops.Widen buffer_field
@@ -132,7 +135,7 @@ property_row properties.Setting = made (λ f. ops.Setting f.0 f.1) (both buffer_
 
 -- those that make objects
 abbrev pub object_row : ObjectOp → Fields Op
-object_row objects.String = made (λ f. ops.AddString f.0 f.1) (both (required (codes "text") text) (defaulted [] (codes "runs") (list_of STRING_RUNS run)))
+object_row objects.String = made (λ f. ops.AddString f.0 f.1) (both text_field (defaulted [] (codes "runs") (list_of STRING_RUNS run)))
 object_row objects.Spec = made ops.AddSpec spec
 object_row objects.Face = made ops.AddFace face
 object_row objects.Table = made (λ f. ops.AddTable f.0 f.1.0 f.1.1.0 f.1.1.1.0 f.1.1.1.1.0 f.1.1.1.1.1.0 f.1.1.1.1.1.1)
@@ -163,7 +166,7 @@ screen_row screens.Frame = made (λ f. ops.Frame f.0 f.1)
     (both (required (codes "width") (within LEAST_FRAME_COLUMNS FRAME_COLUMNS)) (required (codes "height") (within LEAST_FRAME_ROWS FRAME_ROWS)))
 screen_row screens.Scrolling = made (λ f. ops.Scrolling f.0 f.1)
     (both (required (codes "margin") (within 0 SCROLL_MARGIN)) (required (codes "conservatively") (within 0 SCROLL_CONSERVATIVELY)))
-screen_row screens.Echo = made ops.Echo (required (codes "text") plain_text)
+screen_row screens.Echo = made ops.Echo (required text_key plain_text)
 screen_row screens.Redisplay = made ops.Redisplay (optional (codes "stop") (within 0 FRAME_ROWS))
 screen_row screens.Shift = made ops.Shift (required (codes "on") as_bool)
 

@@ -17,6 +17,9 @@ use std::alloc::Global;
 /// The key of what a property or a display spec is.
 pub const KIND: &'static str = "kind";
 
+/// The key of a text.
+pub const TEXT: &'static str = "text";
+
 /// The key of a value whose form depends on a field before it.
 pub const VALUE: &'static str = "value";
 

@@ -16,8 +16,8 @@ use crate::name::ObjectOp;
 use crate::object::{OpSpec, SpecName};
 use crate::object_form::{EntryForm, RunForm};
 use crate::op::Op;
-use crate::place_field::within;
-use crate::text_form::{GlyphText, Slot, Text};
+use crate::place_field::{text, within};
+use crate::text_form::{GlyphText, Slot};
 use rd_base::limits::{SPACE_COLUMNS, STRING_RUNS, TABLE_ENTRIES};
 use rd_base::{Ch, Face, ListOf};
 use std::alloc::Global;
@@ -28,7 +28,7 @@ pub fn read_object(alloc: Global, asked: &mut Asked, op: ObjectOp) -> Result<Op,
 {
     match op {
         ObjectOp::String => Ok(Op::AddString {
-            text: required(alloc, asked, "text", &Text)?,
+            text: text(alloc, asked)?,
             runs: some_items(alloc, asked, "runs", STRING_RUNS, RunForm)?,
         }),
         ObjectOp::Spec => Ok(Op::AddSpec {

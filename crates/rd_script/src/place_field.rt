@@ -1,14 +1,15 @@
 //! The fields that several ops have: the buffer and the overlay that an op is about, a position, a range of positions, that of a
-//! buffer, and a number of a range.
+//! buffer, a text, and a number of a range.
 ghost use Rattle.rd_script.specs.Fields.{within, required, IsTaken};
-ghost use Rattle.rd_script.specs.Table.{buffer_field, overlay_field, position_field, range_fields, stretch_fields};
+ghost use Rattle.rd_script.specs.Table.{buffer_field, overlay_field, position_field, range_fields, stretch_fields, text_field};
 
 use crate::asked::Asked;
 use crate::buffer_name::BufferName;
 use crate::fault::OpFault;
-use crate::field::{number, required};
+use crate::field::{TEXT, number, required};
 use crate::form::Within;
-use crate::text_form::NameOfBuffer;
+use crate::text_form::{NameOfBuffer, Text};
+use rd_base::{Ch, ListOf};
 use std::alloc::Global;
 
 /// The name of the buffer that an op is about.
@@ -48,6 +49,13 @@ pub fn stretch(alloc: Global, asked: &mut Asked) -> Result<(BufferName, (u64, u6
     let buffer = buffer(alloc, asked)?;
     let range = range(alloc, asked)?;
     Ok((buffer, range))
+}
+
+/// A text.
+pub fn text(alloc: Global, asked: &mut Asked) -> Result<ListOf<Ch>, OpFault>
+    ensures { IsTaken result text_field asked.old asked.new }
+{
+    required(alloc, asked, TEXT, &Text)
 }
 
 /// A whole number from `least` to `greatest`, both of which count.

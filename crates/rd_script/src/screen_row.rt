@@ -4,7 +4,7 @@ ghost use Rattle.rd_script.specs.Table.{screen_row};
 
 use crate::asked::Asked;
 use crate::fault::OpFault;
-use crate::field::{optional, required};
+use crate::field::{TEXT, optional, required};
 use crate::form::{Flag, Within};
 use crate::name::ScreenOp;
 use crate::op::Op;
@@ -34,7 +34,7 @@ pub fn read_screen(alloc: Global, asked: &mut Asked, op: ScreenOp) -> Result<Op,
             conservatively: within(alloc, asked, "conservatively", 0, SCROLL_CONSERVATIVELY)?,
         }),
         ScreenOp::Echo => Ok(Op::Echo {
-            text: required(alloc, asked, "text", &PlainText)?,
+            text: required(alloc, asked, TEXT, &PlainText)?,
         }),
         ScreenOp::Redisplay => Ok(Op::Redisplay {
             stop: optional(alloc, asked, "stop", &stops)?,

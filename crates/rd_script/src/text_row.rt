@@ -8,8 +8,8 @@ use crate::field::required;
 use crate::item::RawBytes;
 use crate::name::TextOp;
 use crate::op::Op;
-use crate::place_field::{buffer, position, stretch};
-use crate::text_form::{NameOfBuffer, Text};
+use crate::place_field::{buffer, position, stretch, text};
+use crate::text_form::NameOfBuffer;
 use std::alloc::Global;
 
 /// Reads the fields of an op about a buffer and its text.
@@ -23,7 +23,7 @@ pub fn read_text(alloc: Global, asked: &mut Asked, op: TextOp) -> Result<Op, OpF
         TextOp::Insert => Ok(Op::Insert {
             buffer: buffer(alloc, asked)?,
             pos: position(alloc, asked)?,
-            text: required(alloc, asked, "text", &Text)?,
+            text: text(alloc, asked)?,
         }),
         TextOp::InsertRaw => Ok(Op::InsertRaw {
             buffer: buffer(alloc, asked)?,
@@ -31,7 +31,7 @@ pub fn read_text(alloc: Global, asked: &mut Asked, op: TextOp) -> Result<Op, OpF
             bytes: required(alloc, asked, "bytes", &RawBytes)?,
         }),
         TextOp::Type => Ok(Op::TypeText {
-            text: required(alloc, asked, "text", &Text)?,
+            text: text(alloc, asked)?,
         }),
         TextOp::Delete => {
             let (buffer, (from, to)) = stretch(alloc, asked)?;
