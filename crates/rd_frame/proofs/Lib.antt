@@ -1,5 +1,5 @@
 mod Filling
 mod Painting
 pub mod Screens
-mod Turns
+mod OneByOne
 mod Whole

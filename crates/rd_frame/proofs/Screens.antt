@@ -133,13 +133,13 @@ window-painted width pane window rows texts all from count few e f =
     let body = map beside (body_rows columns (body_height window) pane.rows) in
     let first : texts ≡ laid_at y x (map beside glyphs) rows = e ∙ at-rectangle y x (map beside glyphs) rows in
     let at : y + from ≡ y + length (map beside glyphs) = omega (arith, length-map glyphs beside, length-map pane.rows row_cells) in
-    let joined : map beside glyphs ++ map beside blanks ≡ body
+    let whole : map beside glyphs ++ map beside blanks ≡ body
     = sym (map-append beside glyphs blanks) ∙ ap (λ (n : ℕ). map beside (glyphs ++ replicate (body_height window - n) (blank_row columns))) count in
     let both : all ≡ laid_at y x body rows
     = f ∙ (at-rectangle (y + from) x (map beside blanks) texts
     ∙ (ap (laid_at (y + from) x (map beside blanks)) first
     ∙ (at-below y (y + from) x (map beside glyphs) (map beside blanks) rows at
-    ∙ ap (λ (xs : List (List Cell)). laid_at y x xs rows) joined))) in
+    ∙ ap (λ (xs : List (List Cell)). laid_at y x xs rows) whole))) in
     let size : length body ≡ body_height window = length-map (body_rows columns (body_height window) pane.rows) beside ∙ body-length columns (body_height window) pane.rows (omega arith) in
     ap (λ (xs : List (List Cell)). if window.mode then with_cells xs (y + body_height window) x pane.mode_line else xs) both
     ∙ (line-below window.mode y (y + body_height window) x body rows pane.mode_line (omega arith)

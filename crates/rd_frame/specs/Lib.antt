@@ -2,6 +2,6 @@ pub mod Panes
 pub mod Frames
 pub mod Fits
 pub mod Paints
-pub mod Turns
+pub mod OneByOne
 pub mod Held
 pub mod Examples

@@ -18,7 +18,7 @@ ghost use Rattle.rd_frame.specs.Frames.{FrameValues, rows_of, frame_rows, frame_
 ghost use Rattle.rd_frame.specs.Held.{glyph_rows, glyph_row};
 ghost use Rattle.rd_frame.specs.Fits.{FitsWindow, FitsFrame, EachPart, IsWholeFrame, IsColouredFrame};
 ghost use Rattle.rd_frame.specs.Paints.{with_rectangle, painted, with_echo};
-ghost use Rattle.rd_frame.specs.Turns.{IsPaintedNext};
+ghost use Rattle.rd_frame.specs.OneByOne.{IsPaintedNext};
 
 /// The rows of a window fill its rectangle, where what it shows has the rectangle's sizes. In each row each glyph stands whole where
 /// each does in the parts, and each colour is in its range where each is in the parts. The call does nothing.
@@ -54,7 +54,7 @@ pub fn windows_are_painted_in_order()
 
 /// Where some windows of a frame are still to be painted over the rows of a screen, from a place of their order on, the window at that
 /// place can be painted, and leaves those behind it. The call does nothing.
-pub fn windows_are_painted_in_turn()
+pub fn windows_are_painted_one_by_one()
     ensures { (f : FrameValues) (i number : ℕ) (window : Placed) (rows : List (List Cell)) → FitsFrame f → HasSize f.tree.width (f.tree.height + 1) rows → window_at number f.tree.windows (frame_of f.tree) ≡ Some window → slice_get (placed f.tree.windows (frame_of f.tree)) i ≡ Some window → IsPaintedNext f i window rows }
 {}
 

@@ -25,7 +25,7 @@ mod window;
 pub use frame::{paint_echo, place_cursor};
 pub use laws::{
     borders_are_whole, frames_are_pictures, panes_show_their_matrix, windows_are_painted_in_order,
-    windows_are_painted_in_turn, windows_fill_their_rectangles,
+    windows_are_painted_one_by_one, windows_fill_their_rectangles,
 };
 pub use pane::{Pane, body_height, body_width, border_cell};
 pub use window::paint_window;

@@ -2,5 +2,5 @@ mod Cursor
 mod Leaves
 mod Panes
 mod Starts
-mod Turning
+mod OneByOne
 mod Whole

@@ -4,7 +4,7 @@ use Rattle.rd_base.specs.declared.cell.Cell.{Cell}
 use Rattle.rd_ucd.specs.Data.{Data}
 use Rattle.rd_frame.specs.Fits.{FitsFrame}
 use Rattle.rd_frame.specs.Frames.{FrameValues}
-use Rattle.rd_frame.specs.Turns.{IsPaintedNext}
+use Rattle.rd_frame.specs.OneByOne.{IsPaintedNext}
 use Rattle.rd_items.specs.Blocks.{AreListed}
 use Rattle.rd_props.specs.Buffers as props
 use Rattle.rd_state.specs.States.{StateValue}
@@ -23,11 +23,11 @@ use Rattle.rd_layout.specs.Windows.{place_of, view_in}
 abbrev pub ListedLaw : Type 0
 ListedLaw = (s : props.BufferValue) → s.text.begin ≤ s.text.end → AreListed s
 
--- of a window that is painted in its turn
+-- of the window that is painted next
 pub record PaintLaws : Type 0 where
   pub listed : ListedLaw
   pub fits : (files : Data) (s : StateValue) → IsValid s → FitsFrame (frame_in files s)
-  pub turn : (f : FrameValues) (i number : ℕ) (window : Placed) (rows : List (List Cell)) → FitsFrame f → HasSize f.tree.width (f.tree.height + 1) rows → window_at number f.tree.windows (frame_of f.tree) ≡ Some window
+  pub next : (f : FrameValues) (i number : ℕ) (window : Placed) (rows : List (List Cell)) → FitsFrame f → HasSize f.tree.width (f.tree.height + 1) rows → window_at number f.tree.windows (frame_of f.tree) ≡ Some window
       → slice_get (placed f.tree.windows (frame_of f.tree)) i ≡ Some window → IsPaintedNext f i window rows
   pub chosen : (files : Data) (s : StateValue) (number : ℕ) (w : WindowState) (place : Placed) → IsValid s → window_of number s.windows ≡ Some w → place_of number s ≡ Some place
       → IsAccessible (shown_content s w).text (view_in files s w place).anchor.pos × IsAccessible (shown_content s w).text (view_in files s w place).point

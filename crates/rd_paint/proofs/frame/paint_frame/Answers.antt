@@ -9,7 +9,7 @@ use Rattle.rd_layout.specs.Screens.{frame_in, laid_out}
 use Rattle.rd_layout.specs.Windows.{places}
 use Rattle.rd_term.specs.Pictures.{Picture}
 use Rattle.rd_tree.specs.Compositions.{HasSize}
-use Rattle.rd_paint.proofs.Turning.{width-is}
+use Rattle.rd_paint.proofs.OneByOne.{width-is}
 use Rattle.rd_paint.proofs.Whole.{blank-size, finished}
 use Rattle.rd_paint.proofs.frame.paint_frame.Goals as goal
 

@@ -4,7 +4,7 @@ use Rattle.std.specs.Prelude.{slice_get}
 use Rattle.rd_base.specs.declared.cell.Cell.{Cell}
 use Rattle.rd_frame.proofs.Screens.{twice}
 use Rattle.rd_frame.specs.Fits.{FitsWindow}
-use Rattle.rd_frame.specs.Turns.{IsPaintedNext, painted_from, with_window}
+use Rattle.rd_frame.specs.OneByOne.{IsPaintedNext, painted_from, with_window}
 use Rattle.rd_layout.specs.Screens.{frame_in}
 use Rattle.rd_objects.specs.Things.{ObjectLists}
 use Rattle.rd_term.specs.Pictures.{Picture, width_of}
@@ -13,7 +13,7 @@ use Rattle.rd_ucd.specs.Data.{Data}
 use Rattle.rd_window.specs.Views.{WindowView}
 use Rattle.rd_paint.specs.Shown.{AreShown, of_classes, pane_in}
 use Rattle.rd_paint.proofs.Leaves.{inside, small, views-count}
-use Rattle.rd_paint.proofs.Turning.{all-painted, fits-here, rows-here, turn-here, view-here}
+use Rattle.rd_paint.proofs.OneByOne.{all-painted, fits-here, next-here, rows-here, view-here}
 use Rattle.rd_paint.proofs.frame.paint_windows.Goals as goal
 use Rattle.rd_paint.proofs.frame.paint_windows.Goals.{After-leaf_at-leaf}
 
@@ -25,18 +25,18 @@ overflow_cast-i c =
 pub leaf_at-leaf-requires : goal.leaf_at-leaf-requires
 leaf_at-leaf-requires c = inside c.args.state.now c.states_are_valid.ensures c.requires.shown.0 c.args.windows.now c.loop-i.i c.requires.shown.1.shown c.loop-i-test.true
 
--- the view of the window whose turn it is
+-- the view of the window that is painted next
 viewed : (c : goal.After-leaf_at-leaf) → slice_get c.args.windows.now c.loop-i.i ≡ Some c.index-windows-i.result
 viewed c = slice_get-get_or c.args.windows.now c.loop-i.i c.index-windows-i.result c.loop-i-test.true ∙ ap (λ (x : WindowView). Some x) (sym c.index-windows-i.is)
 
--- its turn
-turned : (c : goal.After-leaf_at-leaf) (files : Data) → IsPaintedNext (frame_in files c.args.state.now) c.loop-i.i c.leaf_at-leaf.result.place c.loop-i.screen.rows
-turned c =
+-- that window
+painted-next : (c : goal.After-leaf_at-leaf) (files : Data) → IsPaintedNext (frame_in files c.args.state.now) c.loop-i.i c.leaf_at-leaf.result.place c.loop-i.screen.rows
+painted-next c =
     let leaf = c.leaf_at-leaf.result in
-    turn-here c.paint_laws.ensures c.args.state.now c.states_are_valid.ensures c.loop-i.i leaf.place leaf.window.now leaf.content c.leaf_at-leaf.ensures c.loop-i.screen.rows c.loop-i.invariant.size
+    next-here c.paint_laws.ensures c.args.state.now c.states_are_valid.ensures c.loop-i.i leaf.place leaf.window.now leaf.content c.leaf_at-leaf.ensures c.loop-i.screen.rows c.loop-i.invariant.size
 
 pub paint_leaf-requires-clause-stands : goal.paint_leaf-requires-clause-stands
-paint_leaf-requires-clause-stands c = (turned (goal.at.paint_leaf-requires-clause-stands c).After-leaf_at-leaf c.requires.shown.0).stands
+paint_leaf-requires-clause-stands c = (painted-next (goal.at.paint_leaf-requires-clause-stands c).After-leaf_at-leaf c.requires.shown.0).stands
 
 pub paint_leaf-requires-clause-fits : goal.paint_leaf-requires-clause-fits
 paint_leaf-requires-clause-fits c =
@@ -66,9 +66,9 @@ loop-i-preserved c =
     rows-here c.paint_laws.ensures s c.states_are_valid.ensures c.args.classes.now c.args.windows.now c.loop-i.i leaf.place leaf.window.now leaf.content c.leaf_at-leaf.ensures c.index-windows-i.result (viewed here) old.rows
     c.loop-i.invariant.size files shown c.objects.result.now c.objects.ensures new.rows (ap (λ (p : Picture). p.rows) painted) in
     record {
-      size = subst (HasSize s.tree.width (s.tree.height + 1)) (sym (rows c.requires.shown.0 c.requires.shown.1)) (turned here c.requires.shown.0).size;
+      size = subst (HasSize s.tree.width (s.tree.height + 1)) (sym (rows c.requires.shown.0 c.requires.shown.1)) (painted-next here c.requires.shown.0).size;
       others = twice c.args.screen.now old new old.rows _ new.rows c.loop-i.invariant.others painted (sym (ap (λ (p : Picture). p.rows) painted));
-      rest = λ files shown. c.loop-i.invariant.rest files shown ∙ ((turned here files).rest ∙ ap (painted_from (frame_in files s) (c.loop-i.i + 1)) (sym (rows files shown)));
+      rest = λ files shown. c.loop-i.invariant.rest files shown ∙ ((painted-next here files).rest ∙ ap (painted_from (frame_in files s) (c.loop-i.i + 1)) (sym (rows files shown)));
     }
 
 pub returns-clause-painted : goal.returns-clause-painted

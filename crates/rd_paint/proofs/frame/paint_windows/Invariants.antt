@@ -1,5 +1,5 @@
 use Rattle.std.proofs.Common.{◌≡◌, ◌+◌}
-use Rattle.rd_frame.specs.Turns.{painted_from}
+use Rattle.rd_frame.specs.OneByOne.{painted_from}
 use Rattle.rd_layout.specs.Screens.{frame_in}
 use Rattle.rd_paint.specs.Shown.{AreShown}
 use Rattle.rd_term.specs.Pictures.{Picture}

@@ -4,6 +4,6 @@ pub returns : goal.returns
 returns c = record {
   listed = c.blocks_are_listed.ensures;
   fits = c.targets_fit_their_frames.ensures;
-  turn = c.windows_are_painted_in_turn.ensures;
+  next = c.windows_are_painted_one_by_one.ensures;
   chosen = c.redisplays_keep_states.ensures.chosen;
 }

@@ -1,4 +1,4 @@
--- A window that is painted in its turn.
+-- The window that is painted next.
 use Rattle.std.proofs.Common.{◌≡◌, ℕ, ◌+◌, ◌-◌, ◌≤◌, Some, List, ◌∷◌, length, drop, sym, subst, ◌∙◌, ap, arith}
 use Rattle.std.specs.Prelude.{slice_get}
 use Rattle.std.proofs.lemmas.List.{drop_more}
@@ -15,7 +15,7 @@ use Rattle.rd_tree.specs.declared.placed.Placed.{Placed}
 use Rattle.rd_frame.specs.Fits.{FitsWindow, FitsFrame, StandsOn}
 use Rattle.rd_frame.specs.Frames.{FrameValues, rows_of}
 use Rattle.rd_frame.specs.Paints.{painted}
-use Rattle.rd_frame.specs.Turns.{IsPaintedNext}
+use Rattle.rd_frame.specs.OneByOne.{IsPaintedNext}
 use Rattle.rd_term.proofs.Shapes.{grid-width}
 use Rattle.rd_frame.proofs.Filling.{window-size}
 use Rattle.rd_frame.proofs.Painting.{laid_at, at-each, at-rectangle, at-length, written-length}
@@ -34,8 +34,8 @@ size-kept width height columns count y column news rows size new room = (
       (recursion_from_All (λ row. length row ≡ columns) news new.1) (recursion_from_All (λ row. length row ≡ width) rows size.1)),
 )
 
-pub painted-turn : (f : FrameValues) (i number : ℕ) (window : Placed) (rows : List (List Cell)) → FitsFrame f → HasSize f.tree.width (f.tree.height + 1) rows → window_at number f.tree.windows (frame_of f.tree) ≡ Some window → slice_get (placed f.tree.windows (frame_of f.tree)) i ≡ Some window → IsPaintedNext f i window rows
-painted-turn f i number window rows frame size found here =
+pub painted-next : (f : FrameValues) (i number : ℕ) (window : Placed) (rows : List (List Cell)) → FitsFrame f → HasSize f.tree.width (f.tree.height + 1) rows → window_at number f.tree.windows (frame_of f.tree) ≡ Some window → slice_get (placed f.tree.windows (frame_of f.tree)) i ≡ Some window → IsPaintedNext f i window rows
+painted-next f i number window rows frame size found here =
     let stands = stands_in number f.tree.windows (frame_of f.tree) window frame.room found in
     let windows = placed f.tree.windows (frame_of f.tree) in
     let inside = slice_get_within windows i window here in

@@ -1,4 +1,4 @@
--- A window that is painted in its turn.
+-- The window that is painted next.
 use Rattle.std.proofs.Common.{◌≡◌, ℕ, ◌+◌, ◌≤◌, Some, List, length, sym, ap, subst, ◌∙◌, unwrap_or, arith}
 use Rattle.std.proofs.lemmas.List.{drop_all}
 use Rattle.std.specs.Prelude.{slice_get}
@@ -9,7 +9,7 @@ use Rattle.rd_frame.specs.Fits.{FitsWindow}
 use Rattle.rd_frame.specs.Frames.{FrameValues, rows_of}
 use Rattle.rd_frame.specs.Paints.{painted, with_rectangle}
 use Rattle.rd_frame.specs.Panes.{PaneValues, window_rows}
-use Rattle.rd_frame.specs.Turns.{IsPaintedNext, painted_from, with_window}
+use Rattle.rd_frame.specs.OneByOne.{IsPaintedNext, painted_from, with_window}
 use Rattle.rd_objects.specs.Things.{ObjectLists}
 use Rattle.rd_state.specs.States.{BufferValue, StateValue}
 use Rattle.rd_state.specs.Valid.{IsValid}
@@ -39,10 +39,10 @@ pub all-painted : (f : FrameValues) (i : ℕ) (first rows : List (List Cell)) �
     → painted (rows_of f) (placed f.tree.windows (frame_of f.tree)) first ≡ rows
 all-painted f i first rows end h = h ∙ ap (λ (ps : List Placed). painted (rows_of f) ps rows) (drop_all i (placed f.tree.windows (frame_of f.tree)) end)
 
--- the turn of the window at a place of the leaf order
-pub turn-here : PaintLaws → (s : StateValue) → IsValid s → (i : ℕ) (place : Placed) (w : WindowState) (content : BufferValue) → IsLeaf s i place w content → (rows : List (List Cell)) → HasSize s.tree.width (s.tree.height + 1) rows
+-- the window at a place of the leaf order is painted next
+pub next-here : PaintLaws → (s : StateValue) → IsValid s → (i : ℕ) (place : Placed) (w : WindowState) (content : BufferValue) → IsLeaf s i place w content → (rows : List (List Cell)) → HasSize s.tree.width (s.tree.height + 1) rows
     → (files : Data) → IsPaintedNext (frame_in files s) i place rows
-turn-here laws s valid i place w content leaf rows size files = laws.turn (frame_in files s) i place.number place rows (laws.fits files s valid) size leaf.placed leaf.listed
+next-here laws s valid i place w content leaf rows size files = laws.next (frame_in files s) i place.number place rows (laws.fits files s valid) size leaf.placed leaf.listed
 
 module _ (laws : PaintLaws) (s : StateValue) (valid : IsValid s) (classes : List Span) (views : List WindowView) (i : ℕ) (place : Placed) (w : WindowState) (content : BufferValue) (leaf : IsLeaf s i place w content) (v : WindowView)
     (at : slice_get views i ≡ Some v) (rows : List (List Cell)) (size : HasSize s.tree.width (s.tree.height + 1) rows) where
@@ -60,7 +60,7 @@ module _ (laws : PaintLaws) (s : StateValue) (valid : IsValid s) (classes : List
       pane-here files classes s i place w content shown.known leaf ∙ ap (pane_in (of_classes classes) s.objects content w place.rect.width) (sym (view-is files shown))
 
   pub fits-here : (files : Data) → AreShown files classes s views → FitsWindow (width_of rows) pane place
-  fits-here files shown = subst (λ (p : PaneValues). FitsWindow (width_of rows) p place) (pane-is files shown) (turn-here laws s valid i place w content leaf rows size files).fits
+  fits-here files shown = subst (λ (p : PaneValues). FitsWindow (width_of rows) p place) (pane-is files shown) (next-here laws s valid i place w content leaf rows size files).fits
 
   pub view-here : (files : Data) → AreShown files classes s views → IsViewOf content.content.text v
   view-here files shown =
