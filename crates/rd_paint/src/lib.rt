@@ -1,7 +1,8 @@
 //! The target screen of a frame, painted from what its windows show.
 //!
 //! What goes in: the state, what each of its windows shows (start, point and rows, as rd_views chose them), and the classes of characters,
-//! by which plain lines show formatting characters as blanks. What comes out: the target, which is the frame's desired screen, or want of memory.
+//! by which plain lines show formatting characters as blanks. What comes out: the target, which is the frame's desired screen, or want of
+//! memory.
 //!
 //! 1. `frame`: over a blank screen of the frame's size the windows are painted one after the other, in leaf order.
 //! 2. `leaf`, `content`: of each window its rectangle is looked up, and of its buffer the name, the text, the settings and the overlays.

@@ -24,8 +24,8 @@ mark-whole g m = mark-by (is_space g) g refl m
 pub mark-coloured : (g : Glyph) → IsColoured (mark g)
 mark-coloured g = either IsColoured (is_space g) _ _ plain-coloured plain-coloured
 
--- what holds of blanks, of the marks and of what is seen of each element, and of cells that are joined where it holds of both parts, holds of
--- a row's cells before it is turned to its edge
+-- what holds of blanks, of the marks and of what is seen of each element, and of cells that are joined where it holds of both parts, holds
+-- of a row's cells before it is turned to its edge
 module _ (P : List Cell → Type 0) (join : (xs ys : List Cell) → P xs → P ys → P (xs ++ ys)) (nil : P []) (empty : (n : ℕ) → P (blanks n plain)) (c : Cutting) (cut : P (mark c.truncation ∷ [])) (goes : P (mark c.continuation ∷ [])) where
   abbrev Alone : Cell → Type 0
   Alone x = P (x ∷ [])
