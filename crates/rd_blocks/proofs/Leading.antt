@@ -1,4 +1,4 @@
--- Changes of edits, and changes that are joined, lead from one state to a later one.
+-- Changes of edits, and changes that are combined, lead from one state to a later one.
 use Rattle.std.proofs.Common.{◌≡◌, inl, inr, ℕ, ◌+◌, ◌≤◌, min, max, nat_le, ◌&&◌, ◌||◌, refl, ap, ◌∙◌, arith}
 use Rattle.std.specs.Prelude.{ℤ, pos, negsuc, ◌+ℤ◌, ◌-ℤ◌, ◌≤ℤ◌}
 use Rattle.std.proofs.lemmas.Int.{ints}
@@ -17,8 +17,8 @@ use Rattle.rd_blocks.specs.Leads.{Leads, LeadsTo}
 
 -- what is known of changes
 abbrev pub ChangeLaw : Type 0
-ChangeLaw = (old middle new : BufferValue) (a b c : ObjectLists) (head later_head tail later_tail joined : ℕ) (added later_added : ℤ) → Unchanged old a middle b head tail added → Unchanged middle b new c later_head later_tail later_added
-    → (pos middle.text.begin +ℤ later_added) ≤ℤ pos (max middle.text.begin later_tail) → (pos tail +ℤ later_added) ≤ℤ pos joined → later_tail ≤ joined → Unchanged old a new c (min head later_head) joined (added +ℤ later_added)
+ChangeLaw = (old middle new : BufferValue) (a b c : ObjectLists) (head later_head tail later_tail both_tail : ℕ) (added later_added : ℤ) → Unchanged old a middle b head tail added → Unchanged middle b new c later_head later_tail later_added
+    → (pos middle.text.begin +ℤ later_added) ≤ℤ pos (max middle.text.begin later_tail) → (pos tail +ℤ later_added) ≤ℤ pos both_tail → later_tail ≤ both_tail → Unchanged old a new c (min head later_head) both_tail (added +ℤ later_added)
 
 -- a change of a range, or of all where it is none
 pub leads-ranged : (old new : BufferValue) (made objects : ObjectLists) (head tail : ℕ) (added : ℤ) → IsClosed made → AreMade old made → without_flags new.settings ≡ without_flags old.settings → Extends made objects
@@ -62,7 +62,7 @@ module _ (joins : ChangeLaw) (first second third : BufferValue) (a b c : ObjectL
       (omega (arith, ints, least)) (omega arith))
       (both-inside first.text.begin second.text.begin change.tail later.tail (moved later.added change.tail) change.added later.added one.follows.unchanged.begin one.inside last least))
 
-  pub leads-joined : LeadsTo first a second b change → LeadsTo second b third c later → LeadsTo first a third c (join change later)
-  leads-joined (inl any) two = inl (ap (λ (x : Change). join x later) any)
-  leads-joined (inr one) (inl any) = inl (ap (λ (x : Change). join change x) any ∙ all-last change)
-  leads-joined (inr one) (inr two) = both-lead one two
+  pub leads-combined : LeadsTo first a second b change → LeadsTo second b third c later → LeadsTo first a third c (join change later)
+  leads-combined (inl any) two = inl (ap (λ (x : Change). join x later) any)
+  leads-combined (inr one) (inl any) = inl (ap (λ (x : Change). join change x) any ∙ all-last change)
+  leads-combined (inr one) (inr two) = both-lead one two

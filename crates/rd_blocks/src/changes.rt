@@ -22,7 +22,7 @@ pub fn changes_lead_on()
     ensures grown { (s : BufferValue) (made objects : ObjectLists) → IsClosed made → AreMade s made → Extends made objects → LeadsTo s made s objects none }
     ensures flagged { (old new : BufferValue) (objects : ObjectLists)
         → IsClosed objects → AreMade old objects → without_flags new.settings ≡ without_flags old.settings → HasOverlays old new old.overlays → LeadsTo old objects new objects none }
-    ensures joined { (first second third : BufferValue) (a b c : ObjectLists) (change later : Change)
+    ensures combined { (first second third : BufferValue) (a b c : ObjectLists) (change later : Change)
         → LeadsTo first a second b change → LeadsTo second b third c later → LeadsTo first a third c (join change later) }
 {
     changes_join();

@@ -56,7 +56,7 @@ fn marks_of_rows_that_go_on()
 /// taken away or the second is cut in two, the lines that join and those that split are laid out again.
 fn rows_that_edits_leave()
     ensures typed { keeping (buffer (97 ∷ 10 ∷ 98 ∷ 10 ∷ 99 ∷ [])) (buffer (97 ∷ 10 ∷ 120 ∷ 98 ∷ 10 ∷ 99 ∷ [])) (edit 3 0 1) ≡ true ∷ false ∷ true ∷ [] }
-    ensures joined { keeping (buffer (97 ∷ 10 ∷ 98 ∷ 10 ∷ 99 ∷ [])) (buffer (97 ∷ 98 ∷ 10 ∷ 99 ∷ [])) (edit 2 1 0) ≡ false ∷ true ∷ [] }
+    ensures united { keeping (buffer (97 ∷ 10 ∷ 98 ∷ 10 ∷ 99 ∷ [])) (buffer (97 ∷ 98 ∷ 10 ∷ 99 ∷ [])) (edit 2 1 0) ≡ false ∷ true ∷ [] }
     ensures split { keeping (buffer (97 ∷ 10 ∷ 98 ∷ 98 ∷ 10 ∷ 99 ∷ [])) (buffer (97 ∷ 10 ∷ 98 ∷ 10 ∷ 98 ∷ 10 ∷ 99 ∷ [])) (edit 4 0 1) ≡ true ∷ false ∷ false ∷ true ∷ [] }
     ensures untouched { keeping (buffer (97 ∷ 10 ∷ 98 ∷ [])) (buffer (97 ∷ 10 ∷ 98 ∷ [])) none ≡ true ∷ true ∷ [] }
     ensures forgotten { keeping (buffer (97 ∷ 10 ∷ 98 ∷ [])) (buffer (97 ∷ 10 ∷ 98 ∷ [])) all ≡ false ∷ false ∷ [] }

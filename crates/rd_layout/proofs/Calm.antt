@@ -42,13 +42,13 @@ change-tail head tail added some = either (λ (c : Change). 0 < c.tail) (nat_le 
 pub edit-tail : (from removed added : ℕ) → 0 < (edit from removed added).tail
 edit-tail from removed added = change-tail from (from + added + 1) (pos added -ℤ pos removed) (omega arith)
 
--- what is joined with a change that has a tail has one
-pub joined-tail : (x y : Change) → 0 < y.tail → 0 < (join x y).tail
-joined-tail x y some =
+-- what is combined with a change that has a tail has one
+pub combined-tail : (x y : Change) → 0 < y.tail → 0 < (join x y).tail
+combined-tail x y some =
     either (λ (c : Change). 0 < c.tail) (is_all x || is_all y) _ _ (omega arith) (change-tail (min x.head y.head) (max (moved y.added x.tail) y.tail) (x.added +ℤ y.added) (omega arith))
 
 pub moved-tail : (before after : ℕ × ℕ) → 0 < (join (restyled before) (restyled after)).tail
-moved-tail before after = joined-tail (restyled before) (restyled after) (edit-tail after.0 (after.1 - after.0) (after.1 - after.0))
+moved-tail before after = combined-tail (restyled before) (restyled after) (edit-tail after.0 (after.1 - after.0) (after.1 - after.0))
 
 -- an effect tells a change of each window that shows a buffer
 abbrev pub Loud : Effect → ℕ → Type 0

@@ -47,7 +47,7 @@ use Rattle.rd_layout.specs.Since.{KnownScreenFits, IsKnown, IsSession}
 use Rattle.rd_layout.proofs.Calm.{Quiet}
 use Rattle.rd_layout.proofs.Leading.{effect-leads}
 use Rattle.rd_layout.specs.Windows.{place_of, window_shape, window_source}
-use Rattle.rd_layout.proofs.Over.{OverLaws, first-none, joined-change, joined-none, objects-over}
+use Rattle.rd_layout.proofs.Over.{OverLaws, combined-change, combined-none, first-none, objects-over}
 use Rattle.rd_layout.proofs.Placing.{has-place, point-whole}
 use Rattle.rd_layout.proofs.Standing.{Moves, moved}
 
@@ -55,7 +55,7 @@ use Rattle.rd_layout.proofs.Standing.{Moves, moved}
 pub record StepLaws : Type 0 where
   pub valid : (s t : StateValue) (op : Op) → IsValid s → IsInForm op → step s op ≡ Ok t → IsValid t
   pub left : (s t : StateValue) (op : Op) → IsValid s → IsInForm op → step s op ≡ Ok t → LeavesTheRest s t (effect_of s op)
-  pub joined : (first second third : props.BufferValue) (a b c : ObjectLists) (change later : Change) → LeadsTo first a second b change → LeadsTo second b third c later → LeadsTo first a third c (join change later)
+  pub combined : (first second third : props.BufferValue) (a b c : ObjectLists) (change later : Change) → LeadsTo first a second b change → LeadsTo second b third c later → LeadsTo first a third c (join change later)
   pub over : OverLaws
   pub views : ViewLaws
 
@@ -132,7 +132,7 @@ module _ (laws : StepLaws) (s t : StateValue) (op : Op) (valid : IsValid s) (for
   stands-behind : (files : Data) (number : ℕ) (w v : WindowState) (l : Layout) → window_of number s.windows ≡ Some w → window_of number t.windows ≡ Some v → IsKnown files s w l
       → StandsUnchanged (Some (changed (change_by (effect_of s op) number v.buffer) l)) (window_source files t v) v.forced v.anchor
   stands-behind files number w v l hw hv known unchanged forced =
-      let nothing = joined-none l.change (effect_of s op) number v.buffer unchanged in
+      let nothing = combined-none l.change (effect_of s op) number v.buffer unchanged in
       let before = first-none l.change (change_by (effect_of s op) number v.buffer) known.change nothing unchanged in
       let stands : Stands (window_source files t v) v.anchor l = elim (tells (effect_of s op) number) [
         | inl p ↦ absurd (not-itself number v.buffer p nothing)
@@ -148,9 +148,9 @@ module _ (laws : StepLaws) (s t : StateValue) (op : Op) (valid : IsValid s) (for
     text = known.text;
     shape = known.shape;
     rows = known.rows;
-    change = joined-change l.change (change_by (effect_of s op) number v.buffer) known.change;
+    change = combined-change l.change (change_by (effect_of s op) number v.buffer) known.change;
     stands = stands-behind files number w v l hw hv known;
-    leads = laws.joined known.old (seen (shown_content s w)) (seen (shown_content t v)) known.made s.objects t.objects l.change (change_by (effect_of s op) number v.buffer) known.leads
+    leads = laws.combined known.old (seen (shown_content s w)) (seen (shown_content t v)) known.made s.objects t.objects l.change (change_by (effect_of s op) number v.buffer) known.leads
         (window-leads number w v hw hv);
   }
 

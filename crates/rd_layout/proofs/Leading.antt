@@ -47,8 +47,8 @@ module _ (old new : ContentValue) (a b : ObjectLists) (closed : IsClosed a) (nam
   edit-leads : (from removed added : ℕ) → (old.text.begin ≤ from) ⊎ (removed ≡ added) → Stays old a new b from (from + added + 1) (pos added -ℤ pos removed) → Goal (edit from removed added)
   edit-leads from removed added low s = stays-lead from (from + added + 1) (pos added -ℤ pos removed) s (edit-inside old.text.begin from removed added low)
 
-  joined-lead : (f g x y : ℕ) (d e : ℤ) → d ≡ pos 0 → e ≡ pos 0 → Stays old a new b (min f g) (max x y) (pos 0) → Goal (change_of (min f g) (max (moved e x) y) (d +ℤ e))
-  joined-lead f g x y d e dz ez s =
+  combined-lead : (f g x y : ℕ) (d e : ℤ) → d ≡ pos 0 → e ≡ pos 0 → Stays old a new b (min f g) (max x y) (pos 0) → Goal (change_of (min f g) (max (moved e x) y) (d +ℤ e))
+  combined-lead f g x y d e dz ez s =
       let tails : max (moved e x) y ≡ max x y = ap (λ k. max (moved k x) y) ez ∙ omega arith in
       let sums : (d +ℤ e) ≡ pos 0 = omega (arith, ints) in
       subst (λ tail. Goal (change_of (min f g) tail (d +ℤ e))) (sym tails)
@@ -79,7 +79,7 @@ module _ (old new : ContentValue) (a b : ObjectLists) (closed : IsClosed a) (nam
       by true false = inl (all-last x)
       by true true =
           either Goal (is_all x || is_all y) _ _ (inl refl)
-          (joined-lead before.0 after.0 (before.0 + n + 1) (after.0 + m + 1) x.added y.added (nothing-added n) (nothing-added m)
+          (combined-lead before.0 after.0 (before.0 + n + 1) (after.0 + m + 1) x.added y.added (nothing-added n) (nothing-added m)
           (subst (λ tail. Stays old a new b (min before.0 after.0) tail (pos 0)) tails s))
 
   shown-leads : (i k : ℕ) (change : Change) → (k ≡ i → Goal change) → (k ≢ i → Goal none) → Goal (if_shown i k change)

@@ -31,7 +31,7 @@ use Rattle.rd_window.specs.Layouts.{Stands}
 use Rattle.rd_window.specs.declared.layout.Layout.{Layout}
 use Rattle.rd_layout.specs.Changes.{change_by, if_shown, restyled}
 use Rattle.rd_layout.specs.Laws.{ViewLaws}
-use Rattle.rd_layout.proofs.Calm.{edit-tail, joined-tail, moved-tail, tail-told}
+use Rattle.rd_layout.proofs.Calm.{combined-tail, edit-tail, moved-tail, tail-told}
 
 -- what the layers below say
 pub record OverLaws : Type 0 where
@@ -52,18 +52,18 @@ none-or-tail (Moved i before after) number k = shown-tail i k (join (restyled be
 none-or-tail (All i) number k = shown-tail i k all (omega arith)
 none-or-tail (Window n) number k = shown-tail n number all (omega arith)
 
--- where nothing changed after a change was joined with that of an effect, the effect tells none
-pub joined-none : (x : Change) (effect : Effect) (number k : ℕ) → is_none (join x (change_by effect number k)) ≡ true → change_by effect number k ≡ none
-joined-none x effect number k h = elim (none-or-tail effect number k) [
+-- where nothing changed after a change was combined with that of an effect, the effect tells none
+pub combined-none : (x : Change) (effect : Effect) (number k : ℕ) → is_none (join x (change_by effect number k)) ≡ true → change_by effect number k ≡ none
+combined-none x effect number k h = elim (none-or-tail effect number k) [
   | inl is ↦ is
-  | inr some ↦ absurd (tail-told (join x (change_by effect number k)) (joined-tail x (change_by effect number k) some) h)
+  | inr some ↦ absurd (tail-told (join x (change_by effect number k)) (combined-tail x (change_by effect number k) some) h)
 ]
 
 pub new-change : IsChange none
 new-change = record { head = omega arith; tail = omega arith; added = refl }
 
-pub joined-change : (x y : Change) → IsChange x → IsChange (join x y)
-joined-change x y is =
+pub combined-change : (x y : Change) → IsChange x → IsChange (join x y)
+combined-change x y is =
     let tail = max (moved y.added x.tail) y.tail in
     let added = x.added +ℤ y.added in
     let head = is.head in

@@ -1,6 +1,6 @@
 use Rattle.std.proofs.Common.{refl}
 use Rattle.rd_objects.proofs.Soundness.{extends_itself}
-use Rattle.rd_blocks.proofs.Leading.{leads-none, leads-edited, leads-joined}
+use Rattle.rd_blocks.proofs.Leading.{leads-none, leads-edited, leads-combined}
 use Rattle.rd_blocks.proofs.changes.changes_lead_on.Goals as goal
 
 pub returns-clause-edited : goal.returns-clause-edited
@@ -14,5 +14,5 @@ pub returns-clause-flagged : goal.returns-clause-flagged
 returns-clause-flagged c = λ old new objects closed named settings same.
     leads-none old new objects objects closed named settings (extends_itself objects) (c.settings_leave_all.ensures old new objects 4294967295 0 same)
 
-pub returns-clause-joined : goal.returns-clause-joined
-returns-clause-joined c = leads-joined c.changes_join.ensures
+pub returns-clause-combined : goal.returns-clause-combined
+returns-clause-combined c = leads-combined c.changes_join.ensures

@@ -4,4 +4,4 @@ use Rattle.rd_blocks.proofs.examples.rows_that_edits_leave.Goals as goal
 
 pub returns : goal.returns
 unfolding char_width
-returns c = record { typed = refl; joined = refl; split = refl; untouched = refl; forgotten = refl }
+returns c = record { typed = refl; united = refl; split = refl; untouched = refl; forgotten = refl }

@@ -13,7 +13,7 @@ returns-clause-step c =
     let laws : StepLaws = record {
       valid = c.steps_keep_states.ensures.step;
       left = c.ops_leave_the_rest.ensures;
-      joined = c.changes_lead_on.ensures.joined;
+      combined = c.changes_lead_on.ensures.combined;
       over = over;
       views = c.view_laws.ensures;
     } in
