@@ -51,9 +51,9 @@ pub record IsLink (s : Scene) (p : ℕ) (x : Piece) : Type 0 where
   pub based : is_some x.base ≡ true → (x.covers ≡ true) × (x.overlay ≡ false)
 
 -- one that is not the last is no ender
-pub record IsInner (s : Scene) (p : ℕ) (x : Piece) : Type 0 where
+pub record IsNoEnder (s : Scene) (p : ℕ) (x : Piece) : Type 0 where
   pub link : IsLink s p x
-  pub inner : option_ends x.kind ≡ false
+  pub no_ender : option_ends x.kind ≡ false
 
 -- the last is an ender, and no mark
 pub record IsLast (s : Scene) (p to : ℕ) (x : Piece) : Type 0 where
@@ -67,9 +67,9 @@ pub record IsLast (s : Scene) (p to : ℕ) (x : Piece) : Type 0 where
 abbrev pub Chain : Scene → ℕ → ℕ → List Piece → Type 0
 Chain s p to [] = ⊥
 Chain s p to (x ∷ []) = IsLast s p to x
-Chain s p to (x ∷ y ∷ xs) = IsInner s p x × Chain s x.to to (y ∷ xs)
+Chain s p to (x ∷ y ∷ xs) = IsNoEnder s p x × Chain s x.to to (y ∷ xs)
 
-chain-cons : (s : Scene) (p to : ℕ) (x : Piece) (xs : List Piece) → IsInner s p x → Chain s x.to to xs → Chain s p to (x ∷ xs)
+chain-cons : (s : Scene) (p to : ℕ) (x : Piece) (xs : List Piece) → IsNoEnder s p x → Chain s x.to to xs → Chain s p to (x ∷ xs)
 chain-cons s p to x [] link rest = absurd rest
 chain-cons s p to x (y ∷ xs) link rest = (link, rest)
 
@@ -89,12 +89,12 @@ some-base (Some b) mark g e = refl
 marks_joined-by : (s : Scene) (p to : ℕ) (h x : Piece) (xs : List Piece) → Chain s p to (h ∷ x ∷ xs) → (glyph : Option Glyph) → marked_glyph h.base x.mark ≡ glyph → ((k : Piece) → Chain s p to (k ∷ xs) → Chain s p to (marks_joined_from piece_joins k xs)) → ((q : ℕ) → Chain s q to (x ∷ xs) → Chain s q to (marks_joined_from piece_joins x xs)) → Chain s p to (marks_joined_from piece_joins h (x ∷ xs))
 marks_joined-by s p to h x xs chain None e longer next = rw e (chain-cons s p to h (marks_joined_from piece_joins x xs) chain.0 (next h.to chain.1))
 marks_joined-by s p to h x [] chain (Some g) e longer next = absurd (cc (ap (marked_glyph h.base) chain.1.alone, no-mark h.base))
-marks_joined-by s p to h x (y ∷ xs) chain (Some g) e longer next = rw e (longer _ (inner, chain.1.1)) where
+marks_joined-by s p to h x (y ∷ xs) chain (Some g) e longer next = rw e (longer _ (no_ender, chain.1.1)) where
   may : (h.covers ≡ true) × (h.overlay ≡ false)
   may = chain.0.link.based (some-base h.base x.mark g e)
 
-  inner : IsInner s p (record h { kind = Some (kind.Marked g); base = Some g; to = x.to })
-  inner = record {
+  no_ender : IsNoEnder s p (record h { kind = Some (kind.Marked g); base = Some g; to = x.to })
+  no_ender = record {
     link = record {
       at = chain.0.link.at;
       ordered = omega (arith, chain.0.link.ordered, chain.1.0.link.ordered);
@@ -102,7 +102,7 @@ marks_joined-by s p to h x (y ∷ xs) chain (Some g) e longer next = rw e (longe
       gives = rw (may.0, may.1);
       based = λ e. may;
     };
-    inner = refl;
+    no_ender = refl;
   }
 
 join : (s : Scene) (p to : ℕ) (h : Piece) (xs : List Piece) → Chain s p to (h ∷ xs) → Chain s p to (marks_joined_from piece_joins h xs)
@@ -120,18 +120,18 @@ strings-before : (s : Scene) (p to : ℕ) (face : Attributes) (numbers : List �
 strings-before s p to face [] xs chain = chain
 strings-before s p to face (n ∷ ns) xs chain =
     chain-cons s p to (string_piece p face n) (string_pieces p face ns ++ xs)
-    (record { link = record { at = refl; ordered = omega arith; some = λ e. cc; gives = refl; based = λ e. cc }; inner = refl })
+    (record { link = record { at = refl; ordered = omega arith; some = λ e. cc; gives = refl; based = λ e. cc }; no_ender = refl })
     (strings-before s p to face ns xs chain)
 
 -- a piece that stands for the offsets from one to another
 record IsOwn (s : Scene) (p to : ℕ) (x : Piece) : Type 0 where
-  own : IsInner s p x
+  own : IsNoEnder s p x
   ends : x.to ≡ to
 
 own-spec : (s : Scene) (spec : Spec) (face : Attributes) (p to : ℕ) → p < to → IsOwn s p to (spec_piece s spec face p to)
-own-spec s (Text n) face p to some = record { own = record { link = record { at = refl; ordered = omega arith; some = λ e. some; gives = refl; based = λ e. cc }; inner = refl }; ends = refl }
-own-spec s (Width n) face p to some = record { own = record { link = record { at = refl; ordered = omega arith; some = λ e. some; gives = refl; based = λ e. cc }; inner = refl }; ends = refl }
-own-spec s (Align n) face p to some = record { own = record { link = record { at = refl; ordered = omega arith; some = λ e. some; gives = refl; based = λ e. cc }; inner = refl }; ends = refl }
+own-spec s (Text n) face p to some = record { own = record { link = record { at = refl; ordered = omega arith; some = λ e. some; gives = refl; based = λ e. cc }; no_ender = refl }; ends = refl }
+own-spec s (Width n) face p to some = record { own = record { link = record { at = refl; ordered = omega arith; some = λ e. some; gives = refl; based = λ e. cc }; no_ender = refl }; ends = refl }
+own-spec s (Align n) face p to some = record { own = record { link = record { at = refl; ordered = omega arith; some = λ e. some; gives = refl; based = λ e. cc }; no_ender = refl }; ends = refl }
 
 -- a character has an element exactly where its entry in the table is not empty
 element-by : (entry : Option (List Glyph)) (look : Shown) → has_element (mark_role_by entry look) ≡ not (is_empty_entry entry)
@@ -159,7 +159,7 @@ own-char s face c p = record {
       gives = element-by (entry_of s.parts.table c) (shown_as s.parts.settings.ctl_arrow (class_of s.parts.classes c) c);
       based = λ some. (base-element (mark_role_of s.parts c) some, refl);
     };
-    inner = refl;
+    no_ender = refl;
   };
   ends = refl;
 }
@@ -171,8 +171,8 @@ own-open s face (Some c) p none = rw none (own-char s face c p)
 own-by : (s : Scene) (display : Option ℕ) (hidden : Hidden) (face : Attributes) (ch : Option ℕ) (p to : ℕ) → p < to → ((not (is_some display) && not (is_hidden hidden)) ≡ true → to ≡ p + 1) → ((not (is_some display) && not (is_hidden hidden)) && ends_line ch) ≡ false → IsOwn s p to (piece_by s display hidden face ch p to)
 own-by s (Some n) hidden face ch p to some alone none = own-spec s (spec_in s.objects n) face p to some
 own-by s None No face ch p to some alone none = rw (alone refl) (own-open s face ch p none)
-own-by s None Plain face ch p to some alone none = record { own = record { link = record { at = refl; ordered = omega arith; some = λ e. some; gives = refl; based = λ e. cc }; inner = refl }; ends = refl }
-own-by s None Ellipsis face ch p to some alone none = record { own = record { link = record { at = refl; ordered = omega arith; some = λ e. some; gives = refl; based = λ e. cc }; inner = refl }; ends = refl }
+own-by s None Plain face ch p to some alone none = record { own = record { link = record { at = refl; ordered = omega arith; some = λ e. some; gives = refl; based = λ e. cc }; no_ender = refl }; ends = refl }
+own-by s None Ellipsis face ch p to some alone none = record { own = record { link = record { at = refl; ordered = omega arith; some = λ e. some; gives = refl; based = λ e. cc }; no_ender = refl }; ends = refl }
 
 abbrev shown_in : Scene → Seen → Showing
 shown_in s e = showing_of s.parts.settings.invisible e

@@ -13,7 +13,7 @@ use Rattle.rd_items.specs.Readings.{IsReading}
 use Rattle.rd_items.specs.Pieces.{Scene, pieces_from}
 use Rattle.rd_items.specs.Items.{piece_joins, kind_gives, item_of, items_by, covered_to, covering, items_of}
 use Rattle.rd_items.specs.Covers.{Tile, CoverBlock, CoverWhereTheyGive, is_ender_kind, EndOnce}
-use Rattle.rd_items.proofs.Chains.{IsLink, IsInner, Chain, reading-chain}
+use Rattle.rd_items.proofs.Chains.{IsLink, IsNoEnder, Chain, reading-chain}
 
 -- a piece that shows nothing covers nothing
 shows-none : (s : Scene) (p : ℕ) (x : Piece) → IsLink s p x → x.kind ≡ None → x.covers ≡ false
@@ -27,8 +27,8 @@ no-later s since p x within link false f = rw f (omega (arith, link.ordered))
 -- ---- one more item
 
 end-cons : (x : Item) (xs : List Item) → is_ender_kind x.kind ≡ false → EndOnce xs → EndOnce (x ∷ xs)
-end-cons x [] inner rest = absurd rest
-end-cons x (y ∷ xs) inner rest = (inner, rest)
+end-cons x [] own rest = absurd rest
+end-cons x (y ∷ xs) own rest = (own, rest)
 
 abbrev CoversWhereItGives : Scene → Item → Type 0
 CoversWhereItGives s i = nat_lt i.from i.to ≡ (not i.overlay && kind_gives s i.kind)
@@ -47,15 +47,15 @@ item-covers s since p to x k items within link e false f tile give =
     let here = le-ltb x.at x.at (le_refl x.at) in
     (rw f (inl (refl, same)), All-cons (CoversWhereItGives s) (item_of since x k) items (rw f (here ∙ sym f ∙ gives)) give)
 
-cover-cons : (s : Scene) (since p to : ℕ) (x : Piece) (items : List Item) → since ≤ p → IsInner s p x
+cover-cons : (s : Scene) (since p to : ℕ) (x : Piece) (items : List Item) → since ≤ p → IsNoEnder s p x
     → CoverBlock s (covered_to since x) to items → (kind : Option ItemKind) → x.kind ≡ kind → CoverBlock s since to (items_by x.kind since x ++ items)
-cover-cons s since p to x items within inner rest None e =
-    let none = shows-none s p x inner.link e in
+cover-cons s since p to x items within own rest None e =
+    let none = shows-none s p x own.link e in
     let same : CoverBlock s since to items = rw none at rest in
     rw e same
-cover-cons s since p to x items within inner rest (Some k) e =
-    let none : is_ender_kind k ≡ false = rw e at inner.inner in
-    let both = item-covers s since p to x k items within inner.link e x.covers refl rest.tile rest.give in
+cover-cons s since p to x items within own rest (Some k) e =
+    let none : is_ender_kind k ≡ false = rw e at own.no_ender in
+    let both = item-covers s since p to x k items within own.link e x.covers refl rest.tile rest.give in
     rw e (record { tile = both.0; give = both.1; end = end-cons (item_of since x k) items none rest.end })
 
 -- ---- the items of a block

@@ -78,8 +78,8 @@ cost-told current target w s old new e =
     ∙ ap (λ k. differing (shifted_rows s (blank_row k) current.rows) target.rows) (sym e)
 
 -- a part of a part
-inner : (xs : List ℕ) (t k a m : ℕ) → a + m ≤ k → take m (drop a (take k (drop t xs))) ≡ take m (drop (t + a) xs)
-inner xs t k a m le =
+take-within : (xs : List ℕ) (t k a m : ℕ) → a + m ≤ k → take m (drop a (take k (drop t xs))) ≡ take m (drop (t + a) xs)
+take-within xs t k a m le =
     let sum : a + (k - a) ≡ k = omega arith in
     ap (λ j. take m (drop a (take j (drop t xs)))) (sym sum)
     ∙ ap (take m) (drop-take a (k - a) (drop t xs))
@@ -93,7 +93,7 @@ back-of : (xs : List ℕ) (t h a m : ℕ) → t + h ≤ length xs → a + m ≡ 
 back-of xs t h a m le e =
     let part = take (t + h - t) (drop t xs) in
     let n : length (drop a part) ≤ m = omega (arith, length-drop a part, part-length xs t h le) in
-    sym (take_all m (drop a part) n) ∙ inner xs t (t + h - t) a m (omega arith)
+    sym (take_all m (drop a part) n) ∙ take-within xs t (t + h - t) a m (omega arith)
 
 -- the cost in four parts: above the band, in the two parts that it becomes, and below
 in-parts : (old new a b : List ℕ) (t h m k : ℕ) → length old ≡ length new → t + h ≤ length new → length a ≡ m → length b ≡ k → m + k ≡ h

@@ -87,4 +87,4 @@ module _ (s : Scene) (base : ℕ) where
   line-ends law items once =
       let e = ended items once in
       ap (λ xs. ends_once (flat_map (put_item kind_elements s base xs) (item_turns s base items))) e.whole
-      ∙ turned-ends e.others e.ender (item_turns s base items) e.is.kind e.inner (ender-last law s base items e)
+      ∙ turned-ends e.others e.ender (item_turns s base items) e.is.kind e.no_enders (ender-last law s base items e)

@@ -9,34 +9,34 @@ use Rattle.rd_text.specs.Texts.{is_newline, is_blank}
 use Rattle.rd_text.specs.Stretches.{opens, closes, separated}
 
 -- how lists that are joined begin
-joined_begin : (nl blank first all rest : Bool) → (nl || (blank && (first || (all && rest)))) ≡ ((nl || (blank && first)) || ((blank && all) && rest))
-joined_begin true blank first all rest = refl
-joined_begin false true first all rest = refl
-joined_begin false false first all rest = refl
+begin_cases : (nl blank first all rest : Bool) → (nl || (blank && (first || (all && rest)))) ≡ ((nl || (blank && first)) || ((blank && all) && rest))
+begin_cases true blank first all rest = refl
+begin_cases false true first all rest = refl
+begin_cases false false first all rest = refl
 
 pub opens-append : (xs ys : List ℕ) → opens (xs ++ ys) ≡ (opens xs || (list_all is_blank xs && opens ys))
 opens-append [] ys = refl
 opens-append (c ∷ cs) ys =
     ap (λ b. is_newline c || (is_blank c && b)) (opens-append cs ys)
-    ∙ joined_begin (is_newline c) (is_blank c) (opens cs) (list_all is_blank cs) (opens ys)
+    ∙ begin_cases (is_newline c) (is_blank c) (opens cs) (list_all is_blank cs) (opens ys)
 
 -- and where blanks alone stand between two of their newlines
-joined_gap : (nl first all rest inside ends later : Bool)
+gap_cases : (nl first all rest inside ends later : Bool)
     → ((nl && (first || (all && rest))) || ((inside || (ends && rest)) || later)) ≡ ((((nl && first) || inside) || (((nl && all) || ends) && rest)) || later)
-joined_gap false first all rest inside ends later = refl
-joined_gap true true all rest inside ends later = refl
-joined_gap true false false rest inside ends later = refl
-joined_gap true false true true true ends later = refl
-joined_gap true false true true false ends later = refl
-joined_gap true false true false inside true later = refl
-joined_gap true false true false inside false later = refl
+gap_cases false first all rest inside ends later = refl
+gap_cases true true all rest inside ends later = refl
+gap_cases true false false rest inside ends later = refl
+gap_cases true false true true true ends later = refl
+gap_cases true false true true false ends later = refl
+gap_cases true false true false inside true later = refl
+gap_cases true false true false inside false later = refl
 
 pub separated-append : (xs ys : List ℕ) → separated (xs ++ ys) ≡ ((separated xs || (closes xs && opens ys)) || separated ys)
 separated-append [] ys = refl
 separated-append (c ∷ cs) ys =
     ap (λ b. (is_newline c && b) || separated (cs ++ ys)) (opens-append cs ys)
     ∙ ap (λ b. (is_newline c && (opens cs || (list_all is_blank cs && opens ys))) || b) (separated-append cs ys)
-    ∙ joined_gap (is_newline c) (opens cs) (list_all is_blank cs) (opens ys) (separated cs) (closes cs) (separated ys)
+    ∙ gap_cases (is_newline c) (opens cs) (list_all is_blank cs) (opens ys) (separated cs) (closes cs) (separated ys)
 
 -- where no element of a list passes a test, none at any place does
 pub none_seen : (p : ℕ → Bool) (xs : List ℕ) (k : ℕ) → list_any p xs ≡ false → k < length xs → p (get_or xs k 0) ≡ false

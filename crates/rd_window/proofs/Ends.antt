@@ -128,8 +128,8 @@ module _ {m : SourceValues} {shape : ShapeValues} (source : IsSource m) (is : Is
       omega (arith, more, count, place)
 
 -- an anchor that names no first row of a block does not name that of the source
-pub inner-row : (rows : Block → List RowMeaning) (bs : List Block) (anchor : Anchor) (place : ℕ) → Names anchor (all_rows rows bs) place → 0 < anchor.row → (place == 0) ≡ false
-inner-row rows bs anchor place named some =
+pub later-row : (rows : Block → List RowMeaning) (bs : List Block) (anchor : Anchor) (place : ℕ) → Names anchor (all_rows rows bs) place → 0 < anchor.row → (place == 0) ≡ false
+later-row rows bs anchor place named some =
     let f = anchor-found rows bs place anchor named in
     let count = f.place in
     ne_eqb place 0 (λ none. omega (arith, count, some, none))

@@ -2,13 +2,13 @@ use Rattle.std.proofs.Common.{◌≡◌, ℕ, is_some, Some, slice_get, sym, sub
 use Rattle.rd_base.proofs.Choices.{opposite}
 use Rattle.rd_matrix.specs.Blocks.{block_before}
 use Rattle.rd_matrix.specs.Sources.{SourceValues}
-use Rattle.rd_window.proofs.Ends.{first-row, inner-row}
+use Rattle.rd_window.proofs.Ends.{first-row, later-row}
 use Rattle.rd_window.proofs.window.is_first_row.Goals as goal
 
 pub returns-then-anchor-gt0-clause-value : goal.returns-then-anchor-gt0-clause-value
 returns-then-anchor-gt0-clause-value g c = λ shape place is named.
     let m = g.B.BlockSource.meaning c.args.source.now in
-    sym (inner-row (λ b. m.rows_of b shape) m.blocks c.args.anchor place named (omega arith))
+    sym (later-row (λ b. m.rows_of b shape) m.blocks c.args.anchor place named (omega arith))
 
 pub returns-clause-value : goal.returns-clause-value
 returns-clause-value g c = λ shape place is named.
