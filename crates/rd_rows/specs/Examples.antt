@@ -15,8 +15,8 @@ use Rattle.rd_base.specs.Glyphs.{glyph_cells}
 use Rattle.rd_rows.specs.Rows.{LaidRow, cutting_of, rows_of}
 
 -- the element of one character: the item, which covers the position at its own number
-abbrev pub element_of : ℕ → Extent → Look → Element
-element_of item extent look = record {
+abbrev pub item_element : ℕ → Extent → Look → Element
+item_element item extent look = record {
   extent = extent;
   look = look;
   face = plain;
@@ -24,13 +24,13 @@ element_of item extent look = record {
 }
 
 abbrev pub letter : ℕ → ℕ → Element
-letter item code = element_of item (Fixed 1) (Glyph (single code 1))
+letter item code = item_element item (Fixed 1) (Glyph (single code 1))
 
 abbrev pub wide : ℕ → ℕ → ℕ → Element
-wide item code columns = element_of item (Fixed columns) (Glyph (single code columns))
+wide item code columns = item_element item (Fixed columns) (Glyph (single code columns))
 
 abbrev pub tab : ℕ → Element
-tab item = element_of item (Tab 8) Blank
+tab item = item_element item (Tab 8) Blank
 
 -- these letters from an item on
 abbrev pub letters : ℕ → List ℕ → List Element
@@ -38,18 +38,18 @@ letters item [] = []
 letters item (c ∷ cs) = letter item c ∷ letters (item + 1) cs
 
 abbrev pub line_end : ℕ → List Element
-line_end item = element_of item (Fixed 0) LineEnd ∷ []
+line_end item = item_element item (Fixed 0) LineEnd ∷ []
 
 abbrev pub row_end : ℕ → Element
-row_end item = element_of item (Fixed 0) RowEnd
+row_end item = item_element item (Fixed 0) RowEnd
 
 -- blanks up to a column
 abbrev pub stretch : ℕ → ℕ → Element
-stretch item column = element_of item (Column column) Blank
+stretch item column = item_element item (Column column) Blank
 
 -- so many blanks
 abbrev pub spaces : ℕ → ℕ → Element
-spaces item columns = element_of item (Fixed columns) Blank
+spaces item columns = item_element item (Fixed columns) Blank
 
 abbrev pub narrow : ShapeValues
 narrow = record { width = 12; wrap = Continue; hscroll = 0 }
