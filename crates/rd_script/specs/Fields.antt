@@ -148,6 +148,18 @@ both first second = then_by first second.keys (λ a. made (λ b. (a, b)) second)
 abbrev pub kind_key : List ℕ
 kind_key = codes "kind"
 
+-- the key of the name of a buffer or a setting
+abbrev pub name_key : List ℕ
+name_key = codes "name"
+
+-- the key of the row to which a start is forced, or that is hit
+abbrev pub row_key : List ℕ
+row_key = codes "row"
+
+-- the key of the side on which a split puts the new window, or to which point goes
+abbrev pub side_key : List ℕ
+side_key = codes "side"
+
 -- the key of a text
 abbrev pub text_key : List ℕ
 text_key = codes "text"

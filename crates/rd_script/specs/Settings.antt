@@ -11,7 +11,7 @@ use Rattle.rd_script.specs.declared.setting.Setting.{Setting}
 use Rattle.rd_script.specs.declared.setting.Setting.TheVariants as settings
 use Rattle.rd_script.specs.declared.setting.SettingName.{SettingName}
 use Rattle.rd_script.specs.declared.setting.SettingName.TheVariants as names
-use Rattle.rd_script.specs.Fields.{Fields, whole, within, word, two_items, list_of, required, optional, made, then_value}
+use Rattle.rd_script.specs.Fields.{Fields, whole, within, word, two_items, list_of, required, optional, made, name_key, then_value}
 
 abbrev pub setting_names : List (List ℕ × SettingName)
 setting_names = (codes "tab_width", names.TabWidth)
@@ -53,4 +53,4 @@ value_of names.ReadOnly key = made settings.ReadOnly (required key as_bool)
 
 -- a setting's name, and then its value
 abbrev pub setting : Fields Setting
-setting = then_value (required (codes "name") (word setting_names)) value_of
+setting = then_value (required name_key (word setting_names)) value_of

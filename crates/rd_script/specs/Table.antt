@@ -21,7 +21,7 @@ use Rattle.rd_script.specs.declared.name.ScreenOp.TheVariants as screens
 use Rattle.rd_script.specs.declared.op.Op.{Op}
 use Rattle.rd_script.specs.declared.op.Op.TheVariants as ops
 use Rattle.rd_script.specs.declared.word.Way.{Way}
-use Rattle.rd_script.specs.Fields.{Fields, whole, within, signed, text, plain_text, buffer_name, beside, word, list_of, items_of, required, optional, defaulted, both, made, text_key}
+use Rattle.rd_script.specs.Fields.{Fields, whole, within, signed, text, plain_text, buffer_name, beside, word, list_of, items_of, required, optional, defaulted, both, made, name_key, row_key, side_key, text_key}
 use Rattle.rd_script.specs.Objects.{run, spec, face, entry, glyph_text, slot_field}
 use Rattle.rd_script.specs.Properties.{text_kind, overlay_kind, property}
 use Rattle.rd_script.specs.Settings.{setting}
@@ -115,7 +115,7 @@ overlay_manner = both (defaulted (pos 0) (codes "priority") (signed PRIORITY)) (
 
 -- the ops about buffers and their texts
 abbrev pub text_row : TextOp → Fields Op
-text_row texts.Buffer = made ops.Buffer (required (codes "name") buffer_name)
+text_row texts.Buffer = made ops.Buffer (required name_key buffer_name)
 text_row texts.Insert = made (λ f. ops.Insert f.0 f.1.0 f.1.1) (both buffer_field (both position_field text_field))
 text_row texts.InsertRaw = made (λ f. ops.InsertRaw f.0 f.1.0 f.1.1) (both buffer_field (both position_field (required (codes "bytes") (items_of (within 128 255)))))
 text_row texts.Type = made ops.TypeText text_field
@@ -144,19 +144,19 @@ object_row objects.Table = made (λ f. ops.AddTable f.0 f.1.0 f.1.1.0 f.1.1.1.0 
 
 -- those about windows
 abbrev pub window_row : WindowOp → Fields Op
-window_row windows.Split = made (λ f. ops.Split f.0 f.1.0 f.1.1) (both window_field (both (required (codes "side") (word split_sides)) (number_field (codes "size"))))
+window_row windows.Split = made (λ f. ops.Split f.0 f.1.0 f.1.1) (both window_field (both (required side_key (word split_sides)) (number_field (codes "size"))))
 window_row windows.Remove = made ops.Remove window_field
 window_row windows.Select = made ops.Select window_field
 window_row windows.Show = made (λ f. ops.Show f.0 f.1) (both window_field buffer_field)
 window_row windows.Point = made (λ f. ops.Point f.0 f.1) (both window_field position_field)
-window_row windows.Start = made (λ f. ops.Start f.0 f.1.0 f.1.1) (both window_field (both position_field (required (codes "row") (within 0 START_ROW))))
+window_row windows.Start = made (λ f. ops.Start f.0 f.1.0 f.1.1) (both window_field (both position_field (required row_key (within 0 START_ROW))))
 window_row windows.Scroll = made (λ f. ops.Scroll f.0 f.1) (both window_field (required (codes "rows") (signed (pos SCROLL_ROWS))))
 window_row windows.Hscroll = made (λ f. ops.Hscroll f.0 f.1) (both window_field (required (codes "columns") (within 0 HSCROLL_COLUMNS)))
 window_row windows.Wrap = made (λ f. ops.Wrap f.0 f.1) (both window_field (required (codes "mode") (word wrap_modes)))
 window_row windows.ModeLine = made (λ f. ops.ModeLine f.0 f.1) (both window_field (optional (codes "format") plain_text))
-window_row windows.Go = made (λ f. ops.Go f.0 f.1.right) (both window_field (required (codes "side") (word ways)))
+window_row windows.Go = made (λ f. ops.Go f.0 f.1.right) (both window_field (required side_key (word ways)))
 window_row windows.Hit = made (λ f. ops.Hit f.0 f.1.0 f.1.1)
-    (both window_field (both (required (codes "row") (within 0 (FRAME_ROWS - 1))) (required (codes "column") (within 0 (FRAME_COLUMNS - 1)))))
+    (both window_field (both (required row_key (within 0 (FRAME_ROWS - 1))) (required (codes "column") (within 0 (FRAME_COLUMNS - 1)))))
 window_row windows.Margin = made (λ f. ops.Margin f.0 f.1.0 f.1.1)
     (both window_field (both (required (codes "numbers") (within 0 NUMBER_COLUMNS)) (required (codes "strings") (within 0 STRING_COLUMNS))))
 

@@ -17,6 +17,15 @@ use std::alloc::Global;
 /// The key of what a property or a display spec is.
 pub const KIND: &'static str = "kind";
 
+/// The key of the name of a buffer or a setting.
+pub const NAME: &'static str = "name";
+
+/// The key of the row to which a start is forced, or that is hit.
+pub const ROW: &'static str = "row";
+
+/// The key of the side on which a split puts the new window, or to which point goes.
+pub const SIDE: &'static str = "side";
+
 /// The key of a text.
 pub const TEXT: &'static str = "text";
 

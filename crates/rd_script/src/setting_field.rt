@@ -6,7 +6,7 @@ ghost use Rattle.rd_script.specs.Settings.{setting, value_of};
 
 use crate::asked::Asked;
 use crate::fault::OpFault;
-use crate::field::{VALUE, named, optional, required};
+use crate::field::{NAME, VALUE, named, optional, required};
 use crate::form::{Flag, Form, Whole, Within};
 use crate::item::{AtMost, Two};
 use crate::place_field::within;
@@ -20,7 +20,7 @@ use std::alloc::Global;
 pub fn setting(alloc: Global, asked: &mut Asked) -> Result<Setting, OpFault>
     ensures { IsTaken result setting asked.old asked.new }
 {
-    let name = named(alloc, asked, "name")?;
+    let name = named(alloc, asked, NAME)?;
     value_of(alloc, asked, name, VALUE)
 }
 

@@ -4,7 +4,7 @@ ghost use Rattle.rd_script.specs.Table.{text_row};
 
 use crate::asked::Asked;
 use crate::fault::OpFault;
-use crate::field::required;
+use crate::field::{NAME, required};
 use crate::item::RawBytes;
 use crate::name::TextOp;
 use crate::op::Op;
@@ -18,7 +18,7 @@ pub fn read_text(alloc: Global, asked: &mut Asked, op: TextOp) -> Result<Op, OpF
 {
     match op {
         TextOp::Buffer => Ok(Op::Buffer {
-            name: required(alloc, asked, "name", &NameOfBuffer)?,
+            name: required(alloc, asked, NAME, &NameOfBuffer)?,
         }),
         TextOp::Insert => Ok(Op::Insert {
             buffer: buffer(alloc, asked)?,

@@ -4,7 +4,7 @@ ghost use Rattle.rd_script.specs.Table.{window_row};
 
 use crate::asked::Asked;
 use crate::fault::OpFault;
-use crate::field::{named, number, optional, required};
+use crate::field::{ROW, SIDE, named, number, optional, required};
 use crate::form::Signed;
 use crate::name::WindowOp;
 use crate::op::Op;
@@ -25,7 +25,7 @@ pub fn read_window(alloc: Global, asked: &mut Asked, op: WindowOp) -> Result<Op,
     match op {
         WindowOp::Split => Ok(Op::Split {
             window,
-            side: named(alloc, asked, "side")?,
+            side: named(alloc, asked, SIDE)?,
             size: number(alloc, asked, "size")?,
         }),
         WindowOp::Remove => Ok(Op::Remove { window }),
@@ -41,7 +41,7 @@ pub fn read_window(alloc: Global, asked: &mut Asked, op: WindowOp) -> Result<Op,
         WindowOp::Start => Ok(Op::Start {
             window,
             pos: position(alloc, asked)?,
-            row: within(alloc, asked, "row", 0, START_ROW)?,
+            row: within(alloc, asked, ROW, 0, START_ROW)?,
         }),
         WindowOp::Scroll => Ok(Op::Scroll {
             window,
@@ -67,7 +67,7 @@ pub fn read_window(alloc: Global, asked: &mut Asked, op: WindowOp) -> Result<Op,
             format: optional(alloc, asked, "format", &PlainText)?,
         }),
         WindowOp::Go => {
-            let way: Way = named(alloc, asked, "side")?;
+            let way: Way = named(alloc, asked, SIDE)?;
             Ok(Op::Go {
                 window,
                 right: way.right,
@@ -75,7 +75,7 @@ pub fn read_window(alloc: Global, asked: &mut Asked, op: WindowOp) -> Result<Op,
         }
         WindowOp::Hit => Ok(Op::Hit {
             window,
-            row: within(alloc, asked, "row", 0, FRAME_ROWS - 1)?,
+            row: within(alloc, asked, ROW, 0, FRAME_ROWS - 1)?,
             column: within(alloc, asked, "column", 0, FRAME_COLUMNS - 1)?,
         }),
         WindowOp::Margin => Ok(Op::Margin {
