@@ -3,11 +3,10 @@ use Rattle.std.proofs.Common.{◌≡◌, ℕ, zero, suc, ◌+◌, ◌-◌, ◌<�
 use Rattle.std.specs.Prelude.{unwrap_or, max}
 use Rattle.std.specs.List.{slice_split}
 use Rattle.std.proofs.lemmas.Bool.{cases_lt, cases_Bool, or_right}
-use Rattle.std.proofs.lemmas.List.Sums.{suffix_len_is}
 use Rattle.std.specs.Option.{option_or}
 use Rattle.rd_text.specs.Texts.{TextValue, IsText, between, is_newline, is_ink, is_separator, next_newline, prev_newline, prev_ink, IsLineStart, EndsSeparator, IsParagraphStart}
 use Rattle.rd_text.proofs.Characters.{clash, blank_else, blank_not_ink, newline_not_ink}
-use Rattle.rd_text.proofs.Searches.{next_bound, next_before, next_at, ink_after, ink_at, prev_ink_bound, between_at, between_size, all_blank, some_ink, blank_at}
+use Rattle.rd_text.proofs.Searches.{next_bound, next_before, next_at, ink_after, ink_at, prev_after, prev_at, prev_bound, prev_ink_bound, between_size, all_blank, some_ink, blank_at}
 use Rattle.rd_ucd.specs.declared.spans.Span.{Span}
 use Rattle.rd_para.specs.Known.{IsKnown}
 use Rattle.rd_para.specs.Paragraphs.{p2_p3_level_of_line, decided, level_by, levels_of, text_level}
@@ -344,19 +343,18 @@ pub record NextLine (classes : List Span) (t : TextValue) (end : ℕ) : Type 0 w
 prev_is : (t : TextValue) (right : IsText t) (start pos : ℕ) → t.begin ≤ start → start ≤ pos → pos ≤ t.end → IsLineStart t start
     → ((k : ℕ) → start ≤ k → k < pos → is_newline (get_or t.text (k - 1) 0) ≡ false) → prev_newline t pos ≡ start
 prev_is t right start pos low order high begins clear =
-    let first = right.first in
-    let xs = between t t.begin pos in
-    let size = between_size t right t.begin pos (omega arith) (omega arith) high in
-    let at : (k : ℕ) → k < length xs → get_or xs k 0 ≡ get_or t.text (t.begin + k - 1) 0
-    = λ k less. let place : t.begin + k - t.begin ≡ k = omega arith in
-    ap (λ (n : ℕ). get_or xs n 0) (sym place) ∙ between_at t right t.begin pos (t.begin + k) (omega arith) (omega arith) (omega arith) in
-    let e = suffix_len_is (λ c. not (is_newline c)) xs (start - t.begin) 0 (omega arith)
-    (λ k lo hi. ap (λ (c : ℕ). not (is_newline c)) (at k hi) ∙ ap not (clear (t.begin + k) (omega arith) (omega arith)))
-    (λ some. elim begins [
-      | inl is ↦ absurd (omega arith)
-      | inr line ↦ ap (λ (c : ℕ). not (is_newline c)) (at (start - t.begin - 1) (omega arith) ∙ (let e : t.begin + (start - t.begin - 1) - 1 ≡ start - 1 - 1 = omega arith in ap (λ (n : ℕ). get_or t.text n 0) e)) ∙ ap not line.1
-    ]) in
-    omega arith
+    let (least, most) = prev_bound t right pos (omega arith) high in
+    elim (cases_lt start (prev_newline t pos)) [
+      | inl past ↦
+          clash _ (prev_at t right pos (omega arith) high (omega arith)) (clear (prev_newline t pos - 1) (omega arith) (omega arith))
+      | inr fine ↦ elim begins [
+        | inl is ↦ omega arith
+        | inr line ↦ elim (cases_lt (prev_newline t pos) start) [
+          | inl short ↦ clash _ line.1 (prev_after t right pos (start - 1) (omega arith) high (omega arith) (omega arith))
+          | inr long ↦ omega arith
+        ]
+      ]
+    ]
 
 -- a line is one of blanks alone just where nothing else stands in it
 pub line_blank : (t : TextValue) (right : IsText t) (from to : ℕ) → t.begin ≤ from → from ≤ to → to ≤ t.end → ((k : ℕ) → from ≤ k → k < to → is_newline (get_or t.text (k - 1) 0) ≡ false)
