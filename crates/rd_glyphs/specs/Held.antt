@@ -1,7 +1,7 @@
 -- How the code reads a plain line: character by character, with one glyph held for the marks behind it. These are its steps, and no
 -- part of what a plain line is.
-use Rattle.std.specs.Prelude.{ℕ, ◌≤◌, Bool, true, false, if◌then◌else◌, List, [], ◌∷◌, ◌++◌, Option, None, Some}
-use Rattle.rd_base.specs.Cells.{single, with_mark, takes_mark}
+use Rattle.std.specs.Prelude.{ℕ, ◌≤◌, Bool, true, false, if◌then◌else◌, List, [], ◌∷◌, ◌++◌, Option, None, Some, unwrap_or}
+use Rattle.rd_base.specs.Cells.{single, takes_mark}
 use Rattle.rd_base.specs.declared.cell.Glyph.{Glyph}
 use Rattle.rd_base.specs.declared.element.Look.{Look}
 use Rattle.rd_base.specs.declared.element.Look.TheVariants as look
@@ -10,6 +10,7 @@ use Rattle.rd_ucd.specs.Lookup.{class_of}
 use Rattle.rd_glyphs.specs.declared.shown.Shown.{Shown}
 use Rattle.rd_glyphs.specs.declared.shown.Shown.TheVariants.{Mark, Itself}
 use Rattle.rd_glyphs.specs.Characters.{shown_as, looks_of, on_blank}
+use Rattle.rd_glyphs.specs.Marks.{marked_glyph}
 use Rattle.rd_glyphs.specs.Lines.{columns_of_looks}
 
 -- the look of a glyph that is held
@@ -33,13 +34,9 @@ given held (Mark code) = if has_room held then [] else held_looks held
 given held (Itself code width) = held_looks held
 given held s = held_looks held ++ looks_of (single 92 1) (single 94 1) s
 
--- the glyph that takes a mark: the one that is held, or where that has six a blank
-abbrev pub joined_to : Glyph → ℕ → Glyph
-joined_to g code = if takes_mark g then with_mark g code else on_blank code
-
+-- the glyph that takes a mark: the one that is held, where the mark joins it, and else a blank
 abbrev pub joined_held : Option Glyph → ℕ → Glyph
-joined_held None code = on_blank code
-joined_held (Some g) code = joined_to g code
+joined_held held code = unwrap_or (marked_glyph held (Some code)) (on_blank code)
 
 -- the glyph that is held then; behind a control, an escape or a blank of its own nothing is held
 abbrev pub held_after : Option Glyph → Shown → Option Glyph

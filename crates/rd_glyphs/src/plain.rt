@@ -4,10 +4,11 @@ ghost use Rattle.rd_base.specs.Chars.{is_code};
 ghost use Rattle.rd_base.specs.Cells.{single};
 ghost use Rattle.rd_base.specs.Glyphs.{IsRowAfter};
 ghost use Rattle.rd_glyphs.specs.Characters.{looks_of, TakesColumns, ShowsColumns};
-ghost use Rattle.rd_glyphs.specs.Held.{HoldsColumns, has_room, joined_held, joined_to, held_looks, given, held_after};
+ghost use Rattle.rd_glyphs.specs.Held.{HoldsColumns, has_room, joined_held, held_looks, given, held_after};
 ghost use Rattle.rd_glyphs.specs.Lines.{plain_looks, fitted, plain_cells};
 
 use crate::looks::{look_columns, looks_of, on_blank};
+use crate::mark_role::marked_glyph;
 use crate::shown::{Shown, shown_as};
 use rd_base::{Cell, Ch, Face, Glyph, ListOf, Look, Memory, push_look};
 use rd_objects::characters_have_codes;
@@ -128,21 +129,7 @@ fn joined_held(held: Option<Glyph>, code: u32) -> Glyph
     ensures value { result ≡ joined_held held code }
     ensures columns { HoldsColumns held → (1 ≤ result.width) × (result.width ≤ 3) }
 {
-    match held {
-        Some(glyph) => with_mark(glyph, code),
-        None => on_blank(code),
-    }
-}
-
-/// The glyph with one more mark, and where it has six the mark on a blank.
-fn with_mark(glyph: Glyph, code: u32) -> Glyph
-    ensures value { result ≡ joined_to glyph code }
-    ensures columns { 1 ≤ glyph.width → glyph.width ≤ 3 → (1 ≤ result.width) × (result.width ≤ 3) }
-{
-    match glyph.joined(code) {
-        Some(marked) => marked,
-        None => on_blank(code),
-    }
+    marked_glyph(held, Some(code)).unwrap_or(on_blank(code))
 }
 
 /// Looks in so many columns, while they fit, and blanks in the rest.
