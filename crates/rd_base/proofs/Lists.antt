@@ -5,7 +5,7 @@ use Rattle.std.specs.Option.{unwrap_or}
 use Rattle.std.specs.List.{AllByRecursion, count_by, find, last_or, list_any, position_or_len, range_with_len}
 use Rattle.std.proofs.lemmas.Bool.{cases_lt, ne_eqb}
 use Rattle.std.proofs.lemmas.Bool.Decides.{nat_tests}
-use Rattle.std.proofs.lemmas.List.{length-take, map_push, get_or_append_left, get_or_past, drop_more, drop_all, drop-set-lt, drop-drop, drop-take, take_more}
+use Rattle.std.proofs.lemmas.List.{length-take, map_push, get_or_append_left, get_or_past, drop_more, drop_all, drop-set-lt, drop-drop, drop-take, take_more, take_more_set}
 use Rattle.std.proofs.lemmas.List.Folds.{find_at}
 use Rattle.std.proofs.lemmas.List.Sums.{passes_at_first, sum_by-append, sum_by-cons}
 use Rattle.std.proofs.Math.Seq.{drop-append_seam}
@@ -24,6 +24,12 @@ drop-at xs i x found = drop-read xs i x (slice_get_within xs i x found) (sym (ge
 -- the elements up to one at a place, with it, are those before it and that one
 pub take-at : {X : Type 0} (xs : List X) (i : ℕ) (x : X) → slice_get xs i ≡ Some x → take (i + 1) xs ≡ take i xs ++ x ∷ []
 take-at xs i x found = take_more xs i x (slice_get_within xs i x found) ∙ ap (λ y. take i xs ++ y ∷ []) (get_or_from_slice_get xs i x x found)
+
+-- what is done and what is left, after one more write
+pub written : {X : Type 0} (xs : List X) (i : ℕ) (y : X) (rest all : List X) → i < length xs
+    → take i xs ++ y ∷ rest ≡ all → take (i + 1) (set xs i y) ++ rest ≡ all
+written xs i y rest all within same =
+    ap (λ front. front ++ rest) (take_more_set xs i y within) ∙ append_assoc (take i xs) (y ∷ []) rest ∙ same
 
 -- one element more of a mapped list
 pub mapped-more : {X Y : Type 0} (f : X → Y) (xs : List X) (k : ℕ) (x : X) (old now new : List Y) (y : Y) → slice_get xs k ≡ Some x → y ≡ f x

@@ -1,6 +1,6 @@
 -- One step of the walk from a line's end, which links the items that X9 leaves (BD13, X10).
 use Rattle.std.proofs.Common.{◌≡◌, ℕ, ◌+◌, ◌<◌, ◌≤◌, max, Bool, true, false, ◌&&◌, List, [], ◌∷◌, ◌++◌, length, drop, set, get_or, reverse, slice_get, Option, None, Some, IfSome, is_none, if◌then◌else◌, refl, ap, ap₂, sym, ◌∙◌, inl, inr, arith}
-use Rattle.std.proofs.lemmas.List.{drop-set, drop_more, append-nil, append_assoc, length-drop, length-set, get_or-set_same, get_or-set_other}
+use Rattle.std.proofs.lemmas.List.{drop-set, drop_more, append-nil, append_assoc, length-drop, length-set, get_or-set_same, get_or-set_other, set-get_or}
 use Rattle.std.proofs.lemmas.Option.{get_or_from_slice_get}
 use Rattle.std.proofs.lemmas.Bool.{cases_eq}
 use Rattle.rd_base.specs.Classes.{direction_of, is_initiator, x9_is_removed}
@@ -95,9 +95,9 @@ leads-on n ks i k leads within next = λ j d h.
       | inr ne ↦ rw (get_or-set_other ks i j k d ne) (leads j d h₁)
     ]
 
-pub below-end : (i n m : ℕ) (f : Option ℕ) → IfSome f (λ w. (i < w) × (w < n)) → n ≡ m → IfSome f (λ w. w < m)
-below-end i n m None h e = tt
-below-end i n m (Some w) h e = omega arith
+-- writing false at a place that has it changes nothing
+pub unset-same : (bs : List Bool) (i : ℕ) (b : Bool) → slice_get bs i ≡ Some b → b ≡ false → bs ≡ set bs i false
+unset-same bs i b read is = sym (ap (set bs i) (sym is ∙ sym (get_or_from_slice_get bs i b false read)) ∙ set-get_or bs i false)
 
 -- a link that was read
 module _ (ks : List Link) (at : ℕ) (k : Link) (read : slice_get ks at ≡ Some k) (leads : LeadsOn (length ks) ks) (within : at < length ks) where

@@ -4,4 +4,3 @@ mod Joining
 mod Nesting
 mod Stacks
 mod Steps
-mod Walks

@@ -7,8 +7,7 @@ use Rattle.rd_base.specs.declared.class.Class.{Class}
 use Rattle.rd_explicit.specs.declared.state.State.{State}
 use Rattle.rd_explicit.specs.declared.state.Given.{Given}
 use Rattle.rd_explicit.specs.Explicit.{explicit_from, given, after}
-use Rattle.rd_base.proofs.Lists.{drop-at}
-use Rattle.rd_explicit.proofs.Walks.{written}
+use Rattle.rd_base.proofs.Lists.{drop-at, written}
 
 module _ (base : ℕ) (s t : State) (cs : List Class) (i : ℕ) (c : Class) (g : Given)
     (within : i < length cs) (read : slice_get cs i ≡ Some c)

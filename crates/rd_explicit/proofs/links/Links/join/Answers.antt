@@ -1,4 +1,4 @@
-use Rattle.rd_explicit.proofs.Walks.{unset-same}
+use Rattle.rd_explicit.proofs.Joining.{unset-same}
 use Rattle.rd_explicit.proofs.links.Links.join.Goals as goal
 
 pub returns-else-at-clause-begins : goal.returns-else-at-clause-begins

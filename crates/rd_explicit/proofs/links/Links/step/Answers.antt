@@ -1,9 +1,10 @@
-use Rattle.std.proofs.Common.{◌≡◌, ◌<◌, ◌+◌, ◌&&◌, true, false, length, drop, set, max, IfSome, is_none, ap, sym, ◌∙◌, refl}
+use Rattle.std.proofs.Common.{◌≡◌, ◌<◌, ◌+◌, ◌&&◌, true, false, length, drop, set, max, IfSome, is_none, ap, sym, ◌∙◌, refl, arith}
+use Rattle.std.proofs.lemmas.Option.{IfSome_then}
 use Rattle.rd_base.specs.Classes.{is_initiator, direction_of}
 use Rattle.rd_explicit.specs.declared.links.Link.{Link}
 use Rattle.rd_explicit.specs.Follow.{bd13_follower, x10_level_behind}
 use Rattle.rd_explicit.specs.Links.{beginning, without_beginning}
-use Rattle.rd_explicit.proofs.Joining.{joins-removed, joins-item, follows-within, beginning-within, leads-on, below-end}
+use Rattle.rd_explicit.proofs.Joining.{joins-removed, joins-item, follows-within, beginning-within, leads-on}
 use Rattle.rd_explicit.proofs.links.Links.step.Goals as goal
 
 pub returns-then-x9_is_removed-clause-joins : goal.returns-then-x9_is_removed-clause-joins
@@ -19,11 +20,12 @@ pub join-next-requires : goal.join-next-requires
 join-next-requires c =
     let line = c.args.line.now in
     let rest = c.bd9_partner.ensures.rest in
-    below-end c.args.i (length line.classes) _ c.bd13_follower.result
+    let size = sym (ap length rest.begins ∙ c.requires.begins) in
+    IfSome_then c.bd13_follower.result
     (follows-within line.base c.args.i c.at-level.result c.at-class.result line.classes line.levels c.args.self.now c.in_ok-partner.partner c.bd13_follower.result
     c.requires.within c.requires.joins (c.in_ok-partner.ensures.partner (drop (c.args.i + 1) line.classes) c.requires.joins.pdis)
     (c.bd13_follower.ensures ∙ ap (λ o. bd13_follower o c.at-level.result c.in_ok-partner.partner) rest.first))
-    (sym (ap length rest.begins ∙ c.requires.begins))
+    (λ w lies. let less = lies.1 in omega arith)
 
 pub returns-clause-leads : goal.returns-clause-leads
 returns-clause-leads c =
