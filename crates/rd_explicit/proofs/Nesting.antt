@@ -3,6 +3,7 @@ use Rattle.std.proofs.Common.{◌≡◌, ℕ, zero, suc, ◌+◌, ◌<◌, ◌�
 use Rattle.std.specs.Prelude.{slice_get}
 use Rattle.std.proofs.lemmas.List.{same_from_push, length-append, reverse-append}
 use Rattle.std.proofs.lemmas.Bool.{cases_Bool, ltb-true, ltb-false, lt-ltb, le-ltb}
+use Rattle.rd_base.proofs.Lists.{get-drop}
 use Rattle.rd_base.specs.declared.class.Class.{Class}
 use Rattle.rd_base.specs.declared.class.Class.TheVariants.{LRI, RLI, FSI, PDI}
 use Rattle.rd_explicit.specs.Isolates.{inside}
@@ -19,17 +20,13 @@ shifted a b i = elim (cases_Bool (nat_lt a b)) [
   | inr n ↦ let more : suc b ≤ suc a = omega (arith, ltb-false a b n) in rw (n, le-ltb (suc a) (suc b) more)
 ]
 
-get-tail : (ps : List ℕ) (depth : ℕ) → slice_get (drop 1 ps) depth ≡ slice_get ps (suc depth)
-get-tail [] depth = refl
-get-tail (p ∷ ps) depth = refl
-
 pub get-unmatched : (cs : List Class) (i depth : ℕ) → slice_get (unmatched i cs) depth ≡ closing i depth cs
 get-unmatched [] i depth = refl
 get-unmatched (PDI ∷ cs) i zero = let some : 0 < suc (length cs) = omega arith in rw (lt-ltb 0 (suc (length cs)) some, add-zero) refl
 get-unmatched (PDI ∷ cs) i (suc depth) = get-unmatched cs (i + 1) depth ∙ shifted _ _ i
-get-unmatched (LRI ∷ cs) i depth = get-tail (unmatched (i + 1) cs) depth ∙ get-unmatched cs (i + 1) (suc depth) ∙ shifted _ _ i
-get-unmatched (RLI ∷ cs) i depth = get-tail (unmatched (i + 1) cs) depth ∙ get-unmatched cs (i + 1) (suc depth) ∙ shifted _ _ i
-get-unmatched (FSI ∷ cs) i depth = get-tail (unmatched (i + 1) cs) depth ∙ get-unmatched cs (i + 1) (suc depth) ∙ shifted _ _ i
+get-unmatched (LRI ∷ cs) i depth = get-drop 1 (unmatched (i + 1) cs) (suc depth) depth (omega arith) ∙ get-unmatched cs (i + 1) (suc depth) ∙ shifted _ _ i
+get-unmatched (RLI ∷ cs) i depth = get-drop 1 (unmatched (i + 1) cs) (suc depth) depth (omega arith) ∙ get-unmatched cs (i + 1) (suc depth) ∙ shifted _ _ i
+get-unmatched (FSI ∷ cs) i depth = get-drop 1 (unmatched (i + 1) cs) (suc depth) depth (omega arith) ∙ get-unmatched cs (i + 1) (suc depth) ∙ shifted _ _ i
 get-unmatched (c ∷ cs) i depth = get-unmatched cs (i + 1) depth ∙ shifted (length (inside cs depth)) (length cs) i
 
 -- what a pop of the waiting PDIs gives and leaves
