@@ -1,5 +1,5 @@
 -- Explicit levels (UAX 9, rules X1 to X8). Each rule is a definition here; `after` and `given` say which rule a class takes.
-use Rattle.std.specs.Prelude.{ℕ, ◌+◌, ◌-◌, ◌%◌, ◌==◌, ◌<◌, ◌≤◌, nat_le, nat_lt, Bool, true, false, ◌&&◌, if◌then◌else◌, List, [], ◌∷◌, length, map, Option, None, Some}
+use Rattle.std.specs.Prelude.{ℕ, ◌+◌, ◌-◌, ◌%◌, ◌==◌, ◌<◌, ◌≤◌, nat_le, nat_lt, Bool, true, false, ◌&&◌, if◌then◌else◌, List, [], ◌∷◌, length, map, Option, None, Some, unwrap_or}
 use Rattle.rd_base.specs.Classes.{x9_is_removed, p2_p3_first_strong}
 use Rattle.rd_base.specs.declared.class.Class.{Class}
 use Rattle.rd_base.specs.declared.class.Class.TheVariants.{L, R, B, LRE, LRO, RLE, RLO, PDF, LRI, RLI, FSI, PDI}
@@ -115,14 +115,9 @@ after s PDI cs = x6a_pop_directional_isolate s
 after s PDF cs = x7_pop_directional_format s
 after s c cs = s
 
--- for X6, the type that an entry's override gives a class, where it has one
-abbrev pub x6_override : Option Class → Class → Class
-x6_override None c = c
-x6_override (Some direction) c = direction
-
 -- X6: a character takes the level of the last entry, and its override, where it has one, as type. So do those of X5a to X6a.
 abbrev pub x6_level_and_override : DirectionalStatus → Class → Given
-x6_level_and_override e c = record { level = e.level; class = x6_override e.override_status c }
+x6_level_and_override e c = record { level = e.level; class = unwrap_or e.override_status c }
 
 -- X8: B has the level of the base
 abbrev pub x8_paragraph_separator : ℕ → Given
