@@ -1,5 +1,5 @@
 -- What a line says is never want of memory.
-use Rattle.std.proofs.Common.{ℕ, Option, None, Some, List, ◌∷◌, codes, ok_or, if◌then◌else◌}
+use Rattle.std.proofs.Common.{ℕ, Option, None, Some, List, ◌∷◌, ok_or, if◌then◌else◌}
 use Rattle.std.specs.Str.{is_utf8}
 use Rattle.serde_json.specs.Data.{Members}
 use Rattle.serde_json.specs.Find.{get_member, as_str, as_object}
@@ -7,8 +7,7 @@ use Rattle.serde_json.specs.Read.{read}
 use Rattle.rd_script.specs.declared.fault.OpFault.TheVariants.{NotJson, NotObject, NoSuchOp}
 use Rattle.rd_script.specs.declared.name.Name.{Name}
 use Rattle.rd_script.specs.declared.op.Op.{Op}
-use Rattle.rd_script.specs.Fields.{required_of}
-use Rattle.rd_script.specs.Reading.{reading, reading_name, reading_row, reading_members, object_of, json_of, closed, extra_key, unless_extra}
+use Rattle.rd_script.specs.Reading.{op_key, reading, reading_name, reading_row, reading_members, object_of, json_of, closed, extra_key, unless_extra}
 use Rattle.rd_script.specs.Table.{row, name_of}
 use Rattle.rd_base.proofs.Choices.{ok-free}
 use Rattle.rd_script.proofs.InForm.{IsFree, and_then-free, ok_or-free, required_of-free, row-gives}
@@ -18,12 +17,12 @@ unless_extra-free None op = ok-free op
 unless_extra-free (Some key) op = λ e. cc
 
 row-is_free : (ms : Members) (n : Name) → IsFree (reading_row ms n)
-row-is_free ms n = and_then-free (closed (codes "op" ∷ (row n).keys) ms) ((row n).taken ms)
-    (λ op e. unless_extra-free (extra_key (codes "op" ∷ (row n).keys) ms) op) ((row-gives n).free ms)
+row-is_free ms n = and_then-free (closed (op_key ∷ (row n).keys) ms) ((row n).taken ms)
+    (λ op e. unless_extra-free (extra_key (op_key ∷ (row n).keys) ms) op) ((row-gives n).free ms)
 
 name-free : (ms : Members) → IsFree (reading_name ms)
-name-free ms = and_then-free (λ text. ok_or (name_of text) NoSuchOp) (required_of (codes "op") as_str (get_member (codes "op") ms))
-    (λ text e. ok_or-free NoSuchOp (name_of text) (λ e. cc)) (required_of-free (codes "op") as_str (get_member (codes "op") ms))
+name-free ms = and_then-free (λ text. ok_or (name_of text) NoSuchOp) _
+    (λ text e. ok_or-free NoSuchOp (name_of text) (λ e. cc)) (required_of-free op_key as_str (get_member op_key ms))
 
 object_of-free : (line : List ℕ) → IsFree (object_of line)
 object_of-free line = and_then-free (λ d. ok_or (as_object d) NotObject) (json_of line)

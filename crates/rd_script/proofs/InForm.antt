@@ -1,5 +1,5 @@
 -- An op that a line says is in form, and no field of one is refused for want of memory.
-use Rattle.std.proofs.Common.{◌≡◌, ◌≢◌, ℕ, suc, ◌≤◌, ◌<◌, ◌-◌, ◌&&◌, Bool, true, false, ℤ, pos, List, [], ◌∷◌, length, Option, None, Some, Result, Ok, Err, IsTrue, refl, sym, ap, subst, ◌∙◌, arith, unwrap_or, option_and_then, option_map, nat_le, chars, codes, ok_or}
+use Rattle.std.proofs.Common.{◌≡◌, ◌≢◌, ℕ, suc, ◌≤◌, ◌<◌, ◌-◌, ◌&&◌, Bool, true, false, ℤ, pos, List, [], ◌∷◌, length, Option, None, Some, Result, Ok, Err, IsTrue, refl, sym, ap, subst, ◌∙◌, arith, unwrap_or, option_and_then, option_map, nat_le, chars, ok_or}
 use Rattle.std.proofs.lemmas.Bool.Decides.{nat_tests}
 use Rattle.std.proofs.lemmas.List.Elements.{All-nil, All-cons}
 use Rattle.std.proofs.lemmas.Option.{none-some, cond_some}
@@ -39,7 +39,7 @@ use Rattle.rd_script.specs.Numbers.{is_near_zero}
 use Rattle.rd_script.specs.Objects.{run_kinds, run_of, run, spec_names as spec_words, spec_value, face_of, glyph_text, only, slot, entry_of, entry, slot_field}
 use Rattle.rd_script.specs.Settings.{setting_names as setting_words, direction_names, invisible_by, invisible, value_of as value_of_setting}
 use Rattle.rd_script.specs.Properties.{overlay_kind, text_kind, greatest_value, property_value, property}
-use Rattle.rd_script.specs.Reading.{reading, reading_name, reading_row, reading_members, object_of, closed, extra_key, unless_extra}
+use Rattle.rd_script.specs.Reading.{op_key, reading, reading_name, reading_row, reading_members, object_of, closed, extra_key, unless_extra}
 use Rattle.rd_script.specs.Table.{row, text_row, property_row, object_row, window_row, screen_row, stretch_fields, text_field, overlay_manner, split_sides, ways, wrap_modes}
 
 -- what is said is no want of memory
@@ -439,8 +439,8 @@ unless_extra-same (Some key) op x e = absurd (cc)
 
 reading_row-in_form : (ms : Members) (n : Name) (op : Op) → reading_row ms n ≡ Ok op → IsInForm op
 reading_row-in_form ms n op e =
-    let read = and_then-ok (closed (codes "op" ∷ (row n).keys) ms) ((row n).taken ms) op e in
-    subst IsInForm (unless_extra-same (extra_key (codes "op" ∷ (row n).keys) ms) read.0 op read.2) ((row-gives n).given ms read.0 read.1)
+    let read = and_then-ok (closed (op_key ∷ (row n).keys) ms) ((row n).taken ms) op e in
+    subst IsInForm (unless_extra-same (extra_key (op_key ∷ (row n).keys) ms) read.0 op read.2) ((row-gives n).given ms read.0 read.1)
 
 -- an op that a line says is in form
 pub reading-in_form : (line : List ℕ) (op : Op) → reading line ≡ Ok op → IsInForm op

@@ -15,9 +15,13 @@ use Rattle.rd_script.specs.Table.{name_of, row}
 abbrev pub json_of : List ℕ → Result Data OpFault
 json_of line = ok_or (if is_utf8 line then read line else None) NotJson
 
+-- the key of the op that an object says
+abbrev pub op_key : List ℕ
+op_key = codes "op"
+
 -- which op an object says
 abbrev pub reading_name : Members → Result Name OpFault
-reading_name ms = and_then (λ text. ok_or (name_of text) NoSuchOp) (required_of (codes "op") as_str (get_member (codes "op") ms))
+reading_name ms = and_then (λ text. ok_or (name_of text) NoSuchOp) (required_of op_key as_str (get_member op_key ms))
 
 abbrev pub is_among : List (List ℕ) → List ℕ → Bool
 is_among [] key = false
@@ -38,7 +42,7 @@ closed keys ms op = unless_extra (extra_key keys ms) op
 
 -- an op by the fields of its row, beside which there is only the key `op`
 abbrev pub reading_fields : Members → Fields Op → Result Op OpFault
-reading_fields ms fields = and_then (closed (codes "op" ∷ fields.keys) ms) (fields.taken ms)
+reading_fields ms fields = and_then (closed (op_key ∷ fields.keys) ms) (fields.taken ms)
 
 abbrev pub reading_row : Members → Name → Result Op OpFault
 reading_row ms name = reading_fields ms (row name)

@@ -1,11 +1,11 @@
 //! From a line to an op.
-ghost use Rattle.std.specs.Prelude.{◌≡◌, ◌≢◌, ◌∷◌, [], OnOk, Ok, Err, codes};
+ghost use Rattle.std.specs.Prelude.{◌≡◌, ◌≢◌, ◌∷◌, [], OnOk, Ok, Err};
 ghost use Rattle.serde_json.specs.View.{view, members_view};
 ghost use Rattle.rd_script.specs.declared.fault.OpFault.TheVariants as faults;
 ghost use Rattle.rd_script.specs.declared.op.Op.{Op};
 ghost use Rattle.rd_script.specs.Fields.{IsRead, IsReadAs, asked_too};
 ghost use Rattle.rd_script.specs.Forms.{IsInForm};
-ghost use Rattle.rd_script.specs.Reading.{reading, json_of, reading_name, reading_members};
+ghost use Rattle.rd_script.specs.Reading.{op_key, reading, json_of, reading_name, reading_members};
 
 use crate::asked::{Asked, Members};
 use crate::fault::OpFault;
@@ -62,7 +62,7 @@ fn read_members(alloc: Global, members: &Members) -> Result<Op, OpFault>
 /// Reads which op an object says.
 fn read_name(alloc: Global, asked: &mut Asked) -> Result<Name, OpFault>
     ensures name { IsRead result (reading_name (members_view asked.old.members)) }
-    ensures keys { OnOk result (asked.new ≡ asked_too (codes "op" ∷ []) asked.old) }
+    ensures keys { OnOk result (asked.new ≡ asked_too (op_key ∷ []) asked.old) }
 {
     match Name::of(text_of(alloc, asked, "op")?) {
         Some(name) => Ok(name),
