@@ -6,7 +6,8 @@ use Rattle.std.specs.FinMap.{get}
 use Rattle.std.specs.Prelude.{IfSome}
 use Rattle.rd_base.specs.Chars.{is_code}
 use Rattle.rd_base.specs.Settings.{SettingValues}
-use Rattle.rd_text.specs.Texts.{TextValue, IsText, IsAccessible, most_characters, narrowed, widened}
+use Rattle.rd_base.specs.declared.limits.TheConstants.{TEXT_CHARACTERS}
+use Rattle.rd_text.specs.Texts.{TextValue, IsText, IsAccessible, narrowed, widened}
 use Rattle.rd_text.specs.Answers.{IsAccessibleRange, IsRangeOfAll}
 use Rattle.rd_text.proofs.Keeping.{inserted-is_text, deleted-is_text, narrowed-is_text, widened-is_text}
 use Rattle.rd_overlays.specs.declared.overlay.Overlay.{Overlay}
@@ -77,7 +78,7 @@ still-valid o c tab text characters within names marks = record {
 }
 
 pub grown-valid : (o : ObjectLists) (c : ContentValue) (pos : ℕ) (new : List ℕ) → IsContent o c → AreCodes new → IsAccessible c.text pos
-    → length c.text.text + length new ≤ most_characters → IsContent o (grown c pos new)
+    → length c.text.text + length new ≤ TEXT_CHARACTERS → IsContent o (grown c pos new)
 grown-valid o c pos new v codes at room =
     let code = λ (x : ℕ). IsTrue (is_code x) in
     let first = All-append code (take (pos - 1) c.text.text) new (All-take code (pos - 1) c.text.text v.characters) codes in

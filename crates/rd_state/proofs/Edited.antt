@@ -2,7 +2,8 @@
 use Rattle.std.proofs.Common.{◌≡◌, ℕ, ◌+◌, ◌≤◌, ◌==◌, Bool, true, not, nat_lt, Option, Ok, List, length, map, ap, refl, ◌∙◌, arith}
 use Rattle.std.proofs.lemmas.Bool.{cond-true}
 use Rattle.std.proofs.lemmas.Bool.Decides.{nat_tests}
-use Rattle.rd_text.specs.Texts.{TextValue, IsText, IsAccessible, most_characters, inserted, deleted}
+use Rattle.rd_base.specs.declared.limits.TheConstants.{TEXT_CHARACTERS}
+use Rattle.rd_text.specs.Texts.{TextValue, IsText, IsAccessible, inserted, deleted}
 use Rattle.rd_text.specs.Answers.{IsAccessibleRange}
 use Rattle.rd_objects.specs.Things.{ObjectLists}
 use Rattle.rd_overlays.specs.declared.overlay.Kind.{Kind}
@@ -26,13 +27,13 @@ accessible t pos at = let a = at.0 in let b = at.1 in grind (arith, nat_tests)
 accessible-range : (t : TextValue) (from to : ℕ) → IsAccessibleRange t from to → is_accessible_range t from to ≡ true
 accessible-range t from to at = let a = at.first in let b = at.ordered in let d = at.last in grind (arith, nat_tests)
 
-roomy : (t : TextValue) (new : List ℕ) → length t.text + length new ≤ most_characters → has_room t new ≡ true
+roomy : (t : TextValue) (new : List ℕ) → length t.text + length new ≤ TEXT_CHARACTERS → has_room t new ≡ true
 roomy t new h = grind (arith, nat_tests)
 
 pub some-characters : (n : ℕ) (t : Bool) → t ≡ (n == 0) → not t ≡ nat_lt 0 n
 some-characters n t e = grind (arith, nat_tests)
 
-pub insertion-is : (b c : BufferState) (pos : ℕ) (new : List ℕ) → IsWithin (props.meaning b) → IsAccessible b.text pos → length b.text.text + length new ≤ most_characters
+pub insertion-is : (b c : BufferState) (pos : ℕ) (new : List ℕ) → IsWithin (props.meaning b) → IsAccessible b.text pos → length b.text.text + length new ≤ TEXT_CHARACTERS
     → c.text ≡ inserted b.text pos new → AreAlike (props.values_of c.spans) (opened (props.values_of b.spans) pos (length new))
     → c.overlays ≡ map (slot_grown pos (length new)) b.overlays → c.settings ≡ marked_modified (nat_lt 0 (length new)) b.settings
     → (m : MarkValues) → insertion pos new (content_of b m) ≡ Ok (content_of c m)

@@ -10,7 +10,7 @@ use Rattle.rd_base.proofs.Choices.{either, is_some-map}
 use Rattle.std.specs.Prelude.{slice_get, slice_set, option_map, IsTrue, IsSome, IfSome}
 use Rattle.std.specs.Str.{bytes_eq}
 use Rattle.rd_base.specs.declared.settings.Anchor.{Anchor}
-use Rattle.rd_base.specs.declared.limits.TheConstants.{PENDING_ROWS}
+use Rattle.rd_base.specs.declared.limits.TheConstants.{BUFFERS, PENDING_ROWS}
 use Rattle.rd_text.specs.Texts.{IsAccessible}
 use Rattle.rd_objects.specs.Things.{ObjectLists}
 use Rattle.rd_script.specs.Forms.{is_buffer_name}
@@ -20,7 +20,7 @@ use Rattle.rd_state.specs.declared.moves.Move.{Move}
 use Rattle.rd_state.specs.declared.window.WindowState.{WindowState}
 use Rattle.rd_state.specs.States.{BufferValue, ContentValue, new_buffer, new_content, number_of}
 use Rattle.rd_state.specs.Windows.{window_of, with_entry, leaf_at, leaf_of, NumberedWindow}
-use Rattle.rd_state.specs.Valid.{most_buffers, AreBuffers, IsContent, IsGoodFormat, IsWindow, AreWindows}
+use Rattle.rd_state.specs.Valid.{AreBuffers, IsContent, IsGoodFormat, IsWindow, AreWindows}
 use Rattle.rd_state.specs.Moves.{place_after, moved, moved_by, moved_in}
 use Rattle.rd_state.proofs.ByNumber.{Hands, became, each-entry, each-with, under-became, apart-became, window-same, entry-other, some-with, none-past, apart-becoming}
 use Rattle.rd_state.proofs.Options.{map-map}
@@ -32,7 +32,7 @@ abbrev pub holding : BufferValue → ContentValue → BufferValue
 holding b content = record b { content = content }
 
 -- buffers of which each is an old one in its place, or the one at a place, which is good and has a name of its own
-buffers-with : (o : ObjectLists) (bs cs : List BufferValue) (i : ℕ) (c : BufferValue) → AreBuffers o bs → length cs ≤ most_buffers
+buffers-with : (o : ObjectLists) (bs cs : List BufferValue) (i : ℕ) (c : BufferValue) → AreBuffers o bs → length cs ≤ BUFFERS
     → ((k : ℕ) (x : BufferValue) → slice_get cs k ≡ Some x → (slice_get bs k ≡ Some x) ⊎ ((k ≡ i) × (x ≡ c)))
     → ((k : ℕ) (x : BufferValue) → slice_get bs k ≡ Some x → c.name ≡ x.name → i ≡ k) → IsTrue (is_buffer_name c.name) → IsContent o c.content → AreBuffers o cs
 buffers-with o bs cs i c v few from own name content = record {
@@ -72,7 +72,7 @@ none_named name bs k b p at e =
     grind (arith, bytes_eq-Decides name b.name, no, e)
 
 pub buffers-appended : (o : ObjectLists) (bs : List BufferValue) (name : List ℕ) → AreBuffers o bs → IsContent o new_content → IsTrue (is_buffer_name name)
-    → length bs < most_buffers → length bs ≤ number_of name bs → AreBuffers o (bs ++ new_buffer name ∷ [])
+    → length bs < BUFFERS → length bs ≤ number_of name bs → AreBuffers o (bs ++ new_buffer name ∷ [])
 buffers-appended o bs name v new form room free =
     buffers-with o bs (bs ++ new_buffer name ∷ []) (length bs) (new_buffer name) v (omega (arith, room, length-append bs (new_buffer name ∷ [])))
     (λ k x hx. get-end bs (new_buffer name) k x hx) (λ k x h e. absurd (none_named name bs k x (omega (arith, slice_get_within bs k x h, free)) h e)) form new

@@ -10,6 +10,7 @@ use Rattle.std.specs.Ordering.{nat_cmp, eq_by_cmp}
 use Rattle.std.specs.Prelude.{IfOk, IfSome}
 use Rattle.rd_base.specs.Chars.{is_code}
 use Rattle.rd_base.specs.Settings.{SettingValues}
+use Rattle.rd_base.specs.declared.limits.TheConstants.{BUFFERS}
 use Rattle.rd_text.specs.Texts.{IsText, no_text}
 use Rattle.rd_overlays.specs.Overlays.{overlay_at, place_of}
 use Rattle.rd_objects.proofs.Soundness.{goes_longer}
@@ -27,7 +28,7 @@ use Rattle.rd_script.specs.declared.setting.Setting.{Setting}
 use Rattle.rd_script.specs.declared.setting.Setting.TheVariants as setting
 use Rattle.rd_state.specs.declared.refused.Refused.TheVariants.{NoObject, NoOverlay}
 use Rattle.rd_state.specs.States.{ContentValue, StateValue, seen, value_in, values_on, new_buffer, new_content, number_of}
-use Rattle.rd_state.specs.Valid.{most_buffers, IsContent, IsValid}
+use Rattle.rd_state.specs.Valid.{IsContent, IsValid}
 use Rattle.rd_state.specs.Edits.{is_made, is_setting_made, margin_putting, setting_putting, with_setting}
 use Rattle.rd_state.specs.Making.{unless_fault, spec_of}
 use Rattle.rd_state.specs.Steps.{with_objects, making}
@@ -145,5 +146,5 @@ making-valid s name v form =
     let count = length s.buffers in
     making-if IsValid s name
     (λ free room. with_parts s (s.buffers ++ new_buffer name ∷ []) s.objects s.tree s.windows s.selected s.width s.height v
-    (buffers-appended s.objects s.buffers name v.buffers (new-valid s.objects) form (leb-false most_buffers count room) (ltb-false (number_of name s.buffers) count free))
+    (buffers-appended s.objects s.buffers name v.buffers (new-valid s.objects) form (leb-false BUFFERS count room) (ltb-false (number_of name s.buffers) count free))
     v.objects v.closed (windows-appended s.buffers name s.tree s.windows s.selected v.windows) v.frame)

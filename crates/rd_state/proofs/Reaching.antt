@@ -5,7 +5,8 @@ use Rattle.std.proofs.lemmas.Bool.Decides.{nat_tests}
 use Rattle.std.proofs.lemmas.Option.{slice_get-get_or, slice_get_past}
 use Rattle.std.specs.Prelude.{IsErr, slice_get}
 use Rattle.std.specs.Result.{IsErrAnd}
-use Rattle.rd_text.specs.Texts.{TextValue, IsText, most_characters}
+use Rattle.rd_base.specs.declared.limits.TheConstants.{TEXT_CHARACTERS}
+use Rattle.rd_text.specs.Texts.{TextValue, IsText}
 use Rattle.rd_script.specs.declared.op.Op.{Op}
 use Rattle.rd_script.specs.declared.op.Op.TheVariants.{Delete, Narrow}
 use Rattle.rd_state.specs.declared.effect.Effect.{Effect}
@@ -22,32 +23,32 @@ use Rattle.rd_state.proofs.Sharing.{refuses}
 
 -- ---- texts
 
-behind : (t : TextValue) (pos : ℕ) → IsText t → most_characters + 1 < pos → is_accessible t pos ≡ false
+behind : (t : TextValue) (pos : ℕ) → IsText t → TEXT_CHARACTERS + 1 < pos → is_accessible t pos ≡ false
 behind t pos text far =
     let last = text.last in
     let short = text.short in
     grind (arith, nat_tests)
 
-range-behind : (t : TextValue) (from to : ℕ) → IsText t → most_characters + 1 < max from to → is_accessible_range t from to ≡ false
+range-behind : (t : TextValue) (from to : ℕ) → IsText t → TEXT_CHARACTERS + 1 < max from to → is_accessible_range t from to ≡ false
 range-behind t from to text far =
     let last = text.last in
     let short = text.short in
     grind (arith, nat_tests)
 
-all-behind : (t : TextValue) (from to : ℕ) → IsText t → most_characters + 1 < max from to → is_range_of_all t from to ≡ false
+all-behind : (t : TextValue) (from to : ℕ) → IsText t → TEXT_CHARACTERS + 1 < max from to → is_range_of_all t from to ≡ false
 all-behind t from to text far =
     let short = text.short in
     grind (arith, nat_tests)
 
 -- ---- edits
 
-pub insertion-behind : (pos : ℕ) (new : List ℕ) → most_characters + 1 < pos → (c : ContentValue) → IsText c.text → insertion pos new c ≡ Err OutOfRange
+pub insertion-behind : (pos : ℕ) (new : List ℕ) → TEXT_CHARACTERS + 1 < pos → (c : ContentValue) → IsText c.text → insertion pos new c ≡ Err OutOfRange
 insertion-behind pos new far c text = cond-false (is_accessible c.text pos) _ _ (behind c.text pos text far)
 
-pub deletion-behind : (from to : ℕ) → most_characters + 1 < max from to → (c : ContentValue) → IsText c.text → deletion from to c ≡ Err OutOfRange
+pub deletion-behind : (from to : ℕ) → TEXT_CHARACTERS + 1 < max from to → (c : ContentValue) → IsText c.text → deletion from to c ≡ Err OutOfRange
 deletion-behind from to far c text = cond-false (is_accessible_range c.text from to) _ _ (range-behind c.text from to text far)
 
-pub narrowing-behind : (from to : ℕ) → most_characters + 1 < max from to → (c : ContentValue) → IsText c.text → narrowing from to c ≡ Err OutOfRange
+pub narrowing-behind : (from to : ℕ) → TEXT_CHARACTERS + 1 < max from to → (c : ContentValue) → IsText c.text → narrowing from to c ≡ Err OutOfRange
 narrowing-behind from to far c text = cond-false (is_range_of_all c.text from to) _ _ (all-behind c.text from to text far)
 
 -- ---- states

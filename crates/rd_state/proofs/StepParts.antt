@@ -1,6 +1,7 @@
 -- What holds of the state to which a step leads, by the parts of the step.
 use Rattle.std.proofs.Common.{◌≡◌, ℕ, ◌+◌, Bool, true, false, if◌then◌else◌, nat_lt, nat_le, Option, None, Some, Result, Ok, Err, List, [], ◌∷◌, ◌++◌, length, map, refl}
 use Rattle.std.specs.Prelude.{slice_get, slice_set, IfOk}
+use Rattle.rd_base.specs.declared.limits.TheConstants.{BUFFERS}
 use Rattle.rd_objects.specs.Things.{ObjectLists}
 use Rattle.rd_tree.specs.Calls.{Configuration}
 use Rattle.rd_tree.specs.declared.fault.TreeFault.{TreeFault}
@@ -8,7 +9,6 @@ use Rattle.rd_state.specs.Edits.{insertion, is_accessible}
 use Rattle.rd_state.specs.Moves.{moved_in}
 use Rattle.rd_state.specs.States.{BufferValue, ContentValue, StateValue, new_buffer, number_of}
 use Rattle.rd_state.specs.Steps.{with_found, replaced, moving, changing, with_objects, on_tree, making, edited, edited_moving, typing, placing, setting, unless_bad}
-use Rattle.rd_state.specs.Valid.{most_buffers}
 use Rattle.rd_state.specs.Windows.{window_of, with_entry}
 use Rattle.rd_state.specs.declared.moves.Move.{Move}
 use Rattle.rd_state.specs.declared.moves.Move.TheVariants.{Inserted}
@@ -59,8 +59,8 @@ module _ (P : StateValue → Type 0) where
   treed-if s r n f h = goes-on (λ x. changing n f (on_tree x (λ tree. record s { tree = tree }))) r (λ e. tt) h
 
   pub making-if : (s : StateValue) (name : List ℕ)
-      → (nat_lt (number_of name s.buffers) (length s.buffers) ≡ false → nat_le most_buffers (length s.buffers) ≡ false → P (record s { buffers = s.buffers ++ new_buffer name ∷ [] })) → IfOk (making s name) P
-  making-if s name h = untested (nat_lt (number_of name s.buffers) (length s.buffers)) _ _ P (λ free. untested (nat_le most_buffers (length s.buffers)) _ _ P (λ room. h free room))
+      → (nat_lt (number_of name s.buffers) (length s.buffers) ≡ false → nat_le BUFFERS (length s.buffers) ≡ false → P (record s { buffers = s.buffers ++ new_buffer name ∷ [] })) → IfOk (making s name) P
+  making-if s name h = untested (nat_lt (number_of name s.buffers) (length s.buffers)) _ _ P (λ free. untested (nat_le BUFFERS (length s.buffers)) _ _ P (λ room. h free room))
 
   pub edited-if : (s : StateValue) (name : List ℕ) (edit : ContentValue → Result ContentValue Refused)
       → ((b : BufferValue) (c : ContentValue) → slice_get s.buffers (number_of name s.buffers) ≡ Some b → edit b.content ≡ Ok c → P (with_content s (number_of name s.buffers) b c)) → IfOk (edited s name edit) P

@@ -5,7 +5,8 @@ use Rattle.std.proofs.lemmas.Bool.Decides.{nat_tests}
 use Rattle.std.proofs.lemmas.List.Elements.{All-map, All-weaker}
 use Rattle.std.specs.Prelude.{All, IfOk, slice_get, slice_set}
 use Rattle.rd_base.specs.Chars.{is_code, is_raw, is_scalar, raw_code}
-use Rattle.rd_text.specs.Texts.{TextValue, IsAccessible, most_characters}
+use Rattle.rd_base.specs.declared.limits.TheConstants.{OVERLAYS, TEXT_CHARACTERS}
+use Rattle.rd_text.specs.Texts.{TextValue, IsAccessible}
 use Rattle.rd_text.specs.Answers.{IsAccessibleRange, IsRangeOfAll}
 use Rattle.rd_base.proofs.Choices.{some-of, both-ok, made-ok, ok-unless}
 use Rattle.rd_overlays.specs.declared.overlay.Overlay.{Overlay}
@@ -22,7 +23,7 @@ use Rattle.rd_state.specs.declared.refused.Refused.{Refused}
 use Rattle.rd_state.specs.declared.refused.Refused.TheVariants.{NoObject, NoOverlay, OutOfRange, TextTooLarge, TooManyOverlays}
 use Rattle.rd_state.specs.States.{BufferValue, ContentValue, StateValue, number_of}
 use Rattle.rd_state.specs.Valid.{AreWindows, IsContent, IsValid}
-use Rattle.rd_state.specs.Edits.{is_accessible, is_accessible_range, is_range_of_all, has_room, is_value_made, most_overlays, grown, shrunk, insertion, deletion, narrowing, widening, property_putting, overlay_making, overlay_moving, overlay_dropping, overlay_putting}
+use Rattle.rd_state.specs.Edits.{is_accessible, is_accessible_range, is_range_of_all, has_room, is_value_made, grown, shrunk, insertion, deletion, narrowing, widening, property_putting, overlay_making, overlay_moving, overlay_dropping, overlay_putting}
 use Rattle.rd_state.specs.Moves.{point_after_insertion, brought_into, place_after, moved_in}
 use Rattle.rd_state.specs.Steps.{edited, edited_moving, raw_text}
 use Rattle.rd_state.specs.Windows.{NumberedWindow}
@@ -88,10 +89,10 @@ edited_moving-valid s name how edit v k = edited_moving-if IsValid s name how ed
 -- ---- what each edit means
 
 pub insertion-means : (pos : ℕ) (new : List ℕ) (c d : ContentValue) → insertion pos new c ≡ Ok d
-    → IsAccessible c.text pos × (length c.text.text + length new ≤ most_characters) × (grown c pos new ≡ d)
+    → IsAccessible c.text pos × (length c.text.text + length new ≤ TEXT_CHARACTERS) × (grown c pos new ≡ d)
 insertion-means pos new c d h =
     let m = both-ok (is_accessible c.text pos) (has_room c.text new) (grown c pos new) TextTooLarge OutOfRange d h in
-    (is_accessible-means c.text pos m.0, leb-true (length c.text.text + length new) most_characters m.1, m.2)
+    (is_accessible-means c.text pos m.0, leb-true (length c.text.text + length new) TEXT_CHARACTERS m.1, m.2)
 
 -- what an edit makes is what it gives
 made-keeps : (o : ObjectLists) (f : ℕ → ℕ) (c made d : ContentValue) → made ≡ d → IsContent o made → ((p : ℕ) → IsAccessible c.text p → IsAccessible made.text (f p))
@@ -154,10 +155,10 @@ put-keeps o from to kind value is c d v h =
     text-kept o c (with_property c from to kind value) d m.2 refl (put-valid o c from to kind value v is m.0 m.1)
 
 pub making-means : (from to : ℕ) (priority : ℤ) (front rear : Bool) (c d : ContentValue) → overlay_making from to priority front rear c ≡ Ok d
-    → (is_range_of_all c.text from to ≡ true) × (nat_le most_overlays (length c.overlays) ≡ false) × (with_overlays c (c.overlays ++ Some (new_overlay from to priority front rear) ∷ []) ≡ d)
+    → (is_range_of_all c.text from to ≡ true) × (nat_le OVERLAYS (length c.overlays) ≡ false) × (with_overlays c (c.overlays ++ Some (new_overlay from to priority front rear) ∷ []) ≡ d)
 making-means from to priority front rear c d h =
     let new = with_overlays c (c.overlays ++ Some (new_overlay from to priority front rear) ∷ []) in
-    ok-unless (is_range_of_all c.text from to) (nat_le most_overlays (length c.overlays)) new TooManyOverlays OutOfRange d h
+    ok-unless (is_range_of_all c.text from to) (nat_le OVERLAYS (length c.overlays)) new TooManyOverlays OutOfRange d h
 
 pub making-keeps : (o : ObjectLists) (from to : ℕ) (priority : ℤ) (front rear : Bool) → Keeps o (λ p. p) (overlay_making from to priority front rear)
 making-keeps o from to priority front rear c d v h =

@@ -1,9 +1,9 @@
 -- What an op does to what one buffer holds.
 use Rattle.std.specs.Prelude.{ℕ, ◌+◌, nat_lt, nat_le, ◌&&◌, ◌||◌, Bool, true, is_some, if◌then◌else◌, ℤ, Option, Some, None, Result, Ok, Err, List, [], ◌∷◌, ◌++◌, length}
 use Rattle.std.specs.Option.{option_map, unwrap_or}
-use Rattle.rd_base.specs.declared.limits.TheConstants.{OVERLAYS}
+use Rattle.rd_base.specs.declared.limits.TheConstants.{OVERLAYS, TEXT_CHARACTERS}
 use Rattle.rd_base.specs.Settings.{SettingValues}
-use Rattle.rd_text.specs.Texts.{TextValue, most_characters, narrowed, widened}
+use Rattle.rd_text.specs.Texts.{TextValue, narrowed, widened}
 use Rattle.rd_overlays.specs.declared.overlay.Kind.{Kind}
 use Rattle.rd_overlays.specs.Overlays.{overlay_at, new_overlay, moved, dropped, given}
 use Rattle.rd_objects.specs.Things.{ObjectLists}
@@ -33,7 +33,7 @@ is_range_of_all t from to = nat_le 1 from && nat_le from to && nat_le to (length
 
 -- there is room for so many characters more
 abbrev pub has_room : TextValue → List ℕ → Bool
-has_room t new = nat_le (length t.text + length new) most_characters
+has_room t new = nat_le (length t.text + length new) TEXT_CHARACTERS
 
 -- whether the object of a number was made, of which there are so many, or none is named
 abbrev pub is_made : ℕ → Option ℕ → Bool
@@ -98,15 +98,11 @@ property_putting objects from to kind value c =
     else Err NoObject)
     else Err OutOfRange
 
--- how many overlays can be made in a buffer
-abbrev pub most_overlays : ℕ
-most_overlays = OVERLAYS
-
 -- one more overlay, without values
 abbrev pub overlay_making : ℕ → ℕ → ℤ → Bool → Bool → ContentValue → Result ContentValue Refused
 overlay_making from to priority front rear c =
     if is_range_of_all c.text from to
-    then (if nat_le most_overlays (length c.overlays)
+    then (if nat_le OVERLAYS (length c.overlays)
     then Err TooManyOverlays
     else Ok (record c { overlays = c.overlays ++ Some (new_overlay from to priority front rear) ∷ [] }))
     else Err OutOfRange

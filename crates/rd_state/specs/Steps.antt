@@ -2,7 +2,7 @@
 use Rattle.std.specs.Prelude.{ℕ, ◌+◌, ◌-◌, nat_lt, nat_le, ◌==◌, true, false, is_some, if◌then◌else◌, ℤ, pos, ◌+ℤ◌, neg_ℤ, Option, None, Some, Result, Ok, Err, List, [], ◌∷◌, ◌++◌, length, map, slice_get, slice_set}
 use Rattle.std.specs.Int.{int_min, int_max}
 use Rattle.rd_base.specs.Chars.{raw_code}
-use Rattle.rd_base.specs.declared.limits.TheConstants.{PENDING_ROWS}
+use Rattle.rd_base.specs.declared.limits.TheConstants.{BUFFERS, PENDING_ROWS}
 use Rattle.rd_base.specs.declared.settings.Anchor.{Anchor}
 use Rattle.rd_modeline.specs.Formats.{fault_in, pieces_of}
 use Rattle.rd_objects.specs.Things.{ObjectLists}
@@ -19,7 +19,6 @@ use Rattle.rd_state.specs.declared.refused.Refused.{Refused}
 use Rattle.rd_state.specs.declared.refused.Refused.TheVariants.{NoBuffer, NoWindow, OutOfRange, NameTaken, TooManyBuffers, TooManyWindows, TooSmall, LastWindow, BadFormat, Memory}
 use Rattle.rd_state.specs.declared.window.WindowState.{WindowState}
 use Rattle.rd_state.specs.States.{BufferValue, ContentValue, StateValue, new_buffer, number_of}
-use Rattle.rd_state.specs.Valid.{most_buffers}
 use Rattle.rd_state.specs.Windows.{window_of, with_entry, without_entry}
 use Rattle.rd_state.specs.Making.{string_making, spec_making, face_making, table_making, table_of}
 use Rattle.rd_state.specs.Edits.{is_accessible, insertion, deletion, narrowing, widening, property_putting, overlay_making, overlay_moving, overlay_dropping, overlay_putting, margin_putting, setting_putting}
@@ -85,7 +84,7 @@ on_tree (Ok tree) f = Ok (f tree)
 abbrev pub making : StateValue → List ℕ → Result StateValue Refused
 making s name = if nat_lt (number_of name s.buffers) (length s.buffers)
     then Err NameTaken
-    else (if nat_le most_buffers (length s.buffers) then Err TooManyBuffers else Ok (record s { buffers = s.buffers ++ new_buffer name ∷ [] }))
+    else (if nat_le BUFFERS (length s.buffers) then Err TooManyBuffers else Ok (record s { buffers = s.buffers ++ new_buffer name ∷ [] }))
 
 -- an edit that moves no position
 abbrev pub edited : StateValue → List ℕ → (ContentValue → Result ContentValue Refused) → Result StateValue Refused

@@ -44,17 +44,13 @@ pub record IsContent (objects : ObjectLists) (c : ContentValue) : Type 0 where
   pub names : AreMade (seen c) objects
   pub marks : (overlay string : ℕ) → get c.marks overlay ≡ Some string → string < length objects.strings
 
--- how many buffers there can be
-abbrev pub most_buffers : ℕ
-most_buffers = BUFFERS
-
 -- no two buffers have one name
 abbrev pub AreToldByName : List BufferValue → Type 0
 AreToldByName buffers = (j k : ℕ) (a b : BufferValue) → slice_get buffers j ≡ Some a → slice_get buffers k ≡ Some b → a.name ≡ b.name → j ≡ k
 
 -- there are at most 64 buffers, each with a name of its own
 pub record AreBuffers (objects : ObjectLists) (buffers : List BufferValue) : Type 0 where
-  pub few : length buffers ≤ most_buffers
+  pub few : length buffers ≤ BUFFERS
   pub told : AreToldByName buffers
   pub names : (k : ℕ) (b : BufferValue) → slice_get buffers k ≡ Some b → IsTrue (is_buffer_name b.name)
   pub contents : (k : ℕ) (b : BufferValue) → slice_get buffers k ≡ Some b → IsContent objects b.content

@@ -1,7 +1,8 @@
 -- Edits that are in range leave a text with an accessible range in it.
 use Rattle.std.proofs.Common.{◌≡◌, ℕ, ◌+◌, ◌-◌, ◌≤◌, List, ◌++◌, length, take, drop, ap, ◌∙◌, arith, append_assoc}
 use Rattle.rd_base.proofs.Lists.{length-replaced}
-use Rattle.rd_text.specs.Texts.{TextValue, IsText, most_characters, IsAccessible, inserted, deleted, narrowed, widened}
+use Rattle.rd_base.specs.declared.limits.TheConstants.{TEXT_CHARACTERS}
+use Rattle.rd_text.specs.Texts.{TextValue, IsText, IsAccessible, inserted, deleted, narrowed, widened}
 use Rattle.rd_text.specs.Answers.{IsAccessibleRange, IsRangeOfAll}
 use Rattle.rd_text.proofs.Ranges.{length-gap}
 
@@ -9,7 +10,7 @@ use Rattle.rd_text.proofs.Ranges.{length-gap}
 pub length-grown : (xs new : List ℕ) (i : ℕ) → i ≤ length xs → length (take i xs ++ new ++ drop i xs) ≡ length xs + length new
 length-grown xs new i h = ap length (append_assoc (take i xs) new (drop i xs)) ∙ length-replaced i i new xs ∙ omega arith
 
-pub inserted-is_text : (t : TextValue) (pos : ℕ) (new : List ℕ) → IsText t → IsAccessible t pos → length t.text + length new ≤ most_characters → IsText (inserted t pos new)
+pub inserted-is_text : (t : TextValue) (pos : ℕ) (new : List ℕ) → IsText t → IsAccessible t pos → length t.text + length new ≤ TEXT_CHARACTERS → IsText (inserted t pos new)
 inserted-is_text t pos new s a room =
     let len = length-grown t.text new (pos - 1) (omega (arith, a.0, a.1)) in
     record { first = s.first; ordered = omega (arith, s.ordered); last = omega (arith, s.last, len); short = omega (arith, len) }

@@ -1,6 +1,7 @@
 -- What the calls of a buffer answer, and what they leave.
 use Rattle.std.specs.Prelude.{◌≡◌, ℕ, ◌+◌, ◌<◌, ◌≤◌, Result, Ok, Err, List, length}
-use Rattle.rd_text.specs.Texts.{TextValue, most_characters, IsAccessible, inserted, deleted, narrowed}
+use Rattle.rd_base.specs.declared.limits.TheConstants.{TEXT_CHARACTERS}
+use Rattle.rd_text.specs.Texts.{TextValue, IsAccessible, inserted, deleted, narrowed}
 use Rattle.rd_text.specs.declared.fault.TextFault.{TextFault}
 use Rattle.rd_text.specs.declared.fault.TextFault.TheVariants.{OutOfRange, TooLarge, Memory}
 
@@ -18,10 +19,10 @@ pub record IsRangeOfAll (t : TextValue) (from to : ℕ) : Type 0 where
 
 -- what an insertion answers
 abbrev pub Inserts : Result Unit TextFault → TextValue → ℕ → List ℕ → TextValue → Type 0
-Inserts (Ok _) old pos new t = IsAccessible old pos × (length old.text + length new ≤ most_characters) × (t ≡ inserted old pos new)
+Inserts (Ok _) old pos new t = IsAccessible old pos × (length old.text + length new ≤ TEXT_CHARACTERS) × (t ≡ inserted old pos new)
 Inserts (Err OutOfRange) old pos new t = (IsAccessible old pos → ⊥) × (t ≡ old)
-Inserts (Err TooLarge) old pos new t = IsAccessible old pos × (most_characters < length old.text + length new) × (t ≡ old)
-Inserts (Err Memory) old pos new t = IsAccessible old pos × (length old.text + length new ≤ most_characters) × (t ≡ old)
+Inserts (Err TooLarge) old pos new t = IsAccessible old pos × (TEXT_CHARACTERS < length old.text + length new) × (t ≡ old)
+Inserts (Err Memory) old pos new t = IsAccessible old pos × (length old.text + length new ≤ TEXT_CHARACTERS) × (t ≡ old)
 
 -- what a deletion answers
 abbrev pub Deletes : Result Unit TextFault → TextValue → ℕ → ℕ → TextValue → Type 0

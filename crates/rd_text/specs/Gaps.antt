@@ -2,7 +2,7 @@
 use Rattle.std.specs.Prelude.{◌≡◌, ℕ, ◌+◌, ◌*◌, ◌<◌, ◌≤◌, IsTrue, List, ◌++◌, length, take, drop, slice_index, slice_index_or, slice_range}
 use Rattle.std.specs.List.{CopiedTo, SameBelow, SameFrom}
 use Rattle.rd_base.specs.Chars.{is_code}
-use Rattle.rd_text.specs.Texts.{most_characters}
+use Rattle.rd_base.specs.declared.limits.TheConstants.{TEXT_CHARACTERS}
 use Rattle.rd_text.specs.Stretches.{summary}
 use Rattle.rd_text.specs.declared.stretch.Stretch.{Stretch}
 use Rattle.rd_text.specs.declared.gap.GapText.{GapText}
@@ -19,7 +19,7 @@ AreSummed codes stretches from to = (k : ℕ) (d : Stretch) → from ≤ k * 102
 -- places of a text from one to another, with what is kept of the stretches there
 pub record AreStretches (codes : List ℕ) (stretches : List Stretch) (from to : ℕ) : Type 0 where
   pub last : to ≤ length codes
-  pub short : length codes ≤ most_characters
+  pub short : length codes ≤ TEXT_CHARACTERS
   pub covered : length codes ≤ length stretches * 1024
   pub summed : AreSummed codes stretches from to
 
@@ -27,7 +27,7 @@ pub record AreStretches (codes : List ℕ) (stretches : List Stretch) (from to :
 pub record IsGapped (codes : List ℕ) (stretches : List Stretch) (front back : ℕ) : Type 0 where
   pub order : front ≤ back
   pub within : back ≤ length codes
-  pub short : length codes ≤ most_characters
+  pub short : length codes ≤ TEXT_CHARACTERS
   pub covered : length codes ≤ length stretches * 1024
   pub are_codes : (k : ℕ) → IsTrue (is_code (slice_index codes k))
   pub before : AreSummed codes stretches 0 front

@@ -9,16 +9,12 @@ pub record TextValue : Type 0 where
   pub begin : ℕ
   pub end : ℕ
 
--- how many characters a buffer can have
-abbrev pub most_characters : ℕ
-most_characters = TEXT_CHARACTERS
-
 -- the accessible range lies in the text, and the text is not too long
 pub record IsText (t : TextValue) : Type 0 where
   pub first : 1 ≤ t.begin
   pub ordered : t.begin ≤ t.end
   pub last : t.end ≤ length t.text + 1
-  pub short : length t.text ≤ most_characters
+  pub short : length t.text ≤ TEXT_CHARACTERS
 
 abbrev pub no_text : TextValue
 no_text = record { text = []; begin = 1; end = 1 }

@@ -1,7 +1,7 @@
 //! A text with a gap in it, where it is edited.
 ghost use Rattle.std.specs.Prelude.{◌≡◌, ℕ, ◌+◌, ◌-◌, ◌*◌, ◌<◌, ◌≤◌, ◌++◌, IsTrue, OnOk, OnErr, [], length, take, drop, slice_index};
 ghost use Rattle.rd_base.specs.Chars.{is_code};
-ghost use Rattle.rd_text.specs.Texts.{most_characters};
+ghost use Rattle.rd_base.specs.declared.limits.TheConstants.{TEXT_CHARACTERS};
 ghost use Rattle.rd_text.specs.Gaps.{text_of, IsGapText, IsGapMoved, IsCopied, IsRecounted};
 
 use crate::stretch::Stretch;
@@ -47,7 +47,7 @@ impl GapText {
     pub(crate) fn len(&self) -> usize
         requires { IsGapText self.now }
         ensures value { result ≡ length (text_of self.now) }
-        ensures bound { result ≤ most_characters }
+        ensures bound { result ≤ TEXT_CHARACTERS }
     {
         self.front + (self.codes.len() - self.back)
     }
@@ -68,7 +68,7 @@ impl GapText {
     pub(crate) fn insert(&mut self, at: usize, text: &[Ch]) -> Result<(), Memory>
         requires right { IsGapText self.old }
         requires place { at ≤ length (text_of self.old) }
-        requires room { length (text_of self.old) + length text.now ≤ most_characters }
+        requires room { length (text_of self.old) + length text.now ≤ TEXT_CHARACTERS }
         ensures right { IsGapText self.new }
         ensures ok { OnOk result (text_of self.new ≡ take at (text_of self.old) ++ text.now ++ drop at (text_of self.old)) }
         ensures err { OnErr result (text_of self.new ≡ text_of self.old) }
@@ -99,7 +99,7 @@ impl GapText {
     /// Makes sure that so many places are free: where they are not, moves the gap to the end and makes it larger there.
     fn make_room(&mut self, wanted: usize) -> Result<(), Memory>
         requires right { IsGapText self.old }
-        requires room { length (text_of self.old) + wanted ≤ most_characters }
+        requires room { length (text_of self.old) + wanted ≤ TEXT_CHARACTERS }
         ensures right { IsGapText self.new }
         ensures text { text_of self.new ≡ text_of self.old }
         ensures ok { OnOk result (self.new.front + wanted ≤ self.new.back) }
@@ -175,11 +175,11 @@ impl GapText {
 
 /// How many places there are to be: twice as many, or as many as are needed, and no more than a text can have.
 fn larger(places: usize, needed: usize) -> usize
-    requires short { places ≤ most_characters }
-    requires needed { needed ≤ most_characters }
+    requires short { places ≤ TEXT_CHARACTERS }
+    requires needed { needed ≤ TEXT_CHARACTERS }
     ensures enough { needed ≤ result }
     ensures more { places ≤ result }
-    ensures most { result ≤ most_characters }
+    ensures most { result ≤ TEXT_CHARACTERS }
 {
     (2 * places).max(needed).min(MOST)
 }
