@@ -1,5 +1,5 @@
 -- Lists by numbers: what stands under one, and the windows of a state.
-use Rattle.std.proofs.Common.{◌≡◌, ◌≢◌, ℕ, zero, suc, ◌+◌, ◌<◌, ◌⊎◌, inl, inr, ◌==◌, false, not, cond, if◌then◌else◌, Option, None, Some, List, [], ◌∷◌, ◌++◌, length, map, nat_lt, set, get_or, subst, sym, ap, refl, ◌∙◌, arith}
+use Rattle.std.proofs.Common.{◌≡◌, ◌≢◌, ℕ, zero, suc, ◌+◌, ◌<◌, ◌⊎◌, inl, inr, ◌==◌, false, not, if◌then◌else◌, Option, None, Some, List, [], ◌∷◌, ◌++◌, length, map, nat_lt, set, get_or, subst, sym, ap, refl, ◌∙◌, arith}
 use Rattle.std.proofs.lemmas.Bool.{cases_eq, cond-false, cond-true, eq-eqb, eqb-true, ltb-false, ne_eqb, not_from_false, not_from_true}
 use Rattle.std.proofs.lemmas.List.Elements.{recursion_from_All}
 use Rattle.std.proofs.lemmas.List.Sums.{fails_before_first}
@@ -8,7 +8,6 @@ use Rattle.std.proofs.lemmas.Map.Entries.{place_from_lookup}
 use Rattle.std.proofs.lemmas.Option.{none-some, slice_get-get_or}
 use Rattle.std.specs.Prelude.{slice_get, option_map, position, IsSome}
 use Rattle.std.specs.List.{remove}
-use Rattle.std.specs.Map.{lookup}
 use Rattle.std.specs.Option.{option_or}
 use Rattle.rd_base.proofs.Choices.{is_some-map, none-chosen}
 use Rattle.rd_state.specs.declared.window.WindowState.{WindowState}
@@ -37,14 +36,9 @@ place-there n e rest h = cond-true (not (e.0 == n)) (1 + place_in n rest) 0 (not
 
 -- ---- finding
 
--- what stands under a number is what a map's look-up finds
-under-lookup : {X : Type 0} (n : ℕ) (es : List (ℕ × X)) → under n es ≡ lookup (λ k. k == n) es
-under-lookup n [] = refl
-under-lookup n (e ∷ es) = ap (cond (e.0 == n) (Some e.1)) (under-lookup n es)
-
 pub get-window : (n : ℕ) (ws : List NumberedWindow) (w : WindowState) → window_of n ws ≡ Some w → (k : ℕ) × (slice_get ws k ≡ Some (n, w))
 get-window n ws w h =
-    let at = place_from_lookup (λ k. k == n) ws w (sym (under-lookup n ws) ∙ h) in
+    let at = place_from_lookup (λ k. k == n) ws w h in
     (at.0, at.2 ∙ ap (λ (k : ℕ). Some (k, w)) (eqb-true at.1 n at.3))
 
 -- an entry that stands at the place of a number
@@ -96,7 +90,7 @@ found-entry n i es e is less at =
 pub nowhere : {X : Type 0} (n : ℕ) (es : List (ℕ × X)) → position (λ e. e.0 == n) es ≡ None → under n es ≡ None
 nowhere {X} n es h =
     let past = ltb-false (place_in n es) (length es) (none-chosen (nat_lt (place_in n es) (length es)) (place_in n es) None h).0 in
-    under-lookup n es ∙ lookup-none (λ k. k == n) es (recursion_from_All (λ (e : ℕ × X). (e.0 == n) ≡ false) es (λ k d p. fails_before_first (λ (e : ℕ × X). e.0 == n) es k d (omega (arith, past, p))))
+    lookup-none (λ k. k == n) es (recursion_from_All (λ (e : ℕ × X). (e.0 == n) ≡ false) es (λ k d p. fails_before_first (λ (e : ℕ × X). e.0 == n) es k d (omega (arith, past, p))))
 
 -- ---- what becomes something else, or goes
 

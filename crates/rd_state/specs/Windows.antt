@@ -1,6 +1,7 @@
 -- Entries by their numbers, the windows of a state among them, and what the tree says of each window.
 use Rattle.std.specs.Prelude.{◌≡◌, ℕ, ◌+◌, ◌==◌, Bool, is_some, if◌then◌else◌, Option, None, Some, List, [], ◌∷◌, slice_get, unwrap_or}
 use Rattle.std.specs.List.{position_or_len}
+use Rattle.std.specs.Map.{lookup}
 use Rattle.std.specs.Option.{option_or}
 use Rattle.rd_tree.specs.Windows.{Windows, Window, Split}
 use Rattle.rd_state.specs.declared.window.WindowState.{WindowState}
@@ -12,8 +13,7 @@ NumberedWindow = ℕ × WindowState
 
 -- what stands under a number
 abbrev pub under : {X : Type 0} → ℕ → List (ℕ × X) → Option X
-under number [] = None
-under number (e ∷ rest) = if e.0 == number then Some e.1 else under number rest
+under number es = lookup (λ k. k == number) es
 
 -- the window with a number, where it lives
 abbrev pub window_of : ℕ → List NumberedWindow → Option WindowState
