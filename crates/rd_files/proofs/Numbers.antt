@@ -1,7 +1,7 @@
 -- A fault that there is by the definitions has a line, whose number is at most one more than the bytes of its file.
 use Rattle.std.proofs.Common.{◌+◌, ◌<◌, ◌≤◌, ◌^◌, ℕ, suc, ◌==◌, Bool, true, false, List, [], ◌∷◌, length, Option, None, Some, Result, Ok, Err, arith}
 use Rattle.std.specs.Prelude.{if◌then◌else◌, nat_lt, slice_index_or}
-use Rattle.std.specs.List.{slice_split}
+use Rattle.std.specs.List.{enumerate_from, slice_split}
 use Rattle.std.specs.Option.{option_to_list}
 use Rattle.std.specs.Str.Lines.{strip_carriage_return}
 use Rattle.std.proofs.lemmas.List.Splits.{length-slice_split}
@@ -20,7 +20,7 @@ use Rattle.rd_ucd.specs.declared.entries.Opened.{Opened}
 use Rattle.rd_ucd.specs.Codes.{code_of}
 use Rattle.rd_ucd.specs.Names.{named}
 use Rattle.rd_ucd.specs.Results.{Answers, behind}
-use Rattle.rd_ucd.specs.Lines.{entries_in, fields_of, numbered}
+use Rattle.rd_ucd.specs.Lines.{entries_in, fields_of}
 use Rattle.rd_ucd.specs.ClassFile.{classes_of, closes, coded, ended, entry_of, is_empty_line, kind_of_name, opened_by, span_by, spans_from, unless}
 use Rattle.rd_ucd.specs.ListFile.{ascending_from, both, codes_of, counting, is_blank_line, listed_in, trimmed_field}
 use Rattle.rd_ucd.specs.MirrorFile.{mirrors_of, pair_by, pair_of}
@@ -43,13 +43,13 @@ AreWithin most ((n, entry) ∷ entries) = IsLine most n × IsWithin most entry �
 
 module _ {T : Type 0} (most : ℕ) where
   entries-within : (passed_over : List ℕ → Bool) (entry : ℕ → List ℕ → Result T UcdFault) → ((n : ℕ) (line : List ℕ) → IsLine most n → IsWithin most (entry n line))
-      → (n : ℕ) (lines : List (List ℕ)) → 1 ≤ n → n + length lines ≤ suc most → AreWithin most (entries_in passed_over entry (numbered n lines))
+      → (n : ℕ) (lines : List (List ℕ)) → 1 ≤ n → n + length lines ≤ suc most → AreWithin most (entries_in passed_over entry (enumerate_from n lines))
   entries-within passed_over entry each n [] some fits = tt
   entries-within passed_over entry each n (line ∷ lines) some fits =
       let low : IsLine most n = (some, omega arith) in
-      let rest = entries-within passed_over entry each (suc n) lines (omega arith) (omega arith) in
-      either (AreWithin most) (passed_over line) (entries_in passed_over entry (numbered (suc n) lines)) ((n, entry n line) ∷ entries_in passed_over entry (numbered (suc n) lines))
-      rest (low, each n line low, rest)
+      let rest = entries-within passed_over entry each (n + 1) lines (omega arith) (omega arith) in
+      let es = entries_in passed_over entry (enumerate_from (n + 1) lines) in
+      either (AreWithin most) (passed_over line) es ((n, entry n line) ∷ es) rest (low, each n line low, rest)
 
   behind-within : (values : List T) (result : Result (List T) UcdFault) → IsWithin most result → IsWithin most (behind values result)
   behind-within values (Ok more) h = tt

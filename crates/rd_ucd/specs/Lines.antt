@@ -1,17 +1,12 @@
 -- The lines of a data file and their entries, whatever they are.
-use Rattle.std.specs.Prelude.{◌≡◌, ℕ, suc, ◌==◌, Bool, if◌then◌else◌, List, [], ◌∷◌, Result, Ok, Err}
-use Rattle.std.specs.List.{slice_split}
+use Rattle.std.specs.Prelude.{◌≡◌, ℕ, ◌==◌, Bool, if◌then◌else◌, List, [], ◌∷◌, Result, Ok, Err}
+use Rattle.std.specs.List.{enumerate_from, slice_split}
 use Rattle.rd_ucd.specs.declared.fault.UcdFault.{UcdFault}
 use Rattle.rd_ucd.specs.declared.fault.UcdFault.TheVariants.{Memory}
 
--- lines with their numbers, from one on
-abbrev pub numbered : ℕ → List (List ℕ) → List (ℕ × List ℕ)
-numbered n [] = []
-numbered n (line ∷ lines) = (n, line) ∷ numbered (suc n) lines
-
 -- the lines of a file, which end at byte 10, with their numbers from 1
 abbrev pub lines_of : List ℕ → List (ℕ × List ℕ)
-lines_of bytes = numbered 1 (slice_split (λ b. b == 10) bytes)
+lines_of bytes = enumerate_from 1 (slice_split (λ b. b == 10) bytes)
 
 -- the fields of a line
 abbrev pub fields_of : List ℕ → List (List ℕ)
