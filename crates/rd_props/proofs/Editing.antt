@@ -38,6 +38,15 @@ stays-by s t x y text slots is are reads properties sees = record {
 }
 
 module _ (old new : BufferValue) (objects : ObjectLists) (text : IsText old.text) (ordered : AreOrdered old.overlays) where
+  -- an edit, by what it leaves before it and one behind it
+  edits-by : (from removed added : ℕ) → new.text.begin ≡ old.text.begin → ((x : ℕ) → x < from → StaysSame old x new x)
+      → ((x y : ℕ) → from + added < y → y + removed ≡ x + added → StaysSame old x new y) → IsEdited old objects new objects from removed added
+  edits-by from removed added begin before behind = record {
+    begin = begin;
+    before = λ x low less reach. same-by old new objects x x (before x less) reach;
+    behind = λ x y low more is reach. same-by old new objects x y (behind x y (omega arith) (omega (arith, ints, is))) reach;
+  }
+
   module _ (place : ℕ) (chars : List ℕ) (at : IsAccessible old.text place) (edit : IsInsertion old new place chars) where
     first : 1 ≤ place
     first = let begin = text.first in let low = at.0 in omega arith
@@ -58,13 +67,9 @@ module _ (old new : BufferValue) (objects : ObjectLists) (text : IsText old.text
         (grown-behind place (length chars) x y old.overlays ordered less is)
 
     pub insertion-edits : IsEdited old objects new objects place 0 (length chars)
-    insertion-edits = record {
-      begin = ap (λ (t : TextValue). t.begin) edit.text;
-      before = λ x low less reach. same-by old new objects x x (insertion-before x less) reach;
-      behind = λ x y low more is reach.
-          let moved : x + length chars ≡ y = omega (arith, ints, is) in
-          same-by old new objects x y (insertion-behind x y (omega arith) moved) reach;
-    }
+    insertion-edits =
+        edits-by place 0 (length chars) (ap (λ (t : TextValue). t.begin) edit.text) insertion-before
+        (λ x y more is. insertion-behind x y (omega arith) (omega (arith, is)))
 
   module _ (from to : ℕ) (at : IsAccessibleRange old.text from to) (edit : IsDeletion old new from to) where
     start : 1 ≤ from
@@ -86,10 +91,6 @@ module _ (old new : BufferValue) (objects : ObjectLists) (text : IsText old.text
         (shrunk-behind from to x y old.overlays at.ordered less is)
 
     pub deletion-edits : IsEdited old objects new objects from (to - from) 0
-    deletion-edits = record {
-      begin = ap (λ (t : TextValue). t.begin) edit.text;
-      before = λ x low less reach. same-by old new objects x x (deletion-before x less) reach;
-      behind = λ x y low more is reach.
-          let moved : y + (to - from) ≡ x = omega (arith, ints, is) in
-          same-by old new objects x y (deletion-behind x y (omega arith) moved) reach;
-    }
+    deletion-edits =
+        edits-by from (to - from) 0 (ap (λ (t : TextValue). t.begin) edit.text) deletion-before
+        (λ x y more is. deletion-behind x y (omega arith) (omega (arith, is)))
