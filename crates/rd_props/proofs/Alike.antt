@@ -1,9 +1,10 @@
 -- Two positions of two buffers at which the same is seen.
-use Rattle.std.proofs.Common.{◌≡◌, ℕ, ℤ, suc, ◌-◌, ◌<◌, Bool, true, false, if◌then◌else◌, List, [], ◌∷◌, ◌++◌, length, reverse, get_or, Option, None, Some, refl, sym, ap, ◌∙◌, arith}
+use Rattle.std.proofs.Common.{◌≡◌, ℕ, ℤ, Bool, true, false, if◌then◌else◌, List, [], ◌∷◌, ◌++◌, reverse, get_or, Option, None, Some, refl, sym, ap, ◌∙◌, arith}
 use Rattle.std.specs.Prelude.{nat_lt}
 use Rattle.std.specs.List.{Contains}
 use Rattle.std.specs.Option.{option_or, option_to_list}
-use Rattle.std.proofs.lemmas.List.{length-reverse, get_or-reverse}
+use Rattle.std.proofs.lemmas.List.Elements.{Contains-append_right}
+use Rattle.std.proofs.lemmas.List.Sorted.{Contains-permutation, IsPermutation-reverse, IsPermutation-sym}
 use Rattle.std.proofs.lemmas.Option.{same_Some}
 use Rattle.rd_base.specs.Faces.{Attributes, over}
 use Rattle.rd_overlays.proofs.Alike as listings
@@ -108,14 +109,8 @@ listing-gives f g a b alike n member = slots-give f g (overlay_at a n) (overlay_
 first-contained : (n : ℕ) (ns : List ℕ) → Contains (n ∷ ns) n
 first-contained n ns = (0, omega arith, refl)
 
-later-contained : (m n : ℕ) (ns : List ℕ) → Contains ns n → Contains (m ∷ ns) n
-later-contained m n ns (k, inside, is) = (suc k, omega (arith, inside), is)
-
 turned-contained : (n : ℕ) (ns : List ℕ) → Contains (reverse ns) n → Contains ns n
-turned-contained n ns (k, inside, is) =
-    let size = length-reverse ns in
-    let here : k < length ns = omega (arith, inside) in
-    (length ns - 1 - k, omega arith, sym (get_or-reverse ns k n here) ∙ is)
+turned-contained n ns h = Contains-permutation (reverse ns) ns n (IsPermutation-sym ns (reverse ns) (IsPermutation-reverse ns)) h
 
 -- ---- values, faces and strings
 
@@ -123,7 +118,7 @@ turned-contained n ns (k, inside, is) =
 each-same : {X : Type 0} (P : ℕ → Type 0) (f g : List ℕ → X) → f [] ≡ g [] → ((n : ℕ) (ns : List ℕ) → P n → f ns ≡ g ns → f (n ∷ ns) ≡ g (n ∷ ns))
     → (ns : List ℕ) → ((n : ℕ) → Contains ns n → P n) → f ns ≡ g ns
 each-same P f g none more [] same = none
-each-same P f g none more (n ∷ ns) same = more n ns (same n (first-contained n ns)) (each-same P f g none more ns (λ m h. same m (later-contained n m ns h)))
+each-same P f g none more (n ∷ ns) same = more n ns (same n (first-contained n ns)) (each-same P f g none more ns (λ m h. same m (Contains-append_right (n ∷ []) ns m h)))
 
 pub laid-by : (o p : ObjectLists) (a b : List (Option Overlay)) (ns : List ℕ) (face : Attributes)
     → ((n : ℕ) → Contains ns n → face_of o (value_of Face (overlay_at a n)) ≡ face_of p (value_of Face (overlay_at b n)))
