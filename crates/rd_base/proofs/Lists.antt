@@ -236,6 +236,11 @@ range-split a (suc m) n =
 pub range-more : (a n m : ℕ) → m ≡ a + n → range_with_len a n ++ m ∷ [] ≡ range_with_len a (n + 1)
 range-more a n m same = ap (λ (k : ℕ). range_with_len a n ++ k ∷ []) same ∙ sym (range-split a n 1)
 
+-- the numbers are below each that the last is below
+pub range-below : (a n m : ℕ) → a + n ≤ m → AllByRecursion (λ (k : ℕ). k < m) (range_with_len a n)
+range-below a zero m few = tt
+range-below a (suc n) m few = (omega arith, range-below (a + 1) n m (omega arith))
+
 -- what holds of all holds of the one at a place
 pub all-at : {X : Type 0} (P : X → Type 0) (xs : List X) (i : ℕ) (x : X) → All P xs → slice_get xs i ≡ Some x → P x
 all-at P xs i x all found = subst P (get_or_from_slice_get xs i x x found) (all i x (slice_get_within xs i x found))

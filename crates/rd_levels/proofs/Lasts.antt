@@ -6,7 +6,7 @@ use Rattle.std.specs.List.{range_with_len, AllByRecursion as Each}
 use Rattle.std.proofs.lemmas.List.Elements.{All-from_recursion, All-map}
 use Rattle.std.proofs.lemmas.Bool.{cond_both, cond-false}
 use Rattle.std.proofs.lemmas.Bool.Decides.{nat_tests}
-use Rattle.rd_base.proofs.Lists.{each-append, range-more}
+use Rattle.rd_base.proofs.Lists.{each-append, range-below, range-more}
 use Rattle.rd_base.specs.declared.class.Class.{Class}
 use Rattle.rd_base.specs.declared.class.Class.TheVariants.{B}
 use Rattle.rd_order.specs.Order.{l2_reversed, l2_reversed_down, highest, l2_visual_order}
@@ -54,10 +54,6 @@ l2_reversed_down-below : (levels : List ℕ) (base m n : ℕ) (is : List ℕ) �
 l2_reversed_down-below levels base zero n is each = each
 l2_reversed_down-below levels base (suc m) n is each =
     l2_reversed_down-below levels base m n (l2_reversed levels (base + suc m) [] is) (l2_reversed-below levels (base + suc m) n [] is tt each)
-
-range-below : (a n m : ℕ) → a + n ≤ m → Each (λ (i : ℕ). i < m) (range_with_len a n)
-range-below a zero m few = tt
-range-below a (suc n) m few = (omega arith, range-below (a + 1) n m (omega arith))
 
 -- the turns of a line whose last place has the base level, or a lower one
 last-turn : (base n : ℕ) (levels : List ℕ) → length levels ≡ suc n → slice_index levels n ≤ base → ComesLast (turns_by base levels) n

@@ -1,18 +1,17 @@
 -- Bounds that move with their overlays, and what lies outside them.
 use Rattle.std.proofs.Common.{◌≡◌, ℕ, ◌+◌, ◌-◌, ◌*◌, ◌/◌, ◌<◌, ◌≤◌, ◌⊎◌, min, Bool, true, false, if◌then◌else◌, List, ◌++◌, length, map, get_or, Option, None, Some, inl, inr, refl, sym, ap, subst, ◌∙◌, arith, length-append}
 use Rattle.std.specs.Prelude.{slice_get, slice_set, nat_lt}
-use Rattle.std.specs.List.{All, range_with_len}
+use Rattle.std.specs.List.{range_with_len}
 use Rattle.std.specs.List.Sorted.{IsPermutation}
 use Rattle.std.specs.Option.{unwrap_or}
 use Rattle.std.proofs.lemmas.Bool.{cases_lt}
 use Rattle.std.proofs.lemmas.Bool.Decides.{nat_tests}
 use Rattle.std.proofs.lemmas.List.{length-map}
-use Rattle.std.proofs.lemmas.List.Elements.{All-from_get_or}
-use Rattle.std.proofs.lemmas.List.FromFn.{length-range_with_len, get_or-range_with_len}
+use Rattle.std.proofs.lemmas.List.Elements.{All-from_recursion}
 use Rattle.std.proofs.lemmas.List.Sorted.{All-permutation}
 use Rattle.std.proofs.lemmas.Option.{slice_get_within, slice_get-get_or, get_or_from_slice_get}
 use Rattle.std.proofs.Math.Nat.{le-min}
-use Rattle.rd_base.proofs.Lists.{get-first, get-map, read-set}
+use Rattle.rd_base.proofs.Lists.{all-at, get-first, get-map, range-below, read-set}
 use Rattle.rd_overlays.specs.declared.overlay.Overlay.{Overlay}
 use Rattle.rd_overlays.specs.declared.overlay.Meeting.{Meeting}
 use Rattle.rd_overlays.specs.declared.overlay.Meeting.TheVariants.{Covers, Starts, Ends}
@@ -194,17 +193,10 @@ kept-bounded slots order bounds number before after step at h =
     (λ place b there at_bounds. step b (subst (λ (s : Option Overlay). SlotHolds b s) (ap live at) (h.holds place number b there at_bounds))) h
 
 -- a number of the index is below the count of its numbers
-range-below : (m : ℕ) → All (λ k. k < m) (range_with_len 0 m)
-range-below m = All-from_get_or (λ k. k < m) (range_with_len 0 m) 0 (λ i p.
-    let size = length-range_with_len 0 m in
-    let is = get_or-range_with_len 0 m i 0 (omega (arith, size, p)) in
-    omega (arith, is, size, p))
-
 pub number-below : (m : ℕ) (order : List ℕ) (place k : ℕ) → IsPermutation (range_with_len 0 m) order → slice_get order place ≡ Some k → k < m
 number-below m order place k h at =
-    let P : ℕ → Type 0 = λ k. k < m in
-    let below = All-permutation P (range_with_len 0 m) order h (range-below m) place k (slice_get_within order place k at) in
-    subst P (get_or_from_slice_get order place k k at) below
+    all-at (λ n. n < m) order place k (All-permutation (λ n. n < m) (range_with_len 0 m) order h
+    (All-from_recursion (λ n. n < m) (range_with_len 0 m) (range-below 0 m m (omega arith)))) at
 
 pub longer-index : (slots more : List (Option Overlay)) (order : List ℕ) (bounds : List Bounds) → IsIndex slots order bounds → IsIndex (slots ++ more) order bounds
 longer-index slots more order bounds h =
