@@ -1,13 +1,14 @@
 -- Looking a code up in entries that ascend.
-use Rattle.std.proofs.Common.{◌≡◌, ℕ, suc, ◌<◌, ◌≤◌, ◌⊎◌, inl, inr, Bool, true, false, ◌&&◌, List, [], ◌∷◌, length, get_or, None, Some, refl, sym, ap, subst, cond, ltb, ◌∙◌, arith}
+use Rattle.std.proofs.Common.{◌≡◌, ℕ, ◌<◌, ◌≤◌, ◌⊎◌, inl, inr, true, false, ◌&&◌, List, length, get_or, None, Some, sym, ap, subst, ltb, ◌∙◌, arith}
 use Rattle.std.specs.Prelude.{nat_le}
-use Rattle.std.specs.List.{find, slice_get}
+use Rattle.std.specs.List.{slice_get}
 use Rattle.std.specs.List.Sorted.{IsPartitionPoint}
 use Rattle.std.proofs.lemmas.Bool.Decides.{nat_tests}
 use Rattle.std.proofs.lemmas.Bool.{cases_eq, cases_lt, ltb-true, ltb-false}
 use Rattle.std.proofs.lemmas.Option.{slice_get-get_or}
-use Rattle.std.proofs.lemmas.List.Folds.{find_at}
+use Rattle.std.proofs.lemmas.List.Folds.{find_at, list_any_none}
 use Rattle.std.proofs.lemmas.List.Sums.{position_or_len_is}
+use Rattle.rd_base.proofs.Lists.{none-found}
 use Rattle.rd_ucd.specs.Lookup.{IsAscending, entry_in}
 
 outside : (a b c : ℕ) → (b < c) ⊎ (c < a) → (nat_le a c && nat_le c b) ≡ false
@@ -16,11 +17,6 @@ outside a b c (inr below) = grind (arith, nat_tests)
 
 inside : (a b c : ℕ) → a ≤ c → c ≤ b → (nat_le a c && nat_le c b) ≡ true
 inside a b c from to = grind (arith, nat_tests)
-
--- nothing is found where no element passes
-find-none : {E : Type 0} (test : E → Bool) (es : List E) → ((i : ℕ) (d : E) → i < length es → test (get_or es i d) ≡ false) → find test es ≡ None
-find-none test [] out = refl
-find-none test (e ∷ es) out = ap (λ (t : Bool). cond t (Some e) (find test es)) (out 0 e (omega arith)) ∙ find-none test es (λ i d within. out (suc i) d (omega arith))
 
 -- a code in entries that ascend, of which so many end below it
 module _ {E : Type 0} (first last : E → ℕ) (es : List E) (code below : ℕ) (ascend : IsAscending first last es) (point : IsPartitionPoint (λ e. ltb (last e) code ≡ true) (λ e. ltb (last e) code ≡ false) es below) where
@@ -37,8 +33,8 @@ module _ {E : Type 0} (first last : E → ℕ) (es : List E) (code below : ℕ) 
   -- where the next entry begins behind the code, no entry covers it
   pub entry_in-miss : ((d : E) → below < length es → code < first (get_or es below d)) → entry_in first last es code ≡ None
   entry_in-miss from =
-      find-none _ es
-      (λ i d within. outside (first (get_or es i d)) (last (get_or es i d)) code (elim (cases_lt i below) [
+      none-found _ es
+      (list_any_none _ es (λ i d within. outside (first (get_or es i d)) (last (get_or es i d)) code (elim (cases_lt i below) [
         | inl less ↦ inl (ltb-true _ _ (point.0 i d (omega arith) less))
         | inr past ↦ elim (cases_eq i below) [
           | inl same ↦ inr (subst (λ k. code < first (get_or es k d)) (sym same) (from d (omega arith)))
@@ -48,7 +44,7 @@ module _ {E : Type 0} (first last : E → ℕ) (es : List E) (code below : ℕ) 
               let begins = ascend.inside below d (omega arith) in
               inr (omega arith)
         ]
-      ]))
+      ])))
 
 -- last codes of entries that ascend do not fall
 pub not_falling : {E : Type 0} (first last : E → ℕ) (es : List E) → IsAscending first last es → (i j : ℕ) (d : E) → i ≤ j → j < length es → last (get_or es i d) ≤ last (get_or es j d)

@@ -17,6 +17,7 @@ use Rattle.clap.specs.Faults.{check_fault, default_fault, defaults_fault, given_
 use Rattle.clap.specs.declared.error.kind.ErrorKind.{ErrorKind}
 use Rattle.clap.specs.declared.error.kind.ErrorKind.TheVariants as kind
 use Rattle.clap.specs.declared.parser.matches.ValueSource.TheVariants.{CommandLine, DefaultValue}
+use Rattle.rd_base.proofs.Lists.{none-found}
 use Rattle.rd_words.specs.Words.{Text, Setting, class_file, mirror_file, bracket_file, generate, dump, settings, name_of, named, has_value, Use, is_of, is_true, is_used, is_in_form, is_number, value_of, fits, values_by, values_in}
 use Rattle.rd_words.specs.Command.{values_of_rows}
 use Rattle.rd_words.proofs.WordByWord.{ended, held, is_none, rule, shape, unless}
@@ -125,12 +126,8 @@ find-more : (p : Row → Bool) (rs : List Row) (r : Row) → p r ≡ false → f
 find-more p [] r e = rw e refl
 find-more p (x ∷ xs) r e = ap (λ (o : Option Row). if p x then Some x else o) (find-more p xs r e)
 
-find-none : {X : Type 0} (p : X → Bool) (xs : List X) → list_any p xs ≡ false → find p xs ≡ None
-find-none p [] none = refl
-find-none p (x ∷ xs) none = let both = or_parts (p x) (list_any p xs) none in rw both.0 (find-none p xs both.1)
-
 find-last : (p : Row → Bool) (rs : List Row) (r : Row) → p r ≡ true → list_any p rs ≡ false → find p (rs ++ r ∷ []) ≡ Some r
-find-last p rs r e none = find-append p rs (r ∷ []) ∙ rw (find-none p rs none, e) refl
+find-last p rs r e none = find-append p rs (r ∷ []) ∙ rw (none-found p rs none, e) refl
 
 -- the row of a setting with a value
 row-is : (us : List Use) (b : Bool) (s : Setting) → has_value s ≡ true → find (λ r. bytes_eq r.id (name_of s)) (rows_by b us) ≡ option_map row (find (is_of s) us)
@@ -160,7 +157,7 @@ flag-is us true e =
     ap is_true (ap (λ (o : Option Row). option_and_then (λ r. slice_get r.values 0) o) (sym (find-map (λ r. bytes_eq r.id (name_of dump)) row us)) ∙ text-is (find (is_of dump) us))
 flag-is us false e =
     ap (λ (o : Option Row). is_true (option_and_then (λ r. slice_get r.values 0) o)) (find-last (λ r. bytes_eq r.id (name_of dump)) (rows us) unused refl (has_row-is us dump ∙ e))
-    ∙ sym (ap (λ (o : Option Use). is_true (option_map (λ u. u.1) o)) (find-none (is_of dump) us e))
+    ∙ sym (ap (λ (o : Option Use). is_true (option_map (λ u. u.1) o)) (none-found (is_of dump) us e))
 
 values-is : (us : List Use) → values_of_rows (rows_by (is_used dump us) us) ≡ values_in us
 values-is us =
