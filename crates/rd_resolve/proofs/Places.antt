@@ -1,7 +1,7 @@
 -- One step of a walk over a sequence of a line.
-use Rattle.std.proofs.Common.{◌≡◌, ◌≢◌, ℕ, suc, ◌+◌, ◌<◌, List, [], ◌∷◌, length, drop, set, get_or, slice_get, Some, All, AllPairs, refl, ap, ap₂, sym, ◌∙◌, arith}
+use Rattle.std.proofs.Common.{◌≡◌, ◌≢◌, ℕ, suc, ◌+◌, ◌<◌, List, [], ◌∷◌, length, drop, set, get_or, slice_get, Some, AllPairs, refl, ap, ap₂, sym, ◌∙◌, arith}
 use Rattle.std.proofs.lemmas.List.{get_or-drop, get_or-set_other, length-drop}
-use Rattle.std.proofs.lemmas.Option.{get_or_from_slice_get, slice_get_within}
+use Rattle.std.proofs.lemmas.Option.{get_or_from_slice_get}
 use Rattle.rd_base.proofs.Lists.{drop-at}
 use Rattle.rd_base.specs.Lines.{KeepsClasses}
 use Rattle.rd_base.specs.declared.class.Class.{Class}
@@ -53,10 +53,6 @@ module _ (is : List ℕ) (k i : ℕ) (read : slice_get is k ≡ Some i) where
             ∙ ap (λ us. put_at (drop k is) us ts) (sym step ∙ ap here (sym left.0)),
         stays,
       )
-
-  -- the index that was read lies within the line
-  pub read-within : (n : ℕ) → All (λ j. j < n) is → i < n
-  read-within n within = rw (get_or_from_slice_get is k i i read) at (within k i (slice_get_within is k i read))
 
 -- what keeps the classes twice keeps them
 pub keeps-on : (a b c : Line) → KeepsClasses a b → KeepsClasses b c → KeepsClasses a c

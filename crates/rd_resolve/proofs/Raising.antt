@@ -1,21 +1,15 @@
 -- One step of the walk that raises a line's levels (I1, I2).
-use Rattle.std.proofs.Common.{◌≡◌, ℕ, ◌+◌, ◌<◌, ◌≤◌, true, false, if◌then◌else◌, List, [], ◌∷◌, ◌++◌, length, take, drop, set, get_or, slice_get, Some, All, refl, ap, sym, ◌∙◌, add-zero, arith}
-use Rattle.std.proofs.lemmas.List.{take_more_set, get_or-drop, append_assoc}
-use Rattle.std.proofs.lemmas.Option.{get_or_from_slice_get}
-use Rattle.rd_base.proofs.Lists.{drop-at}
+use Rattle.std.proofs.Common.{◌≡◌, ℕ, ◌+◌, ◌<◌, ◌≤◌, true, false, if◌then◌else◌, List, [], ◌∷◌, ◌++◌, length, take, drop, set, slice_get, Some, All, refl, ap, sym, ◌∙◌, arith}
+use Rattle.rd_base.proofs.Lists.{all-at, drop-at, get-drop, written}
 use Rattle.rd_base.specs.Classes.{x9_is_removed}
 use Rattle.rd_base.specs.declared.limits.TheConstants.{MAX_DEPTH}
 use Rattle.rd_base.specs.declared.class.Class.{Class}
 use Rattle.rd_resolve.specs.Implicit.{raised, i1_i2, kept}
 
-front : (xs : List ℕ) (i : ℕ) → get_or (drop i xs) 0 0 ≡ get_or xs i 0
-front xs i = get_or-drop i xs 0 0 ∙ ap (λ j. get_or xs j 0) (add-zero i)
-
-pub bounded : (xs ys : List ℕ) (i r : ℕ) → All (λ l. l ≤ MAX_DEPTH) ys → drop i xs ≡ drop i ys → i < length ys → slice_get xs i ≡ Some r → r ≤ MAX_DEPTH
-bounded xs ys i r all same within read =
-    let low : get_or ys i 0 ≤ MAX_DEPTH = all i 0 within in
-    let e : r ≡ get_or ys i 0 = sym (get_or_from_slice_get xs i r 0 read) ∙ sym (front xs i) ∙ ap (λ zs. get_or zs 0 0) same ∙ front ys i in
-    omega arith
+pub bounded : (xs ys : List ℕ) (i r : ℕ) → All (λ l. l ≤ MAX_DEPTH) ys → drop i xs ≡ drop i ys → slice_get xs i ≡ Some r → r ≤ MAX_DEPTH
+bounded xs ys i r all same read =
+    all-at (λ l. l ≤ MAX_DEPTH) ys i r all
+    (sym (get-drop i ys i 0 (omega arith)) ∙ sym (ap (λ zs. slice_get zs 0) same) ∙ get-drop i xs i 0 (omega arith) ∙ read)
 
 kept-step : (before own : ℕ) (c : Class) (cs : List Class) (ls : List ℕ) (v : ℕ) → v ≡ (if x9_is_removed c then before else own)
     → kept before (c ∷ cs) (own ∷ ls) ≡ v ∷ kept v cs ls
@@ -37,5 +31,4 @@ raise-step before v i cs ts ls all c t l within same_ts same_ls read_c read_t re
     let whole : kept before (drop i cs) (i1_i2 (drop i ts) (drop i ls)) ≡ v ∷ kept v (drop (i + 1) cs) (i1_i2 (drop (i + 1) ts) (drop (i + 1) ls)) =
     rw (at_cs, at_ts, at_ls) (kept-step before (raised l t) c (drop (i + 1) cs) _ v e) in
     let fits : i < length ls = omega arith in
-    ap (λ f. f ++ kept v (drop (i + 1) cs) (i1_i2 (drop (i + 1) ts) (drop (i + 1) ls))) (take_more_set ls i v fits)
-    ∙ append_assoc (take i ls) (v ∷ []) _ ∙ ap (λ r. take i ls ++ r) (sym whole) ∙ h
+    written ls i v _ all fits (ap (λ r. take i ls ++ r) (sym whole) ∙ h)

@@ -9,9 +9,7 @@ pub raised-own-requires : goal.raised-own-requires
 raised-own-requires c =
     let line = c.loop-i.line in
     let old = c.args.line.now in
-    let same : length line.classes ≡ length old.classes = ap length c.loop-i.invariant.keeps.classes in
-    let within : c.loop-i.i < length old.levels = omega (arith, c.loop-i-test.true, c.len-i-end.ensures, old.same_levels) in
-    bounded line.levels old.levels c.loop-i.i c.at.result c.requires c.loop-i.invariant.left within c.at.ensures
+    bounded line.levels old.levels c.loop-i.i c.at.result c.requires c.loop-i.invariant.left c.at.ensures
 
 pub loop-i-preserved : goal.loop-i-preserved
 loop-i-preserved c =
