@@ -43,7 +43,8 @@ alone a [] none = refl
 alone a (x ∷ xs) none = rw none refl
 
 mark-read : (g : Glyph) (code : ℕ) (room : Bool) (xs : List PlainPart) (rest : List Look) →
-    rest ≡ looks_of_parts (marks_joined_from plain_joins (held_part (unwrap_or (if room then Some (with_mark g code) else None) (on_blank code))) xs) →
+    rest ≡ looks_of_parts (marks_joined_from plain_joins
+    (held_part (unwrap_or (if room then Some (with_mark g code) else None) (on_blank code))) xs) →
     (if room then [] else look.Glyph g ∷ []) ++ rest
     ≡ looks_of_parts ((if is_some (option_map held_part (if room then Some (with_mark g code) else None)) then [] else held_part g ∷ [])
     ++ marks_joined_from plain_joins (unwrap_or (option_map held_part (if room then Some (with_mark g code) else None)) (shown_part (Mark code))) xs)
