@@ -24,9 +24,12 @@ pub get-unmatched : (cs : List Class) (i depth : ℕ) → slice_get (unmatched i
 get-unmatched [] i depth = refl
 get-unmatched (PDI ∷ cs) i zero = let some : 0 < suc (length cs) = omega arith in rw (lt-ltb 0 (suc (length cs)) some, add-zero) refl
 get-unmatched (PDI ∷ cs) i (suc depth) = get-unmatched cs (i + 1) depth ∙ shifted _ _ i
-get-unmatched (LRI ∷ cs) i depth = get-drop 1 (unmatched (i + 1) cs) (suc depth) depth (omega arith) ∙ get-unmatched cs (i + 1) (suc depth) ∙ shifted _ _ i
-get-unmatched (RLI ∷ cs) i depth = get-drop 1 (unmatched (i + 1) cs) (suc depth) depth (omega arith) ∙ get-unmatched cs (i + 1) (suc depth) ∙ shifted _ _ i
-get-unmatched (FSI ∷ cs) i depth = get-drop 1 (unmatched (i + 1) cs) (suc depth) depth (omega arith) ∙ get-unmatched cs (i + 1) (suc depth) ∙ shifted _ _ i
+get-unmatched (LRI ∷ cs) i depth =
+    get-drop 1 (unmatched (i + 1) cs) (suc depth) depth (omega arith) ∙ get-unmatched cs (i + 1) (suc depth) ∙ shifted _ _ i
+get-unmatched (RLI ∷ cs) i depth =
+    get-drop 1 (unmatched (i + 1) cs) (suc depth) depth (omega arith) ∙ get-unmatched cs (i + 1) (suc depth) ∙ shifted _ _ i
+get-unmatched (FSI ∷ cs) i depth =
+    get-drop 1 (unmatched (i + 1) cs) (suc depth) depth (omega arith) ∙ get-unmatched cs (i + 1) (suc depth) ∙ shifted _ _ i
 get-unmatched (c ∷ cs) i depth = get-unmatched cs (i + 1) depth ∙ shifted (length (inside cs depth)) (length cs) i
 
 -- what a pop of the waiting PDIs gives and leaves
