@@ -1,7 +1,7 @@
 -- One place more of a sequence (BD16), and a sequence without pairs.
-use Rattle.std.proofs.Common.{◌≡◌, ℕ, suc, ◌+◌, ◌<◌, Bool, true, false, List, [], ◌∷◌, length, get_or, slice_get, drop, Option, None, Some, All, refl, sym, ap, subst, ◌∙◌, arith}
-use Rattle.std.specs.Prelude.{if◌then◌else◌, replicate, unwrap_or, IfSome}
-use Rattle.std.proofs.lemmas.List.{set-get_or, get_or-replicate, length-replicate}
+use Rattle.std.proofs.Common.{◌≡◌, ℕ, suc, ◌+◌, Bool, true, false, List, [], ◌∷◌, length, get_or, slice_get, drop, Option, None, Some, refl, sym, ap, ◌∙◌, arith}
+use Rattle.std.specs.Prelude.{if◌then◌else◌, unwrap_or}
+use Rattle.std.proofs.lemmas.List.{set-get_or}
 use Rattle.std.proofs.lemmas.Option.{get_or_from_slice_get}
 use Rattle.rd_base.proofs.Lists.{drop-at}
 use Rattle.rd_base.specs.declared.class.Class.{Class}
@@ -40,11 +40,6 @@ module _ (old new : Matching) (place : ℕ) (role : Role) (goes_on : Bool)
   no-pairs off all rs whole read is =
       let none : bd16_pairs_from 0 [] whole ≡ None = sym is ∙ ap (all_pairs old place) read ∙ added rs ∙ ap (λ b. if b then all_pairs new (suc place) rs else None) off in
       ap (λ o. unwrap_or o []) none
-
-pub none-inside : (n m : ℕ) → All (λ (closing : Option ℕ). IfSome closing (λ place. place < m)) (replicate n None)
-none-inside n m = λ k d inside.
-    let less : k < n = omega (arith, length-replicate {A = Option ℕ}) in
-    subst (λ (o : Option ℕ). IfSome o (λ place. place < m)) (sym (get_or-replicate n k None d less)) tt
 
 put-same : (is : List ℕ) (ts : List Class) → put_at is (types_at is ts) ts ≡ ts
 put-same [] ts = refl

@@ -2,11 +2,10 @@ use Rattle.std.proofs.Common.{◌≡◌, ℕ, ◌-◌, ◌+◌, ◌<◌, ◌∷�
 use Rattle.std.specs.Prelude.{IfSome, replicate}
 use Rattle.std.proofs.lemmas.List.{drop_more, drop_all}
 use Rattle.std.proofs.lemmas.List.FromFn.{length-map-range_with_len}
-use Rattle.std.proofs.lemmas.List.Elements.{All-set}
+use Rattle.std.proofs.lemmas.List.Elements.{All-replicate, All-set}
 use Rattle.rd_brackets.specs.Pairs.{closing_of, closings}
 use Rattle.rd_brackets.specs.declared.matching.Pair.{Pair}
 use Rattle.rd_brackets.proofs.Closings.{none-close, close-more}
-use Rattle.rd_brackets.proofs.Steps.{none-inside}
 use Rattle.rd_brackets.proofs.resolve.closings.Goals as goal
 
 abbrev nothing : Pair
@@ -20,7 +19,8 @@ loop-left-init c =
     record {
       within = omega arith;
       found = made ∙ sym (none-close 0 n) ∙ sym (ap (λ ps. closings ps n) (drop_all (length pairs) pairs (omega arith)));
-      inside = subst (All (λ (closing : Option ℕ). IfSome closing (λ place. place < n))) (sym made) (none-inside n n);
+      inside = subst (All (λ (closing : Option ℕ). IfSome closing (λ place. place < n))) (sym made)
+          (All-replicate (λ (closing : Option ℕ). IfSome closing (λ place. place < n)) n None tt);
     }
 
 pub set-requires : goal.set-requires
