@@ -1,4 +1,4 @@
-//! The fields of an object.
+//! The fields of an object, and the keys of those that several ops have with values of different forms.
 ghost use Rattle.std.specs.Prelude.{◌≡◌, ◌∷◌, [], IfOk, OnOk, Some, Err, option_map};
 ghost use Rattle.std.specs.Str.{chars};
 ghost use Rattle.serde_json.specs.Find.{get_member, as_str};
