@@ -124,10 +124,7 @@ pub stays-margin : (o : ObjectLists) (number : ℕ) (string : Option ℕ) (c d :
 stays-margin o number string c d h =
     let new : ContentValue = record c { marks = marks.marked c.marks number string } in
     let m = both-ok (is_some (overlay_at c.overlays number)) (is_made (length o.strings) string) new NoObject NoOverlay d h in
-    subst (λ (x : ContentValue). StaysWhole c o x o) m.2 (λ head tail. record {
-      seen = settings-edit (seen c) (seen new) o head tail (record { text = refl; properties = λ kind p. refl; overlays = refl });
-      settings = refl;
-    })
+    subst (λ (x : ContentValue). StaysWhole c o x o) m.2 (λ head tail. record { seen = (whole o c head tail).seen; settings = refl })
 
 -- ---- one buffer of a state
 

@@ -1,5 +1,5 @@
 -- What the ops leave that change how the windows share the frame.
-use Rattle.std.proofs.Common.{◌≡◌, ℕ, ◌+◌, ◌-◌, ◌<◌, ◌≤◌, ◌==◌, Bool, true, false, inl, inr, is_some, if◌then◌else◌, nat_le, min, pos, Option, None, Result, Ok, Err, List, [], ◌∷◌, ◌++◌, length, set, get_or, ap, subst, sym, refl, ◌∙◌, arith}
+use Rattle.std.proofs.Common.{◌≡◌, ◌≢◌, ℕ, ◌+◌, ◌-◌, ◌<◌, ◌≤◌, ◌==◌, Bool, true, false, inl, inr, is_some, if◌then◌else◌, nat_le, min, pos, Option, None, Result, Ok, Err, List, [], ◌∷◌, ◌++◌, length, set, get_or, ap, subst, sym, refl, ◌∙◌, arith}
 use Rattle.std.proofs.lemmas.Bool.{cases_lt, and_left, and_right}
 use Rattle.std.proofs.lemmas.Bool.Decides.{nat_tests}
 use Rattle.std.specs.List.{remove}
@@ -20,6 +20,7 @@ use Rattle.rd_tree.specs.declared.side.Side.{Side}
 use Rattle.rd_tree.specs.declared.side.Side.TheVariants.{Below, Right}
 use Rattle.rd_state.specs.declared.effect.Effect.{Effect}
 use Rattle.rd_state.specs.declared.refused.Refused.{Refused}
+use Rattle.rd_state.specs.declared.refused.Refused.TheVariants.{Memory}
 use Rattle.rd_state.specs.declared.window.WindowState.{WindowState}
 use Rattle.rd_state.specs.Answers.{Applies}
 use Rattle.rd_state.specs.Shown.{ChecksFormat}
@@ -32,10 +33,14 @@ use Rattle.rd_state.proofs.Finding.{at-window, found-in}
 
 -- ---- refusals
 
+-- a refusal that was said, or want of memory, that leaves the state as it was
+pub refuses-unless : (r : Result Effect Refused) (op : Op) (s t : StateValue) (e : Refused) → IsErr r → IsErrAnd r (λ x. x ≡ e) → t ≡ s → (e ≢ Memory → step s op ≡ Err e) → Applies r op s t
+refuses-unless (Ok x) op s t e is and same said = absurd (cc)
+refuses-unless (Err x) op s t e is and same said = (same, λ ne. said (λ m. ne (and ∙ m)) ∙ ap (λ y. Err y) (sym and))
+
 -- a refusal that was said, and that leaves the state as it was
 pub refuses : (r : Result Effect Refused) (op : Op) (s t : StateValue) (e : Refused) → IsErr r → IsErrAnd r (λ x. x ≡ e) → t ≡ s → step s op ≡ Err e → Applies r op s t
-refuses (Ok x) op s t e is and same said = absurd (cc)
-refuses (Err x) op s t e is and same said = (same, λ _. said ∙ ap (λ y. Err y) (sym and))
+refuses r op s t e is and same said = refuses-unless r op s t e is and same (λ _. said)
 
 -- what holds of the reason that was said
 pub if-refused : {A : Type 0} (r : Result A Refused) (e : Refused) (P : Refused → Type 0) → IsErrAnd r (λ x. x ≡ e) → P e → IfErr r P

@@ -1,21 +1,18 @@
 -- Texts put in: that the windows can move with them, and what is typed at the selected window's point.
 use Rattle.std.proofs.Common.{◌≡◌, ℕ, ◌+◌, ◌<◌, ◌==◌, not, cond, Some, Result, Ok, Err, List, [], ◌∷◌, length, map, set, get_or, sym, ap, refl, ◌∙◌, arith}
 use Rattle.std.proofs.lemmas.List.{length-map}
-use Rattle.std.specs.Prelude.{◌≢◌, IsErr, IsErrAnd, slice_get, unwrap_or}
-use Rattle.rd_script.specs.declared.op.Op.{Op}
-use Rattle.rd_state.specs.declared.effect.Effect.{Effect}
+use Rattle.std.specs.Prelude.{slice_get, unwrap_or}
 use Rattle.rd_state.specs.declared.moves.Move.{Move}
 use Rattle.rd_state.specs.declared.moves.Move.TheVariants.{Inserted}
 use Rattle.rd_state.specs.declared.refused.Refused.{Refused}
-use Rattle.rd_state.specs.declared.refused.Refused.TheVariants.{NoBuffer, Memory}
+use Rattle.rd_state.specs.declared.refused.Refused.TheVariants.{NoBuffer}
 use Rattle.rd_state.specs.declared.window.WindowState.{WindowState}
 use Rattle.rd_state.specs.States.{BufferValue, ContentValue, StateValue, opening_window}
-use Rattle.rd_state.specs.Answers.{Applies}
 use Rattle.rd_state.specs.Edits.{insertion}
 use Rattle.rd_state.specs.Movable.{CanMove}
 use Rattle.rd_state.specs.Moves.{moved_in}
 use Rattle.rd_state.specs.Effects.{inserted_effect}
-use Rattle.rd_state.specs.Steps.{with_found, in_shown, replaced, moving, changing, typing, step}
+use Rattle.rd_state.specs.Steps.{with_found, in_shown, replaced, moving, changing, typing}
 use Rattle.rd_state.specs.Valid.{IsValid}
 use Rattle.rd_state.specs.Windows.{place_in, with_entry, selected_window, NumberedWindow}
 use Rattle.rd_state.proofs.ByName.{AnswersAt}
@@ -98,10 +95,3 @@ pub typing-effect : (s t : StateValue) (new : List ℕ) (i : ℕ) (e : NumberedW
 typing-effect s t new i e same there =
     let is : e.1 ≡ selected_window s = sym (ap (λ o. unwrap_or o opening_window) there.stands) ∙ ap selected_window same in
     ap (λ (w : WindowState). inserted_effect w.buffer w.point new) is
-
--- ---- refusals
-
--- a refusal that was said, or want of memory, that leaves the state as it was
-pub refuses-unless : (r : Result Effect Refused) (op : Op) (s t : StateValue) (e : Refused) → IsErr r → IsErrAnd r (λ x. x ≡ e) → t ≡ s → (e ≢ Memory → step s op ≡ Err e) → Applies r op s t
-refuses-unless (Ok x) op s t e is and same said = absurd (cc)
-refuses-unless (Err x) op s t e is and same said = (same, λ ne. said (λ m. ne (and ∙ m)) ∙ ap (λ y. Err y) (sym and))

@@ -11,8 +11,9 @@ use Rattle.rd_state.specs.Valid.{IsValid}
 use Rattle.rd_state.specs.Windows.{place_in, NumberedWindow}
 use Rattle.rd_state.proofs.ByName.{answers-at, length-buffers_of}
 use Rattle.rd_state.proofs.Finding.{found-in}
+use Rattle.rd_state.proofs.Sharing.{refuses-unless}
 use Rattle.rd_state.proofs.Small.{inserted-small}
-use Rattle.rd_state.proofs.Typing.{can-insert, found-moved, typing-ok, typing-err, typing-effect, refuses-unless}
+use Rattle.rd_state.proofs.Typing.{can-insert, found-moved, typing-ok, typing-err, typing-effect}
 use Rattle.rd_state.proofs.Viewing.{shown-made}
 use Rattle.rd_state.proofs.parts.StateParts.type_text.Goals as goal
 
