@@ -28,7 +28,7 @@ use Rattle.rd_state.specs.Valid.{IsContent, IsWindow, IsValid}
 use Rattle.rd_state.specs.Edits.{insertion, deletion, narrowing, widening, property_putting, overlay_making, overlay_moving, overlay_dropping, overlay_putting, margin_putting, setting_putting}
 use Rattle.rd_state.specs.Making.{run_of, spec_of, table_of}
 use Rattle.rd_state.specs.Moves.{moved, moved_by, moved_in}
-use Rattle.rd_state.specs.Steps.{typing, raw_text, held, step, settled}
+use Rattle.rd_state.specs.Steps.{typing, raw_text, held, step, settled, settled_window}
 use Rattle.rd_state.proofs.Naming.{setting-keeps, margin-keeps, objects-valid, small-spec, making-valid, new-valid}
 use Rattle.rd_state.proofs.Showing.{set-valid, placing-valid, point-keeps, placed-keeps, start-keeps, scroll-keeps, showing-valid, splitting-valid, removing-valid, resizing-valid, selecting-valid, mode_lining-valid, margining-valid}
 use Rattle.rd_state.proofs.Slots.{table-right}
@@ -157,7 +157,7 @@ pub settled-valid : (s : StateValue) (number : ℕ) (anchor : Anchor) (point : �
     → ((w : WindowState) (b : BufferValue) → window_of number s.windows ≡ Some w → slice_get s.buffers w.buffer ≡ Some b → IsAccessible b.content.text anchor.pos × IsAccessible b.content.text point)
     → IsValid (settled s number anchor point)
 settled-valid s number anchor point v at =
-    set-valid s number (λ old. record old { anchor = anchor; point = point; forced = false; pending = pos 0 }) v (λ w. refl)
+    set-valid s number (settled_window anchor point) v (λ w. refl)
     (λ w found old. placed-keeps s.buffers w w.buffer point anchor false old old.made (λ b h. (at w b found h).1) (λ b h. (at w b found h).0))
 
 -- ---- the opening

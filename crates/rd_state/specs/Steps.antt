@@ -212,7 +212,10 @@ step s (Hit window row column) = Ok s
 step s (Margin window numbers strings) = margining s window numbers strings
 step s (MarginPut name overlay string) = edited s name (margin_putting s.objects overlay string)
 
+-- a window with a start and a point that were chosen for it: its start is not set by command any more, and no rows wait
+abbrev pub settled_window : Anchor → ℕ → WindowState → WindowState
+settled_window anchor point w = record w { anchor = anchor; point = point; forced = false; pending = pos 0 }
+
 -- a window's view and its point as a layout settles them
 abbrev pub settled : StateValue → ℕ → Anchor → ℕ → StateValue
-settled s window anchor point =
-    record s { windows = with_entry window (λ old. record old { anchor = anchor; point = point; forced = false; pending = pos 0 }) s.windows }
+settled s window anchor point = record s { windows = with_entry window (settled_window anchor point) s.windows }
