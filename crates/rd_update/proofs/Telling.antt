@@ -9,6 +9,7 @@ use Rattle.std.proofs.lemmas.List.{take_more}
 use Rattle.std.proofs.lemmas.List.Concat.{flat_map-append}
 use Rattle.std.proofs.lemmas.List.Elements.{All-append, All-from_recursion, recursion_from_All}
 use Rattle.std.proofs.lemmas.List.Sums.{suffix_len_is}
+use Rattle.std.proofs.lemmas.Option.{cond_some}
 use Rattle.std.proofs.lemmas.Slice.Zip.{get_or-zip, length-zip}
 use Rattle.rd_base.proofs.Choices.{none-chosen}
 use Rattle.rd_lanes.specs.Kernels.{differs as words_differ, first_difference as first_word, last_difference as last_word}
@@ -123,10 +124,6 @@ suffix-words xs ys n p q =
 
 -- ---- the columns
 
-some-chosen : (b : Bool) (n k : ℕ) → Some k ≡ (if b then Some n else None) → (k ≡ n) × (b ≡ true)
-some-chosen true n k e = (cc, refl)
-some-chosen false n k e = absurd (cc)
-
 columns-same : (a b c d : ℕ) → a ≡ c → b ≡ d → let x : Columns = record { from = a; end = b } in let y : Columns = record { from = c; end = d } in x ≡ y
 columns-same a b c d p q = cc
 
@@ -135,12 +132,12 @@ columns-some : (xs ys : List Cell) → length xs ≡ length ys → AllByRecursio
     → let found : Columns = record { from = first / 3; end = last / 3 + 1 } in Some found ≡ differing_columns xs ys
 columns-some xs ys n p q first last f l =
     let ps = zip (row_words xs) (row_words ys) in
-    let from = some-chosen (nat_lt (position_or_len words_differ ps) (length ps)) (position_or_len words_differ ps) first f in
-    let behind = some-chosen (nat_lt (suffix_len (λ p. not (words_differ p)) ps) (length ps)) (length ps - suffix_len (λ p. not (words_differ p)) ps - 1) last l in
+    let from = cond_some (nat_lt (position_or_len words_differ ps) (length ps)) (position_or_len words_differ ps) first (sym f) in
+    let behind = cond_some (nat_lt (suffix_len (λ p. not (words_differ p)) ps) (length ps)) (length ps - suffix_len (λ p. not (words_differ p)) ps - 1) last (sym l) in
     let lt : suffix_len (λ p. not (words_differ p)) (zip (row_words xs) (row_words ys)) < length (zip (row_words xs) (row_words ys)) = grind (arith, nat_tests) in
     let end = suffix-words xs ys n p q in
-    let e : last / 3 + 1 ≡ end_of_differences xs ys = omega (arith, behind.0, end, lt) in
-    let b : first / 3 ≡ first_difference xs ys = ap (λ k. k / 3) from.0 ∙ first-words xs ys n p q in
+    let e : last / 3 + 1 ≡ end_of_differences xs ys = omega (arith, behind.1, end, lt) in
+    let b : first / 3 ≡ first_difference xs ys = ap (λ k. k / 3) (sym from.1) ∙ first-words xs ys n p q in
     let differ : nat_lt 0 (end_of_differences xs ys) ≡ true = grind (arith, nat_tests) in
     rw differ (ap (λ (c : Columns). Some c) (columns-same (first / 3) (last / 3 + 1) (first_difference xs ys) (end_of_differences xs ys) b e))
 
