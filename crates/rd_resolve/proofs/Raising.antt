@@ -1,5 +1,5 @@
 -- One step of the walk that raises a line's levels (I1, I2).
-use Rattle.std.proofs.Common.{◌≡◌, ℕ, ◌+◌, ◌<◌, ◌≤◌, true, false, if◌then◌else◌, List, [], ◌∷◌, ◌++◌, length, take, drop, set, slice_get, Some, All, refl, ap, sym, ◌∙◌, arith}
+use Rattle.std.proofs.Common.{◌≡◌, ℕ, ◌+◌, ◌<◌, ◌≤◌, true, false, if◌then◌else◌, List, ◌∷◌, ◌++◌, length, take, drop, set, slice_get, Some, All, refl, ap, sym, ◌∙◌, arith}
 use Rattle.rd_base.proofs.Lists.{all-at, drop-at, get-drop, written}
 use Rattle.rd_base.specs.Classes.{x9_is_removed}
 use Rattle.rd_base.specs.declared.limits.TheConstants.{MAX_DEPTH}
