@@ -1,18 +1,14 @@
 //! The definitions on worked examples.
 ghost use Rattle.std.specs.Prelude.{◌≡◌, [], ◌∷◌, true, replicate, slice_index};
 ghost use Rattle.rd_base.specs.declared.class.Class.TheVariants.{L, R, EN, ES, ET, NSM, WS, ON, PDF, PDI};
-ghost use Rattle.rd_order.specs.Order.{l2_visual_order};
 ghost use Rattle.rd_levels.specs.Levels.{line_levels};
 ghost use Rattle.rd_levels.specs.Examples.{round, paired_classes, paired_codes, embedded};
 
-/// Numbers and spaces without brackets, and a line of no character, in the visual order of their levels too. The call does nothing.
+/// Numbers and spaces without brackets, and a line of no character. The call does nothing.
 fn levels_without_brackets()
     ensures numbers { line_levels [] 1 (EN ∷ ET ∷ ES ∷ EN ∷ []) (replicate 4 0) ≡ 2 ∷ 2 ∷ 1 ∷ 2 ∷ [] }
-    ensures numbers_order { l2_visual_order 1 (2 ∷ 2 ∷ 1 ∷ 2 ∷ []) ≡ 1 ∷ 0 ∷ 2 ∷ 3 ∷ [] }
     ensures spaces { line_levels [] 0 (R ∷ WS ∷ R ∷ WS ∷ []) (replicate 4 0) ≡ 1 ∷ 1 ∷ 1 ∷ 0 ∷ [] }
-    ensures spaces_order { l2_visual_order 0 (1 ∷ 1 ∷ 1 ∷ 0 ∷ []) ≡ 2 ∷ 1 ∷ 0 ∷ 3 ∷ [] }
     ensures nothing { line_levels [] 0 [] [] ≡ [] }
-    ensures nothing_order { l2_visual_order 0 [] ≡ [] }
 {}
 
 /// Lines whose nesting ends at level 125, and PDIs that match no initiator. The call does nothing.
