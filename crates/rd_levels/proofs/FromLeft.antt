@@ -4,9 +4,10 @@ use Rattle.std.specs.List.{AllByRecursion as Each}
 use Rattle.std.specs.Prelude.{if◌then◌else◌, max, is_none, slice_index}
 use Rattle.std.proofs.lemmas.Bool.{and_parts, cases_lt, cond_both}
 use Rattle.std.proofs.lemmas.List.{length-map, length-replicate, get_or-set_same, length-set, get_or_past}
+use Rattle.std.proofs.lemmas.List.Elements.{All-replicate}
 use Rattle.std.proofs.lemmas.Option.{get_or_from_slice_get}
 use Rattle.rd_base.proofs.Choices.{either}
-use Rattle.rd_base.proofs.Lists.{drop-cons, read-or}
+use Rattle.rd_base.proofs.Lists.{all-read, drop-cons, each-weaker, read-or}
 use Rattle.rd_base.specs.Classes.{x9_is_removed, is_initiator, direction_of}
 use Rattle.rd_base.specs.declared.class.Class.{Class}
 use Rattle.rd_base.specs.declared.class.Class.TheVariants.{L, BN, LRE, LRO, RLE, RLO, PDF, LRI, RLI, FSI, PDI}
@@ -202,18 +203,12 @@ module _ (P : Class → Type 0) (default : P L) where
   each-place [] known = tt
   each-place (t ∷ ts) known = (known 0, each-place ts (λ j. known (suc j)))
 
-members-more : (j : ℕ) (js is : List ℕ) → Each (λ i. In i js) is → Each (λ i. In i (j ∷ js)) is
-members-more j js [] ms = tt
-members-more j js (i ∷ is) ms = (inr ms.0, members-more j js is ms.1)
-
 members : (is : List ℕ) → Each (λ i. In i is) is
 members [] = tt
-members (i ∷ is) = (inl refl, members-more i is is (members is))
+members (i ∷ is) = (inl refl, each-weaker (λ j. In j is) (λ j. In j (i ∷ is)) (λ j. inr) is (members is))
 
-zero-at : (n i : ℕ) → slice_index (replicate n 0) i ≡ 0
-zero-at zero i = refl
-zero-at (suc n) zero = refl
-zero-at (suc n) (suc i) = zero-at n i
+pub zero-at : (n i : ℕ) → slice_index (replicate n 0) i ≡ 0
+zero-at n i = all-read (λ l. l ≡ 0) (replicate n 0) i 0 (All-replicate (λ l. l ≡ 0) n 0 refl) refl
 
 flat-left : (n : ℕ) → Each IsFlat (replicate n L)
 flat-left zero = tt

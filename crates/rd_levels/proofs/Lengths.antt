@@ -1,8 +1,8 @@
 -- A line has as many levels as places, and a separator at its end has at most the level of the base.
-use Rattle.std.proofs.Common.{◌≡◌, ℕ, suc, ◌≤◌, Bool, true, false, List, [], ◌∷◌, ◌++◌, length, replicate, refl, sym, ap, ◌∙◌, length-append, arith}
+use Rattle.std.proofs.Common.{◌≡◌, ℕ, suc, ◌≤◌, Bool, true, false, List, [], ◌∷◌, ◌++◌, length, refl, sym, ap, ◌∙◌, length-append, arith}
 use Rattle.std.specs.Prelude.{slice_index, slice_set}
 use Rattle.std.proofs.lemmas.Bool.{cond_both}
-use Rattle.std.proofs.lemmas.List.{length-map, length-set, length-replicate, get_or-replicate}
+use Rattle.std.proofs.lemmas.List.{length-map, length-set, length-replicate}
 use Rattle.rd_base.specs.Classes.{x9_is_removed}
 use Rattle.rd_base.specs.declared.class.Class.{Class}
 use Rattle.rd_base.specs.declared.class.Class.TheVariants.{B}
@@ -17,6 +17,7 @@ use Rattle.rd_ucd.specs.declared.spans.BracketEntry.{BracketEntry}
 use Rattle.rd_brackets.specs.Sides.{n0_brackets_in}
 use Rattle.rd_levels.specs.Levels.{weak_in, resolved_in, x10_resolved, line_levels}
 use Rattle.rd_levels.specs.Turns.{levels_with}
+use Rattle.rd_levels.proofs.FromLeft.{zero-at}
 
 explicit-length : (base : ℕ) (s : State) (cs : List Class) → length (explicit_from base s cs) ≡ length cs
 explicit-length base s [] = refl
@@ -98,7 +99,5 @@ module _ (entries : List BracketEntry) (base : ℕ) where
       let same = line-last cs codes in
       omega arith
   with-last false cs codes =
-      let size = ended-length cs in
-      let inside : suc (length cs) ≤ length (cs ++ B ∷ []) = omega arith in
-      let same : slice_index (replicate (length (cs ++ B ∷ [])) 0) (length cs) ≡ 0 = get_or-replicate (length (cs ++ B ∷ [])) (length cs) 0 0 inside in
+      let same = zero-at (length (cs ++ B ∷ [])) (length cs) in
       omega arith

@@ -1,4 +1,5 @@
 use Rattle.std.proofs.Common.{◌≡◌, ◌<◌, ◌+◌, length, drop, ap, ap₂, sym, ◌∙◌, arith}
+use Rattle.rd_resolve.proofs.Places.{keeps-on}
 use Rattle.rd_brackets.specs.Sides.{n0_brackets_in}
 use Rattle.rd_levels.specs.Levels.{x10_resolved, resolved_in, weak_in, neutral_in}
 use Rattle.rd_levels.proofs.Sequences.{x10_resolved-step}
@@ -28,8 +29,5 @@ loop-k-preserved c =
       types = ap (x10_resolved entries classes codes levels (drop (k + 1) found)) given
           ∙ sym (x10_resolved-step entries classes codes levels found k s ts c.get-seq.ensures) ∙ inv.types;
       levels = c.neutral.ensures.levels ∙ c.pair.ensures.levels ∙ weak_levels;
-      keeps = record {
-        classes = c.neutral.ensures.rest.classes ∙ c.pair.ensures.rest.classes ∙ weak_classes;
-        base = c.neutral.ensures.rest.base ∙ c.pair.ensures.rest.base ∙ c.weak.ensures.rest.base ∙ inv.keeps.base;
-      };
+      keeps = keeps-on _ _ _ inv.keeps (keeps-on _ _ _ c.weak.ensures.rest (keeps-on _ _ _ c.pair.ensures.rest c.neutral.ensures.rest));
     }
