@@ -1,4 +1,5 @@
-//! The ops of a script, one line an op in JSON. The crate hands on `WindowFacts` and `print_dump` of rd_dump.
+//! The ops of a script, one line an op in JSON. The crate hands on `WindowFacts` and `print_dump` of rd_dump, and `generated` of
+//! rd_generate.
 //!
 //! The rules are in docs/RULES.md, "Scripts".
 #![tactic(auto)]
@@ -35,5 +36,6 @@ pub use law::no_line_says_want_of_memory;
 pub use object::{OpEntry, OpRun, OpSpec};
 pub use op::Op;
 pub use rd_dump::{WindowFacts, print_dump};
+pub use rd_generate::generated;
 pub use read::read_op;
 pub use setting::Setting;
