@@ -1,5 +1,5 @@
 -- What holds of each element of a list, and what a list is from one of its places.
-use Rattle.std.proofs.Common.{◌≡◌, ◌≢◌, ◌⊎◌, ℕ, zero, suc, ◌+◌, ◌-◌, ◌<◌, ◌≤◌, nat_le, nat_lt, ◌==◌, Bool, true, false, not, ◌&&◌, ◌||◌, List, [], ◌∷◌, ◌++◌, length, append_assoc, length-append, length-drop, take, drop, get_or, Option, None, Some, is_some, inl, inr, All, refl, sym, subst, ap, ap₂, cond, ◌∙◌, arith, map, min, set}
+use Rattle.std.proofs.Common.{◌≡◌, ◌≢◌, ◌⊎◌, ℕ, zero, suc, ◌+◌, ◌-◌, ◌<◌, ◌≤◌, ◌==◌, Bool, true, false, not, ◌||◌, List, [], ◌∷◌, ◌++◌, length, append_assoc, length-append, length-drop, take, drop, get_or, Option, None, Some, is_some, inl, inr, All, refl, sym, subst, ap, ap₂, cond, ◌∙◌, arith, map, min, set}
 use Rattle.std.specs.Prelude.{IfSome, slice_get, slice_range}
 use Rattle.std.specs.Option.{unwrap_or}
 use Rattle.std.specs.List.{AllByRecursion, count_by, find, last_or, list_any, position_or_len, range_with_len}
@@ -11,7 +11,7 @@ use Rattle.std.proofs.lemmas.List.Sums.{passes_at_first, sum_by-append, sum_by-c
 use Rattle.std.proofs.Math.Seq.{drop-append_seam}
 use Rattle.std.proofs.lemmas.List.Elements.{All-drop, All-cons, All-nil}
 use Rattle.std.proofs.lemmas.Option.{slice_get-map, slice_get_within, slice_get_cases, get_or_from_slice_get, unwrap_or-slice_get}
-use Rattle.rd_base.specs.Lists.{Follow, total}
+use Rattle.rd_base.specs.Lists.{Follow, is_between, total}
 use Rattle.rd_base.proofs.Choices.{if-value, map-some, none-of}
 
 -- what is read at a place heads what is left there
@@ -193,34 +193,30 @@ pub total-ones : {X : Type 0} (xs : List X) → total (λ _. 1) xs ≡ length xs
 total-ones [] = refl
 total-ones (x ∷ xs) = omega (arith, total-ones xs)
 
--- whether a place is in the stretch from one up to another, that one not included
-abbrev pub lies : ℕ → ℕ → ℕ → Bool
-lies pos from to = nat_le from pos && nat_lt pos to
-
 -- an empty stretch has no place
-pub lies-empty : (pos from to : ℕ) → from ≡ to → lies pos from to ≡ false
-lies-empty pos from to same = grind (arith, nat_tests)
+pub between-empty : (pos from to : ℕ) → from ≡ to → is_between from to pos ≡ false
+between-empty pos from to same = grind (arith, nat_tests)
 
 -- a place lies in a stretch exactly where it lies in one of the two parts that the stretch is cut into, and in both it never lies
-pub lies-apart : (pos from mid to : ℕ) → from ≤ mid → mid ≤ to → cond (lies pos from mid) 1 0 + cond (lies pos mid to) 1 0 ≡ cond (lies pos from to) 1 0
-lies-apart pos from mid to low high = grind (arith, nat_tests)
+pub between-apart : (pos from mid to : ℕ) → from ≤ mid → mid ≤ to → cond (is_between from mid pos) 1 0 + cond (is_between mid to pos) 1 0 ≡ cond (is_between from to pos) 1 0
+between-apart pos from mid to low high = grind (arith, nat_tests)
 
 -- stretches that stand one behind the other hold each place between once, and no other; an element's goes from its start up to its end
 module _ {X : Type 0} (start end : X → ℕ) where
-  pub follow-once : (pos from to : ℕ) (xs : List X) → Follow start end from to xs → (from ≤ to) × (count_by (λ x. lies pos (start x) (end x)) xs ≡ cond (lies pos from to) 1 0)
-  follow-once pos from to [] ends = (omega (arith, ends), ap (λ (b : Bool). cond b 1 0) (sym (lies-empty pos from to ends)))
+  pub follow-once : (pos from to : ℕ) (xs : List X) → Follow start end from to xs → (from ≤ to) × (count_by (λ x. is_between (start x) (end x) pos) xs ≡ cond (is_between from to pos) 1 0)
+  follow-once pos from to [] ends = (omega (arith, ends), ap (λ (b : Bool). cond b 1 0) (sym (between-empty pos from to ends)))
   follow-once pos from to (x ∷ xs) (inl none) =
       let rest = follow-once pos from to xs none.1 in
-      let all = count-cons (λ x. lies pos (start x) (end x)) x xs ∙ ap₂ (λ (b : Bool) (n : ℕ). cond b 1 0 + n) (lies-empty pos (start x) (end x) none.0) rest.1 in
+      let all = count-cons (λ x. is_between (start x) (end x) pos) x xs ∙ ap₂ (λ (b : Bool) (n : ℕ). cond b 1 0 + n) (between-empty pos (start x) (end x) none.0) rest.1 in
       (rest.0, omega (arith, all))
   follow-once pos from to (x ∷ xs) (inr next) =
       let some = next.1 in
       let rest = follow-once pos (end x) to xs next.2 in
       let order = rest.0 in (
         omega (arith, some, order),
-        count-cons (λ x. lies pos (start x) (end x)) x xs
-            ∙ ap₂ (λ (n m : ℕ). cond (lies pos n (end x)) 1 0 + m) next.0 rest.1
-            ∙ lies-apart pos from (end x) to (omega (arith, some)) order,
+        count-cons (λ x. is_between (start x) (end x) pos) x xs
+            ∙ ap₂ (λ (n m : ℕ). cond (is_between n (end x) pos) 1 0 + m) next.0 rest.1
+            ∙ between-apart pos from (end x) to (omega (arith, some)) order,
       )
 
 -- numbers in a row, in two parts

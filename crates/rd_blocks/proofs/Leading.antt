@@ -9,8 +9,9 @@ use Rattle.rd_objects.specs.Things.{ObjectLists}
 use Rattle.rd_props.specs.Agreement.{Unchanged, IsEdited}
 use Rattle.rd_props.specs.Buffers.{BufferValue}
 use Rattle.rd_props.specs.Made.{AreMade}
+use Rattle.rd_base.specs.Lists.{moved}
 use Rattle.rd_base.specs.Settings.{without_flags}
-use Rattle.rd_reuse.specs.Changes.{change_of, edit, is_all, is_small, join, moved, none}
+use Rattle.rd_reuse.specs.Changes.{change_of, edit, is_all, is_small, join, none}
 use Rattle.rd_reuse.specs.declared.change.Change.{Change}
 use Rattle.rd_reuse.proofs.Joining.{all-last}
 use Rattle.rd_blocks.specs.Leads.{Leads, LeadsTo}

@@ -8,8 +8,8 @@ use Rattle.std.proofs.lemmas.List.Folds.{list_any_none}
 use Rattle.std.proofs.lemmas.Option.{same_Some}
 use Rattle.std.specs.Prelude.{slice_get}
 use Rattle.rd_base.proofs.Choices.{one-at-most}
-use Rattle.rd_base.proofs.Lists.{count-append, lies, lies-apart, lies-empty, total-append}
-use Rattle.rd_base.specs.Lists.{total}
+use Rattle.rd_base.proofs.Lists.{between-apart, between-empty, count-append, total-append}
+use Rattle.rd_base.specs.Lists.{is_between, total}
 use Rattle.rd_matrix.proofs.Passing.{none-counted}
 use Rattle.rd_matrix.specs.Blocks.{IsAmong, StandFrom, end_from, first_start}
 use Rattle.rd_matrix.specs.Columns.{covers}
@@ -34,10 +34,10 @@ count-numbered point start n (r ∷ rs) =
     ap (λ k. count_by (covers start point) r.begins + k) (count-numbered point start (n + 1) rs) ∙ sym (count-append (covers start point) r.begins (begins_of rs))
 
 -- one item of a block's rows covers a position in the block, and none another position
-pub count-block : (point start end : ℕ) (rows : List RowMeaning) → AreRowsOf start end rows → count_at point (numbered start 0 rows) ≡ cond (lies point start end) 1 0
+pub count-block : (point start end : ℕ) (rows : List RowMeaning) → AreRowsOf start end rows → count_at point (numbered start 0 rows) ≡ cond (is_between start end point) 1 0
 count-block point start end rows own =
     count-numbered point start 0 rows
-    ∙ elim (cases_Bool (lies point start end)) [
+    ∙ elim (cases_Bool (is_between start end point)) [
       | inl here ↦ rw here (own.once point (grind (arith, nat_tests)) (grind (arith, nat_tests)))
       | inr out ↦ rw out (none-counted (covers start point) (begins_of rows) (list_any_none (covers start point) (begins_of rows) (λ k d below.
           let inside = own.inside k d below in
@@ -62,20 +62,20 @@ fit-le rows from [] h = omega arith
 fit-le rows from (b ∷ bs) h = omega (arith, h.0, h.1, fit-le rows b.end bs h.3)
 
 -- one item of all their rows covers a position in the blocks, and none another position
-pub count-fit : (rows : Block → List RowMeaning) (from point : ℕ) (bs : List Block) → Fit rows from bs → count_at point (all_rows rows bs) ≡ cond (lies point from (end_from from bs)) 1 0
-count-fit rows from point [] h = ap (λ (t : Bool). cond t 1 0) (sym (lies-empty point from from refl))
+pub count-fit : (rows : Block → List RowMeaning) (from point : ℕ) (bs : List Block) → Fit rows from bs → count_at point (all_rows rows bs) ≡ cond (is_between from (end_from from bs) point) 1 0
+count-fit rows from point [] h = ap (λ (t : Bool). cond t 1 0) (sym (between-empty point from from refl))
 count-fit rows from point (b ∷ bs) h =
     let some = h.1 in
     total-append (covering point) (entries_of rows b) (all_rows rows bs)
     ∙ ap₂ (λ (m n : ℕ). m + n) (count-block point b.start b.end (rows b) h.2) (count-fit rows b.end point bs h.3)
-    ∙ lies-apart point b.start b.end (end_from b.end bs) (omega arith) (fit-le rows b.end bs h.3)
-    ∙ ap (λ (n : ℕ). cond (lies point n (end_from b.end bs)) 1 0) h.0
+    ∙ between-apart point b.start b.end (end_from b.end bs) (omega arith) (fit-le rows b.end bs h.3)
+    ∙ ap (λ (n : ℕ). cond (is_between n (end_from b.end bs) point) 1 0) h.0
 
 -- at most one item of a source's rows covers a position
 pub few-whole : (m : SourceValues) (shape : ShapeValues) (point : ℕ) → IsSource m → IsShape shape → count_at point (rows_at m shape) ≤ 1
 few-whole m shape point source is =
     let start = first_start m.blocks in
-    omega (arith, count-fit (λ b. m.rows_of b shape) start point m.blocks (whole-fit m shape source is), one-at-most (lies point start (end_from start m.blocks)))
+    omega (arith, count-fit (λ b. m.rows_of b shape) start point m.blocks (whole-fit m shape source is), one-at-most (is_between start (end_from start m.blocks) point))
 
 -- the row at a place shows the item that covers a point, and shows it in the place's column
 abbrev pub HasCursor : ℕ → List EntryMeaning → ℕ × ℕ → Type 0

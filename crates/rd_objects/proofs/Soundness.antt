@@ -8,6 +8,7 @@ use Rattle.std.proofs.lemmas.List.Elements.{recursion_from_All, All-from_recursi
 use Rattle.std.proofs.lemmas.List.Sums.{AllPass-from_list_all}
 use Rattle.rd_base.proofs.Choices.{if-else, none-chosen}
 use Rattle.rd_base.specs.Faces.{Attributes, plain}
+use Rattle.rd_base.specs.Lists.{is_between}
 use Rattle.rd_base.specs.Cells.{HasColours}
 use Rattle.rd_base.proofs.Colours.{plain-coloured}
 use Rattle.rd_base.proofs.Lists.{all-at, all-read, get-first}
@@ -17,7 +18,7 @@ use Rattle.rd_objects.specs.declared.run.RunKind.TheVariants.{Face, Display}
 use Rattle.rd_objects.specs.declared.run.RunOf.{RunOf}
 use Rattle.rd_objects.specs.declared.run.Spec.{Spec}
 use Rattle.rd_objects.specs.declared.run.Spec.TheVariants.{Text, Width, Align}
-use Rattle.rd_objects.specs.Texts.{TextValue, with_run, face_by, spec_by, face_runs, spec_runs, text_of, covers, given_at, face_of, spec_of}
+use Rattle.rd_objects.specs.Texts.{TextValue, with_run, face_by, spec_by, face_runs, spec_runs, text_of, given_at, face_of, spec_of}
 use Rattle.rd_objects.specs.Tables.{TableValue, IsTable}
 use Rattle.rd_objects.specs.Things.{ObjectLists, nothing_made, is_numbered, is_made, is_inside, string_fault, is_spec_made, spec_fault, full_fault, string_added, spec_added, face_added, table_added, IsSmallSpec}
 use Rattle.rd_objects.specs.Sound.{AreCodes, IsString, AreObjects, NamesMade, IsClosed, AreRight, GoesOn, Extends}
@@ -202,7 +203,7 @@ table_extends o table = record { strings = goes_nowhere o.strings; specs = goes_
 
 -- what holds of all that runs give holds of what the last one over a place gives
 given_at-each : {T : Type 0} (P : T → Type 0) (runs : List (RunOf T)) (i : ℕ) → All (λ run. P run.value) runs → IfSome (given_at runs i) P
-given_at-each P runs i = last-gives P (λ run. run.value) (λ run. covers run.from run.to i) runs
+given_at-each P runs i = last-gives P (λ run. run.value) (λ run. is_between run.from run.to i) runs
 
 some_made : (specs number : ℕ) (o : Option ℕ) → IfSome o (λ n. n < specs) → o ≡ Some number → number < specs
 some_made specs number (Some n) p e = let s : n ≡ number = cc in omega arith

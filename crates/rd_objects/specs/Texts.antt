@@ -1,7 +1,8 @@
 -- Strings with runs of faces and display specs.
-use Rattle.std.specs.Prelude.{ℕ, nat_le, nat_lt, Bool, ◌&&◌, List, [], ◌∷◌, reverse, slice_index_or, Option, None, Some, option_map, unwrap_or}
+use Rattle.std.specs.Prelude.{ℕ, List, [], ◌∷◌, reverse, slice_index_or, Option, None, Some, option_map, unwrap_or}
 use Rattle.std.specs.List.{find}
 use Rattle.rd_base.specs.Faces.{Attributes, plain}
+use Rattle.rd_base.specs.Lists.{is_between}
 use Rattle.rd_objects.specs.declared.run.Run.{Run}
 use Rattle.rd_objects.specs.declared.run.RunKind.{RunKind}
 use Rattle.rd_objects.specs.declared.run.RunKind.TheVariants.{Face, Display}
@@ -40,13 +41,9 @@ spec_runs runs = runs_by (λ run. spec_by run.kind run.value) runs
 abbrev pub text_of : List ℕ → List Run → List Attributes → TextValue
 text_of chars runs faces = record { chars = chars; faces = face_runs faces runs; specs = spec_runs runs }
 
--- whether the places from `from` to `to`, not included, hold i
-abbrev pub covers : ℕ → ℕ → ℕ → Bool
-covers from to i = nat_le from i && nat_lt i to
-
 -- what the last of the runs that covers the place gives
 abbrev pub given_at : {T : Type 0} → List (RunOf T) → ℕ → Option T
-given_at runs i = option_map (λ run. run.value) (find (λ run. covers run.from run.to i) (reverse runs))
+given_at runs i = option_map (λ run. run.value) (find (λ run. is_between run.from run.to i) (reverse runs))
 
 -- the face and the display spec at a place of a string
 abbrev pub face_of : TextValue → ℕ → Attributes

@@ -1,7 +1,8 @@
 //! Strings with faces and display specs.
 ghost use Rattle.std.specs.Prelude.{◌≡◌, IfOk, Option, slice_index_or};
 ghost use Rattle.rd_base.specs.Faces.{plain};
-ghost use Rattle.rd_objects.specs.Texts.{runs_by, face_by, spec_by, given_at, covers};
+ghost use Rattle.rd_base.specs.Lists.{is_between};
+ghost use Rattle.rd_objects.specs.Texts.{runs_by, face_by, spec_by, given_at};
 ghost use Rattle.rd_objects.specs.declared.run.Run.{Run};
 
 use crate::run::{Run, RunKind, RunOf};
@@ -110,7 +111,7 @@ fn last_over<T: Copy>(runs: &[RunOf<T>], i: u32) -> Option<T>
 
 /// Whether a run covers a place.
 fn is_covered(from: u32, to: u32, i: u32) -> bool
-    ensures { result ≡ covers from to i }
+    ensures { result ≡ is_between from to i }
 {
     from <= i && i < to
 }

@@ -5,8 +5,8 @@ use Rattle.std.specs.List.{range_with_len}
 use Rattle.std.proofs.lemmas.Bool.{cond_both}
 use Rattle.std.proofs.lemmas.Bool.Decides.{nat_tests}
 use Rattle.rd_base.proofs.Choices.{one-at-most}
-use Rattle.rd_base.proofs.Lists.{lies, lies-apart, lies-empty, total-append}
-use Rattle.rd_base.specs.Lists.{total}
+use Rattle.rd_base.proofs.Lists.{between-apart, between-empty, total-append}
+use Rattle.rd_base.specs.Lists.{is_between, total}
 use Rattle.rd_order.specs.Order.{l2_reversed, l2_reversed_down, highest, l2_visual_order}
 
 pub total-l2_reversed : (f : ℕ → ℕ) (levels : List ℕ) (k : ℕ) (run is : List ℕ) → total f (l2_reversed levels k run is) ≡ total f run + total f is
@@ -34,16 +34,16 @@ abbrev pub is_place : ℕ → ℕ → ℕ
 is_place k i = cond (nat_eq k i) 1 0
 
 -- a place stands once among numbers in a row where it lies within them, and else not
-place-once : (k from n to : ℕ) → to ≡ from + n → total (is_place k) (range_with_len from n) ≡ cond (lies k from to) 1 0
-place-once k from zero to ends = ap (λ b. cond b 1 0) (sym (lies-empty k from to (omega arith)))
+place-once : (k from n to : ℕ) → to ≡ from + n → total (is_place k) (range_with_len from n) ≡ cond (is_between from to k) 1 0
+place-once k from zero to ends = ap (λ b. cond b 1 0) (sym (between-empty k from to (omega arith)))
 place-once k from (suc n) to ends =
-    let one : is_place k from ≡ cond (lies k from (from + 1)) 1 0 = grind (arith, nat_tests) in
-    omega (arith, one, place-once k (from + 1) n to (omega arith), lies-apart k from (from + 1) to (omega arith) (omega arith))
+    let one : is_place k from ≡ cond (is_between from (from + 1) k) 1 0 = grind (arith, nat_tests) in
+    omega (arith, one, place-once k (from + 1) n to (omega arith), between-apart k from (from + 1) to (omega arith) (omega arith))
 
 pub once-at-most : (k from n : ℕ) → total (is_place k) (range_with_len from n) ≤ 1
-once-at-most k from n = omega (arith, place-once k from n (from + n) refl, one-at-most (lies k from (from + n)))
+once-at-most k from n = omega (arith, place-once k from n (from + n) refl, one-at-most (is_between from (from + n) k))
 
 pub once-at-least : (k from n : ℕ) → from ≤ k → k < from + n → 1 ≤ total (is_place k) (range_with_len from n)
 once-at-least k from n low high =
-    let within : lies k from (from + n) ≡ true = grind (arith, nat_tests) in
+    let within : is_between from (from + n) k ≡ true = grind (arith, nat_tests) in
     omega (arith, place-once k from n (from + n) refl, ap (λ b. cond {A = ℕ} b 1 0) within)

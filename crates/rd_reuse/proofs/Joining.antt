@@ -4,11 +4,12 @@ use Rattle.std.proofs.Math.Bool.{or-false}
 use Rattle.std.proofs.Math.IntN.{+ℤ_idl, +ℤ_idr}
 use Rattle.std.proofs.lemmas.Bool.{and_from, and_left, le-leb, lt-leb, or_from, or_right, true≢false}
 use Rattle.rd_base.proofs.Choices.{either}
+use Rattle.rd_base.specs.Lists.{moved}
 use Rattle.rd_matrix.specs.Blocks.{IsAmong, first_start}
 use Rattle.rd_matrix.specs.Sources.{SourceValues, IsSource}
 use Rattle.rd_matrix.specs.declared.block.Block.{Block}
 use Rattle.rd_matrix.specs.declared.matrix.Entry.{Entry}
-use Rattle.rd_reuse.specs.Changes.{IsChange, all, change_of, edit, is_all, is_small, join, moved, none}
+use Rattle.rd_reuse.specs.Changes.{IsChange, all, change_of, edit, is_all, is_small, join, none}
 use Rattle.rd_reuse.specs.Keeping.{AreRight, are_whole, is_kept, is_outside, taken}
 use Rattle.rd_reuse.specs.declared.change.Change.{Change}
 use Rattle.rd_reuse.proofs.Changes.{all-is, change-by}

@@ -7,6 +7,7 @@ use Rattle.std.proofs.lemmas.List.Elements.{All-append, All-drop, All-nil, All-t
 use Rattle.std.proofs.lemmas.Option.{slice_get-map}
 use Rattle.rd_base.proofs.Lists.{at-seam, drop-at, get-second, none-left}
 use Rattle.std.specs.List.{list_any, range_with_len}
+use Rattle.rd_base.specs.Lists.{is_between}
 use Rattle.rd_base.specs.declared.settings.Anchor.{Anchor}
 use Rattle.rd_matrix.proofs.Counting.{all-append, any-range, costs-behind, costs-here, count-last, length-numbered, some-row}
 use Rattle.rd_matrix.specs.Blocks.{HoldsPosition, IsAmong, StandFrom, first_start}
@@ -17,7 +18,7 @@ use Rattle.rd_matrix.specs.declared.block.Block.{Block}
 use Rattle.rd_matrix.specs.declared.matrix.Entry.{Entry}
 use Rattle.rd_reuse.specs.Keeping.{copied_rows, entry_under, fresh_cost, is_kept, taken, taken_from, up_to_end}
 use Rattle.rd_reuse.specs.Laying.{placed}
-use Rattle.rd_reuse.specs.Views.{IsCopied, Names, fresh_costs, is_in_view}
+use Rattle.rd_reuse.specs.Views.{IsCopied, Names, fresh_costs}
 use Rattle.rd_reuse.specs.declared.change.Change.{Change}
 use Rattle.rd_reuse.proofs.Lists.{filled-more, filled-size}
 use Rattle.rd_matrix.proofs.HeldLemmas.{later-start}
@@ -37,13 +38,13 @@ pub record Walk (m : SourceValues) (old : List Entry) (c : Change) (shape : Shap
   pub room : length (shown_entries rows) ≤ most
   pub done : shown_entries rows ++ take (most - length (shown_entries rows)) (drop first (all_rows (λ b. m.rows_of b shape) (block ∷ after))) ≡ take most (drop place (rows_at m shape))
   pub copies : All (IsCopied old c m.blocks) rows
-  pub paid : steps + costs_of (fresh_cost m old c shape) (blocks_with (is_in_view place (place + most)) (λ b. m.rows_of b shape) (length (all_rows (λ b. m.rows_of b shape) before)) (block ∷ after))
+  pub paid : steps + costs_of (fresh_cost m old c shape) (blocks_with (is_between place (place + most)) (λ b. m.rows_of b shape) (length (all_rows (λ b. m.rows_of b shape) before)) (block ∷ after))
       ≤ base + fresh_costs m old c shape place (place + most)
 
-in-view : (place most begins first count there : ℕ) → begins + first ≡ place + there → there < most → first < count → list_any (is_in_view place (place + most)) (range_with_len begins count) ≡ true
+in-view : (place most begins first count there : ℕ) → begins + first ≡ place + there → there < most → first < count → list_any (is_between place (place + most)) (range_with_len begins count) ≡ true
 in-view place most begins first count there at low inside =
-    let here : is_in_view place (place + most) (begins + first) ≡ true = grind (arith, nat_tests) in
-    any-range (is_in_view place (place + most)) begins count (begins + first) (omega arith) (omega (arith, inside)) here
+    let here : is_between place (place + most) (begins + first) ≡ true = grind (arith, nat_tests) in
+    any-range (is_between place (place + most)) begins count (begins + first) (omega arith) (omega (arith, inside)) here
 
 -- the walk begins
 
@@ -59,10 +60,10 @@ begins m old c shape anchor place most base block source holds is =
     let count = found.place in
     let pieces : m.blocks ≡ found.before ++ block ∷ found.after = found.pieces ∙ ap (λ b. found.before ++ b ∷ found.after) (sym same) in
     let all = ap (all_rows rows) pieces ∙ all-append rows found.before (block ∷ found.after) in
-    let behind = costs-behind (is_in_view place (place + most)) rows (fresh_cost m old c shape) 0 found.before (block ∷ found.after) in
+    let behind = costs-behind (is_between place (place + most)) rows (fresh_cost m old c shape) 0 found.before (block ∷ found.after) in
     let place-in : 0 + length (all_rows rows found.before) ≡ length (all_rows rows found.before) = omega arith in
-    let e = ap (λ n. costs_of (fresh_cost m old c shape) (blocks_with (is_in_view place (place + most)) rows n (block ∷ found.after))) place-in in
-    let whole = ap (λ bs. costs_of (fresh_cost m old c shape) (blocks_with (is_in_view place (place + most)) rows 0 bs)) pieces in
+    let e = ap (λ n. costs_of (fresh_cost m old c shape) (blocks_with (is_between place (place + most)) rows n (block ∷ found.after))) place-in in
+    let whole = ap (λ bs. costs_of (fresh_cost m old c shape) (blocks_with (is_between place (place + most)) rows 0 bs)) pieces in
     let left : most - 0 ≡ most = omega arith in
     record {
       before = found.before;
@@ -140,12 +141,12 @@ module _ {m : SourceValues} {old : List Entry} {c : Change} {shape : ShapeValues
   -- what its rows cost
   pub costs : length (shown_entries rows) < most
       → steps + fresh_cost m old c shape block
-      + costs_of (fresh_cost m old c shape) (blocks_with (is_in_view place (place + most)) (λ b. m.rows_of b shape) (length (all_rows (λ b. m.rows_of b shape) w.before) + length (m.rows_of block shape)) w.after)
+      + costs_of (fresh_cost m old c shape) (blocks_with (is_between place (place + most)) (λ b. m.rows_of b shape) (length (all_rows (λ b. m.rows_of b shape) w.before) + length (m.rows_of block shape)) w.after)
       ≤ base + fresh_costs m old c shape place (place + most)
   costs low =
       let paid = w.paid in
       let view = in-view place most (length (all_rows (λ b. m.rows_of b shape) w.before)) first (length (m.rows_of block shape)) (length (shown_entries rows)) (w.at low) low w.inside in
-      let here = costs-here (is_in_view place (place + most)) (λ b. m.rows_of b shape) (fresh_cost m old c shape) (length (all_rows (λ b. m.rows_of b shape) w.before)) block w.after view in
+      let here = costs-here (is_between place (place + most)) (λ b. m.rows_of b shape) (fresh_cost m old c shape) (length (all_rows (λ b. m.rows_of b shape) w.before)) block w.after view in
       omega (arith, paid, here)
 
   abbrev grown : List RowValues → List Entry
@@ -230,8 +231,8 @@ module _ {m : SourceValues} {old : List Entry} {c : Change} {shape : ShapeValues
       let up = size.0 in
       let last = count-last R w.before block in
       let paid = costs low' in
-      let cost-at = ap (λ n. costs_of (fresh_cost m old c shape) (blocks_with (is_in_view place (place + most)) R n w.after)) last in
-      let cost-of = ap (λ bs. costs_of (fresh_cost m old c shape) (blocks_with (is_in_view place (place + most)) R (length (all_rows R (w.before ++ block ∷ []))) bs)) first-is in
+      let cost-at = ap (λ n. costs_of (fresh_cost m old c shape) (blocks_with (is_between place (place + most)) R n w.after)) last in
+      let cost-of = ap (λ bs. costs_of (fresh_cost m old c shape) (blocks_with (is_between place (place + most)) R (length (all_rows R (w.before ++ block ∷ []))) bs)) first-is in
       record {
         before = w.before ++ block ∷ [];
         after = drop 1 w.after;

@@ -1,6 +1,7 @@
 -- What of a text stands where it stood: what ends before a head, and, moved by some positions, what starts at a tail or later.
-use Rattle.std.specs.Prelude.{◌≡◌, ℕ, suc, ◌+◌, ◌-◌, ◌≤◌, min, max, nat_le, Bool, true, ◌==◌, ◌&&◌, ◌||◌, if◌then◌else◌, ℤ, pos, negsuc, ◌+ℤ◌, ◌-ℤ◌, int_le}
+use Rattle.std.specs.Prelude.{◌≡◌, ℕ, ◌+◌, ◌≤◌, min, max, nat_le, Bool, true, ◌==◌, ◌&&◌, ◌||◌, if◌then◌else◌, ℤ, pos, negsuc, ◌+ℤ◌, ◌-ℤ◌, int_le}
 use Rattle.std.specs.Ordering.{int_eq}
+use Rattle.rd_base.specs.Lists.{moved}
 use Rattle.rd_reuse.specs.declared.change.Change.{Change}
 
 -- nothing changed
@@ -37,11 +38,6 @@ change_of head tail added =
 -- strings can move there
 abbrev pub edit : ℕ → ℕ → ℕ → Change
 edit from removed added = change_of from (from + added + 1) (pos added -ℤ pos removed)
-
--- a position moved down or up, up at most to 0
-abbrev pub moved : ℤ → ℕ → ℕ
-moved (pos n) place = place + n
-moved (negsuc n) place = place - suc n
 
 -- a change and a later one: what stands as it did through both
 abbrev pub join : Change → Change → Change

@@ -1,5 +1,6 @@
 -- The rows in view from an anchor on, what they cost, and how often they were copied.
-use Rattle.std.specs.Prelude.{◌≡◌, ℕ, ◌&&◌, nat_le, nat_lt, Bool, true, List, Some, option_map, slice_get}
+use Rattle.std.specs.Prelude.{◌≡◌, ℕ, true, List, Some, option_map, slice_get}
+use Rattle.rd_base.specs.Lists.{is_between}
 use Rattle.rd_base.specs.declared.settings.Anchor.{Anchor}
 use Rattle.rd_matrix.specs.Blocks.{IsAmong}
 use Rattle.rd_matrix.specs.Entries.{EntryMeaning}
@@ -20,13 +21,10 @@ anchor_of e = record { pos = e.start; row = e.number }
 abbrev pub Names : Anchor → List EntryMeaning → ℕ → Type 0
 Names anchor rows place = option_map anchor_of (slice_get rows place) ≡ Some anchor
 
--- whether the row at a place stands in view, which has the rows from one place up to another
-abbrev pub is_in_view : ℕ → ℕ → ℕ → Bool
-is_in_view from to place = nat_le from place && nat_lt place to
-
--- what the blocks cost together that have a row in view and do not keep their older rows
+-- what the blocks cost together that have a row in view, which has the rows from one place up to another, and do not keep their older
+-- rows
 abbrev pub fresh_costs : SourceValues → List Entry → Change → ShapeValues → ℕ → ℕ → ℕ
-fresh_costs m old c shape from to = costs_of (fresh_cost m old c shape) (blocks_with (is_in_view from to) (λ b. m.rows_of b shape) 0 m.blocks)
+fresh_costs m old c shape from to = costs_of (fresh_cost m old c shape) (blocks_with (is_between from to) (λ b. m.rows_of b shape) 0 m.blocks)
 
 -- a row of a block that keeps its rows was copied once more than the older row from which it comes
 abbrev pub IsCopied : List Entry → Change → List Block → Entry → Type 0

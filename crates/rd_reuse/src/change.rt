@@ -14,7 +14,7 @@ pub struct Change {
 
 impl Change {
     ghost use Rattle.std.specs.Prelude.{◌≡◌};
-    ghost use Rattle.rd_reuse.specs.Changes.{none, all, is_none, is_all, change_of, edit, join, moved};
+    ghost use Rattle.rd_reuse.specs.Changes.{none, all, is_none, is_all, change_of, edit, join};
     ghost use Rattle.rd_reuse.specs.Keeping.{is_outside, started_at};
 
     /// Nothing changed.
@@ -110,7 +110,7 @@ impl Change {
 }
 
 ghost use Rattle.std.specs.Prelude.{◌≡◌};
-ghost use Rattle.rd_reuse.specs.Changes.{moved};
+ghost use Rattle.rd_base.specs.Lists.{moved};
 
 /// A position moved down, or up where the number is below 0, up at most to 0.
 fn moved(place: Pos, added: i64) -> u64

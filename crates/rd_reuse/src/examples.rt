@@ -1,10 +1,11 @@
 //! The definitions on worked examples.
 ghost use Rattle.std.specs.Prelude.{◌≡◌, true, false, ◌∷◌, [], map, pos, negsuc};
+ghost use Rattle.rd_base.specs.Lists.{is_between};
 ghost use Rattle.rd_matrix.specs.Rows.{blocks_with};
 ghost use Rattle.rd_reuse.specs.Changes.{none, all, edit, join};
 ghost use Rattle.rd_reuse.specs.Examples.{twelve_columns, block, row, older, three_lines, longer_lines, letters, three_letters};
 ghost use Rattle.rd_reuse.specs.Keeping.{fresh_cost, is_kept, kept_source, taken};
-ghost use Rattle.rd_reuse.specs.Views.{fresh_costs, is_in_view};
+ghost use Rattle.rd_reuse.specs.Views.{fresh_costs};
 
 /// Two characters are put at a position, three removed, and a range changes its properties. Behind the last position no tail
 /// stands.
@@ -88,7 +89,7 @@ fn an_edit_in_a_short_line()
 
 /// The lines that have a row in view: from the second row of the second line on, the first row, and none.
 fn blocks_in_view_of_a_window()
-    ensures middle { blocks_with (is_in_view 2 4) (λ b. longer_lines.rows_of b twelve_columns) 0 longer_lines.blocks ≡ block 5 22 0 ∷ block 22 25 0 ∷ [] }
-    ensures first { blocks_with (is_in_view 0 1) (λ b. longer_lines.rows_of b twelve_columns) 0 longer_lines.blocks ≡ block 1 5 0 ∷ [] }
-    ensures empty { blocks_with (is_in_view 2 2) (λ b. longer_lines.rows_of b twelve_columns) 0 longer_lines.blocks ≡ [] }
+    ensures middle { blocks_with (is_between 2 4) (λ b. longer_lines.rows_of b twelve_columns) 0 longer_lines.blocks ≡ block 5 22 0 ∷ block 22 25 0 ∷ [] }
+    ensures first { blocks_with (is_between 0 1) (λ b. longer_lines.rows_of b twelve_columns) 0 longer_lines.blocks ≡ block 1 5 0 ∷ [] }
+    ensures empty { blocks_with (is_between 2 2) (λ b. longer_lines.rows_of b twelve_columns) 0 longer_lines.blocks ≡ [] }
 {}

@@ -1,11 +1,12 @@
 //! Laws of changes and of rows that are kept, over all changes and sources. The calls do nothing.
 ghost use Rattle.std.specs.Prelude.{◌≡◌, ℕ, ◌^◌, ◌<◌, ◌≤◌, false, List};
+ghost use Rattle.rd_base.specs.Lists.{moved};
 ghost use Rattle.rd_base.specs.declared.settings.Anchor.{Anchor};
 ghost use Rattle.rd_matrix.specs.Blocks.{IsAmong, IsWithin};
 ghost use Rattle.rd_matrix.specs.Sources.{SourceValues, IsSource, rows_at};
 ghost use Rattle.rd_matrix.specs.declared.block.Block.{Block};
 ghost use Rattle.rd_matrix.specs.declared.matrix.Entry.{Entry};
-ghost use Rattle.rd_reuse.specs.Changes.{IsChange, all, edit, join, moved, none};
+ghost use Rattle.rd_reuse.specs.Changes.{IsChange, all, edit, join, none};
 ghost use Rattle.rd_reuse.specs.Keeping.{AreRight, fresh_cost, is_kept, kept_source};
 ghost use Rattle.rd_reuse.specs.Views.{Names};
 ghost use Rattle.rd_reuse.specs.declared.change.Change.{Change};

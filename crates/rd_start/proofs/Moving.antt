@@ -3,6 +3,7 @@ use Rattle.std.proofs.Common.{◌≡◌, ℕ, ◌+◌, ◌-◌, ◌*◌, ◌/◌
 use Rattle.std.specs.List.{find}
 use Rattle.std.specs.Option.{option_map}
 use Rattle.std.specs.Prelude.{IfOk}
+use Rattle.rd_base.specs.Lists.{moved}
 use Rattle.rd_base.specs.declared.memory.Memory.{Memory}
 use Rattle.rd_base.specs.declared.settings.Anchor.{Anchor}
 use Rattle.rd_matrix.specs.Entries.{EntryMeaning, all_rows}
@@ -11,7 +12,7 @@ use Rattle.rd_matrix.specs.Sources.{SourceValues, costs_of, rows_at}
 use Rattle.rd_rows.specs.Shapes.{ShapeValues}
 use Rattle.rd_start.specs.Chosen.{anchor_at, chosen_of, forced_point, places_of, row_of}
 use Rattle.rd_start.specs.Near.{is_near, near_costs}
-use Rattle.rd_start.specs.Starts.{around, centred, following, moved, scrolled, suits}
+use Rattle.rd_start.specs.Starts.{around, centred, following, scrolled, suits}
 use Rattle.rd_start.specs.Strips.{Affords, FindsNear, IsFor, IsLaidOut, IsPaid, IsStrip, IsUnsuited, AsksAt, BeginsAbove, Between, all_costs, centred_chosen, count_in, first_row, home_row, moved_row, point_row, rows_in}
 use Rattle.rd_start.specs.declared.strip.Edge.TheVariants.{Bottom, Top}
 use Rattle.rd_start.specs.declared.strip.Strip.{Strip}

@@ -2,8 +2,8 @@
 use Rattle.std.proofs.Common.{◌≡◌, ℕ, ◌+◌, ◌-◌, ◌<◌, inl, inr, Bool, true, false, min, max, length, ℤ, pos, negsuc, refl, sym, arith}
 use Rattle.std.specs.Prelude.{int_lt, unsigned_abs}
 use Rattle.std.proofs.lemmas.Bool.{ltb-true, false≢true}
+use Rattle.rd_base.specs.Lists.{moved}
 use Rattle.rd_matrix.specs.Sources.{SourceValues}
-use Rattle.rd_start.specs.Starts.{moved}
 use Rattle.rd_start.specs.Strips.{IsStrip, AsksAt, BeginsAbove, Between, Reaches, first_row, home_row, moved_row}
 use Rattle.rd_start.specs.declared.strip.Edge.TheVariants.{Bottom, Top}
 use Rattle.rd_start.specs.declared.strip.Strip.{Strip}

@@ -1,7 +1,8 @@
 -- The row at which a window starts, among all rows of its text, which are numbered from 0.
-use Rattle.std.specs.Prelude.{ℕ, zero, suc, ◌+◌, ◌-◌, ◌/◌, min, nat_lt, nat_le, Bool, ◌==◌, ◌&&◌, if◌then◌else◌, List, [], ◌∷◌, ◌++◌, ℤ, pos, negsuc}
+use Rattle.std.specs.Prelude.{ℕ, zero, suc, ◌+◌, ◌-◌, ◌/◌, min, nat_lt, nat_le, Bool, ◌==◌, ◌&&◌, if◌then◌else◌, List, [], ◌∷◌, ◌++◌}
 use Rattle.std.specs.List.{find}
 use Rattle.std.specs.Option.{unwrap_or}
+use Rattle.rd_base.specs.Lists.{moved}
 use Rattle.rd_start.specs.declared.wanted.Wanted.{Wanted}
 
 -- the row of a window's old start, the row in which the item that covers point begins, and how many rows there are
@@ -52,11 +53,6 @@ centred w at = at.point - w.height / 2
 -- the old start where it suits, else the nearest that suits, unless it is too far away: then point's row comes to the middle
 abbrev pub following : Wanted → Places → ℕ
 following w at = unwrap_or (find (suits w at) (around at.old w.conservatively)) (centred w at)
-
--- a row moved down or up, up at most to row 0
-abbrev pub moved : ℤ → ℕ → ℕ
-moved (pos down) row = row + down
-moved (negsuc up) row = row - (up + 1)
 
 -- the old start scrolled by the rows that are pending, held to the rows that there are
 abbrev pub scrolled : Wanted → Places → ℕ

@@ -3,6 +3,7 @@
 use Rattle.std.specs.Prelude.{◌≡◌, ℕ, ◌+◌, ◌-◌, ◌*◌, ◌^◌, ◌<◌, ◌≤◌, ◌⊎◌, min, max, nat_lt, Bool, true, false, if◌then◌else◌, List, [], ◌∷◌, ◌++◌, length, map, slice_get, ℤ, Option, None, Some, Result, MatchResult}
 use Rattle.std.specs.List.{AllByRecursion, find, fold, list_any, position, range_with_len}
 use Rattle.std.specs.Option.{option_map}
+use Rattle.rd_base.specs.Lists.{moved}
 use Rattle.rd_matrix.specs.Blocks.{IsAmong, IsWithin}
 use Rattle.rd_matrix.specs.Entries.{EntryMeaning, all_rows, numbered}
 use Rattle.rd_matrix.specs.Rows.{blocks_with}
@@ -12,7 +13,7 @@ use Rattle.rd_rows.specs.Rows.{RowMeaning}
 use Rattle.rd_rows.specs.Shapes.{ShapeValues, IsShape}
 use Rattle.rd_start.specs.Chosen.{anchor_at, anchor_row, begins_item, chosen_of, places_of, positions_of, row_of}
 use Rattle.rd_start.specs.Near.{is_near, near_costs}
-use Rattle.rd_start.specs.Starts.{around, centred, moved, suits, wanted_above, wanted_below}
+use Rattle.rd_start.specs.Starts.{around, centred, suits, wanted_above, wanted_below}
 use Rattle.rd_start.specs.declared.strip.Edge.{Edge}
 use Rattle.rd_start.specs.declared.strip.Edge.TheVariants.{Bottom, Top}
 use Rattle.rd_start.specs.declared.strip.StripRow.{StripRow}

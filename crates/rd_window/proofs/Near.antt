@@ -5,13 +5,14 @@ use Rattle.std.specs.Option.{unwrap_or}
 use Rattle.std.proofs.lemmas.Bool.{and_parts, cases_Bool, leb-true, ltb-true}
 use Rattle.std.proofs.lemmas.List.Folds.{Any-from_list_any, list_any-from_Any}
 use Rattle.rd_base.proofs.Lists.{found-each}
+use Rattle.rd_base.specs.Lists.{is_between}
 use Rattle.rd_matrix.proofs.Counting.{costs-if}
 use Rattle.rd_matrix.specs.Rows.{blocks_with}
 use Rattle.rd_matrix.specs.Sources.{SourceValues, costs_of}
 use Rattle.rd_matrix.specs.declared.block.Block.{Block}
 use Rattle.rd_matrix.specs.declared.matrix.Entry.{Entry}
 use Rattle.rd_reuse.specs.Keeping.{fresh_cost, is_kept}
-use Rattle.rd_reuse.specs.Views.{fresh_costs, is_in_view}
+use Rattle.rd_reuse.specs.Views.{fresh_costs}
 use Rattle.rd_reuse.specs.declared.change.Change.{Change}
 use Rattle.rd_rows.specs.Rows.{RowMeaning}
 use Rattle.rd_rows.specs.Shapes.{ShapeValues}
@@ -95,7 +96,7 @@ pub view-costs : (m : SourceValues) (old : List Entry) (c : Change) (shape : Sha
     → fresh_costs m old c shape (start_row m shape w) (start_row m shape w + w.height) ≤ near_costs m shape w
 view-costs m old c shape w =
     let at = places_of m shape w in
-    costs-wider (is_in_view (start_row m shape w) (start_row m shape w + w.height)) (is_near w at) (λ b. m.rows_of b shape) (fresh_cost m old c shape) (λ b. m.cost_of b shape) 0 m.blocks
+    costs-wider (is_between (start_row m shape w) (start_row m shape w + w.height)) (is_near w at) (λ b. m.rows_of b shape) (fresh_cost m old c shape) (λ b. m.cost_of b shape) 0 m.blocks
     (fresh-less m old c shape)
     (λ k inside.
     let parts = and_parts (leb (start_row m shape w) k) (ltb k (start_row m shape w + w.height)) inside in
