@@ -1,11 +1,12 @@
 -- What holds of all objects where one more is made.
-use Rattle.std.proofs.Common.{◌≡◌, ℕ, ◌<◌, ◌≤◌, true, false, not, List, [], ◌∷◌, ◌++◌, length, length-append, append_assoc, append-nil, Option, Some, None, refl, sym, ap, arith}
-use Rattle.std.specs.Prelude.{nat_le, nat_lt, slice_get, IfSome}
+use Rattle.std.proofs.Common.{◌≡◌, ℕ, ◌<◌, ◌≤◌, true, false, not, List, [], ◌∷◌, ◌++◌, length, length-append, append_assoc, append-nil, Some, None, refl, sym, ap, arith}
+use Rattle.std.specs.Prelude.{nat_le, nat_lt, slice_get, IfSome, ⊤}
 use Rattle.std.specs.List.{All, AllByRecursion, list_all}
 use Rattle.std.proofs.lemmas.Bool.{not-false}
 use Rattle.std.proofs.lemmas.Bool.Decides.{nat_tests}
 use Rattle.std.proofs.lemmas.List.Elements.{recursion_from_All, All-from_recursion, All-nil, All-push, All-weaker}
 use Rattle.std.proofs.lemmas.List.Sums.{AllPass-from_list_all}
+use Rattle.std.proofs.lemmas.Option.{MatchOption-at_some}
 use Rattle.rd_base.proofs.Choices.{if-else, none-chosen}
 use Rattle.rd_base.specs.Faces.{Attributes, plain}
 use Rattle.rd_base.specs.Lists.{is_between}
@@ -205,14 +206,10 @@ table_extends o table = record { strings = goes_nowhere o.strings; specs = goes_
 given_at-each : {T : Type 0} (P : T → Type 0) (runs : List (RunOf T)) (i : ℕ) → All (λ run. P run.value) runs → IfSome (given_at runs i) P
 given_at-each P runs i = last-gives P (λ run. run.value) (λ run. is_between run.from run.to i) runs
 
-some_made : (specs number : ℕ) (o : Option ℕ) → IfSome o (λ n. n < specs) → o ≡ Some number → number < specs
-some_made specs number (Some n) p e = let s : n ≡ number = cc in omega arith
-some_made specs number None p e = absurd (cc)
-
 pub named_specs : (o : ObjectLists) (string i number : ℕ) (text : TextValue) → IsClosed o → slice_get o.strings string ≡ Some text → spec_of text i ≡ Some number → number < length o.specs
 named_specs o string i number text closed e f =
     let all = all-at (λ text. All (λ run. run.value < length o.specs) text.specs) o.strings string text closed.strings e in
-    some_made (length o.specs) number (given_at text.specs i) (given_at-each (λ number. number < length o.specs) text.specs i all) f
+    MatchOption-at_some ⊤ (λ n. n < length o.specs) number f (given_at-each (λ n. n < length o.specs) text.specs i all)
 
 pub named_strings : (o : ObjectLists) (spec number : ℕ) → IsClosed o → slice_get o.specs spec ≡ Some (Text number) → number < length o.strings
 named_strings o spec number closed e = all-at (NamesMade (length o.strings)) o.specs spec (Text number) closed.specs e
