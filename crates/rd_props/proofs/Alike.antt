@@ -109,9 +109,6 @@ listing-gives f g a b alike n member = slots-give f g (overlay_at a n) (overlay_
 first-contained : (n : ℕ) (ns : List ℕ) → Contains (n ∷ ns) n
 first-contained n ns = (0, omega arith, refl)
 
-turned-contained : (n : ℕ) (ns : List ℕ) → Contains (reverse ns) n → Contains ns n
-turned-contained n ns h = Contains-permutation (reverse ns) ns n (IsPermutation-sym ns (reverse ns) (IsPermutation-reverse ns)) h
-
 -- ---- values, faces and strings
 
 -- what is made of a listing from the front or the back is the same where what each of its numbers gives is
@@ -165,8 +162,10 @@ module _ (x y : ℕ) (a b : List (Option Overlay)) (see : SeeSame x y a b) where
 
   ends-agree : (part : StringPlace) → strings_of part a (reverse (ending x a)) ≡ strings_of part b (reverse (ending y b))
   ends-agree part =
+      let ns = ending x a in
+      let turned = IsPermutation-sym ns (reverse ns) (IsPermutation-reverse ns) in
       let gives = listing-gives (ends x) (ends y) a b see.ends in
-      strings-same a b part (reverse (ending x a)) (λ n h. gives n (turned-contained n (ending x a) h))
+      strings-same a b part (reverse ns) (λ n h. gives n (Contains-permutation (reverse ns) ns n turned h))
       ∙ ap (λ (ns : List ℕ). strings_of part b (reverse ns)) (listing-same (ends x) (ends y) a b see.ends)
 
   pub strings-agree : (closing between opening : List ℕ)
