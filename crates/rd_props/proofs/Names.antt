@@ -1,9 +1,9 @@
 -- Edits name no object that was not made.
 use Rattle.std.proofs.Common.{◌≡◌, inl, inr, ℕ, zero, suc, ◌<◌, Bool, true, false, ◌&&◌, if◌then◌else◌, List, [], ◌∷◌, ◌++◌, length, set, Option, None, Some, refl, sym, ap, subst, ◌∙◌, arith}
-use Rattle.std.specs.Prelude.{nat_lt, nat_le, ◌==◌, IfSome, slice_get}
+use Rattle.std.specs.Prelude.{nat_lt, nat_le, ◌==◌, slice_get}
 use Rattle.std.specs.Option.{unwrap_or}
 use Rattle.std.proofs.lemmas.Bool.Decides.{nat_tests}
-use Rattle.std.proofs.lemmas.Option.{unwrap_or-slice_get, get_or_from_slice_get}
+use Rattle.std.proofs.lemmas.Option.{IfSome_then, unwrap_or-slice_get, get_or_from_slice_get}
 use Rattle.rd_base.proofs.Lists.{get-set}
 use Rattle.rd_spans.proofs.Beside.{opened-from, closed-from}
 use Rattle.rd_overlays.specs.declared.overlay.Overlay.{Overlay}
@@ -159,17 +159,13 @@ made-longer old new extends WrapPrefix v h = longer old.strings new.strings v ex
 made-longer old new extends Before v h = longer old.strings new.strings v extends.strings h
 made-longer old new extends After v h = longer old.strings new.strings v extends.strings h
 
-setting-longer : {X : Type 0} (old new : List X) (number : Option ℕ) → GoesOn old new → IfSome number (λ n. n < length old) → IfSome number (λ n. n < length new)
-setting-longer {X} old new None more h = h
-setting-longer {X} old new (Some n) more h = longer old new n more h
-
 pub made-extended : (s : BufferValue) (old new : ObjectLists) → AreMade s old → Extends old new → AreMade s new
 made-extended s old new made extends = record {
   properties = λ kind p v h. made-longer old new extends kind v (made.properties kind p v h);
   overlays = λ number v kind o is h. made-longer old new extends kind v (made.overlays number v kind o is h);
   settings = record {
-    table = setting-longer old.tables new.tables s.settings.table extends.tables made.settings.table;
-    line_prefix = setting-longer old.strings new.strings s.settings.line_prefix extends.strings made.settings.line_prefix;
-    wrap_prefix = setting-longer old.strings new.strings s.settings.wrap_prefix extends.strings made.settings.wrap_prefix;
+    table = IfSome_then s.settings.table made.settings.table (λ n. longer old.tables new.tables n extends.tables);
+    line_prefix = IfSome_then s.settings.line_prefix made.settings.line_prefix (λ n. longer old.strings new.strings n extends.strings);
+    wrap_prefix = IfSome_then s.settings.wrap_prefix made.settings.wrap_prefix (λ n. longer old.strings new.strings n extends.strings);
   };
 }
