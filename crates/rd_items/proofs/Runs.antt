@@ -1,5 +1,5 @@
 -- Runs of replaced and hidden positions.
-use Rattle.std.proofs.Common.{◌≡◌, ℕ, ◌+◌, ◌-◌, ◌<◌, ◌≤◌, true, false, List, [], ◌∷◌, Option, Some, None, refl, ap, ◌∙◌, arith, add-one}
+use Rattle.std.proofs.Common.{◌≡◌, ℕ, ◌+◌, ◌-◌, ◌<◌, ◌≤◌, true, false, List, [], ◌∷◌, drop, Option, Some, None, refl, ap, ◌∙◌, arith, add-one}
 use Rattle.std.specs.Prelude.{zero, suc, not, is_some}
 use Rattle.std.proofs.lemmas.Bool.{and_parts, and_left, and_right, or_from, not-true, both_ways, cond-false, false_from_ne_true}
 use Rattle.rd_props.specs.Buffers.{BufferValue}
@@ -9,7 +9,7 @@ use Rattle.rd_items.specs.AlikeRanges.{IsAlikeRange}
 use Rattle.rd_objects.specs.Things.{ObjectLists}
 use Rattle.rd_base.specs.declared.settings.Invisible.{Invisible}
 use Rattle.rd_props.specs.Seen.{Seen, accessible_char}
-use Rattle.rd_items.specs.Readings.{showing_of, showing_at, is_hidden, is_open, ends_block, ends_line, reading, behind}
+use Rattle.rd_items.specs.Readings.{showing_of, showing_at, is_hidden, is_open, ends_block, ends_line, reading}
 use Rattle.rd_items.specs.Pieces.{same_spec, goes_on, run_length}
 use Rattle.rd_items.proofs.Readings.{end-open, reading-more, reading-step}
 
@@ -49,15 +49,15 @@ closed-before s o p within closed =
     let differs : p ≡ s.text.end → ⊥ = λ e. both_ways (is_open (showing_at s o p)) closed (rw e (end-open s o)) in
     grind arith
 
-pub behind-closed : (s : BufferValue) (o : ObjectLists) (p : ℕ) → p < s.text.end → is_open (showing_at s o p) ≡ false → behind (reading s o p) ≡ reading s o (suc p)
+pub behind-closed : (s : BufferValue) (o : ObjectLists) (p : ℕ) → p < s.text.end → is_open (showing_at s o p) ≡ false → drop 1 (reading s o p) ≡ reading s o (suc p)
 behind-closed s o p before closed =
     let ender = false_from_ne_true (ends_block s p) (λ e. both_ways (is_open (showing_at s o p)) closed (ender-open s o p e)) in
-    ap behind (reading-more s o p (omega arith) ender)
+    ap (drop 1) (reading-more s o p (omega arith) ender)
 
 -- an open position's run ends behind it
-pub open-end : (s : BufferValue) (o : ObjectLists) (p : ℕ) (showing : Showing) → is_open showing ≡ true → p + 1 ≡ suc p + run_length s.settings.invisible showing (behind (reading s o p))
+pub open-end : (s : BufferValue) (o : ObjectLists) (p : ℕ) (showing : Showing) → is_open showing ≡ true → p + 1 ≡ suc p + run_length s.settings.invisible showing (drop 1 (reading s o p))
 open-end s o p showing shown =
-    let alone = open-alone s.settings.invisible showing (behind (reading s o p)) shown in
+    let alone = open-alone s.settings.invisible showing (drop 1 (reading s o p)) shown in
     rw alone (omega arith)
 
 -- one position more belongs to a run
@@ -69,7 +69,7 @@ run-more s o p showing before more =
     ap (run_length s.settings.invisible showing) (reading-step s o p before) ∙ rw (more, rest) (omega arith)
 
 -- a run behind its first position
-pub run-begins : (s : BufferValue) (o : ObjectLists) (p : ℕ) (showing : Showing) → p ≤ s.text.end → showing ≡ showing_at s o p → is_open showing ≡ false → (p < s.text.end) × (p + 1 + run_length s.settings.invisible showing (reading s o (p + 1)) ≡ 1 + p + run_length s.settings.invisible showing (behind (reading s o p)))
+pub run-begins : (s : BufferValue) (o : ObjectLists) (p : ℕ) (showing : Showing) → p ≤ s.text.end → showing ≡ showing_at s o p → is_open showing ≡ false → (p < s.text.end) × (p + 1 + run_length s.settings.invisible showing (reading s o (p + 1)) ≡ 1 + p + run_length s.settings.invisible showing (drop 1 (reading s o p)))
 run-begins s o p showing within same closed =
     let here : is_open (showing_at s o p) ≡ false = rw same at closed in
     let before = closed-before s o p within here in

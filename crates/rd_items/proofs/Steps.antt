@@ -1,5 +1,5 @@
 -- One step over the positions of a block.
-use Rattle.std.proofs.Common.{◌≡◌, ℕ, ◌+◌, ◌-◌, ◌<◌, ◌≤◌, Bool, true, false, List, [], ◌∷◌, ◌++◌, Option, refl, sym, ap, ◌∙◌, arith}
+use Rattle.std.proofs.Common.{◌≡◌, ℕ, ◌+◌, ◌-◌, ◌<◌, ◌≤◌, Bool, true, false, List, [], ◌∷◌, ◌++◌, drop, Option, refl, sym, ap, ◌∙◌, arith}
 use Rattle.std.specs.Prelude.{zero, suc, ◌&&◌, if◌then◌else◌}
 use Rattle.std.proofs.lemmas.Bool.{both_ways, cond-false, false_from_ne_true}
 use Rattle.rd_base.specs.declared.settings.Invisible.{Invisible}
@@ -11,7 +11,7 @@ use Rattle.rd_props.specs.Seen.{Seen, seen_at, accessible_char}
 use Rattle.rd_items.specs.declared.showing.Showing.{Showing}
 use Rattle.rd_items.specs.declared.piece.Piece.{Piece}
 use Rattle.rd_items.specs.declared.item.Item.{Item}
-use Rattle.rd_items.specs.Readings.{showing_of, showing_at, is_open, ends_line, ends_block, reading_from, reading, behind}
+use Rattle.rd_items.specs.Readings.{showing_of, showing_at, is_open, ends_line, ends_block, reading_from, reading}
 use Rattle.rd_items.specs.Pieces.{Scene, scene_in, string_pieces, piece_at, goes_on, run_length, pieces_from}
 use Rattle.rd_items.specs.Walks.{pieces_left}
 use Rattle.rd_items.proofs.Readings.{before-end, end-open, reading-more}
@@ -75,32 +75,32 @@ skipped s o d first (suc n) k p far = skips-by (skipped s o d first n (suc k) (s
       rw es (skips-more s o d first (seen_at s o p) (reading_from s o n (suc p)) k p more rest)
 
 -- what is read at a position, and behind it
-pub reading-behind : (s : BufferValue) (o : ObjectLists) (p : ℕ) → p ≤ s.text.end → reading s o p ≡ seen_at s o p ∷ behind (reading s o p)
+pub reading-behind : (s : BufferValue) (o : ObjectLists) (p : ℕ) → p ≤ s.text.end → reading s o p ≡ seen_at s o p ∷ drop 1 (reading s o p)
 reading-behind s o p within = by-place (s.text.end - p) where
-  by-place : (n : ℕ) → reading_from s o n p ≡ seen_at s o p ∷ behind (reading_from s o n p)
+  by-place : (n : ℕ) → reading_from s o n p ≡ seen_at s o p ∷ drop 1 (reading_from s o n p)
   by-place zero = refl
   by-place (suc n) = refl
 
 -- nothing is read behind an ender
-pub behind-ender : (s : BufferValue) (o : ObjectLists) (p : ℕ) → p ≤ s.text.end → ends_block s p ≡ true → behind (reading s o p) ≡ []
+pub behind-ender : (s : BufferValue) (o : ObjectLists) (p : ℕ) → p ≤ s.text.end → ends_block s p ≡ true → drop 1 (reading s o p) ≡ []
 behind-ender s o p within ender = by-place (s.text.end - p) where
-  by-place : (n : ℕ) → behind (reading_from s o n p) ≡ []
+  by-place : (n : ℕ) → drop 1 (reading_from s o n p) ≡ []
   by-place zero = refl
   by-place (suc n) = rw ender
 
 -- how far the run of a position goes behind it
 abbrev run_behind : BufferValue → ObjectLists → ℕ → ℕ
-run_behind s o p = run_length s.settings.invisible (showing_at s o p) (behind (reading s o p))
+run_behind s o p = run_length s.settings.invisible (showing_at s o p) (drop 1 (reading s o p))
 
 -- the pieces of a position at an offset and of those after it
-left-parts : (s : BufferValue) (o : ObjectLists) (d : Data) (k p : ℕ) → p ≤ s.text.end → left s o d k p ≡ string_pieces k (showing_at s o p).face (strings_at s p) ++ piece_at (scene s o d) (showing_at s o p) (accessible_char s.text p) k (suc k + run_behind s o p) ∷ pieces_from (scene s o d) (run_behind s o p) (suc k) (behind (reading s o p))
+left-parts : (s : BufferValue) (o : ObjectLists) (d : Data) (k p : ℕ) → p ≤ s.text.end → left s o d k p ≡ string_pieces k (showing_at s o p).face (strings_at s p) ++ piece_at (scene s o d) (showing_at s o p) (accessible_char s.text p) k (suc k + run_behind s o p) ∷ pieces_from (scene s o d) (run_behind s o p) (suc k) (drop 1 (reading s o p))
 left-parts s o d k p within = ap (pieces_from (scene s o d) 0 k) (reading-behind s o p within)
 
 -- behind a position that is no ender
-behind-left : (s : BufferValue) (o : ObjectLists) (d : Data) (first : Showing) (k p : ℕ) → p ≤ s.text.end → ends_block s p ≡ false → IsSkipped s o d first (suc k) (suc p) (behind (reading s o p))
+behind-left : (s : BufferValue) (o : ObjectLists) (d : Data) (first : Showing) (k p : ℕ) → p ≤ s.text.end → ends_block s p ≡ false → IsSkipped s o d first (suc k) (suc p) (drop 1 (reading s o p))
 behind-left s o d first k p within ender =
     let before = before-end s o p within ender in
-    let rest = ap behind (reading-more s o p within ender) in
+    let rest = ap (drop 1) (reading-more s o p within ender) in
     rw rest (skipped s o d first (s.text.end - suc p) (suc k) (suc p) (omega arith))
 
 -- a step from a position at an offset: it puts the strings before it, and then its piece, which ends before another position
@@ -108,7 +108,7 @@ pub record IsStep (s : BufferValue) (o : ObjectLists) (d : Data) (start p to : �
   pub strings : (ys : List Piece) → mid ys ≡ before (string_pieces (p - start) showing.face (strings_at s p) ++ ys)
   pub put : (ys : List Piece) → after ys ≡ mid (x ∷ ys)
   pub shown : showing ≡ showing_at s o p
-  pub run : to ≡ suc p + run_length s.settings.invisible showing (behind (reading s o p))
+  pub run : to ≡ suc p + run_length s.settings.invisible showing (drop 1 (reading s o p))
   pub piece : x ≡ piece_at (scene s o d) showing (accessible_char s.text p) (p - start) (to - start)
   pub first : start ≤ p
   pub last : p ≤ s.text.end
@@ -132,7 +132,7 @@ pub step-ends : (s : BufferValue) (o : ObjectLists) (d : Data) (start p to : ℕ
 step-ends s o d start p to showing x before mid after is ender =
     let none = behind-ender s o p is.last ender in
     let parts = left-parts s o d (p - start) p is.last in
-    let rest : pieces_from (scene s o d) (run_behind s o p) (suc (p - start)) (behind (reading s o p)) ≡ [] = rw none in
+    let rest : pieces_from (scene s o d) (run_behind s o p) (suc (p - start)) (drop 1 (reading s o p)) ≡ [] = rw none in
     made s o d start p to showing x before mid after [] is ∙ ap before (sym (rw rest at parts))
 
 pub step-goes : (s : BufferValue) (o : ObjectLists) (d : Data) (start p to : ℕ) (showing : Showing) (x : Piece) (before mid after : List Piece → List Item) → IsStep s o d start p to showing x before mid after → ends_block s p ≡ false → (p < to) × (to ≤ s.text.end) × (after (pieces_left s (scene s o d) start to) ≡ before (pieces_left s (scene s o d) start p))

@@ -69,8 +69,3 @@ HasCode e = IfSome e.character (λ c. IsTrue (is_code c))
 -- each character that is seen has a code
 abbrev pub HaveCodes : List Seen → Type 0
 HaveCodes es = All HasCode es
-
--- all but the first
-abbrev pub behind : List Seen → List Seen
-behind [] = []
-behind (e ∷ es) = es

@@ -1,9 +1,9 @@
 //! Ranges of text that is shown alike, so that properties are looked up once for all of it.
-ghost use Rattle.std.specs.Prelude.{◌≡◌, ◌+◌, ◌<◌, ◌≤◌, suc, IfOk};
+ghost use Rattle.std.specs.Prelude.{◌≡◌, ◌+◌, ◌<◌, ◌≤◌, suc, drop, IfOk};
 ghost use Rattle.rd_text.specs.Texts.{IsAccessible};
 ghost use Rattle.rd_props.specs.Buffers.{meaning};
 ghost use Rattle.rd_items.specs.AlikeRanges.{IsAlikeRange, IsStopBehind};
-ghost use Rattle.rd_items.specs.Readings.{showing_at, reading, behind};
+ghost use Rattle.rd_items.specs.Readings.{showing_at, reading};
 ghost use Rattle.rd_items.specs.Pieces.{run_length};
 
 use crate::showing::{Showing, showing_at, showing_by};
@@ -128,7 +128,7 @@ pub fn run_end(
     requires showing { showing.now ≡ showing_at (meaning view.now.state.now) view.now.objects.now pos }
     requires range { IsAlikeRange (meaning view.now.state.now) view.now.objects.now range.old }
     ensures range { IfOk result (λ to. IsAlikeRange (meaning view.now.state.now) view.now.objects.now range.new) }
-    ensures end { IfOk result (λ to. to ≡ suc pos + run_length view.now.state.now.settings.invisible showing.now (behind (reading (meaning view.now.state.now) view.now.objects.now pos))) }
+    ensures end { IfOk result (λ to. to ≡ suc pos + run_length view.now.state.now.settings.invisible showing.now (drop 1 (reading (meaning view.now.state.now) view.now.objects.now pos))) }
 {
     let state = view.state;
     let end = state.text.end();
