@@ -1,8 +1,9 @@
 -- Cells in place of others: the columns of characters that are cut, and rows that are filled part by part.
-use Rattle.std.proofs.Common.{◌≡◌, if◌then◌else◌, ℕ, zero, suc, ◌+◌, ◌-◌, ◌<◌, ◌≤◌, Bool, List, [], ◌∷◌, ◌++◌, length, get_or, set, take, drop, map, replicate, Option, None, Some, refl, sym, ap, ap₂, ◌∙◌, arith, append_assoc, drop_of_length-le}
-use Rattle.std.proofs.lemmas.List.{take_at, take_more_set, drop_at, drop-set-lt, drop_more, length-append, length-take-le, length-replicate, length-drop, length-map}
+use Rattle.std.proofs.Common.{◌≡◌, if◌then◌else◌, ℕ, zero, suc, ◌+◌, ◌-◌, ◌<◌, ◌≤◌, Bool, List, ◌∷◌, ◌++◌, length, get_or, set, take, drop, map, replicate, Option, None, Some, refl, sym, ap, ◌∙◌, arith, append_assoc, drop_of_length-le}
+use Rattle.std.proofs.lemmas.List.{take_at, drop_at, drop-set-lt, drop_more, length-append, length-take-le, length-replicate, length-drop, length-map}
 use Rattle.std.proofs.lemmas.List.Folds.{drop_split}
 use Rattle.std.proofs.lemmas.List.Sums.{prefix_len-le-length}
+use Rattle.rd_base.proofs.Lists.{written}
 use Rattle.rd_base.proofs.Rows.{glyph_length}
 use Rattle.rd_base.specs.Faces.{Attributes}
 use Rattle.rd_base.specs.Glyphs.{glyph_cells}
@@ -109,9 +110,8 @@ refilled-first row r column to x v lt within p =
     let long = ap length (p ∙ overwritten-is row column to M e) in
     let inside : column < length r = omega (arith, long, length-append (front row column) (M ++ behind row to), length-append M (behind row to), length-front row column (omega arith)) in
     let n : column + length (x ∷ replicate (to - (column + 1)) v) ≡ to = omega (arith, length-replicate (to - (column + 1)) v) in
-    ap₂ (λ (a b : Row). a ++ (replicate k v ++ b)) (take_more_set r column x inside) (drop-set-lt to r column x lt)
-    ∙ append_assoc (take column r) (x ∷ []) (replicate k v ++ drop to r)
-    ∙ refilled row r M (x ∷ replicate k v) column to (omega arith) p e n
+    ap (λ b. take (column + 1) (set r column x) ++ (replicate k v ++ b)) (drop-set-lt to r column x lt)
+    ∙ written r column x _ _ inside (refilled row r M (x ∷ replicate k v) column to (omega arith) p e n)
 
 pub map-replicate : {X Y : Type 0} (f : X → Y) (n : ℕ) (x : X) → map f (replicate n x) ≡ replicate n (f x)
 map-replicate f zero x = refl
