@@ -1,6 +1,7 @@
 -- The new current screen of an update that may begin with a shift.
 use Rattle.std.proofs.Common.{◌≡◌, ℕ, List, length, Option, None, Some, subst, ◌∙◌, arith}
 use Rattle.std.specs.Prelude.{IfSome}
+use Rattle.std.proofs.lemmas.Option.{IfSome_then}
 use Rattle.rd_term.specs.Pictures.{Picture, IsScreen, blank_row, width_of}
 use Rattle.rd_update.specs.Laws.{IsSound}
 use Rattle.rd_update.specs.Plans.{HaveOneSize}
@@ -59,10 +60,6 @@ after-sound (Some screen) target (Some s) h p q =
     let fits : IsShift (length screen.rows) s = rw h.0 q in
     shifted-sound s screen p.0 p.1 fits
 
-only-screens : (current : Option Picture) → IfSome current (λ screen. IsScreen screen × IsSound screen) → IfSome current (λ screen. IsScreen screen)
-only-screens None p = tt
-only-screens (Some screen) p = p.0
-
 -- ---- by the laws of updates
 
 -- what holds of each update holds of one that may begin with a shift
@@ -78,5 +75,5 @@ pub sound : ((current : Option Picture) (target : Picture) (limit : Option ℕ) 
     → (current : Option Picture) (target : Picture) (bands : List Band) (limit : Option ℕ) → HaveOneSize current target → IfSome current (λ screen. IsScreen screen × IsSound screen)
     → AreWithin (length target.rows) bands → IsSound target → IsSound (shifted_update current target bands limit).screen
 sound law current target bands limit h p within t =
-    by-updates _ law current target bands limit h (only-screens current p) within
+    by-updates _ law current target bands limit h (IfSome_then current p (λ screen h. h.0)) within
     (after-sound current target (choice current target bands) h p (taken-fits (length target.rows) current target bands within)) t

@@ -6,6 +6,7 @@ use Rattle.std.proofs.lemmas.Bool.Decides.{nat_tests}
 use Rattle.std.proofs.lemmas.List.{length-map, length-take-le, length-drop, length-replicate}
 use Rattle.std.proofs.lemmas.List.Elements.{recursion_from_All, All-take, All-drop, All-nil}
 use Rattle.std.proofs.lemmas.List.Sums.{fold-append}
+use Rattle.std.proofs.lemmas.Option.{IfSome_then}
 use Rattle.rd_base.proofs.Choices.{either}
 use Rattle.rd_base.proofs.Lists.{each-append, all-one}
 use Rattle.rd_base.specs.Faces.{Attributes, plain}
@@ -225,13 +226,10 @@ taken-updated updates w h (Some screen) target limit t (Some s) r fits =
     rw (fold-append feed_byte t (shift_bytes h s) u.bytes)
     (other-bytes w h u bytes target (feed_bytes (feed_bytes t (shift_bytes h s)) u.bytes) (updates w h (Some (shifted s screen)) target limit (feed_bytes t (shift_bytes h s)) ready))
 
-both : (current : Picture) (height : ℕ) (s : Option Shift) → IfSome s (IsShift height) → IfSome s (λ s. IsSome (Some current) × IsShift height s)
-both current height None h = tt
-both current height (Some s) h = (refl, h)
-
 known-taken : (height : ℕ) (current : Option Picture) (target : Picture) (bands : List Band) → AreWithin height bands → IfSome (choice current target bands) (λ s. IsSome current × IsShift height s)
 known-taken height None target bands h = tt
-known-taken height (Some current) target bands h = both current height (choice (Some current) target bands) (taken-fits height (Some current) target bands h)
+known-taken height (Some current) target bands h =
+    IfSome_then (choice (Some current) target bands) (taken-fits height (Some current) target bands h) (λ s fits. (refl, fits))
 
 pub shifted-updated : Updates → (w h : ℕ) (current : Option Picture) (target : Picture) (bands : List Band) (limit : Option ℕ) (t : Tty)
     → IsReady w h current target t → AreWithin h bands
