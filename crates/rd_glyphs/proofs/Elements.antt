@@ -27,7 +27,7 @@ use Rattle.rd_glyphs.specs.declared.shown.Shown.{Shown}
 use Rattle.rd_glyphs.specs.declared.shown.Shown.TheVariants.{Caret, Octal, Space, Mark, Itself}
 use Rattle.rd_glyphs.specs.Characters.{PartValues, AreSoundParts, HasOrigin, AreOfCharacter, TakesColumns, ShowsColumns, IsShort, IsShortElement, is_control, is_formatting, shown_as, looks_of, element_of, glyph_elements, entry_of, own_looks, elements_by, elements_of, tab_of}
 use Rattle.rd_glyphs.specs.MarkRoles.{is_empty_entry}
-use Rattle.rd_glyphs.proofs.Measures.{ShowsMeasured, character-measured, slot_or-is, shown-by, shown_as-measured, mirror-measured, mirrored-keeps, looks-measured}
+use Rattle.rd_glyphs.proofs.Measures.{ShowsMeasured, character-measured, slot_or-is, shown-by, shown_as-measured, mirror-measured, mirrored-keeps, looks_of-each, looks-measured}
 
 -- ---- how a character is shown
 
@@ -43,11 +43,10 @@ shown_as-columns arrow class code =
 -- ---- what is put for it
 
 pub looks-columns : (escape control : Glyph) (shown : Shown) → escape.width ≡ 1 → control.width ≡ 1 → ShowsColumns shown → AllByRecursion TakesColumns (looks_of escape control shown)
-looks-columns escape control (Caret letter) e c s = ((omega arith, omega arith), ((omega arith, omega arith), tt))
-looks-columns escape control (Octal byte) e c s = ((omega arith, omega arith), ((omega arith, omega arith), ((omega arith, omega arith), ((omega arith, omega arith), tt))))
-looks-columns escape control Space e c s = ((omega arith, omega arith), tt)
-looks-columns escape control (Mark code) e c s = ((omega arith, omega arith), tt)
-looks-columns escape control (Itself code width) e c s = (s, tt)
+looks-columns escape control shown e c =
+    looks_of-each TakesColumns ShowsColumns (λ letter s. (omega arith, omega arith)) (λ n. (omega arith, omega arith))
+    (omega arith, omega arith) (λ code s. (omega arith, omega arith)) (λ code width s. s)
+    escape control (omega arith, omega arith) (omega arith, omega arith) shown
 
 looks-count : (escape control : Glyph) (shown : Shown) → (1 ≤ length (looks_of escape control shown)) × (length (looks_of escape control shown) ≤ 4)
 looks-count escape control (Caret letter) = (omega arith, omega arith)

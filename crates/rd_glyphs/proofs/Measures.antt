@@ -1,12 +1,11 @@
 -- Glyphs as Unicode measures them.
-use Rattle.std.proofs.Common.{rules, ◌≡◌, ℕ, ◌+◌, ◌<◌, ◌≤◌, Bool, true, false, IsTrue, List, [], ◌∷◌, length, get_or, set, Option, Some, None, All, IfSome, refl, sym, subst, ap, ◌∙◌, ◌⊎◌, inl, inr, arith, tests, unwrap_or, replicate, length-set, get_or-set_same, get_or-set_other}
+use Rattle.std.proofs.Common.{rules, ◌≡◌, ℕ, ◌+◌, ◌<◌, ◌≤◌, Bool, true, false, IsTrue, List, length, get_or, set, Option, Some, None, All, IfSome, refl, sym, subst, ap, ◌∙◌, ◌⊎◌, inl, inr, arith, tests, unwrap_or, replicate, length-set, get_or-set_same, get_or-set_other}
 use Rattle.std.specs.Prelude.{◌-◌, ◌/◌, ◌%◌, ◌≢◌, ◌==◌, nat_le, nat_lt, ◌&&◌, if◌then◌else◌}
-use Rattle.std.specs.List.{list_all}
+use Rattle.std.specs.List.{AllByRecursion, list_all}
 use Rattle.std.proofs.lemmas.Bool.{and_parts, eqb-true}
 use Rattle.std.proofs.lemmas.Bool.Decides.{nat_tests}
 use Rattle.std.proofs.lemmas.List.Sums.{AllPass-from_list_all}
-use Rattle.std.proofs.lemmas.List.Elements.{All-cons}
-use Rattle.rd_base.proofs.Lists.{all-one}
+use Rattle.std.proofs.lemmas.List.Elements.{All-from_recursion}
 use Rattle.unicode_width.specs.Width.{char_width, alone}
 use Rattle.rd_ucd.specs.declared.spans.Pair.{Pair}
 use Rattle.rd_ucd.specs.Lookup.{mirror_in}
@@ -23,6 +22,7 @@ use Rattle.rd_objects.proofs.Widths.{few-columns}
 use Rattle.rd_objects.specs.Tables.{TableValue, IsTable, HoldsGlyph, is_glyph_character, is_slot_glyph, slot_of}
 use Rattle.rd_objects.specs.declared.run.Slot.{Slot}
 use Rattle.rd_objects.specs.declared.run.Slot.TheVariants.{Truncation, Continuation, Escape, Control, Border}
+use Rattle.rd_base.specs.declared.element.Look.{Look}
 use Rattle.rd_base.specs.declared.element.Look.TheVariants as look
 use Rattle.rd_glyphs.specs.declared.shown.Shown.{Shown}
 use Rattle.rd_glyphs.specs.declared.shown.Shown.TheVariants.{Caret, Octal, Space, Mark, Itself}
@@ -176,21 +176,26 @@ shown_as-measured arrow class code is =
     mark-columns code is low other small free (grind (arith, nat_tests)))
     (λ none. itself-measured code (grind (arith, nat_tests)))
 
-digit-measured : (n : ℕ) → IsMeasuredLook (digit n)
-digit-measured n = printable-measured (48 + n % 8) (omega arith) (omega arith)
+-- P holds of each look that is put for a character, where it holds of the look of each case
+module _ (P : Look → Type 0) (S : Shown → Type 0) (letters : (letter : ℕ) → S (Caret letter) → P (narrow letter))
+    (digits : (n : ℕ) → P (digit n)) (blank : P look.Blank) (marks : (code : ℕ) → S (Mark code) → P (look.Glyph (on_blank code)))
+    (own : (code width : ℕ) → S (Itself code width) → P (look.Glyph (single code width)))
+    (escape control : Glyph) (e : P (look.Glyph escape)) (c : P (look.Glyph control)) where
+  pub looks_of-each : (shown : Shown) → S shown → AllByRecursion P (looks_of escape control shown)
+  looks_of-each (Caret letter) s = (c, (letters letter s, tt))
+  looks_of-each (Octal byte) s = (e, (digits (byte / 64), (digits (byte / 8), (digits byte, tt))))
+  looks_of-each Space s = (blank, tt)
+  looks_of-each (Mark code) s = (marks code s, tt)
+  looks_of-each (Itself code width) s = (own code width s, tt)
 
--- what is put for a character
-pub looks-measured : (escape control : Glyph) (shown : Shown) → IsMeasured escape → IsMeasured control → ShowsMeasured shown → All IsMeasuredLook (looks_of escape control shown)
-looks-measured escape control (Caret letter) e c s =
-    All-cons IsMeasuredLook (look.Glyph control) (narrow letter ∷ []) c (all-one IsMeasuredLook (narrow letter) (printable-measured letter s.0 s.1))
-looks-measured escape control (Octal byte) e c s =
-    All-cons IsMeasuredLook (look.Glyph escape) (digit (byte / 64) ∷ digit (byte / 8) ∷ digit byte ∷ []) e
-    (All-cons IsMeasuredLook (digit (byte / 64)) (digit (byte / 8) ∷ digit byte ∷ []) (digit-measured (byte / 64))
-    (All-cons IsMeasuredLook (digit (byte / 8)) (digit byte ∷ []) (digit-measured (byte / 8)) (all-one IsMeasuredLook (digit byte) (digit-measured byte))))
-looks-measured escape control Space e c s = all-one IsMeasuredLook look.Blank tt
-looks-measured escape control (Mark code) e c s = all-one IsMeasuredLook (look.Glyph (on_blank code)) (on_blank-measured code s.0 s.1)
-looks-measured escape control (Itself code width) e c s =
-    all-one IsMeasuredLook (look.Glyph (single code width)) (single-measured code width s.0 s.1 s.2 s.3)
+-- what is put for a character is as Unicode measures it
+pub looks-measured : (escape control : Glyph) (shown : Shown) → IsMeasured escape → IsMeasured control → ShowsMeasured shown
+    → All IsMeasuredLook (looks_of escape control shown)
+looks-measured escape control shown e c s =
+    All-from_recursion IsMeasuredLook (looks_of escape control shown)
+    (looks_of-each IsMeasuredLook ShowsMeasured (λ letter s. printable-measured letter s.0 s.1)
+    (λ n. printable-measured (48 + n % 8) (omega arith) (omega arith)) tt (λ code s. on_blank-measured code s.0 s.1)
+    (λ code width s. single-measured code width s.0 s.1 s.2 s.3) escape control e c shown s)
 
 -- a slot's glyph of one column, or the one that stands for it
 pub record IsSlot (g : Glyph) : Type 0 where

@@ -18,8 +18,8 @@ use Rattle.rd_objects.specs.declared.run.Slot.TheVariants.{Escape, Control}
 use Rattle.rd_objects.specs.declared.run.Spec.{Spec}
 use Rattle.rd_objects.specs.declared.run.Spec.TheVariants.{Text, Width, Align}
 use Rattle.rd_glyphs.specs.declared.shown.Shown.{Shown}
-use Rattle.rd_glyphs.specs.declared.shown.Shown.TheVariants as glyphs
 use Rattle.rd_glyphs.specs.Characters.{element_of, look_columns, glyph_elements, tab_of, looks_of, own_shown, own_looks, slot_or, entry_of, elements_by, elements_of}
+use Rattle.rd_glyphs.proofs.Measures.{looks_of-each}
 use Rattle.rd_items.specs.Covers.{is_ender_kind}
 use Rattle.rd_items.specs.Pieces.{Scene}
 use Rattle.rd_items.specs.declared.item.Item.{Item}
@@ -41,11 +41,9 @@ abbrev IsOpenLook : Look → Type 0
 IsOpenLook l = is_line_end l ≡ false
 
 looks-open : (escape control : Glyph) (shown : Shown) → AllByRecursion IsOpenLook (looks_of escape control shown)
-looks-open escape control (glyphs.Caret letter) = (refl, (refl, tt))
-looks-open escape control (glyphs.Octal byte) = (refl, (refl, (refl, (refl, tt))))
-looks-open escape control glyphs.Space = (refl, tt)
-looks-open escape control (glyphs.Mark code) = (refl, tt)
-looks-open escape control (glyphs.Itself code width) = (refl, tt)
+looks-open escape control shown =
+    looks_of-each IsOpenLook (λ s. Unit {0}) (λ letter any. refl) (λ n. refl) refl (λ code any. refl) (λ code width any. refl)
+    escape control refl refl shown tt
 
 -- P holds of each element of this origin that ends no line and has a face of which F holds; the faces of strings keep F
 module _ (s : Scene) (base : ℕ) (origin : Origin) (F : Attributes → Type 0) (P : Element → Type 0)
