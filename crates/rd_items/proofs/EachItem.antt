@@ -4,6 +4,7 @@ use Rattle.std.specs.List.{AllByRecursion}
 use Rattle.std.proofs.lemmas.Bool.{cond_both}
 use Rattle.std.proofs.lemmas.List.Elements.{All-map, recursion_from_All}
 use Rattle.rd_base.proofs.Lists.{each-append}
+use Rattle.rd_base.specs.declared.cell.Glyph.{Glyph}
 use Rattle.rd_base.specs.declared.class.Class.TheVariants.{S, ON}
 use Rattle.rd_text.specs.Texts.{is_newline}
 use Rattle.rd_objects.specs.declared.run.Spec.{Spec}
@@ -83,3 +84,22 @@ module _ (s : Scene) (P : Piece → Type 0) (I : Item → Type 0) (A : ℕ → L
 pub items-each : (s : Scene) (P : Piece → Type 0) (I : Item → Type 0) (Q : Seen → Type 0) → ((k to : ℕ) (e : Seen) → Q e → GivesOnly s P k to e) → Grows piece_joins P
     → ((since : ℕ) (x : Piece) → P x → IfSome x.kind (λ kind. I (item_of since x kind))) → (es : List Seen) → AllByRecursion Q es → AllByRecursion I (items_of s es)
 items-each s P I Q gives = items-from s P I (λ k es. AllByRecursion Q es) (λ k e es all. all.1) (λ k e es all. gives k (suc k + run_in s e es) e all.0)
+
+-- K holds of what each item shows, where it holds of all that a position can show at which Q holds
+pub kinds-each : (s : Scene) (K : ItemKind → Type 0) (Q : Seen → Type 0) → ((e : Seen) → Q e → All (λ n. K (kind.Text n)) e.strings)
+    → ((e : Seen) → Q e → (m n : ℕ) → e.appearance.display ≡ Some m → spec_in s.objects m ≡ Text n → K (kind.Text n))
+    → ((m : ℕ) (spec : Spec) → spec_in s.objects m ≡ spec → K (kind.Space spec))
+    → ((e : Seen) → Q e → (c : ℕ) → e.character ≡ Some c → K (kind.Char c)) → ((g : Glyph) → K (kind.Marked g)) → K kind.Ellipsis
+    → K kind.Ender → (es : List Seen) → AllByRecursion Q es → AllByRecursion (λ (i : Item). K i.kind) (items_of s es)
+kinds-each s K Q strings text space char marked ellipsis ender =
+    items-each s (λ (x : Piece). IfSome x.kind K) (λ (i : Item). K i.kind) Q
+    (λ k to e q. record {
+      string = strings e q;
+      text = λ covers. text e q;
+      space = λ m spec shown. space m spec;
+      char = char e q;
+      nothing = tt;
+      ellipsis = λ covers. ellipsis;
+      ender = ender;
+    })
+    (λ held next glyph these those e. marked glyph) (λ since x holds. holds)

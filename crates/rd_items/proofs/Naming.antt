@@ -4,46 +4,24 @@ use Rattle.std.proofs.lemmas.List.Elements.{All-from_recursion, recursion_from_A
 use Rattle.rd_objects.specs.declared.run.Spec.{Spec}
 use Rattle.rd_objects.specs.declared.run.Spec.TheVariants.{Text}
 use Rattle.rd_objects.specs.Sound.{NamesMade, IsClosed}
-use Rattle.rd_glyphs.proofs.Joined.{Grows}
 use Rattle.rd_props.specs.Made.{SeesMade}
 use Rattle.rd_props.specs.Seen.{Seen}
-use Rattle.rd_items.specs.declared.piece.Piece.{Piece}
 use Rattle.rd_items.specs.declared.item.Item.{Item}
 use Rattle.rd_items.specs.Pieces.{Scene, spec_in}
-use Rattle.rd_items.specs.Items.{piece_joins, items_of}
+use Rattle.rd_items.specs.Items.{items_of}
 use Rattle.rd_items.specs.Growing.{ReadsMade, ShowsMade, ShowMade}
-use Rattle.rd_items.proofs.EachItem.{GivesOnly, items-each}
+use Rattle.rd_items.proofs.EachItem.{kinds-each}
 use Rattle.rd_items.proofs.Growing.{spec-named}
 
 module _ (s : Scene) (closed : IsClosed s.objects) where
-  -- what a piece shows was made
-  abbrev IsShown : Piece → Type 0
-  IsShown x = IfSome x.kind (ShowsMade s.objects)
-
   -- what a spec that was made names was made
   named : (m : ℕ) (spec : Spec) → m < length s.objects.specs → spec_in s.objects m ≡ spec → NamesMade (length s.objects.strings) spec
   named m spec made is = subst (NamesMade (length s.objects.strings)) is (spec-named s.objects m closed made)
-
-  gives : (k to : ℕ) (e : Seen) → SeesMade s.objects e → GivesOnly s IsShown k to e
-  gives k to e here = record {
-    string = here.strings;
-    text = λ covers m n shown is. named m (Text n) (subst (λ (o : Option ℕ). IfSome o (λ n. n < length s.objects.specs)) shown here.display) is;
-    space = λ m spec shown is. tt;
-    char = λ c is. tt;
-    nothing = tt;
-    ellipsis = λ covers. tt;
-    ender = tt;
-  }
-
-  -- ---- marks that join
-
-  grows : Grows piece_joins IsShown
-  grows held next glyph h n e = tt
-
-  -- ---- the items
 
   -- the items of what names made objects alone show made strings alone
   pub items-made : (es : List Seen) → ReadsMade s.objects es → ShowMade s.objects (items_of s es)
   items-made es made =
       All-from_recursion (λ (i : Item). ShowsMade s.objects i.kind) (items_of s es)
-      (items-each s IsShown (λ (i : Item). ShowsMade s.objects i.kind) (SeesMade s.objects) gives grows (λ since x shown. shown) es (recursion_from_All (SeesMade s.objects) es made))
+      (kinds-each s (ShowsMade s.objects) (SeesMade s.objects) (λ e here. here.strings)
+      (λ e here m n shown is. named m (Text n) (subst (λ (o : Option ℕ). IfSome o (λ n. n < length s.objects.specs)) shown here.display) is)
+      (λ m spec is. tt) (λ e here c is. tt) (λ g. tt) tt tt es (recursion_from_All (SeesMade s.objects) es made))

@@ -5,7 +5,6 @@ use Rattle.std.proofs.lemmas.List.{length-map}
 use Rattle.rd_base.proofs.Choices.{if-value}
 use Rattle.rd_objects.specs.declared.run.Spec.{Spec}
 use Rattle.rd_glyphs.specs.Marks.{marks_joined}
-use Rattle.rd_glyphs.proofs.Joined.{Grows}
 use Rattle.rd_props.specs.Seen.{Seen}
 use Rattle.rd_items.specs.Readings.{showing_of}
 use Rattle.rd_items.specs.Pieces.{Scene, spec_in, string_piece, string_pieces, piece_at, run_in, pieces_from}
@@ -15,30 +14,15 @@ use Rattle.rd_items.specs.declared.item.ItemKind.{ItemKind}
 use Rattle.rd_items.specs.declared.piece.Piece.{Piece}
 use Rattle.rd_stack.specs.Limits.{strings_in}
 use Rattle.rd_stack.specs.Lines.{IsKind}
-use Rattle.rd_items.proofs.EachItem.{GivesOnly, items-each}
+use Rattle.rd_items.proofs.EachItem.{kinds-each}
 use Rattle.rd_stack.proofs.Joined.{marks_joined-few}
 
-module _ (C : ℕ → Type 0) (S : Spec → Type 0) (s : Scene) (specs : (number : ℕ) → S (spec_in s.objects number)) where
-  abbrev Holds : Piece → Type 0
-  Holds x = IfSome x.kind (λ (k : ItemKind). IsKind C S k)
-
-  of-seen : (k to : ℕ) (e : Seen) → IfSome e.character C → GivesOnly s Holds k to e
-  of-seen k to e code = record {
-    string = λ i d inside. tt;
-    text = λ covers m n shown is. tt;
-    space = λ m spec shown is. subst S is (specs m);
-    char = λ c is. subst (λ (ch : Option ℕ). IfSome ch C) is code;
-    nothing = tt;
-    ellipsis = λ covers. tt;
-    ender = tt;
-  }
-
-  grows : Grows piece_joins Holds
-  grows held next glyph these those e = tt
-
-  -- items are of these kinds where all that is read has one of the characters, and all specs are among those
-  pub items-hold : (es : List Seen) → AllByRecursion (λ (e : Seen). IfSome e.character C) es → AllByRecursion (λ (i : Item). IsKind C S i.kind) (items_of s es)
-  items-hold = items-each s Holds (λ (i : Item). IsKind C S i.kind) (λ (e : Seen). IfSome e.character C) of-seen grows (λ since x holds. holds)
+-- items are of these kinds where all that is read has one of the characters, and all specs are among those
+pub items-hold : (C : ℕ → Type 0) (S : Spec → Type 0) (s : Scene) → ((number : ℕ) → S (spec_in s.objects number)) → (es : List Seen)
+    → AllByRecursion (λ (e : Seen). IfSome e.character C) es → AllByRecursion (λ (i : Item). IsKind C S i.kind) (items_of s es)
+items-hold C S s specs =
+    kinds-each s (IsKind C S) (λ (e : Seen). IfSome e.character C) (λ e code i d inside. tt) (λ e code m n shown is. tt)
+    (λ m spec is. subst S is (specs m)) (λ e code c is. subst (λ (ch : Option ℕ). IfSome ch C) is code) (λ g. tt) tt tt
 
 -- nothing is asked of what is read
 pub all-read : (es : List Seen) → AllByRecursion (λ (e : Seen). IfSome e.character (λ c. Unit {0})) es
