@@ -1,8 +1,8 @@
 -- The cells of a run, painted one after the other.
-use Rattle.std.proofs.Common.{◌≡◌, ℕ, suc, ◌+◌, ◌-◌, ◌<◌, ◌≤◌, List, [], ◌∷◌, ◌++◌, Some, length, slice_get, take, drop, sym, ap, ◌∙◌, arith, append_assoc}
+use Rattle.std.proofs.Common.{◌≡◌, ℕ, suc, ◌+◌, ◌-◌, ◌<◌, ◌≤◌, List, ◌++◌, Some, length, slice_get, take, drop, sym, ap, ◌∙◌, arith}
 use Rattle.std.specs.Prelude.{slice_set}
-use Rattle.std.proofs.lemmas.List.{take_more_set, drop-set-lt}
-use Rattle.rd_base.proofs.Lists.{drop-at}
+use Rattle.std.proofs.lemmas.List.{drop-set-lt}
+use Rattle.rd_base.proofs.Lists.{drop-at, written}
 use Rattle.rd_base.specs.Faces.{Attributes}
 use Rattle.rd_base.specs.declared.cell.Cell.{Cell}
 use Rattle.rd_audit.specs.Runs.{with_face, faced}
@@ -17,9 +17,7 @@ paint-on k end face cell cells next whole less within at set inv =
     let n = end - (k + 1) in
     let x = with_face face cell in
     ap (λ l. take (k + 1) l ++ faced n face (drop (k + 1) l)) set
-    ∙ ap (λ l. l ++ faced n face (drop (k + 1) (slice_set cells k x))) (take_more_set cells k x inside)
-    ∙ ap (λ l. (take k cells ++ x ∷ []) ++ faced n face l) (drop-set-lt (k + 1) cells k x (omega arith))
-    ∙ append_assoc (take k cells) (x ∷ []) (faced n face (drop (k + 1) cells))
-    ∙ sym (ap (λ l. take k cells ++ faced (suc n) face l) (drop-at cells k cell at))
-    ∙ ap (λ j. take k cells ++ faced j face (drop k cells)) left
-    ∙ inv
+    ∙ ap (λ l. take (k + 1) (slice_set cells k x) ++ faced n face l) (drop-set-lt (k + 1) cells k x (omega arith))
+    ∙ written cells k x _ whole inside
+    (sym (ap (λ l. take k cells ++ faced (suc n) face l) (drop-at cells k cell at))
+    ∙ ap (λ j. take k cells ++ faced j face (drop k cells)) left ∙ inv)
