@@ -1,5 +1,5 @@
 -- What follows from a test, from an option, from a result, of the one of two that is chosen, and from where a number stands to a range.
-use Rattle.std.proofs.Common.{◌≡◌, ◌≢◌, ℕ, ◌<◌, ◌≤◌, ◌⊎◌, inl, inr, Bool, true, false, not, ◌||◌, if◌then◌else◌, Option, None, Some, Result, Ok, Err, IfSome, is_some, refl, sym, ap, ◌∙◌, arith, IsSome}
+use Rattle.std.proofs.Common.{◌≡◌, ◌≢◌, ℕ, ◌<◌, ◌≤◌, ◌⊎◌, inl, inr, Bool, true, false, not, ◌||◌, if◌then◌else◌, Option, None, Some, Result, Ok, Err, IfSome, is_some, refl, sym, ap, ◌∙◌, arith}
 use Rattle.std.specs.Option.{option_map, option_or, unwrap_or}
 use Rattle.std.proofs.Math.Bool.{not-not}
 use Rattle.std.proofs.lemmas.Bool.{cases_lt}
@@ -79,10 +79,15 @@ pub or-first : {X : Type 0} (o p : Option X) → is_some o ≡ true → option_o
 or-first None p e = absurd (cc)
 or-first (Some x) p e = refl
 
--- what a function makes of an option
-pub is_some-map : {X Y : Type 0} (f : X → Y) (o : Option X) → IsSome o → IsSome (option_map f o)
-is_some-map f None h = h
-is_some-map f (Some x) h = h
+-- an option of an option that is read, with none where there is none, has the value of both
+pub read-some : {X : Type 0} (o : Option (Option X)) (x : X) → unwrap_or o None ≡ Some x → o ≡ Some (Some x)
+read-some None x h = absurd (none-some x h)
+read-some (Some o) x h = ap Some h
+
+-- what a function makes of an option, which has a value where the option has one
+pub some-mapped : {X Y : Type 0} (f : X → Y) (o : Option X) → is_some (option_map f o) ≡ is_some o
+some-mapped f None = refl
+some-mapped f (Some x) = refl
 
 pub map-or : {X Y : Type 0} (f : X → Y) (o p : Option X) → option_map f (option_or o p) ≡ option_or (option_map f o) (option_map f p)
 map-or f None p = refl

@@ -9,7 +9,7 @@ use Rattle.std.proofs.lemmas.Option.{none-some, slice_get-get_or}
 use Rattle.std.specs.Prelude.{slice_get, option_map, position, IsSome}
 use Rattle.std.specs.List.{remove}
 use Rattle.std.specs.Option.{option_or}
-use Rattle.rd_base.proofs.Choices.{is_some-map, none-chosen}
+use Rattle.rd_base.proofs.Choices.{none-chosen, some-mapped}
 use Rattle.rd_state.specs.declared.window.WindowState.{WindowState}
 use Rattle.rd_state.proofs.Options.{one-value}
 use Rattle.rd_state.specs.Windows.{under, window_of, place_in, kept_as, becoming, with_entry, without_entry, AreApart, NumberedWindow}
@@ -147,7 +147,7 @@ window-with n m f ws = elim (cases_eq m n) [
 ]
 
 pub some-with : (n m : ℕ) (f : WindowState → WindowState) (ws : List NumberedWindow) → IsSome (window_of m ws) → IsSome (window_of m (with_entry n f ws))
-some-with n m f ws h = elim (window-with n m f ws) [ inl p ↦ subst IsSome (sym p) h | inr p ↦ subst IsSome (sym p) (is_some-map f (window_of m ws) h) ]
+some-with n m f ws h = elim (window-with n m f ws) [ inl p ↦ subst IsSome (sym p) h | inr p ↦ subst IsSome (sym p) (some-mapped f (window_of m ws) ∙ h) ]
 
 pub window-gone : (n : ℕ) (ws : List NumberedWindow) → AreApart ws → window_of n (without_entry n ws) ≡ None
 window-gone n [] h = refl

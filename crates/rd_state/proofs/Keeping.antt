@@ -6,7 +6,7 @@ use Rattle.std.proofs.lemmas.List.Sums.{fails_before_first}
 use Rattle.std.proofs.lemmas.Option.{slice_get_within, get_or_from_slice_get}
 use Rattle.std.proofs.lemmas.Slice.Eq.{bytes_eq-Decides}
 use Rattle.rd_base.proofs.Lists.{get-set, get-end, get-map}
-use Rattle.rd_base.proofs.Choices.{either, is_some-map}
+use Rattle.rd_base.proofs.Choices.{either, some-mapped}
 use Rattle.std.specs.Prelude.{slice_get, slice_set, option_map, IsTrue, IsSome, IfSome}
 use Rattle.std.specs.Str.{bytes_eq}
 use Rattle.rd_base.specs.declared.settings.Anchor.{Anchor}
@@ -142,7 +142,7 @@ windows-became bs cs c f ws n same keep v = record {
   each = λ k e at.
       let d = get-map (became f) ws k e at in
       subst (λ (x : NumberedWindow). IsWindow cs x.1) d.2 (keep d.0.0 d.0.1 (v.each k d.0 d.1));
-  selected = subst IsSome (sym (under-became f n ws)) (is_some-map (f n) (window_of n ws) v.selected);
+  selected = subst IsSome (sym (under-became f n ws)) (some-mapped (f n) (window_of n ws) ∙ v.selected);
 }
 
 -- where a position of one buffer and each position of the others go

@@ -2,7 +2,7 @@
 use Rattle.std.proofs.Common.{◌≡◌, ◌≢◌, ℕ, ◌≤◌, ◌==◌, ◌||◌, Bool, true, false, is_some, if◌then◌else◌, Option, None, Some, sym, ap, refl, ◌∙◌, inl, inr, arith}
 use Rattle.std.proofs.lemmas.Bool.{cases_eq, eqb-true, false_from_ne_true, cond-false, cond_both, cond-true, eq-eqb, ne_eqb, or_left}
 use Rattle.std.proofs.lemmas.Iterator.Adapters.{option_map_id}
-use Rattle.rd_base.proofs.Choices.{is_some-map, none-both, or-first, map-or, map-some, none-of}
+use Rattle.rd_base.proofs.Choices.{none-both, or-first, map-or, map-some, none-of, some-mapped}
 use Rattle.std.specs.Prelude.{option_map}
 use Rattle.std.specs.Option.{option_or}
 use Rattle.rd_tree.proofs.Keeping.{is_some-if, is_some-or, by_way, removed_less, resized_same}
@@ -101,7 +101,7 @@ leaf-replaced n k other g (Split side size first second) gives none =
     cond_both (holds n first) (Split side size (replaced n other first) second) (Split side size first (replaced n other second))
     (λ ws. leaf_at k ws ≡ option_map g (option_or (leaf_at n first) (leaf_at n second)))
     (λ h. rw (leaf-replaced n k other g first gives (λ ne. (parts ne).0), leaf-first n first second h)
-    (or-first (option_map g (leaf_at n first)) (leaf_at k second) (is_some-map g (leaf_at n first) (leaf-some n first h))))
+    (or-first (option_map g (leaf_at n first)) (leaf_at k second) (some-mapped g (leaf_at n first) ∙ leaf-some n first h)))
     (λ h. rw (gone n k first (λ ne. (parts ne).0) h, leaf-none n first h) (leaf-replaced n k other g second gives (λ ne. (parts ne).1)))
 
 -- ---- splits

@@ -5,6 +5,7 @@ use Rattle.std.proofs.lemmas.List.{length-take}
 use Rattle.std.proofs.lemmas.Option.{slice_get_within}
 use Rattle.std.proofs.lemmas.Map.Keys.{any_passes_from_place}
 use Rattle.std.specs.List.{count_by, find, list_any}
+use Rattle.rd_base.proofs.Choices.{some-mapped}
 use Rattle.rd_base.proofs.Lists.{count-cons, is_some-found}
 use Rattle.rd_matrix.proofs.Covering.{count_at, cursor-row, few-whole}
 use Rattle.rd_matrix.proofs.Passing.{at-position, one-position, some-counted}
@@ -37,11 +38,6 @@ rows-counted point (e ∷ es) =
     ]
 
 -- ---- the cursor of a list of rows
-
--- a mapped option has a value where the option has one
-some-mapped : {X Y : Type 0} (f : X → Y) (o : Option X) → is_some (option_map f o) ≡ is_some o
-some-mapped f None = refl
-some-mapped f (Some x) = refl
 
 -- a row has the beginning exactly where it is shown in a column
 begins-shown : (point : ℕ) (e : EntryMeaning) → begins_item point e ≡ is_some (column_shown point e)
