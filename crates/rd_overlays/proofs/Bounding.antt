@@ -16,7 +16,7 @@ use Rattle.rd_overlays.specs.declared.overlay.Overlay.{Overlay}
 use Rattle.rd_overlays.specs.declared.overlay.Meeting.{Meeting}
 use Rattle.rd_overlays.specs.declared.overlay.Meeting.TheVariants.{Covers, Starts, Ends}
 use Rattle.rd_overlays.specs.declared.bounds.Bounds.{Bounds}
-use Rattle.rd_overlays.specs.Overlays.{live, overlay_at, meets, after_insertion, after_deletion, slot_grown, slot_shrunk, Fits, SlotFits}
+use Rattle.rd_overlays.specs.Overlays.{overlay_at, meets, after_insertion, after_deletion, slot_grown, slot_shrunk, Fits, SlotFits}
 use Rattle.rd_overlays.specs.Moves.{slot_moved, bounds_moved, IsEdit, SlotFollows, AllFollow}
 use Rattle.rd_overlays.specs.declared.moves.Edit.{Edit}
 use Rattle.rd_overlays.specs.declared.moves.Edit.TheVariants.{Insertion, Deletion}
@@ -97,7 +97,7 @@ moved-holds : (edit : Edit) (b : Bounds) (slot : Option Overlay) → IsEdit edit
 moved-holds (Insertion pos n) b slot small fits h = grown-holds pos n b slot small fits h
 moved-holds (Deletion from to) b slot order fits h = shrunk-holds from to b slot order h
 
-follows-by : (edit : Edit) (o : Option (Option Overlay)) → ((slot : Option Overlay) → o ≡ Some slot → SlotFollows edit slot) → SlotFollows edit (live o)
+follows-by : (edit : Edit) (o : Option (Option Overlay)) → ((slot : Option Overlay) → o ≡ Some slot → SlotFollows edit slot) → SlotFollows edit (unwrap_or o None)
 follows-by (Insertion pos n) None h = tt
 follows-by (Insertion pos n) (Some slot) h = h slot refl
 follows-by (Deletion from to) o h = tt
@@ -180,7 +180,7 @@ widened-bounded slots order old new number slot size kept holds h =
     record {
       room = omega (arith, size, room);
       holds = λ place k c there at.
-          read-set (λ s. SlotHolds c (live s)) slots number k slot (λ e. holds place c (there ∙ ap Some e) at)
+          read-set (λ s. SlotHolds c (unwrap_or s None)) slots number k slot (λ e. holds place c (there ∙ ap Some e) at)
           (kept (place / 256) c (overlay_at slots k) (λ b at_old. h.holds place k b there at_old) at);
     }
 
@@ -190,7 +190,7 @@ pub kept-bounded : (slots : List (Option Overlay)) (order : List ℕ) (bounds : 
     → IsBounded (slice_set slots number after) order bounds
 kept-bounded slots order bounds number before after step at h =
     widened-bounded slots order bounds bounds number after refl (λ place b other held. held b)
-    (λ place b there at_bounds. step b (subst (λ (s : Option Overlay). SlotHolds b s) (ap live at) (h.holds place number b there at_bounds))) h
+    (λ place b there at_bounds. step b (subst (λ (s : Option Overlay). SlotHolds b s) (ap (λ s. unwrap_or s None) at) (h.holds place number b there at_bounds))) h
 
 -- a number of the index is below the count of its numbers
 pub number-below : (m : ℕ) (order : List ℕ) (place k : ℕ) → IsPermutation (range_with_len 0 m) order → slice_get order place ≡ Some k → k < m
@@ -210,7 +210,7 @@ longer-index slots more order bounds h =
         holds = λ place k b at at_bounds.
             let p = number-below (length order) order place k h.whole at in
             let inside : k < length slots = omega (arith, p, size) in
-            subst (λ (s : Option Overlay). SlotHolds b s) (sym (ap live (get-first slots more k inside))) (h.bounded.holds place k b at at_bounds);
+            subst (λ (s : Option Overlay). SlotHolds b s) (sym (ap (λ s. unwrap_or s None) (get-first slots more k inside))) (h.bounded.holds place k b at at_bounds);
       };
     }
 

@@ -2,6 +2,7 @@
 use Rattle.std.proofs.Common.{◌≡◌, ℕ, suc, ◌<◌, ◌≤◌, Bool, true, false, not, ◌&&◌, if◌then◌else◌, List, [], ◌∷◌, ◌++◌, length, drop, replicate, ◌+◌, ◌-◌, Option, None, Some, refl, sym, ap, ◌∙◌, arith, append-nil, length-append, true≢false}
 use Rattle.std.specs.Prelude.{nat_lt}
 use Rattle.std.specs.List.{AllByRecursion, filter, sum_by, range_with_len}
+use Rattle.std.specs.Option.{unwrap_or}
 use Rattle.std.specs.List.Sorted.{ties, IsSortedBy, IsPermutation}
 use Rattle.std.specs.Ordering.{is_lt, ordering_then, ordering_reverse, int_cmp, nat_cmp}
 use Rattle.std.specs.declared.cmp.Ordering.{Ordering}
@@ -18,7 +19,7 @@ use Rattle.rd_base.proofs.Choices.{either}
 use Rattle.rd_base.proofs.Lists.{each-weaker, drop-cons}
 use Rattle.rd_overlays.specs.declared.overlay.Overlay.{Overlay}
 use Rattle.rd_overlays.specs.declared.listing.Rank.{Rank}
-use Rattle.rd_overlays.specs.Overlays.{live, overlay_at, precedes, placed, with_slot, ranked_from}
+use Rattle.rd_overlays.specs.Overlays.{overlay_at, precedes, placed, with_slot, ranked_from}
 use Rattle.rd_overlays.specs.Listings.{rank_of, rank_at, found_from, found_in}
 use Rattle.rd_overlays.specs.Bounds.{whole_order}
 use Rattle.rd_overlays.proofs.Passing.{whole_order-whole}
@@ -259,7 +260,7 @@ found-by test all a (s ∷ rest) e =
     let later = found-by test all (a + 1) rest next in
     let n : a + 1 ≡ suc a = omega arith in
     ap (λ (rs : List Rank). rs ++ rank_at test a (overlay_at all a)) (later ∙ ap (λ (k : ℕ). found_from test k rest) n)
-    ∙ ap (λ (o : Option Overlay). found_from test (suc a) rest ++ rank_at test a o) (ap live at)
+    ∙ ap (λ (o : Option Overlay). found_from test (suc a) rest ++ rank_at test a o) (ap (λ s. unwrap_or s None) at)
 
 -- what was found is the listing once it is sorted
 pub sorted-is : (test : Overlay → Bool) (slots : List (Option Overlay)) (order : List ℕ) (sorted : List Rank) → length order ≤ length slots

@@ -2,6 +2,7 @@
 use Rattle.std.proofs.Common.{◌≡◌, ℕ, ◌+◌, ◌-◌, ◌<◌, ◌≤◌, List, ◌++◌, length, map, get_or, Option, Some, None, refl, sym, ap, subst, ◌∙◌, arith, length-append}
 use Rattle.std.specs.Prelude.{slice_get}
 use Rattle.std.specs.List.{range_with_len}
+use Rattle.std.specs.Option.{unwrap_or}
 use Rattle.std.specs.List.Sorted.{IsPermutation}
 use Rattle.std.proofs.lemmas.List.FromFn.{fill_by_all, length-range_with_len, get_or-range_with_len}
 use Rattle.std.proofs.lemmas.List.Sorted.{IsPermutation-append_left, IsPermutation-map, length_permutation}
@@ -10,7 +11,7 @@ use Rattle.rd_base.proofs.Lists.{get-second, range-split}
 use Rattle.rd_overlays.specs.declared.overlay.Overlay.{Overlay}
 use Rattle.rd_overlays.specs.declared.bounds.Bounds.{Bounds}
 use Rattle.rd_overlays.specs.declared.way.Way.{Way}
-use Rattle.rd_overlays.specs.Overlays.{live, overlay_at, nearest_edge}
+use Rattle.rd_overlays.specs.Overlays.{overlay_at, nearest_edge}
 use Rattle.rd_overlays.specs.Listings.{edge_in}
 use Rattle.rd_overlays.specs.Bounds.{whole_order, IsBounded, IsIndex}
 use Rattle.rd_overlays.proofs.Nearest.{same-edge}
@@ -51,7 +52,7 @@ edge-of_all way pos slots order size whole =
     let now = whole_order order (length slots) in
     let shuffled = IsPermutation-map (overlay_at slots) numbers now (whole_order-whole slots order size whole) in
     let all = fill_by_all (overlay_at slots) slots (length slots) None refl
-    (λ k inside. sym (ap live (slice_get-get_or slots k None inside))) in
+    (λ k inside. sym (ap (λ s. unwrap_or s None) (slice_get-get_or slots k None inside))) in
     same-edge way pos (map (overlay_at slots) numbers) (map (overlay_at slots) now) shuffled ∙ ap (nearest_edge way pos) (sym all)
 
 pub built-index : (slots : List (Option Overlay)) (numbers sorted order : List ℕ) (bounds : List Bounds) → numbers ≡ range_with_len 0 (length slots)

@@ -1,10 +1,11 @@
 -- How the overlays of a buffer, and bounds of their edges, move with an edit of the text.
 use Rattle.std.specs.Prelude.{◌≡◌, ℕ, ◌<◌, ◌≤◌, List, Option, Some, slice_get, ⊤}
+use Rattle.std.specs.Option.{option_map}
 use Rattle.rd_overlays.specs.declared.overlay.Overlay.{Overlay}
 use Rattle.rd_overlays.specs.declared.bounds.Bounds.{Bounds}
 use Rattle.rd_overlays.specs.declared.moves.Edit.{Edit}
 use Rattle.rd_overlays.specs.declared.moves.Edit.TheVariants.{Insertion, Deletion}
-use Rattle.rd_overlays.specs.Overlays.{slot_changed, grown, shrunk, SlotFits}
+use Rattle.rd_overlays.specs.Overlays.{grown, shrunk, SlotFits}
 use Rattle.rd_overlays.specs.Bounds.{bounds_grown, bounds_shrunk}
 
 abbrev pub overlay_moved : Edit → Overlay → Overlay
@@ -12,7 +13,7 @@ overlay_moved (Insertion pos n) = grown pos n
 overlay_moved (Deletion from to) = shrunk from to
 
 abbrev pub slot_moved : Edit → Option Overlay → Option Overlay
-slot_moved edit slot = slot_changed (overlay_moved edit) slot
+slot_moved edit slot = option_map (overlay_moved edit) slot
 
 abbrev pub bounds_moved : Edit → Bounds → Bounds
 bounds_moved (Insertion pos n) = bounds_grown pos n

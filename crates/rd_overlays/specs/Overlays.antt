@@ -1,5 +1,6 @@
 -- The overlays of a buffer as a list: each stands at its number, and nothing stands where one was dropped.
 use Rattle.std.specs.Prelude.{◌≡◌, ℕ, suc, ◌+◌, ◌-◌, ◌<◌, ◌≤◌, min, max, ℤ, nat_le, nat_lt, ◌==◌, Bool, ◌&&◌, ◌||◌, if◌then◌else◌, is_some, List, [], ◌∷◌, ◌++◌, length, map, replicate, slice_get, slice_set, Option, None, Some, Result, Ok, Err, ⊤}
+use Rattle.std.specs.Option.{option_map, unwrap_or}
 use Rattle.std.specs.Ordering.{is_lt, ordering_then, int_cmp, nat_cmp}
 use Rattle.rd_base.specs.declared.limits.TheConstants.{OVERLAYS}
 use Rattle.rd_overlays.specs.declared.fault.OverlayFault.{OverlayFault}
@@ -14,13 +15,9 @@ use Rattle.rd_overlays.specs.declared.listing.Rank.{Rank}
 use Rattle.rd_overlays.specs.declared.way.Way.{Way}
 use Rattle.rd_overlays.specs.declared.way.Way.TheVariants.{Next, Last}
 
-abbrev pub live : Option (Option Overlay) → Option Overlay
-live (Some slot) = slot
-live None = None
-
 -- the overlay of a number where it lives
 abbrev pub overlay_at : List (Option Overlay) → ℕ → Option Overlay
-overlay_at slots number = live (slice_get slots number)
+overlay_at slots number = unwrap_or (slice_get slots number) None
 
 -- an overlay lives and has this number
 abbrev pub IsLiving : List (Option Overlay) → Living → Type 0
@@ -59,13 +56,9 @@ abbrev pub Moves : Result ⊤ OverlayFault → Option OverlayFault → List (Opt
 Moves (Err Memory) fault old new changed = new ≡ old
 Moves result fault old new changed = Answers result fault old new changed
 
--- what stands at a number after its overlay was changed
-abbrev pub slot_changed : (Overlay → Overlay) → Option Overlay → Option Overlay
-slot_changed change None = None
-slot_changed change (Some overlay) = Some (change overlay)
-
+-- the overlay of a number, where it lives, is changed
 abbrev pub changed : (Overlay → Overlay) → List (Option Overlay) → ℕ → List (Option Overlay)
-changed change slots number = slice_set slots number (slot_changed change (overlay_at slots number))
+changed change slots number = slice_set slots number (option_map change (overlay_at slots number))
 
 abbrev pub moved : List (Option Overlay) → ℕ → ℕ → ℕ → List (Option Overlay)
 moved slots number from to = changed (λ overlay. record overlay { from = from; to = to }) slots number
@@ -186,7 +179,7 @@ grown pos n overlay = record overlay {
 }
 
 abbrev pub slot_grown : ℕ → ℕ → Option Overlay → Option Overlay
-slot_grown pos n slot = slot_changed (grown pos n) slot
+slot_grown pos n slot = option_map (grown pos n) slot
 
 -- where a position, or an overlay's start or end, stands after a deletion: what stands in the range goes to its start, and what stands
 -- behind it moves back
@@ -197,7 +190,7 @@ abbrev pub shrunk : ℕ → ℕ → Overlay → Overlay
 shrunk from to overlay = record overlay { from = after_deletion from to overlay.from; to = after_deletion from to overlay.to }
 
 abbrev pub slot_shrunk : ℕ → ℕ → Option Overlay → Option Overlay
-slot_shrunk from to slot = slot_changed (shrunk from to) slot
+slot_shrunk from to slot = option_map (shrunk from to) slot
 
 -- a start or an end at the position or behind it can move on by n
 abbrev pub Fits : ℕ → ℕ → ℕ → Type 0

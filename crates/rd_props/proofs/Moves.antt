@@ -1,10 +1,11 @@
 -- What positions see of overlays that moved with an edit.
 use Rattle.std.proofs.Common.{◌≡◌, ◌⊎◌, inl, inr, ℕ, ◌+◌, ◌-◌, ◌<◌, ◌≤◌, min, Bool, true, false, ◌&&◌, ◌||◌, if◌then◌else◌, List, map, Option, None, Some, refl, sym, ap, subst, ◌∙◌, arith}
 use Rattle.std.specs.Prelude.{nat_lt, nat_le, ◌==◌}
+use Rattle.std.specs.Option.{option_map}
 use Rattle.std.proofs.lemmas.Bool.Decides.{nat_tests}
 use Rattle.rd_overlays.specs.declared.overlay.Overlay.{Overlay}
 use Rattle.rd_overlays.proofs.Slots.{overlay_at-map}
-use Rattle.rd_overlays.specs.Overlays.{overlay_at, covers, starts, ends, slot_changed, slot_grown, slot_shrunk, after_insertion, grown, after_deletion, shrunk}
+use Rattle.rd_overlays.specs.Overlays.{overlay_at, covers, starts, ends, slot_grown, slot_shrunk, after_insertion, grown, after_deletion, shrunk}
 use Rattle.rd_props.specs.Edits.{AreOrdered}
 use Rattle.rd_props.specs.Strings.{is_empty}
 use Rattle.rd_props.proofs.Alike.{Mark, mark_of, picked, AreAlike, SeeSame}
@@ -62,18 +63,18 @@ pub record KeepsValues (change : Overlay → Overlay) : Type 0 where
 
 module _ (change : Overlay → Overlay) (keeps : KeepsValues change) (slots : List (Option Overlay)) where
   slot-alike : (f g : Overlay → Bool) (slot : Option Overlay) → ((o : Overlay) → slot ≡ Some o → (f o ≡ g (change o)) × (f o ≡ true → is_empty o ≡ is_empty (change o)))
-      → picked f slot ≡ picked g (slot_changed change slot)
+      → picked f slot ≡ picked g (option_map change slot)
   slot-alike f g None same = refl
   slot-alike f g (Some o) same =
       let both = same o refl in
       picked-by o (change o) (f o) (g (change o)) both.0 both.1 (keeps.priority o) (keeps.values o)
 
   all-alike : (f g : Overlay → Bool) → ((number : ℕ) (o : Overlay) → overlay_at slots number ≡ Some o → (f o ≡ g (change o)) × (f o ≡ true → is_empty o ≡ is_empty (change o)))
-      → AreAlike f g slots (map (slot_changed change) slots)
+      → AreAlike f g slots (map (option_map change) slots)
   all-alike f g same number =
-      slot-alike f g (overlay_at slots number) (same number) ∙ sym (ap (picked g) (overlay_at-map (slot_changed change) slots number refl))
+      slot-alike f g (overlay_at slots number) (same number) ∙ sym (ap (picked g) (overlay_at-map (option_map change) slots number refl))
 
-  pub changed-seen : (x y : ℕ) → ((number : ℕ) (o : Overlay) → overlay_at slots number ≡ Some o → SeesSame x y o (change o)) → SeeSame x y slots (map (slot_changed change) slots)
+  pub changed-seen : (x y : ℕ) → ((number : ℕ) (o : Overlay) → overlay_at slots number ≡ Some o → SeesSame x y o (change o)) → SeeSame x y slots (map (option_map change) slots)
   changed-seen x y same = record {
     covers = all-alike (covers x) (covers y) (λ n o h. let s = same n o h in (s.cover, s.covered));
     starts = all-alike (starts x) (starts y) (λ n o h. let s = same n o h in (s.start, s.started));

@@ -1,16 +1,17 @@
 -- Edits name no object that was not made.
 use Rattle.std.proofs.Common.{◌≡◌, inl, inr, ℕ, zero, suc, ◌<◌, Bool, true, false, ◌&&◌, if◌then◌else◌, List, [], ◌∷◌, ◌++◌, length, set, Option, None, Some, refl, sym, ap, subst, ◌∙◌, arith}
 use Rattle.std.specs.Prelude.{nat_lt, nat_le, ◌==◌, slice_get}
-use Rattle.std.specs.Option.{unwrap_or}
+use Rattle.std.specs.Option.{option_map}
 use Rattle.std.proofs.lemmas.Bool.Decides.{nat_tests}
 use Rattle.std.proofs.lemmas.Option.{IfSome_then, unwrap_or-slice_get, get_or_from_slice_get}
+use Rattle.rd_base.proofs.Choices.{read-some}
 use Rattle.rd_base.proofs.Lists.{get-set}
 use Rattle.rd_spans.proofs.Beside.{opened-from, closed-from}
 use Rattle.rd_overlays.specs.declared.overlay.Overlay.{Overlay}
 use Rattle.rd_overlays.specs.declared.overlay.Kind.{Kind}
 use Rattle.rd_overlays.specs.declared.overlay.Kind.TheVariants.{Face, Display, Invisible, LinePrefix, WrapPrefix, Before, After}
 use Rattle.rd_overlays.proofs.Slots.{slot-each, changed-each, after-set, after-end}
-use Rattle.rd_overlays.specs.Overlays.{overlay_at, place_of, slot_changed, grown, shrunk, moved, dropped, given}
+use Rattle.rd_overlays.specs.Overlays.{overlay_at, place_of, grown, shrunk, moved, dropped, given}
 use Rattle.rd_objects.specs.Things.{ObjectLists}
 use Rattle.rd_objects.proofs.Soundness.{goes_longer}
 use Rattle.rd_objects.specs.Sound.{GoesOn, Extends}
@@ -76,15 +77,10 @@ end-made objects slots o made new number v kind p is h =
       | inr same ↦ let Q : Overlay → Type 0 = λ q. value_of kind (Some q) ≡ Some v in new kind v (subst Q (sym same) h)
     ]
 
--- a value that is read stands at its place
-stands : (read : Option (Option ℕ)) (v : ℕ) → unwrap_or read None ≡ Some v → read ≡ Some (Some v)
-stands None v h = absurd (cc)
-stands (Some value) v h = ap Some h
-
 given-made : (objects : ObjectLists) (slots : List (Option Overlay)) (number : ℕ) (chosen : Kind) (value : Option ℕ) → AreOverlaysMade objects slots
     → ((w : ℕ) → value ≡ Some w → IsMade objects chosen w) → AreOverlaysMade objects (given slots number chosen value)
 given-made objects slots number chosen value made new =
-    set-made objects slots number (slot_changed change (overlay_at slots number)) made (λ p kind v. slot-each (NamesMade objects kind v) change (overlay_at slots number) (by kind v) p)
+    set-made objects slots number (option_map change (overlay_at slots number)) made (λ p kind v. slot-each (NamesMade objects kind v) change (overlay_at slots number) (by kind v) p)
   where
     change : Overlay → Overlay
     change overlay = record overlay { values = set overlay.values (place_of chosen) value }
@@ -92,15 +88,16 @@ given-made objects slots number chosen value made new =
     by : (kind : Kind) (v : ℕ) (o : Overlay) → overlay_at slots number ≡ Some o → NamesMade objects kind v (record o { values = set o.values (place_of chosen) value })
     by kind v o lives h =
         let changed = set o.values (place_of chosen) value in
-        elim (get-set o.values (place_of chosen) (place_of kind) value (Some v) (stands (slice_get changed (place_of kind)) v (unwrap_or-slice_get changed (place_of kind) None ∙ h))) [
+        elim (get-set o.values (place_of chosen) (place_of kind) value (Some v) (read-some (slice_get changed (place_of kind)) v (unwrap_or-slice_get changed (place_of kind) None ∙ h))) [
           | inl both ↦ let P : Kind → Type 0 = λ l. IsMade objects l v in subst P (sym (same-kind kind chosen both.0)) (new v (sym both.1))
           | inr old ↦ made number v kind o lives (get_or_from_slice_get o.values (place_of kind) (Some v) None old.1)
         ]
 
 moved-made : (objects : ObjectLists) (slots : List (Option Overlay)) (number from to : ℕ) → AreOverlaysMade objects slots → AreOverlaysMade objects (moved slots number from to)
 moved-made objects slots number from to made =
-    set-made objects slots number (slot_changed (λ overlay. record overlay { from = from; to = to }) (overlay_at slots number)) made
-    (λ p kind v. slot-each (NamesMade objects kind v) (λ overlay. record overlay { from = from; to = to }) (overlay_at slots number) (made number v kind) p)
+    let change : Overlay → Overlay = λ overlay. record overlay { from = from; to = to } in
+    set-made objects slots number (option_map change (overlay_at slots number)) made
+    (λ p kind v. slot-each (NamesMade objects kind v) change (overlay_at slots number) (made number v kind) p)
 
 -- ---- buffers
 

@@ -1,7 +1,7 @@
 -- A property that is put, an overlay that becomes another, and objects that are made leave what stands elsewhere.
 use Rattle.std.proofs.Common.{◌≡◌, ◌⊎◌, inl, inr, ℕ, zero, suc, ◌+◌, ◌-◌, ◌<◌, ◌≤◌, min, max, Bool, true, false, ◌&&◌, if◌then◌else◌, List, [], ◌∷◌, ◌++◌, length, set, Option, None, Some, refl, sym, ap, subst, ◌∙◌, arith}
 use Rattle.std.specs.Prelude.{nat_lt, nat_le, ◌==◌, slice_get, ℤ, pos, ◌-ℤ◌}
-use Rattle.std.specs.Option.{unwrap_or}
+use Rattle.std.specs.Option.{option_map, unwrap_or}
 use Rattle.std.proofs.lemmas.Int.{ints}
 use Rattle.std.proofs.lemmas.Bool.Decides.{nat_tests}
 use Rattle.rd_base.proofs.Lists.{get-first, read-set}
@@ -10,7 +10,7 @@ use Rattle.rd_text.specs.Texts.{TextValue}
 use Rattle.rd_overlays.specs.declared.overlay.Overlay.{Overlay}
 use Rattle.rd_overlays.specs.declared.overlay.Kind.{Kind}
 use Rattle.rd_overlays.specs.declared.overlay.Kind.TheVariants.{Face}
-use Rattle.rd_overlays.specs.Overlays.{live, overlay_at, place_of, covers, starts, ends, covering, slot_changed, moved, dropped, given}
+use Rattle.rd_overlays.specs.Overlays.{overlay_at, place_of, covers, starts, ends, covering, moved, dropped, given}
 use Rattle.rd_objects.specs.Things.{ObjectLists}
 use Rattle.rd_objects.specs.Sound.{Extends}
 use Rattle.rd_props.specs.Buffers.{BufferValue, property}
@@ -131,7 +131,7 @@ set-differs : (slots : List (Option Overlay)) (number low high : ℕ) (o : Overl
 set-differs slots number low high o slot is lies next = λ f none n.
     let old = unmet f (overlay_at slots number) (λ p h. none p (same-lies low high (overlay_at slots number) o p is lies h)) in
     let new = unmet f slot (λ p h. none p (next p h)) in
-    read-set (λ s. picked f (overlay_at slots n) ≡ picked f (live s)) slots number n slot (λ e. ap (λ k. picked f (overlay_at slots k)) e ∙ old ∙ sym new) refl
+    read-set (λ s. picked f (overlay_at slots n) ≡ picked f (unwrap_or s None)) slots number n slot (λ e. ap (λ k. picked f (overlay_at slots k)) e ∙ old ∙ sym new) refl
 
 end-differs : (slots : List (Option Overlay)) (low high : ℕ) (o : Overlay) → (low ≤ o.from) × (o.from ≤ o.to) × (o.to ≤ high) → DifferIn low high slots (slots ++ Some o ∷ [])
 end-differs slots low high o lies = λ f none n. found-end f slots n (Some o) (unmet f (Some o) (λ p h. none p (same-lies low high (Some o) o p refl lies h)))
@@ -158,15 +158,15 @@ module _ (old new : BufferValue) (objects : ObjectLists) where
     giving-edits kind value edit =
         let change : Overlay → Overlay = λ overlay. record overlay { values = set overlay.values (place_of kind) value } in
         one-edits (given old.overlays number kind value) o.from o.to edit
-        (set-differs old.overlays number o.from (o.from + (o.to - o.from)) o (slot_changed change (overlay_at old.overlays number)) is (omega arith, ordered, omega arith)
-        (λ p h. same-lies o.from (o.from + (o.to - o.from)) _ (change o) p (ap (slot_changed change) is) (omega arith, ordered, omega arith) h))
+        (set-differs old.overlays number o.from (o.from + (o.to - o.from)) o (option_map change (overlay_at old.overlays number)) is (omega arith, ordered, omega arith)
+        (λ p h. same-lies o.from (o.from + (o.to - o.from)) _ (change o) p (ap (option_map change) is) (omega arith, ordered, omega arith) h))
 
     pub moving-edits : (from to : ℕ) → from ≤ to → HasOverlays old new (moved old.overlays number from to)
         → Unchanged old objects new objects (min o.from from) (max o.to to + 1) (pos 0)
     moving-edits from to less edit =
         let change : Overlay → Overlay = λ overlay. record overlay { from = from; to = to } in
-        let differ = set-differs old.overlays number (min o.from from) (max o.to to) o (slot_changed change (overlay_at old.overlays number)) is (omega arith, ordered, omega arith)
-        (λ p h. same-lies (min o.from from) (max o.to to) _ (change o) p (ap (slot_changed change) is) (omega arith, less, omega arith) h) in
+        let differ = set-differs old.overlays number (min o.from from) (max o.to to) o (option_map change (overlay_at old.overlays number)) is (omega arith, ordered, omega arith)
+        (λ p h. same-lies (min o.from from) (max o.to to) _ (change o) p (ap (option_map change) is) (omega arith, less, omega arith) h) in
         unmoved old new objects (ap (λ (t : TextValue). t.begin) edit.text) (min o.from from) (max o.to to) (pos 0) refl
         (λ x away. overlays-stay old new (moved old.overlays number from to) (min o.from from) (max o.to to) x edit differ away)
 

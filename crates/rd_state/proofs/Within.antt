@@ -1,5 +1,6 @@
 -- Overlays and values of properties that lie in a text, and still do after an edit of it.
 use Rattle.std.proofs.Common.{◌≡◌, ℕ, ◌+◌, ◌-◌, ◌<◌, ◌≤◌, ◌++◌, inl, inr, ◌==◌, ◌&&◌, ◌||◌, Bool, true, false, if◌then◌else◌, nat_lt, nat_le, Option, None, Some, List, [], ◌∷◌, length, map, set, sym, ap, subst, refl, ◌∙◌, arith, length-append}
+use Rattle.std.specs.Option.{option_map, unwrap_or}
 use Rattle.std.proofs.lemmas.Bool.{leb-false}
 use Rattle.std.proofs.lemmas.Bool.Decides.{nat_tests}
 use Rattle.std.proofs.lemmas.List.{length-map, length-set}
@@ -12,7 +13,7 @@ use Rattle.rd_overlays.proofs.Bounding.{deletion-rises, deletion-within}
 use Rattle.rd_overlays.proofs.Slots.{slot-each, changed-each, after-set, after-end}
 use Rattle.rd_overlays.specs.declared.overlay.Kind.{Kind}
 use Rattle.rd_overlays.specs.declared.overlay.Overlay.{Overlay}
-use Rattle.rd_overlays.specs.Overlays.{live, overlay_at, make_fault, moved, given, place_of, slot_changed, slot_grown, slot_shrunk, grown, shrunk, AllFit, SlotFits}
+use Rattle.rd_overlays.specs.Overlays.{overlay_at, make_fault, moved, given, place_of, slot_grown, slot_shrunk, grown, shrunk, AllFit, SlotFits}
 use Rattle.rd_base.specs.Settings.{SettingValues}
 use Rattle.rd_overlays.specs.declared.fault.OverlayFault.TheVariants.{OutOfRange, TooMany}
 use Rattle.rd_props.specs.Buffers as props
@@ -35,7 +36,7 @@ slot-fits size pos n (Some o) room h =
     (λ _. omega arith, λ _. omega arith)
 
 pub all-fit : (slots : List (Option Overlay)) (size pos n : ℕ) → size + 1 + n < 4294967296 → AreIn size slots → AllFit pos n slots
-all-fit slots size pos n room h number slot at = slot-fits size pos n slot room (λ o is. h number o (ap live at ∙ is))
+all-fit slots size pos n room h number slot at = slot-fits size pos n slot room (λ o is. h number o (ap (λ s. unwrap_or s None) at ∙ is))
 
 pub place-moves : (t : Bool) (p n : ℕ) → (p ≤ (if t then p + n else p)) × ((if t then p + n else p) ≤ p + n)
 place-moves true p n = (omega arith, omega arith)
@@ -63,7 +64,7 @@ came-within : (b c : props.BufferValue) (change : Overlay → Overlay) → IsWit
     → ((kind p value : ℕ) → c.properties kind p ≡ Some value
     → (q : ℕ) × (b.properties kind q ≡ Some value) × (1 ≤ q → q ≤ length b.text.text → (1 ≤ p) × (p ≤ length c.text.text)))
     → ((o : Overlay) → IsOverlayIn (length b.text.text) o → IsOverlayIn (length c.text.text) (change o))
-    → c.overlays ≡ map (slot_changed change) b.overlays → IsWithin c
+    → c.overlays ≡ map (option_map change) b.overlays → IsWithin c
 came-within b c change within came stays overlays = record {
   kinds = λ kind p value h. let was = came kind p value h in within.kinds kind was.0 value was.1;
   first = λ kind p value h. let was = came kind p value h in (was.2 (within.first kind was.0 value was.1) (within.last kind was.0 value was.1)).0;
@@ -164,13 +165,13 @@ pub moved-within : (b : props.BufferValue) (overlays : List (Option Overlay)) (s
     → is_range_of_all b.text from to ≡ true → overlays ≡ moved b.overlays number from to → IsWithin (record b { overlays = overlays; settings = settings })
 moved-within b overlays settings number from to within range is =
     let change : Overlay → Overlay = λ overlay. record overlay { from = from; to = to } in
-    put-within b overlays settings number (slot_changed change (overlay_at b.overlays number)) within
+    put-within b overlays settings number (option_map change (overlay_at b.overlays number)) within
     (slot-each (IsOverlayIn (length b.text.text)) change (overlay_at b.overlays number) (λ q at. in-range b.text from to (change q) range refl refl)) is
 
 pub given-within : (b : props.BufferValue) (overlays : List (Option Overlay)) (settings : SettingValues) (number : ℕ) (kind : Kind) (value : Option ℕ) → IsWithin b
     → overlays ≡ given b.overlays number kind value → IsWithin (record b { overlays = overlays; settings = settings })
 given-within b overlays settings number kind value within is =
     let change : Overlay → Overlay = λ overlay. record overlay { values = set overlay.values (place_of kind) value } in
-    put-within b overlays settings number (slot_changed change (overlay_at b.overlays number)) within
+    put-within b overlays settings number (option_map change (overlay_at b.overlays number)) within
     (slot-each (IsOverlayIn (length b.text.text)) change (overlay_at b.overlays number)
     (λ q at. let old = within.overlays number q at in record { first = old.first; ordered = old.ordered; last = old.last })) is
