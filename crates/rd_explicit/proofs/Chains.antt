@@ -2,6 +2,7 @@
 use Rattle.std.proofs.Common.{◌≡◌, ℕ, zero, suc, ◌+◌, ◌-◌, ◌<◌, ◌≤◌, ◌==◌, nat_lt, max, Bool, true, false, ◌&&◌, if◌then◌else◌, List, [], ◌∷◌, length, map, drop, set, get_or, Option, None, Some, All, is_none, refl, ap, ap₂, subst, sym, ◌∙◌, inl, inr, arith}
 use Rattle.std.proofs.lemmas.List.{get_or-drop, drop-set-add, set-get_or, drop-drop, length-drop}
 use Rattle.std.proofs.lemmas.List.Elements.{All-cons, All-nil}
+use Rattle.std.proofs.lemmas.List.Kept.{AllPairs-cons}
 use Rattle.std.proofs.lemmas.Bool.{cases_Bool, eq-eqb, ne_eqb, ltb-true}
 use Rattle.rd_base.proofs.Choices.{either}
 use Rattle.rd_base.specs.Classes.{direction_of, is_initiator, x9_is_removed}
@@ -280,9 +281,6 @@ ascends-within i n (x ∷ xs) a =
     let rest = ascends-within (x + 1) n xs a.2 in All-cons (λ y. (i ≤ y) × (y < n)) x xs (a.0, a.1) (λ k d h. let y = rest k d h in (omega arith, y.1))
 
 pub ascends-pairs : (i n : ℕ) (xs : List ℕ) → Ascends i n xs → (k j d : ℕ) → k < j → j < length xs → get_or xs k d < get_or xs j d
-ascends-pairs i n [] a k j d h within = absurd (omega arith)
-ascends-pairs i n (x ∷ xs) a zero zero d h within = absurd (omega arith)
-ascends-pairs i n (x ∷ xs) a (suc k) zero d h within = absurd (omega arith)
-ascends-pairs i n (x ∷ xs) a zero (suc j) d h within =
-    let more = ascends-within (x + 1) n xs a.2 j d (omega arith) in omega arith
-ascends-pairs i n (x ∷ xs) a (suc k) (suc j) d h within = ascends-pairs (x + 1) n xs a.2 k j d (omega arith) (omega arith)
+ascends-pairs i n [] a = λ k j d h within. absurd (omega arith)
+ascends-pairs i n (x ∷ xs) a =
+    AllPairs-cons (λ k j. k < j) x xs (λ k d h. let y = ascends-within (x + 1) n xs a.2 k d h in omega arith) (ascends-pairs (x + 1) n xs a.2)
