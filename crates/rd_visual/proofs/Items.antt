@@ -3,8 +3,8 @@ use Rattle.std.proofs.Common.{◌≡◌, ℕ, zero, suc, ◌≤◌, ◌&&◌, �
 use Rattle.std.specs.Prelude.{count_by, find, slice_get}
 use Rattle.std.proofs.lemmas.Bool.{and_parts, eq-eqb}
 use Rattle.std.proofs.lemmas.Bool.Decides.{nat_tests}
-use Rattle.rd_base.proofs.Choices.{none-of, opposite}
-use Rattle.rd_base.proofs.Lists.{is_some-found, none_counted}
+use Rattle.rd_base.proofs.Choices.{opposite}
+use Rattle.rd_base.proofs.Lists.{none-found, none_counted}
 use Rattle.rd_matrix.proofs.Passing.{fewer, not-counted, place-counted}
 use Rattle.rd_rows.specs.declared.begin.Begin.{Begin}
 use Rattle.rd_visual.specs.Hits.{covers_some, reaches, nearer, item_at, begins_at}
@@ -77,7 +77,7 @@ item-again column (x ∷ xs) b found = elim (nearer-one x (reaches column x) (it
 -- counts
 
 pub found-none : (p : Begin → Bool) (bs : List Begin) → count_by p bs ≡ 0 → find p bs ≡ None
-found-none p bs none = none-of (find p bs) (is_some-found p bs ∙ opposite _ _ (none_counted p bs) ∙ ap not (eq-eqb (count_by p bs) 0 none))
+found-none p bs none = none-found p bs (opposite _ _ (none_counted p bs) ∙ ap not (eq-eqb (count_by p bs) 0 none))
 
 pass-behind : (column : ℕ) (x b : Begin) → begins_at column x ≡ false → b.column ≡ column → nearer (cond (reaches column x) (Some x) None) (Some b) ≡ Some b
 pass-behind column x b out same = passed x b (reaches column x) λ here.
