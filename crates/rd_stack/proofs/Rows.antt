@@ -9,6 +9,7 @@ use Rattle.rd_items.specs.Pieces.{Scene, same_spec}
 use Rattle.rd_stack.specs.Strings.{place_of, places_from, run_heads, ends_row, part_of, row, row_end, rows_from, shown_from, behind_row}
 use Rattle.rd_stack.specs.declared.part.Place.{Place}
 use Rattle.rd_stack.specs.declared.part.Part.{Part}
+use Rattle.rd_stack.specs.declared.part.Shown.{Shown}
 use Rattle.rd_stack.proofs.Lists.{range-next}
 
 -- nothing goes on a place without a spec
@@ -33,30 +34,31 @@ row-ends s base parts before p ps ends =
 pub places-next : (replaced : Bool) (text : TextValue) (under : Attributes) (i n : ℕ) → n ≡ length text.chars → i < n → places_from replaced text under i ≡ place_of replaced text under i ∷ places_from replaced text under (i + 1)
 places-next replaced text under i n size inside = ap (map (place_of replaced text under)) (range-next i (length text.chars) n size inside)
 
--- the row that was read up to a newline, and what is behind it
-pub row-ended : (s : Scene) (base : ℕ) (replaced : Bool) (text : TextValue) (under : Attributes) (i n : ℕ) (parts : List Part) (before : Option ℕ) (p : Place) (whole : List _)
-    → n ≡ length text.chars → i < n → p ≡ place_of replaced text under i → ends_row p ≡ true
-    → rows_from s base parts (run_heads before (places_from replaced text under i)) ≡ whole
-    → row s base parts ++ behind_row s base replaced text under i ≡ whole
-row-ended s base replaced text under i n parts before p whole size inside here ends all =
-    let q = place_of replaced text under i in
-    let rest = places_from replaced text under (i + 1) in
-    let inner : nat_lt i (length text.chars) ≡ true = grind (arith, nat_tests) in
-    ap (λ t. row s base parts ++ (if t then row_end q.face ∷ shown_from s base replaced text under (i + 1) else [])) inner
-    ∙ sym (row-ends s base parts before q rest (ap ends_row (sym here) ∙ ends))
-    ∙ sym (ap (λ ps. rows_from s base parts (run_heads before ps)) (places-next replaced text under i n size inside))
-    ∙ all
+-- where a string is read on from its place p: the rows from there are `whole`
+module _ (s : Scene) (base : ℕ) (replaced : Bool) (text : TextValue) (under : Attributes) (i n : ℕ) (parts : List Part) (before : Option ℕ)
+    (p : Place) (whole : List Shown) (size : n ≡ length text.chars) (inside : i < n) (here : p ≡ place_of replaced text under i)
+    (all : rows_from s base parts (run_heads before (places_from replaced text under i)) ≡ whole) where
+  abbrev rest : List Place
+  rest = places_from replaced text under (i + 1)
 
--- one more place of the row
-pub row-goes : (s : Scene) (base : ℕ) (replaced : Bool) (text : TextValue) (under : Attributes) (i n : ℕ) (parts more : List Part) (before after : Option ℕ) (p : Place) (whole : List _)
-    → n ≡ length text.chars → i < n → p ≡ place_of replaced text under i → after ≡ p.spec
-    → ((ps : List Place) → rows_from s base more (run_heads p.spec ps) ≡ rows_from s base parts (run_heads before (p ∷ ps)))
-    → rows_from s base parts (run_heads before (places_from replaced text under i)) ≡ whole
-    → rows_from s base more (run_heads after (places_from replaced text under (i + 1))) ≡ whole
-row-goes s base replaced text under i n parts more before after p whole size inside here same step all =
-    let rest = places_from replaced text under (i + 1) in
-    ap (λ spec. rows_from s base more (run_heads spec rest)) same
-    ∙ step rest
-    ∙ ap (λ q. rows_from s base parts (run_heads before (q ∷ rest))) here
-    ∙ sym (ap (λ ps. rows_from s base parts (run_heads before ps)) (places-next replaced text under i n size inside))
-    ∙ all
+  read : rows_from s base parts (run_heads before (place_of replaced text under i ∷ rest)) ≡ whole
+  read = sym (ap (λ ps. rows_from s base parts (run_heads before ps)) (places-next replaced text under i n size inside)) ∙ all
+
+  -- the row that was read up to a newline, and what is behind it
+  pub row-ended : ends_row p ≡ true → row s base parts ++ behind_row s base replaced text under i ≡ whole
+  row-ended ends =
+      let q = place_of replaced text under i in
+      let inner : nat_lt i (length text.chars) ≡ true = grind (arith, nat_tests) in
+      ap (λ t. row s base parts ++ (if t then row_end q.face ∷ shown_from s base replaced text under (i + 1) else [])) inner
+      ∙ sym (row-ends s base parts before q rest (ap ends_row (sym here) ∙ ends))
+      ∙ read
+
+  -- one more place of the row
+  pub row-goes : (more : List Part) (after : Option ℕ) → after ≡ p.spec
+      → ((ps : List Place) → rows_from s base more (run_heads p.spec ps) ≡ rows_from s base parts (run_heads before (p ∷ ps)))
+      → rows_from s base more (run_heads after rest) ≡ whole
+  row-goes more after same step =
+      ap (λ spec. rows_from s base more (run_heads spec rest)) same
+      ∙ step rest
+      ∙ ap (λ q. rows_from s base parts (run_heads before (q ∷ rest))) here
+      ∙ read
