@@ -3,7 +3,8 @@ use Rattle.std.specs.Prelude.{◌≡◌, ℕ, zero, suc, ◌+◌, ◌-◌, ◌<�
 use Rattle.rd_base.specs.Chars.{columns_of}
 use Rattle.rd_base.specs.declared.limits.TheConstants.{FRAME_COLUMNS, FRAME_ROWS}
 use Rattle.rd_base.specs.Cells.{single, with_mark, takes_mark, row_at}
-use Rattle.rd_base.specs.Faces.{Attributes}
+use Rattle.rd_base.specs.Equals.{same_face}
+use Rattle.rd_base.specs.Faces.{Attributes, plain}
 use Rattle.rd_base.specs.Glyphs.{glyph_cells}
 use Rattle.rd_base.specs.declared.cell.Glyph.{Glyph}
 use Rattle.rd_base.specs.declared.cell.Cell.{Cell}
@@ -52,13 +53,10 @@ unknown width height = record {
 abbrev pub confuse : Tty → Tty
 confuse t = record t { confused = true }
 
-abbrev pub is_plain : Attributes → Bool
-is_plain f = f.fg == 8 && f.bg == 8 && not f.bold && not f.underline && not f.inverse
-
 -- the pen is known to be plain
 abbrev pub writes_plain : Option Attributes → Bool
 writes_plain None = false
-writes_plain (Some face) = is_plain face
+writes_plain (Some face) = same_face face plain
 
 -- `\e[r;cH`: the cursor goes to a row and a column, counted from 1, that are on the screen, and the wait ends
 abbrev pub on_screen : {A : Type 0} → List (List A) → ℕ → ℕ → Bool

@@ -132,8 +132,6 @@ fn writes_plain(pen: Option<Face>) -> bool
 {
     match pen {
         None => false,
-        Some(face) => {
-            face.fg == 8 && face.bg == 8 && !face.bold && !face.underline && !face.inverse
-        }
+        Some(face) => face.is_same(Face::PLAIN),
     }
 }
