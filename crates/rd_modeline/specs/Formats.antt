@@ -1,6 +1,8 @@
 -- The grammar of a format: characters that stand for themselves, and codes that begin with a percent sign.
-use Rattle.std.specs.Prelude.{ℕ, ◌+◌, ◌-◌, ◌*◌, ◌==◌, ◌&&◌, ◌≤◌, ◌<◌, ◌≡◌, nat_lt, if◌then◌else◌, List, [], ◌∷◌, ◌++◌, drop, length, Option, None, Some, Result, Ok, Err}
+use Rattle.std.specs.Prelude.{ℕ, ◌+◌, ◌-◌, ◌*◌, ◌==◌, ◌&&◌, ◌≤◌, ◌<◌, ◌≡◌, nat_lt, if◌then◌else◌, List, [], ◌∷◌, drop, length, Option, None, Some, Result, Ok, Err}
 use Rattle.std.specs.Char.{is_ascii_digit}
+use Rattle.std.specs.Result.{result_err}
+use Rattle.rd_ucd.specs.Results.{behind}
 use Rattle.rd_modeline.specs.declared.fault.FormatFault.{FormatFault}
 use Rattle.rd_modeline.specs.declared.fault.FormatFault.TheVariants.{BadFormat, Memory}
 use Rattle.rd_modeline.specs.declared.piece.Field.{Field}
@@ -36,14 +38,9 @@ value_or None width other = other
 abbrev pub piece_of : ℕ → ℕ → ℕ → Option Piece
 piece_of digits width c = value_or (field_of c) width (sign_of digits c)
 
--- the pieces that were read before those of the rest
-abbrev pub behind_all : List Piece → Result (List Piece) ℕ → Result (List Piece) ℕ
-behind_all ps (Ok rest) = Ok (ps ++ rest)
-behind_all ps (Err place) = Err place
-
 -- a piece before those of the rest
 abbrev pub before : Piece → Result (List Piece) ℕ → Result (List Piece) ℕ
-before p = behind_all (p ∷ [])
+before p = behind (p ∷ [])
 
 -- a piece before those of the rest, and the place of the percent sign where there is none
 abbrev pub before_or : Option Piece → ℕ → Result (List Piece) ℕ → Result (List Piece) ℕ
@@ -65,15 +62,10 @@ pieces_from (Percent start digits width) place (c ∷ cs) =
 abbrev pub pieces_of : List ℕ → Result (List Piece) ℕ
 pieces_of format = pieces_from Text 0 format
 
--- the place of a format's first bad code
-abbrev pub fault_in : Result (List Piece) ℕ → Option ℕ
-fault_in (Ok ps) = None
-fault_in (Err place) = Some place
-
 -- a format is good, or this is the place of its first bad code
 abbrev pub Checks : {A : Type 0} → Result A FormatFault → Result (List Piece) ℕ → Type 0
-Checks (Ok _) pieces = fault_in pieces ≡ None
-Checks (Err (BadFormat place)) pieces = fault_in pieces ≡ Some place
+Checks (Ok _) pieces = result_err pieces ≡ None
+Checks (Err (BadFormat place)) pieces = result_err pieces ≡ Some place
 Checks (Err Memory) pieces = Unit {0}
 
 -- a number of so many digits, at most three
@@ -110,4 +102,4 @@ abbrev pub IsNext : Result (Option (Piece × ℕ)) FormatFault → List ℕ → 
 IsNext (Err (BadFormat start)) text place = pieces_at text place ≡ Err start
 IsNext (Err Memory) text place = Unit {0}
 IsNext (Ok None) text place = pieces_at text place ≡ Ok []
-IsNext (Ok (Some (p, behind))) text place = (place < behind) × (behind ≤ length text) × (pieces_at text place ≡ before p (pieces_at text behind))
+IsNext (Ok (Some (p, end))) text place = (place < end) × (end ≤ length text) × (pieces_at text place ≡ before p (pieces_at text end))

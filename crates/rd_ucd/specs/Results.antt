@@ -4,7 +4,7 @@ use Rattle.rd_ucd.specs.declared.fault.UcdFault.{UcdFault}
 use Rattle.rd_ucd.specs.declared.fault.UcdFault.TheVariants.{Memory}
 
 -- a result with these values before its own; a fault stays
-abbrev pub behind : {T : Type 0} → List T → Result (List T) UcdFault → Result (List T) UcdFault
+abbrev pub behind : {T E : Type 0} → List T → Result (List T) E → Result (List T) E
 behind values (Ok more) = Ok (values ++ more)
 behind values (Err fault) = Err fault
 
