@@ -2,7 +2,7 @@
 use Rattle.std.specs.Prelude.{List}
 use Rattle.rd_ucd.specs.Data.{Data}
 use Rattle.rd_objects.specs.Things.{ObjectLists}
-use Rattle.rd_props.specs.Buffers.{BufferValue, meaning}
+use Rattle.rd_props.specs.Buffers.{BufferValue, files_of, meaning}
 use Rattle.rd_props.specs.declared.state.View.{View}
 use Rattle.rd_items.specs.Readings.{reading}
 use Rattle.rd_items.specs.Pieces.{scene_in}
@@ -27,6 +27,4 @@ text_source s objects files = record {
 }
 
 abbrev pub source_of : View → SourceValues
-source_of view =
-    text_source (meaning view.state.now) view.objects.now
-    (record { classes = view.classes.now; mirrors = view.mirrors.now; brackets = view.brackets.now })
+source_of view = text_source (meaning view.state.now) view.objects.now (files_of view)

@@ -2,23 +2,19 @@
 use Rattle.std.specs.Prelude.{ℕ, ◌==◌, if◌then◌else◌, false, List, [], ◌∷◌, map, codes, None, Some, true}
 use Rattle.rd_base.specs.Faces.{plain}
 use Rattle.rd_base.specs.declared.cell.Cell.{Cell}
-use Rattle.rd_term.specs.Terminals.{cell_of}
+use Rattle.rd_term.specs.Terminals.{cell_of, plain_row}
 use Rattle.rd_tree.specs.Windows.{Window, Split}
 use Rattle.rd_tree.specs.declared.side.Side.TheVariants.{Below, Right}
 use Rattle.rd_frame.specs.Panes.{GlyphRow, PaneValues, border_cell}
 use Rattle.rd_frame.specs.Frames.{FrameValues}
 
--- the cells of a text, where a space is a blank
-abbrev pub letters : List ℕ → List Cell
-letters text = map (λ code. cell_of code plain) text
-
--- the same in the face of mode lines
+-- a row that shows a text of ASCII in the face of mode lines
 abbrev pub inverted : List ℕ → List Cell
 inverted text = map (λ code. cell_of code (record plain { inverse = true })) text
 
 -- a glyph row of two texts
 abbrev pub glyphs : List ℕ → List ℕ → GlyphRow
-glyphs margin text = record { margin = letters margin; text = letters text }
+glyphs margin text = record { margin = plain_row margin; text = plain_row text }
 
 -- three lines of a text in a window, with a mode line
 abbrev pub three_lines : List ℕ → List ℕ → List ℕ → PaneValues
@@ -36,7 +32,7 @@ beside_each_other = record {
       if window.number == 0
       then three_lines (codes "3          ") (codes "4          ") (codes "5          ")
       else three_lines (codes "3           ") (codes "4           ") (codes "5           ");
-  echo = letters (codes "                        ");
+  echo = plain_row (codes "                        ");
   selected = 0;
   cursor = Some (0, 0);
 }
@@ -50,7 +46,7 @@ abbrev pub above_another : FrameValues
 above_another = record {
   tree = record { windows = Split Below 2 (Window 0 true 0) (Window 1 false 3); width = 14; height = 4; made = 2 };
   panes = λ window. if window.number == 0 then one_line [] (codes "top           ") else one_line (codes ">> ") (codes "ab         ");
-  echo = letters (codes "saved         ");
+  echo = plain_row (codes "saved         ");
   selected = 1;
   cursor = None;
 }
@@ -67,7 +63,7 @@ abbrev pub numbered_lines : FrameValues
 numbered_lines = record {
   tree = record { windows = Window 0 false 4; width = 16; height = 3; made = 1 };
   panes = λ window. two_numbers;
-  echo = letters (codes "                ");
+  echo = plain_row (codes "                ");
   selected = 0;
   cursor = Some (0, 0);
 }

@@ -4,7 +4,8 @@ ghost use Rattle.rd_base.specs.Cells.{single};
 ghost use Rattle.rd_base.specs.Faces.{plain};
 ghost use Rattle.rd_base.specs.declared.cell.Cell.TheVariants.{Blank, First};
 ghost use Rattle.rd_term.specs.Pictures.{blank_row};
-ghost use Rattle.rd_frame.specs.Examples.{letters, inverted, beside_each_other, numbered_lines, above_another};
+ghost use Rattle.rd_term.specs.Terminals.{plain_row};
+ghost use Rattle.rd_frame.specs.Examples.{inverted, beside_each_other, numbered_lines, above_another};
 ghost use Rattle.rd_frame.specs.Frames.{frame_picture};
 ghost use Rattle.rd_frame.specs.Panes.{border_cell};
 ghost use Rattle.rd_frame.specs.Paints.{with_rectangle, with_echo};
@@ -13,9 +14,9 @@ ghost use Rattle.rd_frame.specs.Paints.{with_rectangle, with_echo};
 fn windows_side_by_side()
     ensures screen { frame_picture beside_each_other ≡ record {
       rows =
-          letters (codes "3          |3           ")
-          ∷ letters (codes "4          |4           ")
-          ∷ letters (codes "5          |5           ")
+          plain_row (codes "3          |3           ")
+          ∷ plain_row (codes "4          |4           ")
+          ∷ plain_row (codes "5          |5           ")
           ∷ inverted (codes "main 3 27%  main 3 27%  ")
           ∷ blank_row 24
           ∷ [];
@@ -28,7 +29,7 @@ fn windows_side_by_side()
 /// The numbers of lines stand left of the text and move the cursor; the row below the last is blank.
 fn numbers_beside_lines()
     ensures { frame_picture numbered_lines ≡ record {
-      rows = letters (codes "  1 a           ") ∷ letters (codes "  2 b           ") ∷ blank_row 16 ∷ blank_row 16 ∷ [];
+      rows = plain_row (codes "  1 a           ") ∷ plain_row (codes "  2 b           ") ∷ blank_row 16 ∷ blank_row 16 ∷ [];
       row = 0;
       column = 4;
     } }
@@ -38,11 +39,11 @@ fn numbers_beside_lines()
 fn a_window_above_another()
     ensures { frame_picture above_another ≡ record {
       rows =
-          letters (codes "top           ")
+          plain_row (codes "top           ")
           ∷ inverted (codes "--------------")
-          ∷ letters (codes ">> ab         ")
+          ∷ plain_row (codes ">> ab         ")
           ∷ blank_row 14
-          ∷ letters (codes "saved         ")
+          ∷ plain_row (codes "saved         ")
           ∷ [];
       row = 2;
       column = 3;

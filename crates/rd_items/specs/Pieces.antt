@@ -21,7 +21,7 @@ use Rattle.rd_glyphs.specs.Characters.{PartValues, entry_of}
 use Rattle.rd_glyphs.specs.MarkRoles.{is_empty_entry, mark_role_of, base_of, mark_of}
 use Rattle.rd_glyphs.specs.declared.mark_role.MarkRole.{MarkRole}
 use Rattle.rd_glyphs.specs.declared.mark_role.MarkRole.TheVariants as role
-use Rattle.rd_props.specs.Buffers.{meaning}
+use Rattle.rd_props.specs.Buffers.{files_of, meaning}
 use Rattle.rd_props.specs.Seen.{Seen}
 use Rattle.rd_props.specs.declared.state.View.{View}
 use Rattle.rd_props.specs.declared.hiding.Hidden.{Hidden}
@@ -52,9 +52,7 @@ scene_in settings objects files = record {
 }
 
 abbrev pub scene_of : View → Scene
-scene_of view =
-    scene_in (meaning view.state.now).settings view.objects.now
-    (record { classes = view.classes.now; mirrors = view.mirrors.now; brackets = view.brackets.now })
+scene_of view = scene_in (meaning view.state.now).settings view.objects.now (files_of view)
 
 -- the display spec of a number: no columns where none was made with it
 abbrev pub spec_in : ObjectLists → ℕ → Spec

@@ -5,6 +5,7 @@ use Rattle.std.proofs.lemmas.List.Sums.{count_by-le-length}
 use Rattle.std.proofs.lemmas.List.Elements.{All-from_recursion, All-map, All-take, All-drop}
 use Rattle.std.specs.List.{All, find}
 use Rattle.std.specs.Option.{option_and_then}
+use Rattle.std.specs.Result.{result_err}
 use Rattle.std.proofs.lemmas.Option.{option_and_then_some, slice_get_within}
 use Rattle.std.specs.Prelude.{IfSome, IsTrue, option_map, slice_get, slice_index_or}
 use Rattle.rd_base.proofs.Choices.{either, if-value, some-of}
@@ -31,7 +32,7 @@ use Rattle.rd_matrix.specs.Entries.{EntryMeaning}
 use Rattle.rd_matrix.specs.Sources.{rows_at}
 use Rattle.rd_matrix.proofs.Covering.{cursor-row}
 use Rattle.rd_matrix.proofs.EachRow.{rows-each}
-use Rattle.rd_modeline.specs.Formats.{fault_in, pieces_of}
+use Rattle.rd_modeline.specs.Formats.{pieces_of}
 use Rattle.rd_modeline.specs.Lines.{line_cells}
 use Rattle.rd_modeline.specs.Values.{FactValues}
 use Rattle.rd_modeline.specs.declared.piece.Piece.{Piece}
@@ -107,7 +108,7 @@ pub mode-has : (P : List Cell → Type 0) (files : Data) (facts : FactValues) (w
     → ((text : List ℕ) (ps : List Piece) → IsGoodFormat text → pieces_of text ≡ Ok ps → P (line_cells files.classes facts width ps)) → P (mode_line files facts width format)
 mode-has P files facts width None good none each = none refl
 mode-has P files facts width (Some text) good none each = by (pieces_of text) refl good.good where
-  by : (r : Result (List Piece) ℕ) → pieces_of text ≡ r → fault_in r ≡ None → P (cells_of_pieces files facts width r)
+  by : (r : Result (List Piece) ℕ) → pieces_of text ≡ r → result_err r ≡ None → P (cells_of_pieces files facts width r)
   by (Ok ps) is h = each text ps good is
   by (Err place) is h = absurd (cc)
 

@@ -1,7 +1,8 @@
 //! The definitions on worked examples. They have no body: what they promise is computed from the definitions.
 ghost use Rattle.std.specs.Prelude.{◌≡◌, ◌∷◌, ◌++◌, [], true, false, None, Some, Ok, Err, pos, codes};
 ghost use Rattle.rd_script.specs.declared.op.Op.TheVariants.{Frame, Insert, TypeText, Split, Point, Start, Scroll, ModeLine, Echo, Redisplay, Shift, Go, Hit, Margin};
-ghost use Rattle.rd_frame.specs.Examples.{inverted, letters};
+ghost use Rattle.rd_frame.specs.Examples.{inverted};
+ghost use Rattle.rd_term.specs.Terminals.{plain_row};
 ghost use Rattle.rd_tree.specs.declared.side.Side.TheVariants.{Right};
 ghost use Rattle.rd_state.specs.Examples.{told};
 ghost use Rattle.rd_state.specs.States.{main_name};
@@ -80,7 +81,7 @@ fn what_is_not_shown_is_not_hit()
 /// moves their starts, so that they show what they showed, at no cost, and the mode lines tell another line and another share.
 #[tactic(auto, unfolding(crate::specs::Screens::laid_out, rd_state::specs::Steps::step, rd_state::specs::Effects::effect_of, rd_tree::specs::Calls::split_tree, rd_tree::specs::Calls::resize_tree, rd_tree::specs::Calls::mode_tree, rd_tree::specs::Calls::margins_tree))]
 fn mode_lines_follow_the_text()
-    ensures text { told (row_of 0) (after (Frame 24 5 ∷ Insert main_name 1 (each_in_a_line (codes "12345678")) ∷ ModeLine 0 (Some (codes "%b %l %p")) ∷ Split 0 Right 12 ∷ Start 0 5 0 ∷ Start 1 5 0 ∷ Point 0 5 ∷ Point 1 5 ∷ Redisplay None ∷ Insert main_name 1 (48 ∷ 10 ∷ []) ∷ [])) ≡ Ok (Some (letters (codes "3          |3           "))) }
+    ensures text { told (row_of 0) (after (Frame 24 5 ∷ Insert main_name 1 (each_in_a_line (codes "12345678")) ∷ ModeLine 0 (Some (codes "%b %l %p")) ∷ Split 0 Right 12 ∷ Start 0 5 0 ∷ Start 1 5 0 ∷ Point 0 5 ∷ Point 1 5 ∷ Redisplay None ∷ Insert main_name 1 (48 ∷ 10 ∷ []) ∷ [])) ≡ Ok (Some (plain_row (codes "3          |3           "))) }
     ensures modes { told (row_of 3) (after (Frame 24 5 ∷ Insert main_name 1 (each_in_a_line (codes "12345678")) ∷ ModeLine 0 (Some (codes "%b %l %p")) ∷ Split 0 Right 12 ∷ Start 0 5 0 ∷ Start 1 5 0 ∷ Point 0 5 ∷ Point 1 5 ∷ Redisplay None ∷ Insert main_name 1 (48 ∷ 10 ∷ []) ∷ [])) ≡ Ok (Some (inverted (codes "main 4 36%  main 4 36%  "))) }
     ensures cost { told allowed (after (Frame 24 5 ∷ Insert main_name 1 (each_in_a_line (codes "12345678")) ∷ ModeLine 0 (Some (codes "%b %l %p")) ∷ Split 0 Right 12 ∷ Start 0 5 0 ∷ Start 1 5 0 ∷ Point 0 5 ∷ Point 1 5 ∷ Redisplay None ∷ Insert main_name 1 (48 ∷ 10 ∷ []) ∷ [])) ≡ Ok 0 }
 {}

@@ -1,7 +1,7 @@
 //! Shifts, choices and updates in worked cases.
 ghost use Rattle.std.specs.Prelude.{◌≡◌, ℕ, [], ◌∷◌, ◌++◌, codes, None, Some, true, false, pos, negsuc};
 ghost use Rattle.rd_term.specs.Pictures.{Picture, blank_row};
-ghost use Rattle.rd_update.specs.Laws.{plain_row};
+ghost use Rattle.rd_term.specs.Terminals.{plain_row};
 ghost use Rattle.rd_lineshift.specs.Shifts.{moved, shifted_rows, shift_bytes};
 ghost use Rattle.rd_lineshift.specs.Choices.{shifts_of, choice};
 ghost use Rattle.rd_lineshift.specs.Plans.{shifted_update};

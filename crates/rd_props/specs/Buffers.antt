@@ -3,10 +3,12 @@ use Rattle.std.specs.Prelude.{ℕ, List, [], get_or, Option, None}
 use Rattle.rd_base.specs.Settings.{SettingValues, opening}
 use Rattle.rd_text.specs.Texts.{TextValue, no_text}
 use Rattle.rd_spans.specs.Values.{value_at}
+use Rattle.rd_ucd.specs.Data.{Data}
 use Rattle.rd_overlays.specs.declared.overlay.Overlay.{Overlay}
 use Rattle.rd_overlays.specs.declared.overlay.Kind.{Kind}
 use Rattle.rd_overlays.specs.Overlays.{place_of}
 use Rattle.rd_props.specs.declared.state.BufferState.{BufferState}
+use Rattle.rd_props.specs.declared.state.View.{View}
 
 -- the text with its accessible range, the values of the text properties by the place of their kind and by position, the overlays
 -- by number, and the settings
@@ -23,6 +25,10 @@ values_of spans kind p = value_at (get_or spans kind []) p
 -- what the parts of a buffer mean
 abbrev pub meaning : BufferState → BufferValue
 meaning s = record { text = s.text; properties = values_of s.spans; overlays = s.overlays; settings = s.settings }
+
+-- the Unicode data of what is looked at
+abbrev pub files_of : View → Data
+files_of view = record { classes = view.classes.now; mirrors = view.mirrors.now; brackets = view.brackets.now }
 
 -- the value of a text property at a position; overlays alone have values of the last two kinds
 abbrev pub property : BufferValue → Kind → ℕ → Option ℕ

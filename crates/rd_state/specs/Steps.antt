@@ -1,10 +1,11 @@
 -- One op: the next state, or the first refusal.
 use Rattle.std.specs.Prelude.{ℕ, ◌+◌, ◌-◌, nat_lt, nat_le, ◌==◌, true, false, is_some, if◌then◌else◌, ℤ, pos, ◌+ℤ◌, neg_ℤ, Option, None, Some, Result, Ok, Err, List, [], ◌∷◌, ◌++◌, length, map, slice_get, slice_set}
 use Rattle.std.specs.Int.{int_min, int_max}
+use Rattle.std.specs.Result.{result_err}
 use Rattle.rd_base.specs.Chars.{raw_code}
 use Rattle.rd_base.specs.declared.limits.TheConstants.{BUFFERS, PENDING_ROWS}
 use Rattle.rd_base.specs.declared.settings.Anchor.{Anchor}
-use Rattle.rd_modeline.specs.Formats.{fault_in, pieces_of}
+use Rattle.rd_modeline.specs.Formats.{pieces_of}
 use Rattle.rd_objects.specs.Things.{ObjectLists}
 use Rattle.rd_script.specs.declared.op.Op.{Op}
 use Rattle.rd_script.specs.declared.op.Op.TheVariants.{Frame, Buffer, Insert, InsertRaw, TypeText, Delete, Narrow, Widen, Put, Overlay as MakeOverlay, OverlayMove, OverlayDrop, OverlayPut, Setting as SetSetting, AddString, AddSpec, AddFace, AddTable, Split, Remove, Select, Show, Point, Start, Scroll, Hscroll, Wrap, ModeLine, Scrolling, Echo, Redisplay, Shift, Go, Hit, Margin, MarginPut}
@@ -150,7 +151,7 @@ held rows = int_max (neg_ℤ (pos PENDING_ROWS)) (int_min (pos PENDING_ROWS) row
 -- the place of the first percent sign in a format that begins no code
 abbrev pub format_fault : Option (List ℕ) → Option ℕ
 format_fault None = None
-format_fault (Some format) = fault_in (pieces_of format)
+format_fault (Some format) = result_err (pieces_of format)
 
 abbrev pub unless_bad : Option ℕ → Result StateValue Refused → Result StateValue Refused
 unless_bad None done = done

@@ -1,6 +1,7 @@
 -- What is true of each state that a session can reach.
 use Rattle.std.specs.Prelude.{◌≡◌, ℕ, ◌+◌, ◌<◌, ◌≤◌, pos, IsTrue, IsSome, IfSome, None, Some, List, length, option_map, slice_get}
 use Rattle.std.specs.FinMap.{get}
+use Rattle.std.specs.Result.{result_err}
 use Rattle.rd_base.specs.declared.limits.TheConstants.{BUFFERS, FRAME_COLUMNS, FRAME_ROWS, HSCROLL_COLUMNS, LEAST_FRAME_COLUMNS, LEAST_FRAME_ROWS, NUMBER_COLUMNS, OVERLAYS, PENDING_ROWS, SCROLL_CONSERVATIVELY, SCROLL_MARGIN, STRING_COLUMNS, TAB_COLUMNS}
 use Rattle.rd_text.specs.Texts.{IsText, IsAccessible}
 use Rattle.rd_overlays.specs.declared.overlay.Overlay.{Overlay}
@@ -10,7 +11,7 @@ use Rattle.rd_objects.specs.Things.{ObjectLists}
 use Rattle.rd_props.specs.Buffers as props
 use Rattle.rd_props.specs.Made.{AreMade}
 use Rattle.rd_tree.specs.Calls as tree
-use Rattle.rd_modeline.specs.Formats.{fault_in, pieces_of}
+use Rattle.rd_modeline.specs.Formats.{pieces_of}
 use Rattle.rd_script.specs.Forms.{is_buffer_name, is_plain_text}
 use Rattle.rd_script.specs.Numbers.{is_near_zero}
 use Rattle.rd_state.specs.declared.window.WindowState.{WindowState}
@@ -60,7 +61,7 @@ pub record AreBuffers (objects : ObjectLists) (buffers : List BufferValue) : Typ
 -- a format of a mode line that is good
 pub record IsGoodFormat (format : List ℕ) : Type 0 where
   pub plain : IsTrue (is_plain_text format)
-  pub good : fault_in (pieces_of format) ≡ None
+  pub good : result_err (pieces_of format) ≡ None
 
 -- a window shows a buffer that was made, its point and the beginning of its view are accessible there, and its numbers are in range
 pub record IsWindow (buffers : List BufferValue) (w : WindowState) : Type 0 where

@@ -126,6 +126,10 @@ obey SetRegion numbers t = set_region numbers t
 abbrev pub cell_of : ℕ → Attributes → Cell
 cell_of code face = if code == 32 then Blank face else First (single code 1) face
 
+-- a row that shows a text of ASCII in the plain face
+abbrev pub plain_row : List ℕ → List Cell
+plain_row text = map (λ code. cell_of code plain) text
+
 -- a character of so many columns, put where the cursor is: it goes on by as many, and at the row's end it stays in the last
 -- column and the wait begins
 abbrev pub put_at : ℕ → ℕ → Attributes → ℕ → ℕ → Tty → Tty

@@ -1,10 +1,10 @@
 //! What the terminal shows in worked cases.
-ghost use Rattle.std.specs.Prelude.{◌≡◌, [], ◌∷◌, ◌++◌, codes, map, Some, None, true, false};
+ghost use Rattle.std.specs.Prelude.{◌≡◌, [], ◌∷◌, ◌++◌, codes, Some, None, true, false};
 ghost use Rattle.rd_base.specs.Cells.{single};
 ghost use Rattle.rd_base.specs.declared.cell.Cell.TheVariants.{First, Rest};
 ghost use Rattle.rd_base.specs.Faces.{plain};
 ghost use Rattle.rd_term.specs.Pictures.{blank, blank_row};
-ghost use Rattle.rd_term.specs.Terminals.{unknown, feed_bytes, show, cell_of, Shows};
+ghost use Rattle.rd_term.specs.Terminals.{unknown, feed_bytes, show, cell_of, plain_row, Shows};
 
 /// A screen of 12 columns and 3 rows after a clear, two rows and a move: the first row is full, the third is blank.
 fn two_rows_are_written()
@@ -12,8 +12,8 @@ fn two_rows_are_written()
         (feed_bytes (unknown 12 3) (27 ∷ codes "[0m" ++ 27 ∷ codes "[2J" ++ 27 ∷ codes "[1;1Habcdefghijk$" ++ 27 ∷ codes "[2;1Hx" ++ 27 ∷ codes "[1;1H"))
         (record {
           rows =
-              map (λ code. cell_of code plain) (codes "abcdefghijk$")
-              ∷ map (λ code. cell_of code plain) (codes "x           ")
+              plain_row (codes "abcdefghijk$")
+              ∷ plain_row (codes "x           ")
               ∷ blank_row 12
               ∷ [];
           row = 0;
@@ -26,7 +26,7 @@ fn a_row_moves_down()
     ensures { Shows
         (feed_bytes (unknown 12 3) (27 ∷ codes "[0m" ++ 27 ∷ codes "[2J" ++ 27 ∷ codes "[1;1Habc" ++ 27 ∷ codes "[1;1H" ++ 27 ∷ codes "[K" ++ 27 ∷ codes "[2;1Habc" ++ 27 ∷ codes "[1;1H"))
         (record {
-          rows = blank_row 12 ∷ map (λ code. cell_of code plain) (codes "abc         ") ∷ blank_row 12 ∷ [];
+          rows = blank_row 12 ∷ plain_row (codes "abc         ") ∷ blank_row 12 ∷ [];
           row = 0;
           column = 0;
         }) }
@@ -108,12 +108,12 @@ fn a_region_moves_up()
         ++ 27 ∷ codes "[1;5r" ++ 27 ∷ codes "[1;1H" ++ 27 ∷ codes "[1M" ++ 27 ∷ codes "[1;6r" ++ 27 ∷ codes "[5;1Hf" ++ 27 ∷ codes "[1;1H"))
         (record {
           rows =
-              map (λ code. cell_of code plain) (codes "b  ")
-              ∷ map (λ code. cell_of code plain) (codes "c  ")
-              ∷ map (λ code. cell_of code plain) (codes "d  ")
-              ∷ map (λ code. cell_of code plain) (codes "e  ")
-              ∷ map (λ code. cell_of code plain) (codes "f  ")
-              ∷ map (λ code. cell_of code plain) (codes "!  ")
+              plain_row (codes "b  ")
+              ∷ plain_row (codes "c  ")
+              ∷ plain_row (codes "d  ")
+              ∷ plain_row (codes "e  ")
+              ∷ plain_row (codes "f  ")
+              ∷ plain_row (codes "!  ")
               ∷ [];
           row = 0;
           column = 0;
@@ -127,11 +127,11 @@ fn an_update_that_stopped_is_gone_on_with()
         ++ 27 ∷ codes "[1;1HXa" ++ 27 ∷ codes "[3;1Hc" ++ 27 ∷ codes "[4;1Hd" ++ 27 ∷ codes "[5;1He" ++ 27 ∷ codes "[1;1H"))
         (record {
           rows =
-              map (λ code. cell_of code plain) (codes "Xa ")
-              ∷ map (λ code. cell_of code plain) (codes "b  ")
-              ∷ map (λ code. cell_of code plain) (codes "c  ")
-              ∷ map (λ code. cell_of code plain) (codes "d  ")
-              ∷ map (λ code. cell_of code plain) (codes "e  ")
+              plain_row (codes "Xa ")
+              ∷ plain_row (codes "b  ")
+              ∷ plain_row (codes "c  ")
+              ∷ plain_row (codes "d  ")
+              ∷ plain_row (codes "e  ")
               ∷ blank_row 3
               ∷ [];
           row = 0;

@@ -1,6 +1,7 @@
 -- The text of a buffer with its accessible range, and how edits change it. Positions count from 1.
 use Rattle.std.specs.Prelude.{◌≡◌, ℕ, ◌+◌, ◌-◌, ◌<◌, ◌≤◌, ◌⊎◌, nat_le, ◌==◌, Bool, true, not, ◌||◌, if◌then◌else◌, Option, None, List, [], ◌++◌, length, take, drop, slice_get, slice_index, slice_range}
 use Rattle.std.specs.List.{count_by, list_all, position_or_len, suffix_len}
+pub use Rattle.std.specs.Char.{is_newline}
 use Rattle.rd_base.specs.declared.limits.TheConstants.{TEXT_CHARACTERS}
 
 -- the characters by their codes, the first accessible position, and one past the last
@@ -54,10 +55,6 @@ narrowed t from to = record { text = t.text; begin = from; end = to }
 -- all of the text accessible
 abbrev pub widened : TextValue → TextValue
 widened t = record { text = t.text; begin = 1; end = length t.text + 1 }
-
--- the character that ends a line
-abbrev pub is_newline : ℕ → Bool
-is_newline c = c == 10
 
 -- the first accessible newline at or after a position, and the end where there is none
 abbrev pub next_newline : TextValue → ℕ → ℕ

@@ -1,11 +1,11 @@
 -- What an update asks of the terminal that reads its bytes, and what it then shows.
-use Rattle.std.specs.Prelude.{◌≡◌, ℕ, ◌<◌, ◌≤◌, true, false, List, length, Option, None, Some, map, slice_index_or}
+use Rattle.std.specs.Prelude.{◌≡◌, ℕ, ◌<◌, ◌≤◌, true, false, List, length, Option, None, Some, slice_index_or}
 use Rattle.rd_base.specs.declared.limits.TheConstants.{FRAME_COLUMNS, FRAME_ROWS}
 use Rattle.rd_base.specs.Faces.{plain}
 use Rattle.rd_base.specs.declared.cell.Cell.{Cell}
 use Rattle.rd_term.specs.Pictures.{Picture, IsGrid, IsOfSize, IsWellFormed}
 use Rattle.rd_base.specs.Cells.{AreColoured}
-use Rattle.rd_term.specs.Terminals.{Tty, known, cell_of}
+use Rattle.rd_term.specs.Terminals.{Tty, known}
 use Rattle.rd_term.specs.declared.reading.Reading.TheVariants.{Between}
 use Rattle.rd_base.specs.Equals.{same_cell}
 use Rattle.rd_update.specs.Updates.{Update, goes_on}
@@ -59,7 +59,3 @@ pub record IsLeastInterval (old new : List Cell) (from to : ℕ) : Type 0 where
   pub holds : HoldsDifferences old new from to
   pub whole : CutsNone old new from to
   pub least : (x y : ℕ) → HoldsDifferences old new x y → CutsNone old new x y → (x ≤ from) × (to ≤ y)
-
--- a row that shows a text of ASCII in the plain face
-abbrev pub plain_row : List ℕ → List Cell
-plain_row text = map (λ code. cell_of code plain) text

@@ -4,9 +4,8 @@ ghost use Rattle.rd_base.specs.Cells.{single};
 ghost use Rattle.rd_base.specs.Faces.{plain};
 ghost use Rattle.rd_base.specs.declared.cell.Cell.TheVariants.{First, Rest};
 ghost use Rattle.rd_term.specs.Pictures.{blank_row};
-ghost use Rattle.rd_term.specs.Terminals.{cell_of};
+ghost use Rattle.rd_term.specs.Terminals.{cell_of, plain_row};
 ghost use Rattle.rd_update.specs.Updates.{update};
-ghost use Rattle.rd_update.specs.Laws.{plain_row};
 
 /// An unknown screen of 12 columns and 3 rows is repainted: a full row, a row of one character, a blank row.
 fn an_unknown_screen_is_repainted()

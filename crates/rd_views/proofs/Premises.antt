@@ -7,7 +7,7 @@ use Rattle.rd_matrix.specs.Blocks.{IsWithin}
 use Rattle.rd_matrix.specs.Sources.{IsSource, SourceValues}
 use Rattle.rd_objects.specs.Things.{ObjectLists}
 use Rattle.rd_props.specs.Buffers as props
-use Rattle.rd_props.specs.Buffers.{meaning}
+use Rattle.rd_props.specs.Buffers.{files_of, meaning}
 use Rattle.rd_props.specs.declared.state.View.{View}
 use Rattle.rd_reuse.specs.Keeping.{AreRight}
 use Rattle.rd_rows.specs.Shapes.{ShapeValues}
@@ -21,7 +21,6 @@ use Rattle.rd_state.specs.declared.window.WindowState.{WindowState}
 use Rattle.rd_text.specs.Texts.{IsAccessible, IsText}
 use Rattle.rd_tree.specs.declared.placed.Placed.{Placed}
 use Rattle.rd_ucd.specs.Data.{Data}
-use Rattle.rd_visual.specs.Motion.{files_of}
 use Rattle.rd_window.specs.Layouts.{IsLaidOut, StandsUnchanged, allowance, change_since, layout_after, older_rows, rests}
 use Rattle.rd_window.specs.declared.again.Laying.{Laying}
 use Rattle.rd_window.specs.declared.layout.Layout.{Layout}

@@ -1,12 +1,11 @@
 //! What a window of a state is laid out from: the view of its buffer, and its shape.
 ghost use Rattle.std.specs.Prelude.{◌≡◌, ◌<◌, length};
 ghost use Rattle.rd_layout.specs.Windows.{window_shape};
-ghost use Rattle.rd_props.specs.Buffers.{meaning};
+ghost use Rattle.rd_props.specs.Buffers.{files_of, meaning};
 ghost use Rattle.rd_state.specs.States.{seen};
 ghost use Rattle.rd_state.specs.Windows.{shown_content};
 ghost use Rattle.rd_tree.specs.Calls.{frame_of};
 ghost use Rattle.rd_tree.specs.Places.{StandsIn};
-ghost use Rattle.rd_visual.specs.Motion.{files_of};
 
 use crate::views::Views;
 use rd_frame::body_width;

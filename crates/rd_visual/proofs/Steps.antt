@@ -9,12 +9,12 @@ use Rattle.std.proofs.lemmas.Option.{slice_get_within}
 use Rattle.rd_ucd.specs.Data.{Data}
 use Rattle.rd_objects.specs.Things.{ObjectLists}
 use Rattle.rd_text.specs.Texts.{IsAccessible}
-use Rattle.rd_props.specs.Buffers.{BufferValue, meaning}
+use Rattle.rd_props.specs.Buffers.{BufferValue, files_of, meaning}
 use Rattle.rd_props.specs.declared.state.View.{View}
 use Rattle.rd_matrix.proofs.HeldLemmas.{later-start}
 use Rattle.rd_matrix.specs.Blocks.{HoldsPosition, IsAmong, StandFrom, block_before, first_start}
 use Rattle.rd_matrix.specs.declared.block.Block.{Block}
-use Rattle.rd_visual.specs.Motion.{base_in, base_of, behind, files_of, first, holds, view_blocks, view_ranges}
+use Rattle.rd_visual.specs.Motion.{base_in, base_of, behind, first, holds, view_blocks, view_ranges}
 use Rattle.rd_visual.specs.Tiles.{CoverOnce}
 use Rattle.rd_visual.specs.Ways.{along, beside, block_beside, entered, opposite, sideways, stepped, way_in}
 use Rattle.rd_visual.specs.declared.range.Range.{Range}

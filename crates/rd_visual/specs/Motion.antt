@@ -3,7 +3,7 @@ use Rattle.std.specs.Prelude.{ℕ, ◌+◌, nat_lt, nat_le, Bool, ◌==◌, ◌&
 use Rattle.std.specs.List.{flat_map}
 use Rattle.rd_ucd.specs.Data.{Data}
 use Rattle.rd_objects.specs.Things.{ObjectLists}
-use Rattle.rd_props.specs.Buffers.{BufferValue, meaning}
+use Rattle.rd_props.specs.Buffers.{BufferValue, files_of, meaning}
 use Rattle.rd_props.specs.Seen.{Seen}
 use Rattle.rd_props.specs.declared.state.View.{View}
 use Rattle.rd_items.specs.Items.{items_of}
@@ -79,10 +79,6 @@ right_of s objects files pos = if base_in s files pos == 0 then forward s object
 
 abbrev pub left_of : BufferValue → ObjectLists → Data → ℕ → Option ℕ
 left_of s objects files pos = if base_in s files pos == 0 then backward s objects files pos else forward s objects files pos
-
--- the Unicode data of what is looked at
-abbrev pub files_of : View → Data
-files_of view = record { classes = view.classes.now; mirrors = view.mirrors.now; brackets = view.brackets.now }
 
 abbrev pub view_ranges : View → Block → List Range
 view_ranges view b = block_ranges (meaning view.state.now) view.objects.now (files_of view) b

@@ -3,8 +3,8 @@ ghost use Rattle.std.specs.Prelude.{◌≡◌, ℕ, IfOk, slice_get, Some};
 ghost use Rattle.rd_text.specs.Texts.{IsAccessible};
 ghost use Rattle.rd_matrix.specs.Blocks.{HoldsPosition, IsAmong};
 ghost use Rattle.rd_matrix.specs.Sources.{IsSource};
-ghost use Rattle.rd_props.specs.Buffers.{meaning};
-ghost use Rattle.rd_visual.specs.Motion.{files_of, left_of, right_of, view_blocks};
+ghost use Rattle.rd_props.specs.Buffers.{files_of, meaning};
+ghost use Rattle.rd_visual.specs.Motion.{left_of, right_of, view_blocks};
 ghost use Rattle.rd_visual.specs.Ways.{block_beside, sideways, stepped};
 
 use crate::laws::ranges_cover_once;

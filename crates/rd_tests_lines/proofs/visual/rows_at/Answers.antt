@@ -1,8 +1,7 @@
 use Rattle.std.proofs.Common.{sym, subst}
 use Rattle.rd_matrix.specs.Blocks.{IsWithin}
 use Rattle.rd_matrix.specs.Sources.{SourceValues}
-use Rattle.rd_props.specs.Buffers.{meaning}
-use Rattle.rd_visual.specs.Motion.{files_of}
+use Rattle.rd_props.specs.Buffers.{files_of, meaning}
 use Rattle.rd_tests_lines.proofs.visual.rows_at.Goals as goal
 
 pub block_of-requires : goal.block_of-requires

@@ -2,8 +2,8 @@ use Rattle.std.proofs.Common.{◌∙◌, sym, subst}
 use Rattle.std.proofs.lemmas.Result.{IfOk-weaker}
 use Rattle.rd_matrix.specs.Blocks.{HoldsPosition, IsWithin, StandFrom, first_start}
 use Rattle.rd_matrix.specs.Sources.{SourceValues}
-use Rattle.rd_props.specs.Buffers.{meaning}
-use Rattle.rd_visual.specs.Motion.{files_of, view_blocks}
+use Rattle.rd_props.specs.Buffers.{files_of, meaning}
+use Rattle.rd_visual.specs.Motion.{view_blocks}
 use Rattle.rd_visual.proofs.Steps.{base-holds, side-step}
 use Rattle.rd_visual.proofs.motion.sideways.Goals as goal
 

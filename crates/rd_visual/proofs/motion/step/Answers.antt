@@ -1,6 +1,5 @@
 use Rattle.std.proofs.Common.{◌∙◌, sym, ap}
-use Rattle.rd_props.specs.Buffers.{meaning}
-use Rattle.rd_visual.specs.Motion.{files_of}
+use Rattle.rd_props.specs.Buffers.{files_of, meaning}
 use Rattle.rd_visual.specs.Ways.{entered}
 use Rattle.rd_visual.proofs.Steps.{goes-beside, goes-nowhere, goes-on}
 use Rattle.rd_visual.proofs.motion.step.Goals as goal

@@ -5,8 +5,8 @@ use Rattle.rd_items.specs.Pieces.{scene_of}
 use Rattle.rd_items.specs.Readings.{reading}
 use Rattle.rd_items.specs.declared.item.Item.{Item}
 use Rattle.rd_matrix.specs.declared.block.Block.{Block}
-use Rattle.rd_props.specs.Buffers.{meaning}
-use Rattle.rd_visual.specs.Motion.{files_of, view_blocks}
+use Rattle.rd_props.specs.Buffers.{files_of, meaning}
+use Rattle.rd_visual.specs.Motion.{view_blocks}
 use Rattle.rd_visual.proofs.Counts.{items-fit, start-in}
 use Rattle.rd_visual.proofs.Listing.{ranges-same}
 use Rattle.rd_visual.proofs.ranges.ranges_of.Goals as goal

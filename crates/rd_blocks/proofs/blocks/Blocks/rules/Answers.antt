@@ -1,5 +1,5 @@
 use Rattle.std.proofs.Common.{subst}
-use Rattle.rd_props.specs.Buffers.{meaning}
+use Rattle.rd_props.specs.Buffers.{files_of, meaning}
 use Rattle.rd_props.specs.declared.state.View.{View}
 use Rattle.rd_matrix.specs.Sources.{IsSource}
 use Rattle.rd_blocks.specs.Sources.{source_of}
@@ -9,4 +9,4 @@ pub returns : goal.returns
 returns c =
     let x = c.self.inside.view in
     subst (λ (w : View). IsSource (source_of w)) c.self.view_is
-    (c.buffers_are_sources.ensures (meaning x.state.now) x.objects.now (record { classes = x.classes.now; mirrors = x.mirrors.now; brackets = x.brackets.now }) c.begin-begin.ensures.right)
+    (c.buffers_are_sources.ensures (meaning x.state.now) x.objects.now (files_of x) c.begin-begin.ensures.right)

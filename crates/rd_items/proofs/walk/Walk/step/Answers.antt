@@ -1,5 +1,5 @@
 use Rattle.std.proofs.Common.{true, false, sym, ◌∙◌}
-use Rattle.rd_props.specs.Buffers.{meaning}
+use Rattle.rd_props.specs.Buffers.{files_of, meaning}
 use Rattle.rd_items.specs.Walks.{whole}
 use Rattle.rd_items.proofs.Steps.{IsStep, is-ender, step-ends, step-goes}
 use Rattle.rd_items.proofs.walk.Walk.step.Goals.{After-ends_block}
@@ -7,8 +7,7 @@ use Rattle.rd_items.proofs.walk.Walk.step.Goals as goal
 
 -- the step that was made
 made : (c : goal.After-ends_block) → IsStep
-    (meaning c.args.view.now.state.now) c.args.view.now.objects.now
-    (record { classes = c.args.view.now.classes.now; mirrors = c.args.view.now.mirrors.now; brackets = c.args.view.now.brackets.now })
+    (meaning c.args.view.now.state.now) c.args.view.now.objects.now (files_of c.args.view.now)
     c.args.start c.args.pos c.in_ok-to.to c.in_ok-showing.showing c.piece_at.result
     (whole c.args.self.now.items c.args.self.now.since c.args.self.now.held)
     (whole c.enter.new.self.items c.enter.new.self.since c.enter.new.self.held)
