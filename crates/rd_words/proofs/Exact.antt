@@ -4,14 +4,15 @@ use Rattle.std.specs.Prelude.{if◌then◌else◌, option_and_then, codes}
 use Rattle.std.specs.Option.{option_map_or}
 use Rattle.std.specs.Str.{bytes_eq}
 use Rattle.clap.proofs.FaultLemmas.{leaf_fault}
+use Rattle.clap.proofs.SimpleLemmas.{is_nil}
 use Rattle.clap.specs.Kinds.{Kinds}
 use Rattle.clap.specs.Lexer.{long_of}
-use Rattle.clap.specs.Walk.{Held, Row, Rule, arg_by_id, arg_by_long, nothing_held, reacted, settled, used, walk_from}
+use Rattle.clap.specs.Walk.{Held, Row, Rule, arg_by_id, arg_by_long, is_empty, nothing_held, reacted, settled, used, walk_from}
 use Rattle.clap.specs.Simple.{built, matches_of}
 use Rattle.clap.specs.Faults.{fault_of, react_fault, settle_fault, use_fault}
 use Rattle.rd_words.specs.Words.{Text, Setting, dump, name_of, named, has_value, Use, with_use, begun, last, uses_from, fits, is_flag, WordValues, values_from, values_of}
-use Rattle.rd_words.specs.Command.{command, values_of_rows}
-use Rattle.rd_words.proofs.WordByWord.{awaiting, at_end, held, is_none, later, met, outcome, outcome-is, outcome-word, rule, shape, unless, unless-first, waits}
+use Rattle.rd_words.specs.Command.{command, unless, values_of_rows}
+use Rattle.rd_words.proofs.WordByWord.{awaiting, at_end, held, later, met, outcome, outcome-is, outcome-word, rule, shape, unless-first, waits}
 use Rattle.rd_words.proofs.Uses.{ended-is, flag-fits, flag-used, named-is, rows, value-fits, value-used}
 
 -- what uses say behind these
@@ -27,23 +28,24 @@ after-use us u None = go (fits us u)
 after-use us u (Some vs) = refl
 
 -- where a use fits what is behind it counts, and nothing where it does not
-unless-fits : (k : Kinds) (b : Bool) (x y : Option WordValues) → is_none k ≡ b → (b ≡ true → x ≡ y) → unless k x ≡ (if b then y else None)
-unless-fits k true x y e h = rw e (h refl)
-unless-fits k false x y e h = rw e refl
+unless-fits : (k : Kinds) (b : Bool) (x y : Option WordValues) → is_empty k ≡ b → (b ≡ true → x ≡ y) → unless k x ≡ (if b then y else None)
+unless-fits k true x y e h = rw (is_nil k e) (h refl)
+unless-fits [] false x y e h = cc
+unless-fits (k ∷ ks) false x y e h = refl
 
 -- the option of a setting, by its name
 by_name : (s : Setting) → arg_by_id shape.rules (name_of s) ≡ Some (rule s)
 by_name dump = refl
 by_name s = refl
 
-unsettled : (us : List Use) (s : Setting) → has_value s ≡ true → is_none (settle_fault shape.rules false (held (rows us) (Some (name_of s, [])))) ≡ false
+unsettled : (us : List Use) (s : Setting) → has_value s ≡ true → is_empty (settle_fault shape.rules false (held (rows us) (Some (name_of s, [])))) ≡ false
 unsettled us dump e = cc
 unsettled us s e = refl
 
 pending-fits : (us : List Use) (s : Setting) (v : Text) → has_value s ≡ true
-    → is_none (settle_fault shape.rules false (held (rows us) (Some (name_of s, v ∷ [])))) ≡ fits us (s, v)
+    → is_empty (settle_fault shape.rules false (held (rows us) (Some (name_of s, v ∷ [])))) ≡ fits us (s, v)
 pending-fits us s v e =
-    ap (λ (a : Option Rule). is_none (option_map_or (λ a. use_fault false a (v ∷ []) (rows us)) a [])) (by_name s) ∙ value-fits us s v e
+    ap (λ (a : Option Rule). is_empty (option_map_or (λ a. use_fault false a (v ∷ []) (rows us)) a [])) (by_name s) ∙ value-fits us s v e
 
 pending-used : (us : List Use) (s : Setting) (v : Text) → has_value s ≡ true → fits us (s, v) ≡ true
     → settled shape.rules (held (rows us) (Some (name_of s, v ∷ []))) ≡ held (rows (us ++ (s, v) ∷ [])) None
@@ -64,7 +66,7 @@ pending us s v words e =
     (λ f. ap (λ (h : Held). outcome (walk_from h) words) (pending-used us s v e f))
 
 -- a use in one word
-used-once : (us : List Use) (a : Rule) (vs : List Text) (u : Use) (words : List Text) → is_none (use_fault false a vs (rows us)) ≡ fits us u
+used-once : (us : List Use) (a : Rule) (vs : List Text) (u : Use) (words : List Text) → is_empty (use_fault false a vs (rows us)) ≡ fits us u
     → (fits us u ≡ true → used a vs (rows us) ≡ rows (us ++ u ∷ []))
     → unless (react_fault shape.rules false a vs (held (rows us) None)) (outcome (walk_from (reacted shape.rules a vs (held (rows us) None))) words)
     ≡ (if fits us u then start (us ++ u ∷ []) words else None)

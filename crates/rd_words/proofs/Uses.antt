@@ -19,8 +19,8 @@ use Rattle.clap.specs.declared.error.kind.ErrorKind.TheVariants as kind
 use Rattle.clap.specs.declared.parser.matches.ValueSource.TheVariants.{CommandLine, DefaultValue}
 use Rattle.rd_base.proofs.Lists.{none-found}
 use Rattle.rd_words.specs.Words.{Text, Setting, class_file, mirror_file, bracket_file, generate, dump, settings, name_of, named, has_value, Use, is_of, is_true, is_used, is_in_form, is_number, value_of, fits, values_by, values_in}
-use Rattle.rd_words.specs.Command.{values_of_rows}
-use Rattle.rd_words.proofs.WordByWord.{ended, held, is_none, rule, shape, unless}
+use Rattle.rd_words.specs.Command.{unless, values_of_rows}
+use Rattle.rd_words.proofs.WordByWord.{ended, held, rule, shape}
 
 -- the row of a use
 abbrev pub row : Use → Row
@@ -49,17 +49,17 @@ named-is name =
 
 -- ---- one use
 
-kinds-fit : (again good : Bool) (p q : ErrorKind) → is_none (or_else (if again && true then p ∷ [] else []) (or_else (if good then [] else q ∷ []) [])) ≡ (not again && good)
+kinds-fit : (again good : Bool) (p q : ErrorKind) → is_empty (or_else (if again && true then p ∷ [] else []) (or_else (if good then [] else q ∷ []) [])) ≡ (not again && good)
 kinds-fit true good p q = refl
 kinds-fit false true p q = refl
 kinds-fit false false p q = refl
 
-pub value-fits : (us : List Use) (s : Setting) (v : Text) → has_value s ≡ true → is_none (use_fault false (rule s) (v ∷ []) (rows us)) ≡ fits us (s, v)
+pub value-fits : (us : List Use) (s : Setting) (v : Text) → has_value s ≡ true → is_empty (use_fault false (rule s) (v ∷ []) (rows us)) ≡ fits us (s, v)
 value-fits us dump v e = cc
 value-fits us generate v e = rw (has_row-is us generate) (kinds-fit (is_used generate us) (is_number v) kind.ArgumentConflict kind.ValueValidation)
 value-fits us s v e = rw (has_row-is us s) (kinds-fit (is_used s us) true kind.ArgumentConflict kind.ValueValidation)
 
-pub flag-fits : (us : List Use) → is_none (use_fault false (rule dump) [] (rows us)) ≡ fits us (dump, codes "true")
+pub flag-fits : (us : List Use) → is_empty (use_fault false (rule dump) [] (rows us)) ≡ fits us (dump, codes "true")
 flag-fits us = rw (has_row-is us dump) (kinds-fit (is_used dump us) true kind.ArgumentConflict kind.InvalidValue)
 
 at_row-absent : (id : Text) (change : Row → List Row) (missing rs : List Row) → has_row id rs ≡ false → at_row id change missing rs ≡ rs ++ missing

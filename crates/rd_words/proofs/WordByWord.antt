@@ -6,13 +6,13 @@ use Rattle.std.specs.Option.{option_map_or}
 use Rattle.std.specs.Str.{bytes_eq, chars}
 use Rattle.clap.specs.Lexer.{long_of, long_of_rest, short_of, short_of_rest, strip_byte}
 use Rattle.clap.specs.Kinds.{Kinds, or_else}
-use Rattle.clap.specs.Walk.{Held, Outcome, Row, Rule, Step, Walk, after_flag, after_step, bundle_met, bundle_step, finished, flag_met, idle, long_met, long_or_other, option, option_met, plain, plain_word, reacted, settled, settled_rows, short_or_plain, takes_values, trailing, walk_from, walked}
+use Rattle.clap.specs.Walk.{Held, Outcome, Row, Rule, Step, Walk, after_flag, after_step, bundle_met, bundle_step, finished, flag_met, idle, is_empty, long_met, long_or_other, option, option_met, plain, plain_word, reacted, settled, settled_rows, short_or_plain, takes_values, trailing, walk_from, walked}
 use Rattle.clap.specs.Walk.{arg_by_long}
 use Rattle.clap.specs.Simple.{Shape, built, filled}
 use Rattle.clap.specs.Faults.{bundle_fault, bundle_step_fault, check_fault, defaults_fault, flag_word_fault, flags_fault, long_fault, option_fault, react_fault, settle_fault, step_fault, turn_fault, walk_fault}
 use Rattle.clap.specs.declared.error.kind.ErrorKind.TheVariants as kind
 use Rattle.rd_words.specs.Words.{Text, Setting, WordValues, is_flag}
-use Rattle.rd_words.specs.Command.{asked, command, values_of_rows}
+use Rattle.rd_words.specs.Command.{asked, command, unless, values_of_rows}
 
 -- the command as it is built
 abbrev pub shape : Shape
@@ -20,13 +20,6 @@ shape = (built command).top
 
 abbrev pub rule : Setting → Rule
 rule s = filled (asked s)
-
-abbrev pub is_none : Kinds → Bool
-is_none [] = true
-is_none (k ∷ ks) = false
-
-abbrev pub unless : Kinds → Option WordValues → Option WordValues
-unless kinds value = if is_none kinds then value else None
 
 abbrev pub held : List Row → Option (Text × List Text) → Held
 held rows pending = record { rows = rows; pending = pending; skip = 0 }
@@ -51,13 +44,13 @@ pub unless-or : (a b : Kinds) (x : Option WordValues) → unless (or_else a b) x
 unless-or [] b x = refl
 unless-or (k ∷ ks) b x = refl
 
-pub unless-first : (a b : Kinds) (x : Option WordValues) → is_none a ≡ false → unless (or_else a b) x ≡ None
+pub unless-first : (a b : Kinds) (x : Option WordValues) → is_empty a ≡ false → unless (or_else a b) x ≡ None
 unless-first [] b x e = cc
 unless-first (k ∷ ks) b x e = refl
 
-none-first : (a b : Kinds) → is_none a ≡ false → is_none (or_else a b) ≡ false
+none-first : (a b : Kinds) → is_empty a ≡ false → is_empty (or_else a b) ≡ false
 none-first [] b e = cc
-none-first (k ∷ ks) b e = refl
+none-first (k ∷ ks) b e = e
 
 or_else-nil : (a : Kinds) → or_else a [] ≡ a
 or_else-nil [] = refl
@@ -279,20 +272,20 @@ module _ (rows : List Row) (id : Text) (word : Text) (rest : List Text) where
   waits_split = split (bytes_eq word (45 ∷ 45 ∷ [])) (long_of word)
 
   -- the option has no value yet, and takes the word
-  module _ (unsettled : is_none (settle_fault shape.rules false waiting_held) ≡ false)
+  module _ (unsettled : is_empty (settle_fault shape.rules false waiting_held) ≡ false)
       (takes : after_word waiting_walk word rest [] (plain_word shape.rules (option id) word waiting_held) ≡ outcome (walk_from (held rows (Some (id, word ∷ [])))) rest) where
     waits_dashes : (words : List Text) → outcome (trailing_at waiting_walk) words ≡ None
     waits_dashes [] = unless-first (settle_fault shape.rules false waiting_held) _ _ unsettled
     waits_dashes (w ∷ ws) = refl
 
     refused_kind : (a : Rule) (v : Option Text) (t : Bool)
-        → is_none (if t then option_fault shape.rules false a v waiting_held else (if is_some v then kind.TooManyValues ∷ [] else react_fault shape.rules false a [] waiting_held)) ≡ false
+        → is_empty (if t then option_fault shape.rules false a v waiting_held else (if is_some v then kind.TooManyValues ∷ [] else react_fault shape.rules false a [] waiting_held)) ≡ false
     refused_kind a (Some v) true = none-first (settle_fault shape.rules false waiting_held) _ unsettled
     refused_kind a None true = unsettled
     refused_kind a (Some v) false = refl
     refused_kind a None false = none-first (settle_fault shape.rules false waiting_held) _ unsettled
 
-    refused_long : (a : Option Rule) (v : Option Text) → is_none (long_fault shape.rules false a v waiting_held) ≡ false
+    refused_long : (a : Option Rule) (v : Option Text) → is_empty (long_fault shape.rules false a v waiting_held) ≡ false
     refused_long None v = refl
     refused_long (Some a) v = refused_kind a v (takes_values a)
 

@@ -51,13 +51,13 @@ values_of_rows rows =
     (first_of (name_of generate) rows) (is_true (first_of (name_of dump) rows))
 
 -- what is said where there is no fault to tell
-abbrev pub without_fault : Kinds → Option WordValues → Option WordValues
-without_fault [] said = said
-without_fault (kind ∷ kinds) said = None
+abbrev pub unless : Kinds → Option WordValues → Option WordValues
+unless [] said = said
+unless (kind ∷ kinds) said = None
 
 -- what `clap` makes of the words: what its matches say, where it has no fault to tell
 abbrev pub values_by_clap : List Text → Option WordValues
-values_by_clap words = without_fault (faults_of command words) (values_of_rows (matches_of command words))
+values_by_clap words = unless (faults_of command words) (values_of_rows (matches_of command words))
 
 -- the words as texts
 abbrev pub texts : List (String Global) → List Text
@@ -72,7 +72,7 @@ meaning words = record {
   dumps = words.dumps;
 }
 
--- what an error of this kind is
+-- the fault that an error of `clap` is: want of memory, or faulty words
 abbrev pub fault_of : ErrorKind → WordsFault
 fault_of OutOfMemory = Memory
 fault_of kind = Usage
