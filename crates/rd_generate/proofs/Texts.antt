@@ -2,6 +2,7 @@
 use Rattle.std.proofs.Common.{◌≡◌, append-nil, ℕ, zero, suc, ◌+◌, ◌*◌, ◌%◌, List, [], ◌∷◌, ◌++◌, refl, sym, ap, ◌∙◌, arith, append_assoc, replicate, get_or, codes}
 use Rattle.std.specs.Char.{encode_utf8}
 use Rattle.std.specs.List.{flat_map, range_with_len}
+use Rattle.std.proofs.lemmas.Grind.{flat_map-append}
 use Rattle.std.proofs.lemmas.List.{flat_map_more, replicate_more}
 use Rattle.rd_base.proofs.Lists.{range-more}
 use Rattle.rd_generate.specs.Generated.{after, choice, templates, number, text_line, lines_from, spelled, spelling, hundred, insertion, hundreds, shown, redisplay}
@@ -21,11 +22,6 @@ shown-more op old now between new n was first second =
     second ∙ (ap (λ l. l ++ redisplay ∷ []) first ∙ (append_assoc now (op ∷ []) (redisplay ∷ []) ∙ (ap (λ l. l ++ op ∷ redisplay ∷ []) was
     ∙ (flat_map_more f old (replicate n op) op ∙ ap (λ xs. old ++ flat_map f xs) (replicate_more n op)))))
 
--- a spelled text is spelled piece by piece
-spelling-append : (xs ys : List ℕ) → spelling (xs ++ ys) ≡ spelling xs ++ spelling ys
-spelling-append [] ys = refl
-spelling-append (x ∷ xs) ys = ap (λ l. spelled x ++ l) (spelling-append xs ys) ∙ sym (append_assoc (spelled x) (spelling xs) (spelling ys))
-
 spelled-spaces : (n : ℕ) → spelling (replicate n 32) ≡ replicate n 32
 unfolding encode_utf8
 spelled-spaces zero = refl
@@ -43,8 +39,8 @@ line-pieces k x template old spaced chosen new first is second third =
     let letters : List ℕ = get_or templates (choice x) [] in
     let end : List ℕ = 10 ∷ [] in
     let whole : spelling ((spaces ++ letters) ++ end) ≡ (spaces ++ template) ++ codes "\\n" =
-    spelling-append (spaces ++ letters) end
-    ∙ ap (λ l. l ++ codes "\\n") (spelling-append spaces letters ∙ (ap (λ l. l ++ spelling letters) (spelled-spaces (2 * (k % 5))) ∙ ap (λ l. spaces ++ l) (sym is))) in
+    flat_map-append spelled (spaces ++ letters) end
+    ∙ ap (λ l. l ++ codes "\\n") (flat_map-append spelled spaces letters ∙ (ap (λ l. l ++ spelling letters) (spelled-spaces (2 * (k % 5))) ∙ ap (λ l. spaces ++ l) (sym is))) in
     glue old (spaces ++ template) (codes "\\n") chosen new third (glue old spaces template spaced chosen second first) ∙ ap (λ l. old ++ l) (sym whole)
 
 -- one more line of a text was added
@@ -56,7 +52,7 @@ lines-more k x n old now new was is =
     let whole : lines_from k x n ++ line ≡ lines_from k x (n + 1) =
     flat_map_more (λ i. text_line (k + i) (number x (i + 1))) [] (range_with_len 0 n) n ∙ ap (flat_map (λ i. text_line (k + i) (number x (i + 1)))) (range-more 0 n n (omega arith)) in
     is ∙ (ap (λ l. l ++ spelling line) was ∙ (append_assoc old (spelling (lines_from k x n)) (spelling line)
-    ∙ ap (λ l. old ++ l) (sym (spelling-append (lines_from k x n) line) ∙ ap spelling whole)))
+    ∙ ap (λ l. old ++ l) (sym (flat_map-append spelled (lines_from k x n) line) ∙ ap spelling whole)))
 
 -- the numbers behind a later one
 number-later : (seed m n : ℕ) → number (number seed m) n ≡ number seed (m + n)
