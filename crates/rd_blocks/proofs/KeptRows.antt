@@ -14,7 +14,7 @@ use Rattle.rd_text.specs.Texts.{IsText}
 use Rattle.rd_ucd.specs.Data.{Data}
 use Rattle.rd_objects.specs.Things.{ObjectLists}
 use Rattle.rd_props.specs.Buffers.{BufferValue}
-use Rattle.rd_items.specs.Blocks.{AreListed, IsBlock}
+use Rattle.rd_items.specs.Blocks.{IsBlock, ListedLaw}
 use Rattle.rd_items.specs.Pieces.{scene_in}
 use Rattle.rd_items.specs.Readings.{reading}
 use Rattle.rd_matrix.proofs.Counting.{behind-first, ends-alone}
@@ -151,7 +151,7 @@ is-under es c start n e found =
 
 -- what lower layers promise, and what this one does
 pub record FreshLaws : Type 0 where
-  pub listed : (s : BufferValue) → s.text.begin ≤ s.text.end → AreListed s
+  pub listed : ListedLaw
   pub source : (s : BufferValue) (objects : ObjectLists) (files : Data) → IsText s.text → IsSource (text_source s objects files)
   pub read : ReadLaw
 

@@ -10,7 +10,7 @@ use Rattle.rd_ucd.specs.declared.spans.Span.{Span}
 use Rattle.rd_objects.specs.Things.{ObjectLists}
 use Rattle.rd_props.specs.Buffers.{BufferValue}
 use Rattle.rd_props.specs.Seen.{Seen}
-use Rattle.rd_items.specs.Blocks.{blocks_of, Adjoin, AreListed, IsBlock}
+use Rattle.rd_items.specs.Blocks.{blocks_of, Adjoin, IsBlock, ListedLaw}
 use Rattle.rd_items.specs.Readings.{reading, IsReading}
 use Rattle.rd_items.specs.Pieces.{Scene, scene_in}
 use Rattle.rd_items.specs.Items.{items_of}
@@ -38,7 +38,7 @@ use Rattle.rd_blocks.proofs.Quiet.{PrefixesOpen, quiet-cutting}
 pub record Lower : Type 0 where
   pub items : ItemsGive
   pub prefixes : PrefixesOpen
-  pub listed : (s : BufferValue) → s.text.begin ≤ s.text.end → AreListed s
+  pub listed : ListedLaw
   pub read : (s : BufferValue) (objects : ObjectLists) (p : ℕ) → p ≤ s.text.end → IsReading s.settings.invisible (reading s objects p)
   pub size : (s : BufferValue) (objects : ObjectLists) (from to : ℕ) → IsBlock s from to → from + length (reading s objects from) ≡ to
   pub cover : (scene : Scene) (es : List Seen) → IsReading scene.parts.settings.invisible es → CoverBlock scene 0 (length es) (items_of scene es)

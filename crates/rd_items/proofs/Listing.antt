@@ -5,7 +5,7 @@ use Rattle.std.proofs.lemmas.Bool.{both_ways, cases_lt}
 use Rattle.std.proofs.lemmas.Option.{same_Some}
 use Rattle.rd_props.specs.Buffers.{BufferValue}
 use Rattle.rd_items.specs.Readings.{ends_block}
-use Rattle.rd_items.specs.Blocks.{blocks_from, blocks_of, Adjoin, is_shown_newline, StartsBlock, EndsBlock, IsBlock, AreListed}
+use Rattle.rd_items.specs.Blocks.{blocks_from, blocks_of, Adjoin, is_shown_newline, StartsBlock, EndsBlock, IsBlock, ListedLaw}
 use Rattle.rd_items.proofs.Newlines.{AreInside, both-inside, one-inside}
 use Rattle.rd_items.proofs.Readings.{newline-ends}
 
@@ -135,7 +135,7 @@ adjoining s (suc n) start p low far =
       by-end false next more = more
 
 -- each of the list is a block, and each block is listed
-pub blocks-listed : (s : BufferValue) → s.text.begin ≤ s.text.end → AreListed s
+pub blocks-listed : ListedLaw
 blocks-listed s ordered = record { blocks = blocks; every = every; adjoin = adjoin } where
   blocks : AreBlocks s (blocks_of s)
   blocks = are-blocks s (s.text.end - s.text.begin) s.text.begin s.text.begin

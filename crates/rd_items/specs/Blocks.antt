@@ -67,3 +67,7 @@ pub record AreListed (s : BufferValue) : Type 0 where
   pub blocks : (k : ℕ) (b : ℕ × ℕ) → slice_get (blocks_of s) k ≡ Some b → IsBlock s b.0 b.1
   pub every : (from to : ℕ) → IsBlock s from to → (k : ℕ) × (slice_get (blocks_of s) k ≡ Some (from, to))
   pub adjoin : Adjoin s.text.begin (s.text.end + 1) (blocks_of s)
+
+-- where the accessible range is in order, the blocks of the buffer are those of its list
+abbrev pub ListedLaw : Type 0
+ListedLaw = (s : BufferValue) → s.text.begin ≤ s.text.end → AreListed s

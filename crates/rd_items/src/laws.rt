@@ -8,7 +8,7 @@ ghost use Rattle.rd_props.specs.Buffers.{BufferValue};
 ghost use Rattle.rd_props.specs.Made.{AreMade, SettingsMade};
 ghost use Rattle.rd_props.specs.Seen.{Seen};
 ghost use Rattle.rd_items.specs.Readings.{reading, IsReading, HaveCodes};
-ghost use Rattle.rd_items.specs.Blocks.{AreListed, IsBlock};
+ghost use Rattle.rd_items.specs.Blocks.{IsBlock, ListedLaw};
 ghost use Rattle.rd_items.specs.Pieces.{Scene, table_in, scene_in};
 ghost use Rattle.rd_items.specs.Items.{items_of, AreMeasuredItems};
 ghost use Rattle.rd_items.specs.Covers.{CoverBlock};
@@ -17,10 +17,10 @@ ghost use Rattle.rd_items.specs.Growing.{ReadsMade, ShowMade, GoesOnFrom};
 use rd_glyphs::marks_join_measured_glyphs;
 use rd_props::made_objects_alone_are_seen;
 
-/// The blocks of a text are those of its list, which stand one behind the other from the beginning of the accessible text to its
-/// end, which counts as a position. The call does nothing.
+/// Where the accessible range of a text is in order, its blocks are those of its list, which stand one behind the other from the
+/// beginning of the accessible text to its end, which counts as a position. The call does nothing.
 pub fn blocks_are_listed()
-    ensures { (s : BufferValue) → s.text.begin ≤ s.text.end → AreListed s }
+    ensures { ListedLaw }
 {}
 
 /// What is read from an accessible position on, the end of the accessible text included, ends with its ender and has none before,

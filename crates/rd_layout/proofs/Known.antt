@@ -191,6 +191,10 @@ stays-session laws v op t session form is = record {
 pub opened-session : (files : Data) → IsValid opening → IsSession (opened files)
 opened-session files valid = record { state = valid; screen = tt; made = λ number l h. absurd (cc); layouts = λ number w l hw hl. absurd (cc) }
 
+-- a session whose screen is unknown
+pub forgotten-session : (v : SessionValue) → IsSession v → IsSession (record v { current = None })
+forgotten-session v s = record { state = s.state; screen = tt; made = s.made; layouts = s.layouts }
+
 found-window : (s t : StateValue) (window : ℕ) (f : WindowState → Result StateValue Refused) → in_window s window f ≡ Ok t → (w : WindowState) × (f w ≡ Ok t)
 found-window s t window f h =
     let Found : StateValue → Type 0 = λ u. (w : WindowState) × (f w ≡ Ok u) in

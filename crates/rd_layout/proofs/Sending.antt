@@ -11,6 +11,7 @@ use Rattle.rd_blocks.specs.Kept.{AreRowsAt}
 use Rattle.rd_blocks.specs.Leads.{LeadsTo}
 use Rattle.rd_blocks.specs.Sources.{text_source}
 use Rattle.rd_lineshift.specs.Choices.{AreWithin}
+use Rattle.rd_lineshift.specs.Laws.{ShiftLaw}
 use Rattle.rd_lineshift.specs.Plans.{shifted_update}
 use Rattle.rd_lineshift.specs.declared.band.Band.{Band}
 use Rattle.rd_matrix.specs.Entries.{shown_entries}
@@ -34,11 +35,11 @@ use Rattle.rd_state.specs.Valid.{IsValid, IsWindow}
 use Rattle.rd_state.specs.Windows.{content_in, shown_content, window_of}
 use Rattle.rd_state.specs.declared.window.WindowState.{WindowState}
 use Rattle.rd_term.specs.Pictures.{IsOfSize, IsScreen, Picture}
-use Rattle.rd_term.specs.Terminals.{Tty, feed_bytes, known, unknown}
+use Rattle.rd_term.specs.Terminals.{Tty, known, unknown}
 use Rattle.rd_term.proofs.Shapes.{grid-known}
 use Rattle.rd_tree.specs.declared.placed.Placed.{Placed}
 use Rattle.rd_ucd.specs.Data.{Data}
-use Rattle.rd_update.specs.Laws.{AtFrame, IsReady, IsSound, IsUpdated}
+use Rattle.rd_update.specs.Laws.{AtFrame, IsReady, IsSound}
 use Rattle.rd_update.proofs.Sizes.{is-screen, one-size}
 use Rattle.rd_update.specs.Plans.{HaveOneSize}
 use Rattle.rd_window.specs.Layouts.{IsLaidOut, Stands}
@@ -60,8 +61,7 @@ use Rattle.rd_layout.proofs.Settling.{is-shape, point-within, shown-right, state
 -- what the layers below say
 pub record SendLaws : Type 0 where
   pub views : ViewLaws
-  pub read : (width height : ℕ) (current : Option Picture) (target : Picture) (bands : List Band) (limit : Option ℕ) (t : Tty) → IsReady width height current target t → AreWithin height bands
-      → IsUpdated width height (shifted_update current target bands limit) target (feed_bytes t (shifted_update current target bands limit).bytes)
+  pub read : ShiftLaw
   pub sound : (current : Option Picture) (target : Picture) (bands : List Band) (limit : Option ℕ) → HaveOneSize current target → IfSome current (λ screen. IsScreen screen × IsSound screen)
       → AreWithin (length target.rows) bands → IsSound target → IsSound (shifted_update current target bands limit).screen
   pub rows : (m : SourceValues) (shape : ShapeValues) (rows : List Entry) (first height : ℕ) → shown_entries rows ≡ take height (drop first (rows_at m shape)) → AreRowsAt m shape rows

@@ -42,7 +42,7 @@ then_done r op = then_by taken r op
 abbrev pub after_all : Result SessionValue Refused → List Op → Result SessionValue Refused
 after_all r ops = all_by taken r ops
 
--- In it digits have their class, and the letters r and t are read from the right
+-- the session after ops, over data files by which digits have their class, and the letters r and t are read from the right
 abbrev pub after : List Op → Result SessionValue Refused
 after ops = after_all (Ok (opened files)) ops
 

@@ -1,5 +1,5 @@
 -- Redisplay from nothing: what the rules give for a state, whatever was laid out before.
-use Rattle.std.specs.Prelude.{ℕ, false, pos, Option, None, Some, [], map}
+use Rattle.std.specs.Prelude.{ℕ, Option, None, Some, [], map}
 use Rattle.rd_base.specs.Faces.{plain}
 use Rattle.rd_ucd.specs.Data.{Data}
 use Rattle.rd_frame.specs.Frames.{FrameValues, frame_picture}
@@ -7,6 +7,7 @@ use Rattle.rd_frame.specs.Panes.{PaneValues, border_cell}
 use Rattle.rd_glyphs.specs.Lines.{plain_cells}
 use Rattle.rd_matrix.specs.Cursors.{cursor_in}
 use Rattle.rd_state.specs.States.{StateValue}
+use Rattle.rd_state.specs.Steps.{settled_window}
 use Rattle.rd_state.specs.Windows.{window_of}
 use Rattle.rd_state.specs.declared.window.WindowState.{WindowState}
 use Rattle.rd_term.specs.Pictures.{Picture}
@@ -45,15 +46,10 @@ frame_in files s = record {
   cursor = cursor_at files s s.selected;
 }
 
--- a window with the start and the point that were chosen for it: its start is not set by command any more, and no rows wait
+-- a window with the start and the point that the rules choose for it, where it has a place
 abbrev pub settled_by : Data → StateValue → WindowState → Option Placed → WindowState
 settled_by files s w None = w
-settled_by files s w (Some place) = record w {
-  anchor = (view_in files s w place).anchor;
-  point = (view_in files s w place).point;
-  forced = false;
-  pending = pos 0;
-}
+settled_by files s w (Some place) = let v = view_in files s w place in settled_window v.anchor v.point w
 
 abbrev pub settled_at : Data → StateValue → ℕ × WindowState → ℕ × WindowState
 settled_at files s e = (e.0, settled_by files s e.1 (place_of e.0 s))

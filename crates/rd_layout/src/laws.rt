@@ -9,10 +9,9 @@ ghost use Rattle.rd_script.specs.Forms.{IsInForm};
 ghost use Rattle.rd_script.specs.declared.op.Op.{Op};
 ghost use Rattle.rd_state.specs.States.{StateValue};
 ghost use Rattle.rd_state.specs.Valid.{IsValid};
-ghost use Rattle.rd_state.specs.Windows.{shown_content, window_of};
+ghost use Rattle.rd_state.specs.Windows.{window_of};
 ghost use Rattle.rd_state.specs.declared.window.WindowState.{WindowState};
 ghost use Rattle.rd_term.specs.Pictures.{IsOfSize};
-ghost use Rattle.rd_text.specs.Texts.{IsAccessible};
 ghost use Rattle.rd_tree.specs.declared.placed.Placed.{Placed};
 ghost use Rattle.rd_ucd.specs.Data.{Data};
 ghost use Rattle.rd_update.specs.Laws.{IsSound};
@@ -21,12 +20,12 @@ ghost use Rattle.rd_window.specs.Layouts.{StandsUnchanged, change_since, older_r
 ghost use Rattle.rd_window.specs.declared.layout.Layout.{Layout};
 ghost use Rattle.rd_layout.specs.Copies.{redisplayed, without_copies};
 ghost use Rattle.rd_layout.specs.Facts.{facts_of};
-ghost use Rattle.rd_layout.specs.Laws.{FitLaws, LeadLaw, ViewLaws};
+ghost use Rattle.rd_layout.specs.Laws.{ChosenLaw, FitLaws, LeadLaw, ViewLaws};
 ghost use Rattle.rd_layout.specs.Redisplays.{IsSent, allowed, bands_of};
 ghost use Rattle.rd_layout.specs.Screens.{frame_in, laid_out};
 ghost use Rattle.rd_layout.specs.Sessions.{IsStep, SessionValue, behind, layout_of, opened, session_step};
 ghost use Rattle.rd_layout.specs.Since.{IsSession};
-ghost use Rattle.rd_layout.specs.Windows.{place_of, view_in, window_shape, window_source};
+ghost use Rattle.rd_layout.specs.Windows.{place_of, window_shape, window_source};
 
 use rd_blocks::{
     accessible_positions_lie_in_blocks, buffers_are_sources, changes_lead_on, kept_rows_are_fresh,
@@ -46,8 +45,7 @@ use rd_window::{new_layouts_stand, no_rows_are_kept};
 /// call does nothing.
 pub fn redisplays_keep_states()
     ensures state { (files : Data) (s : StateValue) → IsValid s → IsValid (laid_out files s).state }
-    ensures chosen { (files : Data) (s : StateValue) (number : ℕ) (w : WindowState) (place : Placed) → IsValid s → window_of number s.windows ≡ Some w → place_of number s ≡ Some place
-        → IsAccessible (shown_content s w).text (view_in files s w place).anchor.pos × IsAccessible (shown_content s w).text (view_in files s w place).point }
+    ensures chosen { ChosenLaw }
     ensures shape { (s : StateValue) (number : ℕ) (w : WindowState) (place : Placed) → IsValid s → place_of number s ≡ Some place → IsShape (window_shape s w place) }
     ensures bands { (s : StateValue) → IsValid s → AreWithin s.height (bands_of s) }
 {

@@ -22,8 +22,8 @@ use Rattle.rd_update.specs.Updates.{differing, sequence, update, Update}
 use Rattle.rd_update.proofs.Parts.{cleared-all}
 use Rattle.rd_update.proofs.Sequences.{move_fed, sequence-read, tty-same}
 use Rattle.rd_lineshift.specs.Choices.{AreWithin, cheaper, cheapest, choice, cost, if_gains, shifts_from, shifts_of}
-use Rattle.rd_lineshift.specs.Laws.{IsShift}
-use Rattle.rd_lineshift.specs.Plans.{after_shift, opening, shifted_update}
+use Rattle.rd_lineshift.specs.Laws.{IsShift, ShiftLaw}
+use Rattle.rd_lineshift.specs.Plans.{after_shift, opening}
 use Rattle.rd_lineshift.specs.Shifts.{moved, moving, region, shift_bytes, shifted, shifted_rows}
 use Rattle.rd_lineshift.specs.declared.band.Band.{Band}
 use Rattle.rd_lineshift.specs.declared.band.Shift.{Shift}
@@ -231,8 +231,6 @@ known-taken height None target bands h = tt
 known-taken height (Some current) target bands h =
     IfSome_then (choice (Some current) target bands) (taken-fits height (Some current) target bands h) (λ s fits. (refl, fits))
 
-pub shifted-updated : Updates → (w h : ℕ) (current : Option Picture) (target : Picture) (bands : List Band) (limit : Option ℕ) (t : Tty)
-    → IsReady w h current target t → AreWithin h bands
-    → IsUpdated w h (shifted_update current target bands limit) target (feed_bytes t (shifted_update current target bands limit).bytes)
+pub shifted-updated : Updates → ShiftLaw
 shifted-updated updates w h current target bands limit t r within =
     rw r.size.rows (taken-updated updates w h current target limit t (choice current target bands) r (known-taken h current target bands within))

@@ -3,12 +3,11 @@
 ghost use Rattle.std.specs.Prelude.{◌≡◌, ℕ, ◌+◌, ◌<◌, ◌≤◌, All, List, length, Option, IfSome, None, Some, true};
 ghost use Rattle.std.specs.List.{flat_map};
 ghost use Rattle.rd_term.specs.Pictures.{Picture, IsScreen};
-ghost use Rattle.rd_term.specs.Terminals.{Tty, feed_bytes};
-ghost use Rattle.rd_update.specs.Laws.{IsReady, IsSound, IsUpdated};
+ghost use Rattle.rd_update.specs.Laws.{IsSound};
 ghost use Rattle.rd_update.specs.Plans.{HaveOneSize};
 ghost use Rattle.rd_update.specs.Updates.{differing};
 ghost use Rattle.rd_lineshift.specs.Choices.{AreWithin, choice, cost, shifts_of};
-ghost use Rattle.rd_lineshift.specs.Laws.{IsShift};
+ghost use Rattle.rd_lineshift.specs.Laws.{IsShift, ShiftLaw};
 ghost use Rattle.rd_lineshift.specs.Plans.{shifted_update};
 ghost use Rattle.rd_lineshift.specs.declared.band.Band.{Band};
 ghost use Rattle.rd_lineshift.specs.declared.band.Shift.{Shift};
@@ -22,9 +21,7 @@ use rd_update::{update_law, updates_keep_screens_sound, updates_reach_their_targ
 /// confused and stands between two sequences, its cells are those of the new current screen, its pen is plain, and where the
 /// update is done its cursor is the target's.
 pub fn shift_law()
-    ensures { (width height : ℕ) (current : Option Picture) (target : Picture) (bands : List Band) (limit : Option ℕ) (t : Tty)
-        → IsReady width height current target t → AreWithin height bands
-        → IsUpdated width height (shifted_update current target bands limit) target (feed_bytes t (shifted_update current target bands limit).bytes) }
+    ensures { ShiftLaw }
 {
     update_law();
 }

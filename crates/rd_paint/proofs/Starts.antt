@@ -6,6 +6,7 @@ use Rattle.rd_blocks.proofs.Listed.{among-block}
 use Rattle.rd_blocks.specs.Bases.{blocks_in}
 use Rattle.rd_blocks.specs.Sources.{text_source}
 use Rattle.rd_frame.specs.Panes.{body_height}
+use Rattle.rd_items.specs.Blocks.{ListedLaw}
 use Rattle.rd_matrix.proofs.EachRow.{entries-each}
 use Rattle.rd_matrix.specs.Entries.{EntryMeaning}
 use Rattle.rd_matrix.specs.Sources.{rows_at}
@@ -20,7 +21,6 @@ use Rattle.rd_tree.specs.declared.placed.Placed.{Placed}
 use Rattle.rd_ucd.specs.Data.{Data}
 use Rattle.rd_window.specs.Views.{start_row}
 use Rattle.rd_layout.specs.Windows.{view_in, wanted_of, window_shape, window_source}
-use Rattle.rd_paint.specs.Laws.{ListedLaw}
 use Rattle.rd_paint.specs.Shown.{IsViewOf}
 
 -- a row that starts at an accessible position

@@ -4,6 +4,7 @@ use Rattle.std.proofs.lemmas.List.{length-map}
 use Rattle.std.proofs.lemmas.Option.{IfSome_then}
 use Rattle.std.specs.Prelude.{IfSome}
 use Rattle.rd_lineshift.specs.Choices.{AreWithin}
+use Rattle.rd_lineshift.specs.Laws.{ShiftLaw}
 use Rattle.rd_lineshift.specs.Plans.{shifted_update}
 use Rattle.rd_lineshift.specs.declared.band.Band.{Band}
 use Rattle.rd_script.specs.Forms.{IsInForm}
@@ -24,6 +25,7 @@ use Rattle.rd_layout.specs.Screens.{laid_out}
 use Rattle.rd_layout.specs.Sessions.{IsStep, SessionValue, behind, is_frame, opened as opened_session, session_step}
 use Rattle.rd_layout.specs.Since.{IsSession}
 use Rattle.rd_layout.specs.declared.outcome.Outcome.{Outcome}
+use Rattle.rd_layout.proofs.Known.{forgotten-session}
 use Rattle.rd_layout.proofs.Sending.{sized, unknown-at}
 use Rattle.rd_run.specs.Runs.{AreOfOneSize, Effect, Input, IsOn, LeadsOn, Mode, Standing, World, after, effect, is_sent, is_shown, opened, outcome_at, quiet, redisplayed, refused, run, run_line, stepped, terminal_after, unshown}
 use Rattle.rd_run.specs.declared.status.ScriptFault.TheVariants as faults
@@ -38,8 +40,7 @@ pub record RunLaws : Type 0 where
   pub lead : LeadLaw
   pub bands : (s : StateValue) → IsValid s → AreWithin s.height (bands_of s)
   pub targets : (files : Data) (s : StateValue) → IsValid s → IsOfSize s.width s.height (laid_out files s).picture × IsSound (laid_out files s).picture
-  pub updated : (width height : ℕ) (current : Option Picture) (target : Picture) (bands : List Band) (limit : Option ℕ) (t : Tty) → IsReady width height current target t → AreWithin height bands
-      → IsUpdated width height (shifted_update current target bands limit) target (feed_bytes t (shifted_update current target bands limit).bytes)
+  pub updated : ShiftLaw
   pub reached : (current : Option Picture) (target : Picture) (bands : List Band) (limit : Option ℕ) → HaveOneSize current target → IfSome current (λ screen. IsScreen screen)
       → AreWithin (length target.rows) bands → (shifted_update current target bands limit).done ≡ true → (shifted_update current target bands limit).screen ≡ target
 
@@ -63,9 +64,8 @@ fresh-at v session none = frame-at v v None (unknown v.state.width v.state.heigh
 -- a session whose screen is unknown
 forgotten-at : (v : SessionValue) (t : Tty) → IsAt v t → IsAt (record v { current = None }) t
 forgotten-at v t h =
-    let s = h.session in
     let there = h.there in record {
-      session = record { state = s.state; screen = tt; made = s.made; layouts = s.layouts };
+      session = forgotten-session v h.session;
       there = record { sure = there.sure; between = there.between; rows = there.rows; each = there.each; now = tt };
     }
 

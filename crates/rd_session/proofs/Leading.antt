@@ -1,15 +1,17 @@
 -- Where ops and redisplays lead, over a screen.
-use Rattle.std.proofs.Common.{◌≡◌, ℕ, Bool, true, false, if◌then◌else◌, Option, None, Ok, List, sym, ap, refl, subst, ◌∙◌}
+use Rattle.std.proofs.Common.{◌≡◌, ℕ, true, false, if◌then◌else◌, Option, None, Ok, List, sym, ap, refl, subst, ◌∙◌}
 use Rattle.rd_script.specs.Forms.{IsInForm}
 use Rattle.rd_script.specs.declared.op.Op.{Op}
 use Rattle.rd_script.specs.declared.op.Op.TheVariants as ops
 use Rattle.rd_state.specs.States.{StateValue}
 use Rattle.rd_term.specs.Pictures.{Picture}
-use Rattle.rd_layout.specs.Redisplays.{IsSent, Redisplayed}
+use Rattle.rd_layout.specs.Laws.{LeadLaw}
+use Rattle.rd_layout.specs.Redisplays.{Redisplayed}
 use Rattle.rd_layout.specs.Sessions.{Applied, IsStep, SessionValue, behind, is_frame, session_step}
 use Rattle.rd_layout.specs.Since.{IsSession}
 use Rattle.rd_layout.specs.declared.outcome.Outcome.{Outcome}
 use Rattle.rd_layout.specs.declared.outcome.Outcome.TheVariants.{Shown, Stopped, NoMemory, WriteFault}
+use Rattle.rd_layout.proofs.Known.{forgotten-session}
 use Rattle.rd_session.specs.Screens.{with_screen}
 
 -- ---- ops: none reads the screen
@@ -32,14 +34,9 @@ applied-leads law v w c d op shows h session form step =
 
 -- ---- redisplays
 
--- a session whose screen is unknown
-unknown : (v : SessionValue) → IsSession v → IsSession (with_screen v None)
-unknown v s = record { state = s.state; screen = tt; made = s.made; layouts = s.layouts }
-
 -- a redisplay leads from a session to a session
-pub redisplay-leads : ((rows : ℕ) (done : Bool) (stop : Option ℕ) (old new : SessionValue) (before after : Option (List ℕ)) → IsSession old → IsSent rows done stop old new before after → IsSession new)
-    → (o : Outcome) (stop : Option ℕ) (old new : SessionValue) (before after : Option (List ℕ)) → IsSession old → Redisplayed o stop old new before after → IsSession new
+pub redisplay-leads : LeadLaw → (o : Outcome) (stop : Option ℕ) (old new : SessionValue) (before after : Option (List ℕ)) → IsSession old → Redisplayed o stop old new before after → IsSession new
 redisplay-leads law (Shown rows) stop old new before after session h = law rows true stop old new before after session h
 redisplay-leads law (Stopped rows) stop old new before after session h = law rows false stop old new before after session h
-redisplay-leads law NoMemory stop old new before after session h = subst IsSession (sym h.0) (unknown old session)
-redisplay-leads law WriteFault stop old new before after session h = subst IsSession (sym h.0) (unknown old session)
+redisplay-leads law NoMemory stop old new before after session h = subst IsSession (sym h.0) (forgotten-session old session)
+redisplay-leads law WriteFault stop old new before after session h = subst IsSession (sym h.0) (forgotten-session old session)

@@ -24,7 +24,7 @@
 //!
 //! Emacs makes windows, matrices and screen right piece by piece, and if input comes in it stops in the middle and marks what is not done.
 //! Here all is prepared, then sent, then kept. What an op can have changed is joined to the last layouts (`rd_views`), so that a
-//! redisplay after it costs what changed and not what is shown.
+//! redisplay after it can use their other rows again, and it places no more elements than its allowance.
 //!
 //! The rules are in docs/RULES.md: "Scripts" and "State" for the ops, "The screen", "Line shifts" and "Update bytes" for the redisplay.
 //! `redisplay` says the whole in one contract, by the definitions of rd_layout.

@@ -39,8 +39,8 @@ impl Session {
     /// many of the rows that differ are sent: Stopped says that more differ, and Shown that these were all; both have the number of rows
     /// that were sent. NoMemory may be answered at any time, and then no byte was sent: all memory is taken before the first byte.
     /// WriteFault comes only where the sink's count of faults rose: a front of the bytes was sent. After either the frame is garbaged, and
-    /// all else is as it was. A window whose last layout stands and whose start suits its point costs nothing; another one costs what the
-    /// blocks that it looks at have of elements, without those whose rows are kept.
+    /// all else is as it was. A window whose last layout stands and whose start suits its point costs nothing; another one costs at most
+    /// three times the elements of the blocks near it that keep no rows.
     pub fn redisplay<K: Sink, L: Ledger>(
         &mut self,
         sink: &mut K,

@@ -1,12 +1,12 @@
 -- A session stays one where what laying out all windows gave is kept.
 use Rattle.std.proofs.Common.{◌≡◌, None, List, sym, refl, subst, subst₂, ◌∙◌}
-use Rattle.rd_layout.specs.Laws.{LeadLaw}
+use Rattle.rd_layout.specs.Laws.{ChosenLaw, LeadLaw}
 use Rattle.rd_layout.specs.Redisplays.{AreLaidOut, update_of}
 use Rattle.rd_layout.specs.Screens.{laid_out, settled_state}
 use Rattle.rd_layout.specs.Sessions.{SessionValue}
 use Rattle.rd_layout.specs.Since.{IsSession}
 use Rattle.rd_layout.specs.Windows.{places}
-use Rattle.rd_layout.proofs.Known.{Last}
+use Rattle.rd_layout.proofs.Known.{Last, forgotten-session}
 use Rattle.rd_layout.proofs.Placed.{placed-at}
 use Rattle.rd_layout.proofs.Sending.{sent-anew}
 use Rattle.rd_state.specs.States.{StateValue}
@@ -16,7 +16,7 @@ use Rattle.rd_ucd.specs.Data.{Data}
 use Rattle.rd_views.specs.Layings.{AreDesired, AreOnce, CanSettle, all_settled, layouts_taken}
 use Rattle.rd_views.specs.declared.desired.LaidWindow.{LaidWindow}
 use Rattle.rd_views.proofs.Desiring.{laid-out, once}
-use Rattle.rd_views.proofs.Settled.{ChosenLaw, can-settle, state-settled}
+use Rattle.rd_views.proofs.Settled.{can-settle, state-settled}
 
 settled-is : (files : Data) (s : StateValue) → settled_state files s ≡ (laid_out files s).state
 unfolding laid_out
@@ -30,8 +30,7 @@ pub adopted : LeadLaw → (old : SessionValue) (files : Data) (s : StateValue) (
     → AreLaidOut old (places old.state) layouts → IsSession (unknown files s layouts)
 adopted law old files s layouts session files_stay state laid =
     let u = update_of old None in
-    let shown = law u.rows u.done None old _ None None session (sent-anew old None files s layouts files_stay state laid) in
-    record { state = shown.state; screen = tt; made = shown.made; layouts = shown.layouts }
+    forgotten-session _ (law u.rows u.done None old _ None None session (sent-anew old None files s layouts files_stay state laid))
 
 module _ (v : SessionValue) (session : IsSession v) (xs : List LaidWindow) (es : List Last) (desired : AreDesired v (places v.state) xs es) where
   numbers-once : AreOnce es

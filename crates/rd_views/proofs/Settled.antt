@@ -5,13 +5,13 @@ use Rattle.std.proofs.lemmas.List.{drop_more}
 use Rattle.std.proofs.lemmas.Simd.{map-map}
 use Rattle.std.proofs.lemmas.Option.{none-some, same_Some}
 use Rattle.std.proofs.lemmas.Iterator.Adapters.{option_map_id}
-use Rattle.std.specs.Prelude.{IsSome, option_map, pos, slice_get}
+use Rattle.std.specs.Prelude.{IsSome, option_map, slice_get}
 use Rattle.rd_base.proofs.Choices.{map-some}
 use Rattle.rd_start.specs.Chosen.{chosen_of}
 use Rattle.rd_start.specs.declared.wanted.Chosen.{Chosen}
 use Rattle.rd_state.specs.Shown.{IsShownAt}
 use Rattle.rd_state.specs.States.{ContentValue, StateValue}
-use Rattle.rd_state.specs.Steps.{settled}
+use Rattle.rd_state.specs.Steps.{settled, settled_window}
 use Rattle.rd_state.specs.Valid.{IsValid}
 use Rattle.rd_state.specs.Windows.{AreApart, content_in, shown_content, under, window_of, with_entry, NumberedWindow}
 use Rattle.rd_state.specs.declared.window.WindowState.{WindowState}
@@ -20,10 +20,10 @@ use Rattle.rd_tree.proofs.Listing.{placed-here, placed-there}
 use Rattle.rd_tree.proofs.Rooms.{found_number}
 use Rattle.rd_tree.specs.Windows.{of_number}
 use Rattle.rd_tree.specs.declared.placed.Placed.{Placed}
-use Rattle.rd_ucd.specs.Data.{Data}
+use Rattle.rd_layout.specs.Laws.{ChosenLaw}
 use Rattle.rd_layout.specs.Screens.{settled_at, settled_by, settled_state}
 use Rattle.rd_layout.specs.Sessions.{SessionValue, layout_of}
-use Rattle.rd_layout.specs.Windows.{place_of, places, view_in, wanted_of, window_shape, window_source}
+use Rattle.rd_layout.specs.Windows.{place_of, places, wanted_of, window_shape, window_source}
 use Rattle.rd_state.proofs.ByNumber.{apart-became, under-became, under-here, under-there, some-with, entry-other, window-same, window-with}
 use Rattle.rd_layout.proofs.Known.{Last}
 use Rattle.rd_views.specs.Layings.{AreDesired, AreOnce, CanSettle, IsDesiredBy, all_settled}
@@ -32,12 +32,8 @@ use Rattle.rd_views.proofs.Desiring.{each-desired}
 
 -- ---- the windows alone
 
--- a window with the start and the point that were chosen for it
-abbrev pub settle_to : Chosen → WindowState → WindowState
-settle_to c w = record w { anchor = c.anchor; point = c.point; forced = false; pending = pos 0 }
-
 abbrev pub windows_settled : List LaidWindow → List Last → List NumberedWindow → List NumberedWindow
-windows_settled (x ∷ xs) (e ∷ es) ws = windows_settled xs es (with_entry e.0 (settle_to x.chosen) ws)
+windows_settled (x ∷ xs) (e ∷ es) ws = windows_settled xs es (with_entry e.0 (settled_window x.chosen.anchor x.chosen.point) ws)
 windows_settled _ _ ws = ws
 
 state-is : (xs : List LaidWindow) (es : List Last) (s : StateValue) → all_settled xs es s ≡ record s { windows = windows_settled xs es s.windows }
@@ -85,7 +81,9 @@ with-numbers n f (w ∷ ws) = by (w.0 == n) (with-numbers n f ws) where
 settled-numbers : (xs : List LaidWindow) (es : List Last) (ws : List NumberedWindow) → map (λ (e : NumberedWindow). e.0) (windows_settled xs es ws) ≡ map (λ (e : NumberedWindow). e.0) ws
 settled-numbers [] es ws = refl
 settled-numbers (x ∷ xs) [] ws = refl
-settled-numbers (x ∷ xs) (e ∷ es) ws = settled-numbers xs es (with_entry e.0 (settle_to x.chosen) ws) ∙ with-numbers e.0 (settle_to x.chosen) ws
+settled-numbers (x ∷ xs) (e ∷ es) ws =
+    let f = settled_window x.chosen.anchor x.chosen.point in
+    settled-numbers xs es (with_entry e.0 f ws) ∙ with-numbers e.0 f ws
 
 -- ---- what is found behind
 
@@ -96,7 +94,7 @@ choices _ _ = []
 
 abbrev pub settle_found : Option Chosen → Option WindowState → Option WindowState
 settle_found None o = o
-settle_found (Some c) o = option_map (settle_to c) o
+settle_found (Some c) o = option_map (settled_window c.anchor c.point) o
 
 chosen-none : (n : ℕ) (xs : List LaidWindow) (es : List Last) → layout_of n es ≡ None → under n (choices xs es) ≡ None
 chosen-none n [] es none = refl
@@ -110,7 +108,7 @@ found-settled : (n : ℕ) (xs : List LaidWindow) (es : List Last) (ws : List Num
 found-settled n [] es ws once = refl
 found-settled n (x ∷ xs) [] ws once = refl
 found-settled n (x ∷ xs) (e ∷ es) ws once =
-    let f = settle_to x.chosen in
+    let f = settled_window x.chosen.anchor x.chosen.point in
     found-settled n xs es (with_entry e.0 f ws) once.1 ∙ elim (cases_eq e.0 n) [
       | inl p ↦
           ap (λ (c : Option Chosen). settle_found c (window_of n (with_entry e.0 f ws))) (chosen-none n xs es (ap (λ (k : ℕ). layout_of k es) (sym p) ∙ once.0))
@@ -152,8 +150,9 @@ module _ (v : SessionValue) where
   both-settle n None c at right = ap (λ (k : Option Chosen). settle_found k (window_of n v.state.windows)) right ∙ sym (option_map_id (window_of n v.state.windows))
   both-settle n (Some p) c at right =
       let lives : window_of n v.state.windows ≡ Some right.window = ap (λ (k : ℕ). window_of k v.state.windows) (sym (found_number n (places v.state) p at)) ∙ right.lives in
+      let chosen = chosen_of (window_source v.files v.state right.window) (window_shape v.state right.window p) (wanted_of v.state right.window p) in
       ap (λ (k : Option Chosen). settle_found k (window_of n v.state.windows)) right.is
-      ∙ (ap (option_map (settle_to (chosen_of (window_source v.files v.state right.window) (window_shape v.state right.window p) (wanted_of v.state right.window p)))) lives
+      ∙ (ap (option_map (settled_window chosen.anchor chosen.point)) lives
       ∙ sym (ap (option_map (λ w. settled_by v.files v.state w (Some p))) lives))
 
   windows-are : (xs : List LaidWindow) (es : List Last) → AreApart v.state.windows → AreOnce es → AreDesired v (places v.state) xs es
@@ -174,11 +173,11 @@ module _ (v : SessionValue) where
 -- ---- windows can be settled
 
 -- a window that is found behind another's settling was there before it, and shows the same buffer
-pub shown-before : (n m : ℕ) (c : Chosen) (ws : List NumberedWindow) (w : WindowState) → window_of n (with_entry m (settle_to c) ws) ≡ Some w → (u : WindowState) × (window_of n ws ≡ Some u) × (u.buffer ≡ w.buffer)
-shown-before n m c ws w at = elim (window-with m n (settle_to c) ws) [
+pub shown-before : (n m : ℕ) (c : Chosen) (ws : List NumberedWindow) (w : WindowState) → window_of n (with_entry m (settled_window c.anchor c.point) ws) ≡ Some w → (u : WindowState) × (window_of n ws ≡ Some u) × (u.buffer ≡ w.buffer)
+shown-before n m c ws w at = elim (window-with m n (settled_window c.anchor c.point) ws) [
   | inl p ↦ (w, sym p ∙ at, refl)
   | inr p ↦
-      let u = map-some (settle_to c) (window_of n ws) w (sym p ∙ at) in
+      let u = map-some (settled_window c.anchor c.point) (window_of n ws) w (sym p ∙ at) in
       (u.0, u.1, ap (λ (x : WindowState). x.buffer) u.2)
 ]
 
@@ -191,7 +190,7 @@ pub can-still : (m : ℕ) (c : Chosen) (s : StateValue) (xs : List LaidWindow) (
 can-still m c s [] es h = tt
 can-still m c s (x ∷ xs) [] h = tt
 can-still m c s (x ∷ xs) (e ∷ es) h = (
-  some-with m e.0 (settle_to c) s.windows h.0,
+  some-with m e.0 (settled_window c.anchor c.point) s.windows h.0,
   still-shown m c s e.0 x.chosen.anchor.pos h.1,
   still-shown m c s e.0 x.chosen.point h.2,
   can-still m c s xs es h.3,
@@ -212,11 +211,6 @@ step-settled s new whole xs es i d f there less can is so_far =
       subst (λ (t : StateValue). CanSettle t (drop (i + 1) xs) (drop (i + 1) es)) (sym is) (can-still e.0 x.chosen s (drop (i + 1) xs) (drop (i + 1) es) first.3),
       ap (all_settled (drop (i + 1) xs) (drop (i + 1) es)) is ∙ ((λ j. all_settled (sym (drop_more xs i d there) j) (sym (drop_more es i f less) j) s) ∙ so_far),
     )
-
--- what a redisplay chooses is accessible
-abbrev pub ChosenLaw : Type 0
-ChosenLaw = (files : Data) (s : StateValue) (number : ℕ) (w : WindowState) (place : Placed) → IsValid s → window_of number s.windows ≡ Some w → place_of number s ≡ Some place
-    → IsAccessible (shown_content s w).text (view_in files s w place).anchor.pos × IsAccessible (shown_content s w).text (view_in files s w place).point
 
 one-shown : (s : StateValue) (n : ℕ) (w : WindowState) (p : ℕ) → window_of n s.windows ≡ Some w → IsAccessible (shown_content s w).text p → IsShownAt s n p
 one-shown s n w p lives h u b at there =
