@@ -1,6 +1,7 @@
 //! Paired brackets of one sequence.
 ghost use Rattle.std.specs.Prelude.{◌<◌, All, AllPairs, IfOk};
 
+use crate::claims::assert_of;
 use rd_base::{Class, Line, ListOf, Memory, Seq};
 use rd_brackets::pair;
 use rd_ucd::Brackets;
@@ -59,12 +60,16 @@ fn take(
 fn assert_taken(rt: &impl Abort, alloc: Global, brackets: &Brackets) {
     let left = [Class::R, Class::ON, Class::L, Class::ON, Class::WS];
     let inside = [Class::R, Class::L, Class::L, Class::L, Class::WS];
-    assert!(rt; take(alloc, brackets, &left, &[0, 0x28, 0, 0x29, 0], &inside));
-    assert!(rt; take(alloc, brackets, &left, &[0, 0x2329, 0, 0x3009, 0], &inside));
+    let plain = take(alloc, brackets, &left, &[0, 0x28, 0, 0x29, 0], &inside);
+    assert_of(rt, "N0b: the embedding direction inside", plain);
+    let equal = take(alloc, brackets, &left, &[0, 0x2329, 0, 0x3009, 0], &inside);
+    assert_of(rt, "BD16: a pair whose codes stand for one another", equal);
     let right = [Class::R, Class::ON, Class::EN, Class::ON, Class::WS];
     let before = [Class::R, Class::R, Class::EN, Class::R, Class::WS];
-    assert!(rt; take(alloc, brackets, &right, &[0, 0x28, 0, 0x29, 0], &before));
-    assert!(rt; take(alloc, brackets, &right, &[0, 0x28, 0, 0x5D, 0], &right));
+    let other = take(alloc, brackets, &right, &[0, 0x28, 0, 0x29, 0], &before);
+    assert_of(rt, "N0c: the other direction inside and before", other);
+    let unpaired = take(alloc, brackets, &right, &[0, 0x28, 0, 0x5D, 0], &right);
+    assert_of(rt, "BD16: brackets that are no pair", unpaired);
 }
 
 /// Two pairs of brackets, of which one has a code that stands for another.

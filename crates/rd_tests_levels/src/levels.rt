@@ -60,8 +60,9 @@ fn fill(alloc: Global, cache: &mut LevelCache, classes: &[Class], base: u8) -> R
     cache.fill(classes, codes.as_slice(), &Brackets::none(alloc), base)
 }
 
-/// The four fields of a row: the base, the classes, the levels and the order.
+/// The four fields of a row behind its name: the base, the classes, the levels and the order.
 fn fields(row: &str) -> Option<(&str, &str, &str, &str)> {
+    let (_name, row) = row.split_once(" | ")?;
     let (base, row) = row.split_once(" | ")?;
     let (classes, row) = row.split_once(" | ")?;
     let (levels, order) = row.split_once(" | ")?;
@@ -220,15 +221,9 @@ fn assert_paired(rt: &impl Abort, alloc: Global, cache: &mut LevelCache) {
         Class::NSM,
         Class::R,
     ];
-    assert!(rt;
-        has_pair(
-            alloc,
-            cache,
-            &left,
-            &[0, 0x28, 0, 0x29, 0x301, 0],
-            "1 0 0 0 0 1"
-        )
-    );
+    let codes = [0, 0x28, 0, 0x29, 0x301, 0];
+    let marked = has_pair(alloc, cache, &left, &codes, "1 0 0 0 0 1");
+    assert_of(rt, "N0b: a pair around L, and a mark behind it", marked);
     let right = [
         Class::L,
         Class::ON,
@@ -237,15 +232,9 @@ fn assert_paired(rt: &impl Abort, alloc: Global, cache: &mut LevelCache) {
         Class::WS,
         Class::R,
     ];
-    assert!(rt;
-        has_pair(
-            alloc,
-            cache,
-            &right,
-            &[0, 0x28, 0, 0x29, 0, 0],
-            "0 0 1 0 0 1"
-        )
-    );
+    let codes = [0, 0x28, 0, 0x29, 0, 0];
+    let other = has_pair(alloc, cache, &right, &codes, "0 0 1 0 0 1");
+    assert_of(rt, "N0c: a pair around R behind L", other);
 }
 
 #[test]

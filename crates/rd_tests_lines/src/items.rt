@@ -1,4 +1,5 @@
 //! Items and blocks with ample memory, of buffers that are made by calls.
+use crate::claims::assert_of;
 use crate::glyphs::{heavy, twice_marked};
 use crate::scenery::{Scenery, is_accessible, put_text};
 use rd_base::{Ch, Class, Face, Invisible, ListOf, Memory, Pos};
@@ -6,6 +7,7 @@ use rd_items::{Item, ItemKind, Items, block_at};
 use rd_overlays::Kind;
 use rd_props::{BufferState, View};
 use std::alloc::Global;
+use std::process::Abort;
 use std::test::Fail;
 
 /// Hides what has the atom 7 with an ellipsis, and what has 8 without.
@@ -126,23 +128,26 @@ fn is_in(alloc: Global, view: &View, pos: Pos, wanted: (Pos, Pos)) -> bool {
     }
 }
 
-/// Whether each of these positions is in its block.
-fn are_in(alloc: Global, view: &View, wanted: &[(Pos, (Pos, Pos))]) -> bool {
-    for (pos, block) in wanted {
-        if !is_in(alloc, view, *pos, *block) {
-            return false;
-        }
+/// Asserts that each of these positions is in its block.
+fn assert_in(rt: &impl Abort, alloc: Global, view: &View, wanted: &[(&str, Pos, (Pos, Pos))]) {
+    for (name, pos, block) in wanted {
+        assert_of(rt, name, is_in(alloc, view, *pos, *block));
     }
-    true
 }
 
 /// A line with a letter, and one with a mark.
 const LINES: &'static str = "e\n\u{301}";
 
-/// Whether these lines, with an atom on the newline between them, have these blocks at these positions.
-fn cuts(alloc: Global, atom: Option<u32>, wanted: &[(Pos, (Pos, Pos))]) -> Result<bool, Fail> {
+/// Asserts that these lines, with an atom on the newline between them, have these blocks at these positions.
+fn assert_cut(
+    rt: &impl Abort,
+    alloc: Global,
+    atom: Option<u32>,
+    wanted: &[(&str, Pos, (Pos, Pos))],
+) -> Result<(), Fail> {
     let scenery = set_up(alloc, LINES, atom, None)?;
-    Ok(are_in(alloc, &scenery.view(), wanted))
+    assert_in(rt, alloc, &scenery.view(), wanted);
+    Ok(())
 }
 
 /// The items of a letter with eight marks.
@@ -173,14 +178,22 @@ fn hidden_newlines(rt: HostRuntime) -> Result<(), Fail> {
 }
 
 /// Positions of two lines, each with its block.
-const TWO_BLOCKS: [(Pos, (Pos, Pos)); 4] = [(1, (1, 3)), (2, (1, 3)), (3, (3, 5)), (4, (3, 5))];
+const TWO_BLOCKS: [(&'static str, Pos, (Pos, Pos)); 4] = [
+    ("the letter", 1, (1, 3)),
+    ("the newline, which is shown", 2, (1, 3)),
+    ("the mark", 3, (3, 5)),
+    ("the end behind a newline", 4, (3, 5)),
+];
 
 /// Positions of two lines whose newline is hidden, each with its block.
-const ONE_BLOCK: [(Pos, (Pos, Pos)); 3] = [(1, (1, 5)), (2, (1, 5)), (4, (1, 5))];
+const ONE_BLOCK: [(&'static str, Pos, (Pos, Pos)); 3] = [
+    ("the letter", 1, (1, 5)),
+    ("the newline, which is hidden", 2, (1, 5)),
+    ("the end behind a hidden newline", 4, (1, 5)),
+];
 
 #[test]
 fn newlines_that_show_cut(rt: HostRuntime) -> Result<(), Fail> {
-    assert!(rt; cuts(rt.alloc(), None, &TWO_BLOCKS)?);
-    assert!(rt; cuts(rt.alloc(), Some(7), &ONE_BLOCK)?);
-    Ok(())
+    assert_cut(&rt, rt.alloc(), None, &TWO_BLOCKS)?;
+    assert_cut(&rt, rt.alloc(), Some(7), &ONE_BLOCK)
 }

@@ -55,33 +55,33 @@ fn are_kept(alloc: Global) -> bool {
 }
 
 /// Numbers of lines, and how they are shown.
-const NUMBERS: [(Option<u32>, &'static str); 5] = [
-    (Some(1), "  1 "),
-    (Some(207), "207 "),
-    (Some(1000), "+++ "),
-    (Some(7), " "),
-    (None, "    "),
+const NUMBERS: [(&'static str, Option<u32>, &'static str); 5] = [
+    ("a number of one digit", Some(1), "  1 "),
+    ("a number as wide as its columns", Some(207), "207 "),
+    ("a number wider than its columns", Some(1000), "+++ "),
+    ("no column but the blank one", Some(7), " "),
+    ("no number", None, "    "),
 ];
 
 /// Rows of a line, strings, and the margins beside the row.
-const MARGINS: [(u32, &'static str, &'static str); 3] = [
-    (0, ">>", "12 >> "),
-    (0, "todo", "12 tod"),
-    (1, ">>", "      "),
+const MARGINS: [(&'static str, u32, &'static str, &'static str); 3] = [
+    ("a string within its columns", 0, ">>", "12 >> "),
+    ("a string that is cut", 0, "todo", "12 tod"),
+    ("a row behind the first", 1, ">>", "      "),
 ];
 
 /// Asserts how margins are shown.
 fn assert_margins(rt: &impl Abort, alloc: Global, classes: &Classes) {
-    for (row, string, wanted) in &MARGINS {
+    for (name, row, string, wanted) in &MARGINS {
         let shown = are_margins(alloc, classes, *row, string, wanted);
-        assert_of(rt, wanted, shown);
+        assert_of(rt, name, shown);
     }
 }
 
 #[test]
 fn margins_are_shown(rt: HostRuntime) -> Result<(), Fail> {
-    for (line, wanted) in &NUMBERS {
-        assert_of(&rt, wanted, is_number(rt.alloc(), *line, wanted));
+    for (name, line, wanted) in &NUMBERS {
+        assert_of(&rt, name, is_number(rt.alloc(), *line, wanted));
     }
     assert!(rt; are_kept(rt.alloc()));
     let classes = Classes::read(rt.alloc(), b"")?;

@@ -62,17 +62,17 @@ fn is_line(alloc: Global, classes: &Classes, name: &[Ch], code: &str, line: &[u8
 }
 
 /// Formats, and the lines that they give.
-const LINES: [(&'static str, &'static [u8]); 4] = [
-    ("%5l|%-", b"   12|----"),
-    ("%b %3l %p", b"main  12 27%  "),
-    ("%*%+ %8n|%%", b"%* Narrow  |%"),
-    ("%bwide", b"mainwi"),
+const LINES: [(&'static str, &'static str, &'static [u8]); 4] = [
+    ("a width, and dashes", "%5l|%-", b"   12|----"),
+    ("a name, a line and a share", "%b %3l %p", b"main  12 27%  "),
+    ("states of a buffer", "%*%+ %8n|%%", b"%* Narrow  |%"),
+    ("a line that is cut", "%bwide", b"mainwi"),
 ];
 
 /// Asserts which lines formats give.
 fn assert_lines(rt: &impl Abort, alloc: Global, classes: &Classes, name: &[Ch]) {
-    for (code, line) in &LINES {
-        assert_of(rt, code, is_line(alloc, classes, name, code, line));
+    for (case, code, line) in &LINES {
+        assert_of(rt, case, is_line(alloc, classes, name, code, line));
     }
 }
 

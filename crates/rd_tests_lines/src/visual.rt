@@ -5,6 +5,7 @@ ghost use Rattle.rd_text.specs.Texts.{IsAccessible};
 ghost use Rattle.rd_matrix.specs.Entries.{shown_entries};
 ghost use Rattle.rd_visual.specs.Hits.{AreInPositions, Fits};
 
+use crate::claims::assert_of;
 use crate::scenery::{Scenery, is_accessible, put_text};
 use rd_base::{Cell, Memory, Pos, Steps, Wrap};
 use rd_blocks::{Blocks, accessible_positions_lie_in_blocks};
@@ -51,30 +52,30 @@ fn leads(alloc: Global, view: &View, pos: Pos, to_right: bool, wanted: Pos) -> b
 
 /// In the line `aאבb`, in an empty one, in the line `א12`, which is read from the right edge, and at the end: each position, and where a
 /// step to the right and one to the left lead.
-const STEPS: [(Pos, Pos, Pos); 11] = [
-    (1, 3, 0),
-    (3, 2, 1),
-    (2, 4, 3),
-    (4, 5, 2),
-    (5, 6, 4),
-    (6, 7, 5),
-    (7, 6, 9),
-    (9, 7, 8),
-    (8, 9, 10),
-    (10, 8, 11),
-    (11, 10, 0),
+const STEPS: [(&'static str, Pos, Pos, Pos); 11] = [
+    ("a", 1, 3, 0),
+    ("bet", 3, 2, 1),
+    ("alef", 2, 4, 3),
+    ("b", 4, 5, 2),
+    ("the newline behind b", 5, 6, 4),
+    ("the empty line", 6, 7, 5),
+    ("alef at the right edge", 7, 6, 9),
+    ("the digit 2", 9, 7, 8),
+    ("the digit 1", 8, 9, 10),
+    ("the newline behind the digits", 10, 8, 11),
+    ("the end", 11, 10, 0),
 ];
 
-/// Asserts what is to hold of the step to a side of a position.
-fn assert_step(rt: &impl Abort, side: &str, pos: Pos, holds: bool) {
-    assert!(rt; holds, "{side} of {pos}");
+/// Asserts what is to hold of the step to a side of a place of this name.
+fn assert_step(rt: &impl Abort, side: &str, name: &str, holds: bool) {
+    assert!(rt; holds, "{side} of {name}");
 }
 
 /// Asserts where steps lead in those lines.
 fn assert_steps(rt: &impl Abort, alloc: Global, view: &View) {
-    for (pos, to_right, to_left) in &STEPS {
-        assert_step(rt, "right", *pos, leads(alloc, view, *pos, true, *to_right));
-        assert_step(rt, "left", *pos, leads(alloc, view, *pos, false, *to_left));
+    for (name, pos, to_right, to_left) in &STEPS {
+        assert_step(rt, "right", name, leads(alloc, view, *pos, true, *to_right));
+        assert_step(rt, "left", name, leads(alloc, view, *pos, false, *to_left));
     }
 }
 
@@ -269,61 +270,47 @@ fn begins(matrix: &Matrix, pos: Pos, row: u32, column: u32) -> bool {
 }
 
 /// The columns of the row of `אב 12`, which is read from the right edge, each with the position that it shows.
-const COLUMNS: [(u32, Pos); 13] = [
-    (0, 6),
-    (1, 6),
-    (2, 6),
-    (3, 6),
-    (4, 6),
-    (5, 6),
-    (6, 6),
-    (7, 4),
-    (8, 5),
-    (9, 3),
-    (10, 2),
-    (11, 1),
-    (12, 0),
+const COLUMNS: [(&'static str, u32, Pos); 13] = [
+    ("the left edge", 0, 6),
+    ("the sixth column behind the text", 1, 6),
+    ("the fifth column behind the text", 2, 6),
+    ("the fourth column behind the text", 3, 6),
+    ("the third column behind the text", 4, 6),
+    ("the second column behind the text", 5, 6),
+    ("the first column behind the text", 6, 6),
+    ("the digit 1", 7, 4),
+    ("the digit 2", 8, 5),
+    ("the blank", 9, 3),
+    ("bet", 10, 2),
+    ("alef", 11, 1),
+    ("a column behind the right edge", 12, 0),
 ];
 
-/// Whether each cell of that row shows its position.
-fn are_hit(matrix: &Matrix) -> bool
+/// Asserts that each cell of that row shows its position.
+fn assert_hit(rt: &impl Abort, matrix: &Matrix)
     requires { AreInPositions (shown_entries matrix.now) }
 {
-    for (column, pos) in &COLUMNS {
-        if !hits(matrix, 0, *column, *pos) {
-            return false;
-        }
+    for (name, column, pos) in &COLUMNS {
+        assert_of(rt, name, hits(matrix, 0, *column, *pos));
     }
-    hits(matrix, 1, 11, 0)
+    assert!(rt; hits(matrix, 1, 11, 0));
 }
 
-/// Whether each position of that row begins in the last of the cells from the left that show it.
-fn are_found(matrix: &Matrix) -> bool {
-    for (column, pos) in &COLUMNS[6..12] {
-        if !begins(matrix, *pos, 0, *column) {
-            return false;
-        }
+/// Asserts that each position of that row begins in the last of the cells from the left that show it.
+fn assert_found(rt: &impl Abort, matrix: &Matrix) {
+    for (name, column, pos) in &COLUMNS[6..12] {
+        assert_of(rt, name, begins(matrix, *pos, 0, *column));
     }
-    !matrix.shows(7)
-}
-
-/// Whether cells and positions of the first block of a look answer to each other so.
-fn answer<L: Ledger>(alloc: Global, view: &View, blank: Blank) -> bool
-    requires name { blank.name ≡ L.name }
-    requires parts { blank.parts ≡ L.parts }
-    requires some { 0 < L.parts }
-{
-    match first_rows::<L>(alloc, view, Wrap::Truncate, blank) {
-        Ok(matrix) => are_hit(&matrix) && are_found(&matrix),
-        Err(_) => false,
-    }
+    assert!(rt; !matrix.shows(7));
 }
 
 #[test]
 fn cells_show_positions(rt: HostRuntime) -> Result<(), Fail> {
     let scenery = scenery(rt.alloc(), "\u{5d0}\u{5d1} 12")?;
     let view = scenery.view();
-    assert!(rt; answer::<Brand>(rt.alloc(), &view, Blank::new(1)));
+    let matrix = first_rows::<Brand>(rt.alloc(), &view, Wrap::Truncate, Blank::new(1))?;
+    assert_hit(&rt, &matrix);
+    assert_found(&rt, &matrix);
     assert!(rt; leads(rt.alloc(), &view, 6, true, 4) && leads(rt.alloc(), &view, 4, true, 5));
     assert!(rt; leads(rt.alloc(), &view, 5, false, 4));
     Ok(())

@@ -4,6 +4,14 @@
 //! them.
 #![tactic(auto)]
 
+/// A row of a table: its name, and what belongs to it. As a plain tuple it would be laid out in a line for each part.
+#[cfg(test)]
+macro_rules! case {
+    ($name:expr => $($part:expr),+) => {
+        ($name, $($part),+)
+    };
+}
+
 #[cfg(test)]
 mod claims;
 #[cfg(test)]

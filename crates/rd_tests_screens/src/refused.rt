@@ -9,305 +9,106 @@ use std::process::Abort;
 use std::test::Fail;
 
 /// Lines that the scene refuses, and why, by the rows of the ops. Where a line has more than one cause, the first of the row is told.
-const REFUSALS: [(&'static str, Refused); 81] = [
-    (
-        r#"{"op":"frame","width":26,"height":12}"#,
-        Refused::TooSmall,
-    ),
-    (r#"{"op":"frame","width":60,"height":2}"#, Refused::TooSmall),
-    (r#"{"op":"buffer","name":"é"}"#, Refused::NameTaken),
-    (
-        r#"{"op":"insert","buffer":"x","pos":9,"text":"é"}"#,
-        Refused::NoBuffer,
-    ),
-    (
-        r#"{"op":"insert","buffer":"main","pos":1,"text":"a"}"#,
-        Refused::OutOfRange,
-    ),
-    (
-        r#"{"op":"insert","buffer":"main","pos":7,"text":""}"#,
-        Refused::OutOfRange,
-    ),
-    (
-        r#"{"op":"insert","buffer":"main","pos":4294967298,"text":"a"}"#,
-        Refused::OutOfRange,
-    ),
-    (
-        r#"{"op":"insert_raw","buffer":"Main","pos":9,"bytes":[128]}"#,
-        Refused::NoBuffer,
-    ),
-    (
-        r#"{"op":"insert_raw","buffer":"main","pos":0,"bytes":[]}"#,
-        Refused::OutOfRange,
-    ),
-    (
-        r#"{"op":"delete","buffer":"x","from":9,"to":1}"#,
-        Refused::NoBuffer,
-    ),
-    (
-        r#"{"op":"delete","buffer":"main","from":1,"to":3}"#,
-        Refused::OutOfRange,
-    ),
-    (
-        r#"{"op":"delete","buffer":"main","from":2,"to":7}"#,
-        Refused::OutOfRange,
-    ),
-    (
-        r#"{"op":"delete","buffer":"main","from":4,"to":3}"#,
-        Refused::OutOfRange,
-    ),
-    (
-        r#"{"op":"narrow","buffer":"mai","from":0,"to":1}"#,
-        Refused::NoBuffer,
-    ),
-    (
-        r#"{"op":"narrow","buffer":"main","from":0,"to":1}"#,
-        Refused::OutOfRange,
-    ),
-    (
-        r#"{"op":"narrow","buffer":"main","from":1,"to":8}"#,
-        Refused::OutOfRange,
-    ),
-    (
-        r#"{"op":"narrow","buffer":"main","from":3,"to":2}"#,
-        Refused::OutOfRange,
-    ),
-    (r#"{"op":"widen","buffer":"e"}"#, Refused::NoBuffer),
-    (
-        r#"{"op":"put","buffer":"x","from":9,"to":9,"kind":"face","value":9}"#,
-        Refused::NoBuffer,
-    ),
-    (
-        r#"{"op":"put","buffer":"main","from":1,"to":2,"kind":"face","value":9}"#,
-        Refused::OutOfRange,
-    ),
-    (
-        r#"{"op":"put","buffer":"main","from":5,"to":7,"kind":"invisible"}"#,
-        Refused::OutOfRange,
-    ),
-    (
-        r#"{"op":"put","buffer":"main","from":2,"to":2,"kind":"face","value":1}"#,
-        Refused::NoObject,
-    ),
-    (
-        r#"{"op":"put","buffer":"main","from":2,"to":3,"kind":"display","value":1}"#,
-        Refused::NoObject,
-    ),
-    (
-        r#"{"op":"put","buffer":"main","from":2,"to":3,"kind":"line_prefix","value":4294967296}"#,
-        Refused::NoObject,
-    ),
-    (
-        r#"{"op":"put","buffer":"main","from":2,"to":3,"kind":"wrap_prefix","value":1}"#,
-        Refused::NoObject,
-    ),
-    (
-        r#"{"op":"overlay","buffer":"x","from":0,"to":1}"#,
-        Refused::NoBuffer,
-    ),
-    (
-        r#"{"op":"overlay","buffer":"main","from":0,"to":1}"#,
-        Refused::OutOfRange,
-    ),
-    (
-        r#"{"op":"overlay","buffer":"main","from":3,"to":2}"#,
-        Refused::OutOfRange,
-    ),
-    (
-        r#"{"op":"overlay","buffer":"main","from":7,"to":8}"#,
-        Refused::OutOfRange,
-    ),
-    (
-        r#"{"op":"overlay_move","buffer":"x","overlay":1,"from":0,"to":9}"#,
-        Refused::NoBuffer,
-    ),
-    (
-        r#"{"op":"overlay_move","buffer":"main","overlay":1,"from":0,"to":9}"#,
-        Refused::NoOverlay,
-    ),
-    (
-        r#"{"op":"overlay_move","buffer":"main","overlay":2,"from":2,"to":3}"#,
-        Refused::NoOverlay,
-    ),
-    (
-        r#"{"op":"overlay_move","buffer":"main","overlay":0,"from":4,"to":3}"#,
-        Refused::OutOfRange,
-    ),
-    (
-        r#"{"op":"overlay_move","buffer":"main","overlay":0,"from":1,"to":8}"#,
-        Refused::OutOfRange,
-    ),
-    (
-        r#"{"op":"overlay_drop","buffer":"x","overlay":0}"#,
-        Refused::NoBuffer,
-    ),
-    (
-        r#"{"op":"overlay_drop","buffer":"é","overlay":0}"#,
-        Refused::NoOverlay,
-    ),
-    (
-        r#"{"op":"overlay_drop","buffer":"main","overlay":4294967296}"#,
-        Refused::NoOverlay,
-    ),
-    (
-        r#"{"op":"overlay_put","buffer":"x","overlay":1,"kind":"face","value":9}"#,
-        Refused::NoBuffer,
-    ),
-    (
-        r#"{"op":"overlay_put","buffer":"main","overlay":1,"kind":"face","value":9}"#,
-        Refused::NoOverlay,
-    ),
-    (
-        r#"{"op":"overlay_put","buffer":"main","overlay":0,"kind":"face","value":1}"#,
-        Refused::NoObject,
-    ),
-    (
-        r#"{"op":"overlay_put","buffer":"main","overlay":0,"kind":"after","value":1}"#,
-        Refused::NoObject,
-    ),
-    (
-        r#"{"op":"margin_put","buffer":"x","overlay":1,"string":9}"#,
-        Refused::NoBuffer,
-    ),
-    (
-        r#"{"op":"margin_put","buffer":"main","overlay":1,"string":9}"#,
-        Refused::NoOverlay,
-    ),
-    (
-        r#"{"op":"margin_put","buffer":"main","overlay":0,"string":1}"#,
-        Refused::NoObject,
-    ),
-    (
-        r#"{"op":"setting","buffer":"x","name":"table","value":9}"#,
-        Refused::NoBuffer,
-    ),
-    (
-        r#"{"op":"setting","buffer":"main","name":"table","value":1}"#,
-        Refused::NoObject,
-    ),
-    (
-        r#"{"op":"setting","buffer":"main","name":"line_prefix","value":1}"#,
-        Refused::NoObject,
-    ),
-    (
-        r#"{"op":"setting","buffer":"main","name":"wrap_prefix","value":18446744073709551615}"#,
-        Refused::NoObject,
-    ),
-    (
-        r#"{"op":"string","text":"ab","runs":[[0,3,"face",0],[1,2,"face",1]]}"#,
-        Refused::NoObject,
-    ),
-    (
-        r#"{"op":"string","text":"ab","runs":[[0,1,"display",1]]}"#,
-        Refused::NoObject,
-    ),
-    (
-        r#"{"op":"string","text":"ab","runs":[[1,3,"face",0]]}"#,
-        Refused::OutOfRange,
-    ),
-    (
-        r#"{"op":"string","text":"ab","runs":[[2,1,"display",0]]}"#,
-        Refused::OutOfRange,
-    ),
-    (
-        r#"{"op":"spec","kind":"string","value":1}"#,
-        Refused::NoObject,
-    ),
-    (
-        r#"{"op":"split","window":2,"side":"below","size":0}"#,
-        Refused::NoWindow,
-    ),
-    (
-        r#"{"op":"split","window":0,"side":"right","size":10}"#,
-        Refused::TooSmall,
-    ),
-    (
-        r#"{"op":"split","window":0,"side":"right","size":20}"#,
-        Refused::TooSmall,
-    ),
-    (
-        r#"{"op":"split","window":0,"side":"below","size":1}"#,
-        Refused::TooSmall,
-    ),
-    (
-        r#"{"op":"split","window":1,"side":"below","size":11}"#,
-        Refused::TooSmall,
-    ),
-    (
-        r#"{"op":"split","window":1,"side":"right","size":15}"#,
-        Refused::TooSmall,
-    ),
-    (
-        r#"{"op":"split","window":1,"side":"below","size":18446744073709551615}"#,
-        Refused::TooSmall,
-    ),
-    (r#"{"op":"remove","window":2}"#, Refused::NoWindow),
-    (r#"{"op":"remove","window":4294967296}"#, Refused::NoWindow),
-    (r#"{"op":"select","window":3}"#, Refused::NoWindow),
-    (r#"{"op":"select","window":4294967297}"#, Refused::NoWindow),
-    (
-        r#"{"op":"show","window":2,"buffer":"x"}"#,
-        Refused::NoWindow,
-    ),
-    (
-        r#"{"op":"show","window":0,"buffer":"x"}"#,
-        Refused::NoBuffer,
-    ),
-    (r#"{"op":"point","window":2,"pos":9}"#, Refused::NoWindow),
-    (r#"{"op":"point","window":0,"pos":1}"#, Refused::OutOfRange),
-    (r#"{"op":"point","window":1,"pos":5}"#, Refused::OutOfRange),
-    (
-        r#"{"op":"point","window":0,"pos":4294967298}"#,
-        Refused::OutOfRange,
-    ),
-    (
-        r#"{"op":"start","window":2,"pos":9,"row":0}"#,
-        Refused::NoWindow,
-    ),
-    (
-        r#"{"op":"start","window":0,"pos":7,"row":1000000}"#,
-        Refused::OutOfRange,
-    ),
-    (r#"{"op":"scroll","window":2,"rows":1}"#, Refused::NoWindow),
-    (
-        r#"{"op":"hscroll","window":2,"columns":1}"#,
-        Refused::NoWindow,
-    ),
-    (
-        r#"{"op":"wrap","window":2,"mode":"continue"}"#,
-        Refused::NoWindow,
-    ),
-    (
-        r#"{"op":"mode_line","window":2,"format":"%"}"#,
-        Refused::NoWindow,
-    ),
-    (
-        r#"{"op":"mode_line","window":0,"format":"é%1234b%"}"#,
-        Refused::BadFormat(1),
-    ),
-    (
-        r#"{"op":"mode_line","window":1,"format":"%b%3%"}"#,
-        Refused::BadFormat(2),
-    ),
-    (
-        r#"{"op":"margin","window":2,"numbers":10,"strings":20}"#,
-        Refused::NoWindow,
-    ),
-    (
-        r#"{"op":"margin","window":0,"numbers":0,"strings":20}"#,
-        Refused::TooSmall,
-    ),
-    (
-        r#"{"op":"margin","window":1,"numbers":10,"strings":20}"#,
-        Refused::TooSmall,
-    ),
+const REFUSALS: [(&'static str, &'static str, Refused); 81] = [
+    case!("frame: too few columns for the windows" => r#"{"op":"frame","width":26,"height":12}"#, Refused::TooSmall),
+    case!("frame: too few rows for a mode line" => r#"{"op":"frame","width":60,"height":2}"#, Refused::TooSmall),
+    case!("buffer: a name that is taken" => r#"{"op":"buffer","name":"é"}"#, Refused::NameTaken),
+    case!("insert: no such buffer" => r#"{"op":"insert","buffer":"x","pos":9,"text":"é"}"#, Refused::NoBuffer),
+    case!("insert: before the accessible text" => r#"{"op":"insert","buffer":"main","pos":1,"text":"a"}"#, Refused::OutOfRange),
+    case!("insert: behind the accessible text" => r#"{"op":"insert","buffer":"main","pos":7,"text":""}"#, Refused::OutOfRange),
+    case!("insert: a position beyond 32 bits" => r#"{"op":"insert","buffer":"main","pos":4294967298,"text":"a"}"#, Refused::OutOfRange),
+    case!("insert_raw: a name with a capital" => r#"{"op":"insert_raw","buffer":"Main","pos":9,"bytes":[128]}"#, Refused::NoBuffer),
+    case!("insert_raw: no byte at position 0" => r#"{"op":"insert_raw","buffer":"main","pos":0,"bytes":[]}"#, Refused::OutOfRange),
+    case!("delete: no such buffer" => r#"{"op":"delete","buffer":"x","from":9,"to":1}"#, Refused::NoBuffer),
+    case!("delete: from before the accessible text on" => r#"{"op":"delete","buffer":"main","from":1,"to":3}"#, Refused::OutOfRange),
+    case!("delete: beyond the accessible text" => r#"{"op":"delete","buffer":"main","from":2,"to":7}"#, Refused::OutOfRange),
+    case!("delete: an end before its start" => r#"{"op":"delete","buffer":"main","from":4,"to":3}"#, Refused::OutOfRange),
+    case!("narrow: the front of a name" => r#"{"op":"narrow","buffer":"mai","from":0,"to":1}"#, Refused::NoBuffer),
+    case!("narrow: from position 0 on" => r#"{"op":"narrow","buffer":"main","from":0,"to":1}"#, Refused::OutOfRange),
+    case!("narrow: beyond the text" => r#"{"op":"narrow","buffer":"main","from":1,"to":8}"#, Refused::OutOfRange),
+    case!("narrow: an end before its start" => r#"{"op":"narrow","buffer":"main","from":3,"to":2}"#, Refused::OutOfRange),
+    case!("widen: a name without its accent" => r#"{"op":"widen","buffer":"e"}"#, Refused::NoBuffer),
+    case!("put: no such buffer" => r#"{"op":"put","buffer":"x","from":9,"to":9,"kind":"face","value":9}"#, Refused::NoBuffer),
+    case!("put: from before the accessible text on"
+        => r#"{"op":"put","buffer":"main","from":1,"to":2,"kind":"face","value":9}"#, Refused::OutOfRange),
+    case!("put: beyond the accessible text" => r#"{"op":"put","buffer":"main","from":5,"to":7,"kind":"invisible"}"#, Refused::OutOfRange),
+    case!("put: no such face, on no character"
+        => r#"{"op":"put","buffer":"main","from":2,"to":2,"kind":"face","value":1}"#, Refused::NoObject),
+    case!("put: no such spec" => r#"{"op":"put","buffer":"main","from":2,"to":3,"kind":"display","value":1}"#, Refused::NoObject),
+    case!("put: a prefix beyond 32 bits"
+        => r#"{"op":"put","buffer":"main","from":2,"to":3,"kind":"line_prefix","value":4294967296}"#, Refused::NoObject),
+    case!("put: no such prefix" => r#"{"op":"put","buffer":"main","from":2,"to":3,"kind":"wrap_prefix","value":1}"#, Refused::NoObject),
+    case!("overlay: no such buffer" => r#"{"op":"overlay","buffer":"x","from":0,"to":1}"#, Refused::NoBuffer),
+    case!("overlay: from position 0 on" => r#"{"op":"overlay","buffer":"main","from":0,"to":1}"#, Refused::OutOfRange),
+    case!("overlay: an end before its start" => r#"{"op":"overlay","buffer":"main","from":3,"to":2}"#, Refused::OutOfRange),
+    case!("overlay: beyond the text" => r#"{"op":"overlay","buffer":"main","from":7,"to":8}"#, Refused::OutOfRange),
+    case!("overlay_move: no such buffer" => r#"{"op":"overlay_move","buffer":"x","overlay":1,"from":0,"to":9}"#, Refused::NoBuffer),
+    case!("overlay_move: an overlay that was dropped"
+        => r#"{"op":"overlay_move","buffer":"main","overlay":1,"from":0,"to":9}"#, Refused::NoOverlay),
+    case!("overlay_move: an overlay that was never made"
+        => r#"{"op":"overlay_move","buffer":"main","overlay":2,"from":2,"to":3}"#, Refused::NoOverlay),
+    case!("overlay_move: an end before its start"
+        => r#"{"op":"overlay_move","buffer":"main","overlay":0,"from":4,"to":3}"#, Refused::OutOfRange),
+    case!("overlay_move: beyond the text" => r#"{"op":"overlay_move","buffer":"main","overlay":0,"from":1,"to":8}"#, Refused::OutOfRange),
+    case!("overlay_drop: no such buffer" => r#"{"op":"overlay_drop","buffer":"x","overlay":0}"#, Refused::NoBuffer),
+    case!("overlay_drop: an overlay of another buffer" => r#"{"op":"overlay_drop","buffer":"é","overlay":0}"#, Refused::NoOverlay),
+    case!("overlay_drop: an overlay beyond 32 bits" => r#"{"op":"overlay_drop","buffer":"main","overlay":4294967296}"#, Refused::NoOverlay),
+    case!("overlay_put: no such buffer" => r#"{"op":"overlay_put","buffer":"x","overlay":1,"kind":"face","value":9}"#, Refused::NoBuffer),
+    case!("overlay_put: an overlay that was dropped"
+        => r#"{"op":"overlay_put","buffer":"main","overlay":1,"kind":"face","value":9}"#, Refused::NoOverlay),
+    case!("overlay_put: no such face" => r#"{"op":"overlay_put","buffer":"main","overlay":0,"kind":"face","value":1}"#, Refused::NoObject),
+    case!("overlay_put: no such string"
+        => r#"{"op":"overlay_put","buffer":"main","overlay":0,"kind":"after","value":1}"#, Refused::NoObject),
+    case!("margin_put: no such buffer" => r#"{"op":"margin_put","buffer":"x","overlay":1,"string":9}"#, Refused::NoBuffer),
+    case!("margin_put: an overlay that was dropped" => r#"{"op":"margin_put","buffer":"main","overlay":1,"string":9}"#, Refused::NoOverlay),
+    case!("margin_put: no such string" => r#"{"op":"margin_put","buffer":"main","overlay":0,"string":1}"#, Refused::NoObject),
+    case!("setting: no such buffer" => r#"{"op":"setting","buffer":"x","name":"table","value":9}"#, Refused::NoBuffer),
+    case!("setting: no such table" => r#"{"op":"setting","buffer":"main","name":"table","value":1}"#, Refused::NoObject),
+    case!("setting: no such line prefix" => r#"{"op":"setting","buffer":"main","name":"line_prefix","value":1}"#, Refused::NoObject),
+    case!("setting: a wrap prefix of 64 bits"
+        => r#"{"op":"setting","buffer":"main","name":"wrap_prefix","value":18446744073709551615}"#, Refused::NoObject),
+    case!("string: no such face, in the second run"
+        => r#"{"op":"string","text":"ab","runs":[[0,3,"face",0],[1,2,"face",1]]}"#, Refused::NoObject),
+    case!("string: no such spec" => r#"{"op":"string","text":"ab","runs":[[0,1,"display",1]]}"#, Refused::NoObject),
+    case!("string: a run beyond the text" => r#"{"op":"string","text":"ab","runs":[[1,3,"face",0]]}"#, Refused::OutOfRange),
+    case!("string: a run whose end is before its start"
+        => r#"{"op":"string","text":"ab","runs":[[2,1,"display",0]]}"#, Refused::OutOfRange),
+    case!("spec: no such string" => r#"{"op":"spec","kind":"string","value":1}"#, Refused::NoObject),
+    case!("split: a window that was removed" => r#"{"op":"split","window":2,"side":"below","size":0}"#, Refused::NoWindow),
+    case!("split: too few columns for the window" => r#"{"op":"split","window":0,"side":"right","size":10}"#, Refused::TooSmall),
+    case!("split: too few columns for the new window" => r#"{"op":"split","window":0,"side":"right","size":20}"#, Refused::TooSmall),
+    case!("split: too few rows for a mode line" => r#"{"op":"split","window":0,"side":"below","size":1}"#, Refused::TooSmall),
+    case!("split: no row for the new window" => r#"{"op":"split","window":1,"side":"below","size":11}"#, Refused::TooSmall),
+    case!("split: too few columns for the margins" => r#"{"op":"split","window":1,"side":"right","size":15}"#, Refused::TooSmall),
+    case!("split: a size of 64 bits" => r#"{"op":"split","window":1,"side":"below","size":18446744073709551615}"#, Refused::TooSmall),
+    case!("remove: a window that was removed" => r#"{"op":"remove","window":2}"#, Refused::NoWindow),
+    case!("remove: a window beyond 32 bits" => r#"{"op":"remove","window":4294967296}"#, Refused::NoWindow),
+    case!("select: a window that was never made" => r#"{"op":"select","window":3}"#, Refused::NoWindow),
+    case!("select: a window beyond 32 bits" => r#"{"op":"select","window":4294967297}"#, Refused::NoWindow),
+    case!("show: no such window and no such buffer" => r#"{"op":"show","window":2,"buffer":"x"}"#, Refused::NoWindow),
+    case!("show: no such buffer" => r#"{"op":"show","window":0,"buffer":"x"}"#, Refused::NoBuffer),
+    case!("point: no such window" => r#"{"op":"point","window":2,"pos":9}"#, Refused::NoWindow),
+    case!("point: before the accessible text" => r#"{"op":"point","window":0,"pos":1}"#, Refused::OutOfRange),
+    case!("point: behind the text" => r#"{"op":"point","window":1,"pos":5}"#, Refused::OutOfRange),
+    case!("point: a position beyond 32 bits" => r#"{"op":"point","window":0,"pos":4294967298}"#, Refused::OutOfRange),
+    case!("start: no such window" => r#"{"op":"start","window":2,"pos":9,"row":0}"#, Refused::NoWindow),
+    case!("start: behind the accessible text" => r#"{"op":"start","window":0,"pos":7,"row":1000000}"#, Refused::OutOfRange),
+    case!("scroll: no such window" => r#"{"op":"scroll","window":2,"rows":1}"#, Refused::NoWindow),
+    case!("hscroll: no such window" => r#"{"op":"hscroll","window":2,"columns":1}"#, Refused::NoWindow),
+    case!("wrap: no such window" => r#"{"op":"wrap","window":2,"mode":"continue"}"#, Refused::NoWindow),
+    case!("mode_line: no such window, and a bad format" => r#"{"op":"mode_line","window":2,"format":"%"}"#, Refused::NoWindow),
+    case!("mode_line: a width of four digits" => r#"{"op":"mode_line","window":0,"format":"é%1234b%"}"#, Refused::BadFormat(1)),
+    case!("mode_line: a width before a percent sign" => r#"{"op":"mode_line","window":1,"format":"%b%3%"}"#, Refused::BadFormat(2)),
+    case!("margin: no such window" => r#"{"op":"margin","window":2,"numbers":10,"strings":20}"#, Refused::NoWindow),
+    case!("margin: too few columns for strings" => r#"{"op":"margin","window":0,"numbers":0,"strings":20}"#, Refused::TooSmall),
+    case!("margin: too few columns for both" => r#"{"op":"margin","window":1,"numbers":10,"strings":20}"#, Refused::TooSmall),
 ];
 
 /// Asserts that the scene refuses each of these lines for its cause, and stays as it is.
 fn assert_kept(rt: &impl Abort, state: &mut State, alloc: Global) {
-    for (line, refused) in &REFUSALS {
+    for (name, line, refused) in &REFUSALS {
         let kept = refuses(state, alloc, line, *refused) && is_scene(state);
-        assert_of(rt, line, kept);
+        assert_of(rt, name, kept);
     }
 }
 
@@ -319,36 +120,26 @@ fn ops_are_refused(rt: HostRuntime) -> Result<(), Fail> {
 }
 
 /// Asserts that a state refuses each line of a table for its cause.
-fn assert_refused(rt: &impl Abort, state: &mut State, alloc: Global, table: &[(&str, Refused)]) {
-    for (line, refused) in table {
-        assert_of(rt, line, refuses(state, alloc, line, *refused));
+fn assert_refused(
+    rt: &impl Abort,
+    state: &mut State,
+    alloc: Global,
+    table: &[(&str, &str, Refused)],
+) {
+    for (name, line, refused) in table {
+        assert_of(rt, name, refuses(state, alloc, line, *refused));
     }
 }
 
 /// Lines that the opening state refuses in a frame of 12 columns and 2 rows, where the one window has 1 row, and why.
-const IN_THE_LEAST_FRAME: [(&'static str, Refused); 7] = [
-    (r#"{"op":"remove","window":1}"#, Refused::NoWindow),
-    (r#"{"op":"remove","window":0}"#, Refused::LastWindow),
-    (
-        r#"{"op":"mode_line","window":0,"format":"%"}"#,
-        Refused::BadFormat(0),
-    ),
-    (
-        r#"{"op":"mode_line","window":0,"format":""}"#,
-        Refused::TooSmall,
-    ),
-    (
-        r#"{"op":"margin","window":0,"numbers":1,"strings":1}"#,
-        Refused::TooSmall,
-    ),
-    (
-        r#"{"op":"split","window":0,"side":"below","size":0}"#,
-        Refused::TooSmall,
-    ),
-    (
-        r#"{"op":"split","window":0,"side":"right","size":6}"#,
-        Refused::TooSmall,
-    ),
+const IN_THE_LEAST_FRAME: [(&'static str, &'static str, Refused); 7] = [
+    case!("remove: no such window" => r#"{"op":"remove","window":1}"#, Refused::NoWindow),
+    case!("remove: the last window" => r#"{"op":"remove","window":0}"#, Refused::LastWindow),
+    case!("mode_line: a bad format, and no row for it" => r#"{"op":"mode_line","window":0,"format":"%"}"#, Refused::BadFormat(0)),
+    case!("mode_line: no row for it" => r#"{"op":"mode_line","window":0,"format":""}"#, Refused::TooSmall),
+    case!("margin: too few columns" => r#"{"op":"margin","window":0,"numbers":1,"strings":1}"#, Refused::TooSmall),
+    case!("split: no row for the window" => r#"{"op":"split","window":0,"side":"below","size":0}"#, Refused::TooSmall),
+    case!("split: too few columns" => r#"{"op":"split","window":0,"side":"right","size":6}"#, Refused::TooSmall),
 ];
 
 /// Asserts what the opening state refuses in the least frame, and that it has room for one column of margin strings.
@@ -444,9 +235,9 @@ fn makes_buffers(state: &mut State, alloc: Global) -> bool {
 }
 
 /// What a state of 64 buffers refuses.
-const WITH_ALL_BUFFERS: [(&'static str, Refused); 2] = [
-    (r#"{"op":"buffer","name":"aa"}"#, Refused::NameTaken),
-    (r#"{"op":"buffer","name":"b"}"#, Refused::TooManyBuffers),
+const WITH_ALL_BUFFERS: [(&'static str, &'static str, Refused); 2] = [
+    case!("a name that is taken" => r#"{"op":"buffer","name":"aa"}"#, Refused::NameTaken),
+    case!("one buffer more" => r#"{"op":"buffer","name":"b"}"#, Refused::TooManyBuffers),
 ];
 
 /// Asserts that a state takes 63 buffers more, and refuses another.
@@ -484,19 +275,10 @@ fn splits_each(state: &mut State, count: u32) -> bool {
 }
 
 /// What a state of 64 windows refuses, the last of which has ten rows.
-const WITH_ALL_WINDOWS: [(&'static str, Refused); 3] = [
-    (
-        r#"{"op":"split","window":64,"side":"below","size":3}"#,
-        Refused::NoWindow,
-    ),
-    (
-        r#"{"op":"split","window":63,"side":"below","size":10}"#,
-        Refused::TooSmall,
-    ),
-    (
-        r#"{"op":"split","window":63,"side":"below","size":3}"#,
-        Refused::TooManyWindows,
-    ),
+const WITH_ALL_WINDOWS: [(&'static str, &'static str, Refused); 3] = [
+    case!("no such window" => r#"{"op":"split","window":64,"side":"below","size":3}"#, Refused::NoWindow),
+    case!("no row for the new window" => r#"{"op":"split","window":63,"side":"below","size":10}"#, Refused::TooSmall),
+    case!("one window more" => r#"{"op":"split","window":63,"side":"below","size":3}"#, Refused::TooManyWindows),
 ];
 
 /// Asserts that a state takes 63 windows more, and refuses another.
@@ -513,26 +295,14 @@ fn there_are_64_windows(rt: HostRuntime) -> Result<(), Fail> {
 }
 
 /// What a state with all objects refuses.
-const WITH_ALL_OBJECTS: [(&'static str, Refused); 7] = [
-    (
-        r#"{"op":"string","text":"a","runs":[[1,2,"face",1024]]}"#,
-        Refused::NoObject,
-    ),
-    (
-        r#"{"op":"string","text":"a","runs":[[0,2,"face",1023]]}"#,
-        Refused::OutOfRange,
-    ),
-    (r#"{"op":"string","text":""}"#, Refused::TooManyObjects),
-    (
-        r#"{"op":"spec","kind":"string","value":4096}"#,
-        Refused::NoObject,
-    ),
-    (
-        r#"{"op":"spec","kind":"align","value":0}"#,
-        Refused::TooManyObjects,
-    ),
-    (r#"{"op":"face"}"#, Refused::TooManyObjects),
-    (r#"{"op":"table"}"#, Refused::TooManyObjects),
+const WITH_ALL_OBJECTS: [(&'static str, &'static str, Refused); 7] = [
+    case!("string: no such face" => r#"{"op":"string","text":"a","runs":[[1,2,"face",1024]]}"#, Refused::NoObject),
+    case!("string: a run beyond the text" => r#"{"op":"string","text":"a","runs":[[0,2,"face",1023]]}"#, Refused::OutOfRange),
+    case!("one string more" => r#"{"op":"string","text":""}"#, Refused::TooManyObjects),
+    case!("spec: no such string" => r#"{"op":"spec","kind":"string","value":4096}"#, Refused::NoObject),
+    case!("one spec more" => r#"{"op":"spec","kind":"align","value":0}"#, Refused::TooManyObjects),
+    case!("one face more" => r#"{"op":"face"}"#, Refused::TooManyObjects),
+    case!("one table more" => r#"{"op":"table"}"#, Refused::TooManyObjects),
 ];
 
 /// Whether a state refuses a string of so many characters `a`, behind a first part of its line, for a cause.
@@ -575,19 +345,10 @@ fn objects_are_limited(rt: HostRuntime) -> Result<(), Fail> {
 }
 
 /// What a state refuses whose first buffer had all its overlays.
-const WITH_ALL_OVERLAYS: [(&'static str, Refused); 3] = [
-    (
-        r#"{"op":"overlay","buffer":"mai","from":1,"to":1}"#,
-        Refused::NoBuffer,
-    ),
-    (
-        r#"{"op":"overlay","buffer":"main","from":1,"to":2}"#,
-        Refused::OutOfRange,
-    ),
-    (
-        r#"{"op":"overlay","buffer":"main","from":1,"to":1}"#,
-        Refused::TooManyOverlays,
-    ),
+const WITH_ALL_OVERLAYS: [(&'static str, &'static str, Refused); 3] = [
+    case!("the front of a name" => r#"{"op":"overlay","buffer":"mai","from":1,"to":1}"#, Refused::NoBuffer),
+    case!("beyond the text" => r#"{"op":"overlay","buffer":"main","from":1,"to":2}"#, Refused::OutOfRange),
+    case!("one overlay more" => r#"{"op":"overlay","buffer":"main","from":1,"to":1}"#, Refused::TooManyOverlays),
 ];
 
 /// Asserts that a state takes 65,536 overlays, and refuses another even where one was taken away.
@@ -620,32 +381,14 @@ fn types_each(state: &mut State, alloc: Global, counts: &[usize]) -> bool {
 }
 
 /// What a state refuses whose first buffer holds the longest text.
-const WITH_ALL_CHARACTERS: [(&'static str, Refused); 7] = [
-    (r#"{"op":"type","text":"a"}"#, Refused::TextTooLarge),
-    (
-        r#"{"op":"insert","buffer":"x","pos":0,"text":"a"}"#,
-        Refused::NoBuffer,
-    ),
-    (
-        r#"{"op":"insert","buffer":"main","pos":0,"text":"a"}"#,
-        Refused::OutOfRange,
-    ),
-    (
-        r#"{"op":"insert","buffer":"main","pos":4194306,"text":"a"}"#,
-        Refused::OutOfRange,
-    ),
-    (
-        r#"{"op":"insert","buffer":"main","pos":4194305,"text":"a"}"#,
-        Refused::TextTooLarge,
-    ),
-    (
-        r#"{"op":"insert_raw","buffer":"main","pos":0,"bytes":[128]}"#,
-        Refused::OutOfRange,
-    ),
-    (
-        r#"{"op":"insert_raw","buffer":"main","pos":1,"bytes":[128]}"#,
-        Refused::TextTooLarge,
-    ),
+const WITH_ALL_CHARACTERS: [(&'static str, &'static str, Refused); 7] = [
+    case!("type: one character more" => r#"{"op":"type","text":"a"}"#, Refused::TextTooLarge),
+    case!("insert: no such buffer" => r#"{"op":"insert","buffer":"x","pos":0,"text":"a"}"#, Refused::NoBuffer),
+    case!("insert: position 0" => r#"{"op":"insert","buffer":"main","pos":0,"text":"a"}"#, Refused::OutOfRange),
+    case!("insert: behind the end" => r#"{"op":"insert","buffer":"main","pos":4194306,"text":"a"}"#, Refused::OutOfRange),
+    case!("insert: one character more" => r#"{"op":"insert","buffer":"main","pos":4194305,"text":"a"}"#, Refused::TextTooLarge),
+    case!("insert_raw: position 0" => r#"{"op":"insert_raw","buffer":"main","pos":0,"bytes":[128]}"#, Refused::OutOfRange),
+    case!("insert_raw: one character more" => r#"{"op":"insert_raw","buffer":"main","pos":1,"bytes":[128]}"#, Refused::TextTooLarge),
 ];
 
 /// Asserts that a state takes a text of 4,194,304 characters and no longer one.

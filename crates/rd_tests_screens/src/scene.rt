@@ -71,137 +71,58 @@ fn edit(buffer: u32, from: u32, removed: u32, added: u32) -> Effect {
     }
 }
 
-/// Each op that a state applies, and what it has changed.
-pub fn ops() -> [(&'static str, Effect); 39] {
+/// Each op that a state applies by its name, its line, and what it has changed.
+pub fn ops() -> [(&'static str, &'static str, Effect); 39] {
     [
-        (r#"{"op":"frame","width":60,"height":12}"#, Effect::Nothing),
-        (r#"{"op":"buffer","name":"é"}"#, Effect::Nothing),
-        (
-            r#"{"op":"insert","buffer":"main","pos":1,"text":"abc\nde"}"#,
-            edit(0, 1, 0, 6),
-        ),
-        (
-            r#"{"op":"insert_raw","buffer":"é","pos":1,"bytes":[128,200,255]}"#,
-            edit(1, 1, 0, 3),
-        ),
-        (r#"{"op":"type","text":"xy"}"#, edit(0, 1, 0, 2)),
-        (
-            r#"{"op":"delete","buffer":"main","from":2,"to":4}"#,
-            edit(0, 2, 2, 0),
-        ),
-        (
-            r#"{"op":"narrow","buffer":"é","from":2,"to":3}"#,
-            Effect::All { buffer: 1 },
-        ),
-        (r#"{"op":"widen","buffer":"é"}"#, Effect::All { buffer: 1 }),
-        (
-            r#"{"op":"narrow","buffer":"main","from":2,"to":6}"#,
-            Effect::All { buffer: 0 },
-        ),
-        (r#"{"op":"face","fg":1,"bold":true}"#, Effect::Nothing),
-        (r#"{"op":"spec","kind":"width","value":3}"#, Effect::Nothing),
-        (
-            r#"{"op":"string","text":"hi!","runs":[[0,3,"face",0],[1,2,"display",0]]}"#,
-            Effect::Nothing,
-        ),
-        (
-            r#"{"op":"table","entries":[[97,"bc"]],"control":"c","ellipsis":"中"}"#,
-            Effect::Nothing,
-        ),
-        (
-            r#"{"op":"put","buffer":"main","from":2,"to":4,"kind":"face","value":0}"#,
-            edit(0, 2, 2, 2),
-        ),
-        (
-            r#"{"op":"put","buffer":"main","from":3,"to":6,"kind":"invisible","value":65535}"#,
-            edit(0, 3, 3, 3),
-        ),
-        (
-            r#"{"op":"put","buffer":"main","from":3,"to":4,"kind":"face"}"#,
-            edit(0, 3, 1, 1),
-        ),
-        (
-            r#"{"op":"overlay","buffer":"main","from":1,"to":3,"priority":-5,"rear":true}"#,
-            edit(0, 1, 2, 2),
-        ),
-        (
-            r#"{"op":"overlay","buffer":"main","from":6,"to":6}"#,
-            edit(0, 6, 0, 0),
-        ),
-        (
-            r#"{"op":"overlay_move","buffer":"main","overlay":0,"from":3,"to":5}"#,
-            Effect::Moved {
-                buffer: 0,
-                before: (1, 3),
-                after: (3, 5),
-            },
-        ),
-        (
-            r#"{"op":"overlay_put","buffer":"main","overlay":0,"kind":"before","value":0}"#,
-            edit(0, 3, 2, 2),
-        ),
-        (
-            r#"{"op":"margin_put","buffer":"main","overlay":0,"string":0}"#,
-            Effect::Nothing,
-        ),
-        (
-            r#"{"op":"overlay_drop","buffer":"main","overlay":1}"#,
-            edit(0, 6, 0, 0),
-        ),
-        (
-            r#"{"op":"setting","buffer":"main","name":"tab_width","value":4}"#,
-            Effect::All { buffer: 0 },
-        ),
-        (
-            r#"{"op":"setting","buffer":"main","name":"table","value":0}"#,
-            Effect::All { buffer: 0 },
-        ),
-        (
-            r#"{"op":"split","window":0,"side":"right","size":30}"#,
-            Effect::Nothing,
-        ),
-        (
-            r#"{"op":"split","window":1,"side":"below","size":5}"#,
-            Effect::Nothing,
-        ),
-        (r#"{"op":"remove","window":2}"#, Effect::Nothing),
-        (r#"{"op":"select","window":1}"#, Effect::Nothing),
-        (
-            r#"{"op":"show","window":1,"buffer":"é"}"#,
-            Effect::Window(1),
-        ),
-        (r#"{"op":"point","window":0,"pos":5}"#, Effect::Nothing),
-        (
-            r#"{"op":"start","window":1,"pos":2,"row":7}"#,
-            Effect::Nothing,
-        ),
-        (r#"{"op":"scroll","window":0,"rows":-3}"#, Effect::Nothing),
-        (
-            r#"{"op":"hscroll","window":1,"columns":9}"#,
-            Effect::Nothing,
-        ),
-        (r#"{"op":"wrap","window":1,"mode":"word"}"#, Effect::Nothing),
-        (
-            r#"{"op":"mode_line","window":0,"format":"%b"}"#,
-            Effect::Nothing,
-        ),
-        (
-            r#"{"op":"margin","window":1,"numbers":3,"strings":2}"#,
-            Effect::Nothing,
-        ),
-        (
-            r#"{"op":"scrolling","margin":2,"conservatively":100}"#,
-            Effect::Nothing,
-        ),
-        (r#"{"op":"echo","text":"hi"}"#, Effect::Nothing),
-        (r#"{"op":"shift","on":true}"#, Effect::Nothing),
+        case!("frame" => r#"{"op":"frame","width":60,"height":12}"#, Effect::Nothing),
+        case!("buffer" => r#"{"op":"buffer","name":"é"}"#, Effect::Nothing),
+        case!("insert" => r#"{"op":"insert","buffer":"main","pos":1,"text":"abc\nde"}"#, edit(0, 1, 0, 6)),
+        case!("insert_raw" => r#"{"op":"insert_raw","buffer":"é","pos":1,"bytes":[128,200,255]}"#, edit(1, 1, 0, 3)),
+        case!("type" => r#"{"op":"type","text":"xy"}"#, edit(0, 1, 0, 2)),
+        case!("delete" => r#"{"op":"delete","buffer":"main","from":2,"to":4}"#, edit(0, 2, 2, 0)),
+        case!("narrow: the second buffer" => r#"{"op":"narrow","buffer":"é","from":2,"to":3}"#, Effect::All { buffer: 1 }),
+        case!("widen" => r#"{"op":"widen","buffer":"é"}"#, Effect::All { buffer: 1 }),
+        case!("narrow: the first buffer" => r#"{"op":"narrow","buffer":"main","from":2,"to":6}"#, Effect::All { buffer: 0 }),
+        case!("face" => r#"{"op":"face","fg":1,"bold":true}"#, Effect::Nothing),
+        case!("spec" => r#"{"op":"spec","kind":"width","value":3}"#, Effect::Nothing),
+        case!("string" => r#"{"op":"string","text":"hi!","runs":[[0,3,"face",0],[1,2,"display",0]]}"#, Effect::Nothing),
+        case!("table" => r#"{"op":"table","entries":[[97,"bc"]],"control":"c","ellipsis":"中"}"#, Effect::Nothing),
+        case!("put: a face" => r#"{"op":"put","buffer":"main","from":2,"to":4,"kind":"face","value":0}"#, edit(0, 2, 2, 2)),
+        case!("put: an atom" => r#"{"op":"put","buffer":"main","from":3,"to":6,"kind":"invisible","value":65535}"#, edit(0, 3, 3, 3)),
+        case!("put: no face" => r#"{"op":"put","buffer":"main","from":3,"to":4,"kind":"face"}"#, edit(0, 3, 1, 1)),
+        case!("overlay" => r#"{"op":"overlay","buffer":"main","from":1,"to":3,"priority":-5,"rear":true}"#, edit(0, 1, 2, 2)),
+        case!("overlay: no character" => r#"{"op":"overlay","buffer":"main","from":6,"to":6}"#, edit(0, 6, 0, 0)),
+        case!("overlay_move"
+            => r#"{"op":"overlay_move","buffer":"main","overlay":0,"from":3,"to":5}"#,
+            Effect::Moved { buffer: 0, before: (1, 3), after: (3, 5) }),
+        case!("overlay_put" => r#"{"op":"overlay_put","buffer":"main","overlay":0,"kind":"before","value":0}"#, edit(0, 3, 2, 2)),
+        case!("margin_put" => r#"{"op":"margin_put","buffer":"main","overlay":0,"string":0}"#, Effect::Nothing),
+        case!("overlay_drop" => r#"{"op":"overlay_drop","buffer":"main","overlay":1}"#, edit(0, 6, 0, 0)),
+        case!("setting: the width of a tab"
+            => r#"{"op":"setting","buffer":"main","name":"tab_width","value":4}"#, Effect::All { buffer: 0 }),
+        case!("setting: a table" => r#"{"op":"setting","buffer":"main","name":"table","value":0}"#, Effect::All { buffer: 0 }),
+        case!("split: right" => r#"{"op":"split","window":0,"side":"right","size":30}"#, Effect::Nothing),
+        case!("split: below" => r#"{"op":"split","window":1,"side":"below","size":5}"#, Effect::Nothing),
+        case!("remove" => r#"{"op":"remove","window":2}"#, Effect::Nothing),
+        case!("select" => r#"{"op":"select","window":1}"#, Effect::Nothing),
+        case!("show" => r#"{"op":"show","window":1,"buffer":"é"}"#, Effect::Window(1)),
+        case!("point" => r#"{"op":"point","window":0,"pos":5}"#, Effect::Nothing),
+        case!("start" => r#"{"op":"start","window":1,"pos":2,"row":7}"#, Effect::Nothing),
+        case!("scroll" => r#"{"op":"scroll","window":0,"rows":-3}"#, Effect::Nothing),
+        case!("hscroll" => r#"{"op":"hscroll","window":1,"columns":9}"#, Effect::Nothing),
+        case!("wrap" => r#"{"op":"wrap","window":1,"mode":"word"}"#, Effect::Nothing),
+        case!("mode_line" => r#"{"op":"mode_line","window":0,"format":"%b"}"#, Effect::Nothing),
+        case!("margin" => r#"{"op":"margin","window":1,"numbers":3,"strings":2}"#, Effect::Nothing),
+        case!("scrolling" => r#"{"op":"scrolling","margin":2,"conservatively":100}"#, Effect::Nothing),
+        case!("echo" => r#"{"op":"echo","text":"hi"}"#, Effect::Nothing),
+        case!("shift" => r#"{"op":"shift","on":true}"#, Effect::Nothing),
     ]
 }
 
 /// The state after the ops above.
 pub fn scene(alloc: Global) -> Result<State, Memory> {
     let mut state = State::new(alloc)?;
-    for (line, _effect) in ops() {
+    for (_name, line, _effect) in ops() {
         answer(&mut state, alloc, line);
     }
     Ok(state)

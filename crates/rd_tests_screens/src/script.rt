@@ -62,8 +62,8 @@ pub fn has_fault(alloc: Global, line: &[u8], kind: &str, key: &str) -> bool {
 }
 
 /// Asserts that each line of a table has a fault of this kind, at the key that stands beside it.
-fn assert_faults(rt: &impl Abort, alloc: Global, kind: &str, table: &[(&str, &str)]) {
-    for (line, key) in table {
-        assert_of(rt, line, faults(alloc, line, kind, key));
+fn assert_faults(rt: &impl Abort, alloc: Global, kind: &str, table: &[(&str, &str, &str)]) {
+    for (name, line, key) in table {
+        assert_of(rt, name, faults(alloc, line, kind, key));
     }
 }

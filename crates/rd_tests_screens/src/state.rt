@@ -14,8 +14,8 @@ use std::test::Fail;
 
 /// Asserts that a state accepts each op of the scene with its effect, and then is the scene.
 fn assert_applied(rt: &impl Abort, state: &mut State, alloc: Global) {
-    for (line, effect) in ops() {
-        assert_of(rt, line, accepts(state, alloc, line, effect));
+    for (name, line, effect) in ops() {
+        assert_of(rt, name, accepts(state, alloc, line, effect));
     }
     assert!(rt; is_scene(state));
 }
@@ -130,27 +130,21 @@ fn points(state: &State) -> Option<(u32, u32)> {
 }
 
 /// Lines, and where these points stand after each.
-const POINTS: [(&'static str, (u32, u32)); 8] = [
-    (r#"{"op":"type","text":"x"}"#, (4, 2)),
-    (
-        r#"{"op":"insert","buffer":"main","pos":2,"text":"xy"}"#,
-        (5, 2),
-    ),
-    (
-        r#"{"op":"insert_raw","buffer":"main","pos":1,"bytes":[255]}"#,
-        (4, 3),
-    ),
-    (r#"{"op":"delete","buffer":"main","from":2,"to":3}"#, (2, 2)),
-    (r#"{"op":"delete","buffer":"main","from":1,"to":4}"#, (1, 1)),
-    (r#"{"op":"narrow","buffer":"main","from":3,"to":4}"#, (3, 3)),
-    (r#"{"op":"narrow","buffer":"main","from":1,"to":2}"#, (2, 2)),
-    (r#"{"op":"show","window":0,"buffer":"main"}"#, (1, 2)),
+const POINTS: [(&'static str, &'static str, (u32, u32)); 8] = [
+    case!("a character that is typed at the first point" => r#"{"op":"type","text":"x"}"#, (4, 2)),
+    case!("an insertion at the second point" => r#"{"op":"insert","buffer":"main","pos":2,"text":"xy"}"#, (5, 2)),
+    case!("an insertion before both points" => r#"{"op":"insert_raw","buffer":"main","pos":1,"bytes":[255]}"#, (4, 3)),
+    case!("a deletion between the points" => r#"{"op":"delete","buffer":"main","from":2,"to":3}"#, (2, 2)),
+    case!("a deletion around both points" => r#"{"op":"delete","buffer":"main","from":1,"to":4}"#, (1, 1)),
+    case!("narrowing to behind the second point" => r#"{"op":"narrow","buffer":"main","from":3,"to":4}"#, (3, 3)),
+    case!("narrowing to before the first point" => r#"{"op":"narrow","buffer":"main","from":1,"to":2}"#, (2, 2)),
+    case!("the same buffer, shown again" => r#"{"op":"show","window":0,"buffer":"main"}"#, (1, 2)),
 ];
 
 #[test]
 fn points_move_with_the_text(rt: HostRuntime) {
-    for (line, wanted) in &POINTS {
-        assert_of(&rt, line, stand(rt.alloc(), line, *wanted));
+    for (name, line, wanted) in &POINTS {
+        assert_of(&rt, name, stand(rt.alloc(), line, *wanted));
     }
 }
 

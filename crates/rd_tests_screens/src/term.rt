@@ -1,5 +1,5 @@
 //! The terminal and the screen on worked streams.
-use crate::claims::assert_at;
+use crate::claims::assert_of;
 use rd_base::{Cell, Face, Glyph, Memory};
 use rd_term::{Screen, Terminal};
 use std::alloc::Global;
@@ -33,10 +33,10 @@ fn points_at(terminal: &Terminal, place: Option<(u32, u32)>) -> bool {
 }
 
 /// Asserts that letters stand at these places.
-fn assert_letters(rt: &impl Abort, terminal: &Terminal, letters: &[(u32, u32, u8)]) {
-    for (row, column, code) in letters {
+fn assert_letters(rt: &impl Abort, terminal: &Terminal, letters: &[(&str, u32, u32, u8)]) {
+    for (name, row, column, code) in letters {
         let shown = shows_letter(terminal, *row, *column, *code);
-        assert_at(rt, *row, *column, shown);
+        assert_of(rt, name, shown);
     }
 }
 
@@ -49,11 +49,11 @@ fn assert_gone_on_with(rt: &impl Abort, terminal: &mut Terminal) {
     assert!(rt; !terminal.confused());
     assert!(rt; points_at(terminal, Some((0, 0))));
     let letters = [
-        (0, 0, b'X'),
-        (0, 1, b'a'),
-        (1, 0, b'b'),
-        (2, 0, b'c'),
-        (4, 0, b'e'),
+        ("what stands over a", 0, 0, b'X'),
+        ("a, a column on", 0, 1, b'a'),
+        ("a row that stayed", 1, 0, b'b'),
+        ("a row before the stop", 2, 0, b'c'),
+        ("a row behind the stop", 4, 0, b'e'),
     ];
     assert_letters(rt, terminal, &letters);
     assert!(rt; shows(terminal, 5, 0, Some(Cell::Blank(Face::PLAIN))));
@@ -73,7 +73,12 @@ fn an_update_that_stopped_is_gone_on_with(rt: HostRuntime) -> Result<(), Fail> {
 fn assert_moved(rt: &impl Abort, terminal: &mut Terminal) {
     terminal.feed(b"\x1b[0m\x1b[2J\x1b[1;1Ha\x1b[2;1Hb\x1b[5;1He\x1b[6;1H!");
     terminal.feed(b"\x1b[1;5r\x1b[1;1H\x1b[1M\x1b[1;6r\x1b[5;1Hf\x1b[1;1H");
-    let letters = [(0, 0, b'b'), (3, 0, b'e'), (4, 0, b'f'), (5, 0, b'!')];
+    let letters = [
+        ("the first row that moved", 0, 0, b'b'),
+        ("the last row that moved", 3, 0, b'e'),
+        ("a row that was filled", 4, 0, b'f'),
+        ("the row below the region", 5, 0, b'!'),
+    ];
     assert_letters(rt, terminal, &letters);
     assert!(rt; !terminal.confused());
     assert!(rt; terminal.resize(12, 6).is_ok());
@@ -94,9 +99,9 @@ fn red(glyph: Glyph) -> Option<Cell> {
 }
 
 /// Asserts that these cells stand in the first row of a terminal.
-fn assert_cells(rt: &impl Abort, terminal: &Terminal, cells: &[(u32, Option<Cell>)]) {
-    for (column, cell) in cells {
-        assert_at(rt, 0, *column, shows(terminal, 0, *column, *cell));
+fn assert_cells(rt: &impl Abort, terminal: &Terminal, cells: &[(&str, u32, Option<Cell>)]) {
+    for (name, column, cell) in cells {
+        assert_of(rt, name, shows(terminal, 0, *column, *cell));
     }
 }
 
@@ -111,12 +116,12 @@ fn assert_columns(rt: &impl Abort, terminal: &mut Terminal) {
         ..Glyph::single(101, 1)
     };
     let cells = [
-        (0, red(accented)),
-        (1, red(Glyph::single(0x4e2d, 2))),
-        (2, Some(Cell::Rest)),
-        (3, red(Glyph::single(0x17d8, 3))),
-        (6, red(Glyph::single(120, 1))),
-        (7, None),
+        ("an accented letter", 0, red(accented)),
+        ("two columns", 1, red(Glyph::single(0x4e2d, 2))),
+        ("the second of two columns", 2, Some(Cell::Rest)),
+        ("three columns", 3, red(Glyph::single(0x17d8, 3))),
+        ("a letter behind them", 6, red(Glyph::single(120, 1))),
+        ("a column without a character", 7, None),
     ];
     assert_cells(rt, terminal, &cells);
     assert!(rt; !terminal.confused());

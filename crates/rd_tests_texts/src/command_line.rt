@@ -18,11 +18,18 @@ const PLAIN: Words<'static> = Words {
     dumps: false,
 };
 
+/// What words say.
+type Said = Result<Words<'static>, WordsFault>;
+
+/// What words say that are refused.
+const USAGE: Said = Err(WordsFault::Usage);
+
 /// The words of command lines, and what they say.
-const LINES: [(&'static str, Result<Words<'static>, WordsFault>); 9] = [
-    ("--data D --mirror M", Ok(PLAIN)),
-    ("--mirror=M --data=D --", Ok(PLAIN)),
+const LINES: [(&'static str, &'static str, Said); 9] = [
+    ("both files", "--data D --mirror M", Ok(PLAIN)),
+    ("equals signs", "--mirror=M --data=D --", Ok(PLAIN)),
     (
+        "all words",
         "--dump --generate 2147483647 --data D --brackets=B --mirror M",
         Ok(Words {
             bracket_file: Some("B"),
@@ -31,15 +38,16 @@ const LINES: [(&'static str, Result<Words<'static>, WordsFault>); 9] = [
             ..PLAIN
         }),
     ),
-    ("--data D", Err(WordsFault::Usage)),
-    ("--data D --mirror M --help", Err(WordsFault::Usage)),
-    ("--data D --mirror M --data D", Err(WordsFault::Usage)),
+    ("one file", "--data D", USAGE),
+    ("the help", "--data D --mirror M --help", USAGE),
+    ("a file twice", "--data D --mirror M --data D", USAGE),
     (
+        "too great a number",
         "--data D --mirror M --generate 2147483648",
-        Err(WordsFault::Usage),
+        USAGE,
     ),
-    ("--data D --mirror M --dump=true", Err(WordsFault::Usage)),
-    ("--data D --mirror M script", Err(WordsFault::Usage)),
+    ("a flag's value", "--data D --mirror M --dump=true", USAGE),
+    ("a word alone", "--data D --mirror M script", USAGE),
 ];
 
 /// Adds the words of a line.
@@ -61,8 +69,8 @@ fn say(alloc: Global, line: &str, answer: &Result<Words, WordsFault>) -> bool {
 
 #[test]
 fn words_are_read(rt: HostRuntime) {
-    for (line, answer) in &LINES {
-        assert_of(&rt, line, say(rt.alloc(), line, answer));
+    for (name, line, answer) in &LINES {
+        assert_of(&rt, name, say(rt.alloc(), line, answer));
     }
 }
 

@@ -8,101 +8,50 @@ use rd_script::{Op, OpEntry, OpRun, OpSpec, read_op};
 use rd_tree::Side;
 use std::alloc::Global;
 
-/// Each op, and its name.
+/// Each op by its name, which a failure tells.
 pub const OPS: [(&'static str, &'static str); 37] = [
-    (r#"{"op":"frame","width":12,"height":200}"#, "frame"),
-    (r#"{"op":"buffer","name":"b c"}"#, "buffer"),
-    (
-        r#"{"op":"insert","buffer":"main","pos":3,"text":"x\ny\ud83d\ude00"}"#,
-        "insert",
-    ),
-    (
-        r#"{"op":"insert_raw","buffer":"a","pos":0,"bytes":[128,255]}"#,
-        "insert_raw",
-    ),
-    (r#"{"op":"type","text":""}"#, "type"),
-    (
-        r#"{"op":"delete","buffer":"a","from":1,"to":18446744073709551615}"#,
-        "delete",
-    ),
-    (r#"{"op":"narrow","buffer":"a","from":2,"to":5}"#, "narrow"),
-    (r#"{"op":"widen","buffer":"é"}"#, "widen"),
-    (
-        r#"{"op":"put","buffer":"a","from":1,"to":2,"kind":"line_prefix","value":18446744073709551615}"#,
-        "put",
-    ),
-    (
-        r#"{"op":"overlay","buffer":"a","from":2,"to":3,"priority":-1000000,"front":true,"rear":null}"#,
-        "overlay",
-    ),
-    (
-        r#"{"op":"overlay_move","buffer":"a","overlay":0,"from":1,"to":18446744073709551615}"#,
-        "overlay_move",
-    ),
-    (
-        r#"{"op":"overlay_drop","buffer":"a","overlay":7}"#,
-        "overlay_drop",
-    ),
-    (
-        r#"{"op":"overlay_put","buffer":"a","overlay":7,"kind":"before","value":null}"#,
-        "overlay_put",
-    ),
-    (
-        r#"{"op":"margin_put","buffer":"a","overlay":7,"string":4096}"#,
-        "margin_put",
-    ),
-    (
-        r#"{"op":"setting","buffer":"a","name":"tab_width","value":32}"#,
-        "setting",
-    ),
-    (
-        r#"{"op":"string","text":"ab","runs":[[0,1,"display",9]]}"#,
-        "string",
-    ),
-    (r#"{"op":"spec","kind":"align","value":400}"#, "spec"),
-    (r#"{"op":"face","fg":7,"underline":true}"#, "face"),
-    (
-        r#"{"op":"table","entries":[[97,""],[1114111,"b中"]],"ellipsis":null,"border":"|"}"#,
-        "table",
-    ),
-    (
-        r#"{"op":"split","window":0,"side":"below","size":18446744073709551615}"#,
-        "split",
-    ),
-    (r#"{"op":"remove","window":18446744073709551615}"#, "remove"),
-    (r#"{"op":"select","window":1}"#, "select"),
-    (r#"{"op":"show","window":1,"buffer":"a"}"#, "show"),
-    (r#"{"op":"point","window":0,"pos":0}"#, "point"),
-    (
-        r#"{"op":"start","window":2,"pos":3,"row":1000000}"#,
-        "start",
-    ),
-    (r#"{"op":"scroll","window":0,"rows":-1000000}"#, "scroll"),
-    (
-        r#"{"op":"hscroll","window":0,"columns":1000000}"#,
-        "hscroll",
-    ),
-    (r#"{"op":"wrap","window":2,"mode":"word"}"#, "wrap"),
-    (r#"{"op":"mode_line","window":0}"#, "mode_line"),
-    (r#"{"op":"go","window":3,"side":"right"}"#, "go"),
-    (r#"{"op":"hit","window":0,"row":199,"column":399}"#, "hit"),
-    (
-        r#"{"op":"margin","window":0,"numbers":10,"strings":20}"#,
-        "margin",
-    ),
-    (
-        r#"{"op":"scrolling","margin":200,"conservatively":0}"#,
-        "scrolling",
-    ),
-    (r#"{"op":"echo","text":"é\t"}"#, "echo"),
-    (r#"{"op":"redisplay","stop":200}"#, "redisplay"),
-    (r#"{"op":"shift","on":false}"#, "shift"),
-    (" {\"name\" : \"b c\" ,\t\"op\":\"buffer\"}", "buffer"),
+    case!("frame" => r#"{"op":"frame","width":12,"height":200}"#),
+    case!("buffer" => r#"{"op":"buffer","name":"b c"}"#),
+    case!("insert" => r#"{"op":"insert","buffer":"main","pos":3,"text":"x\ny\ud83d\ude00"}"#),
+    case!("insert_raw" => r#"{"op":"insert_raw","buffer":"a","pos":0,"bytes":[128,255]}"#),
+    case!("type" => r#"{"op":"type","text":""}"#),
+    case!("delete" => r#"{"op":"delete","buffer":"a","from":1,"to":18446744073709551615}"#),
+    case!("narrow" => r#"{"op":"narrow","buffer":"a","from":2,"to":5}"#),
+    case!("widen" => r#"{"op":"widen","buffer":"é"}"#),
+    case!("put" => r#"{"op":"put","buffer":"a","from":1,"to":2,"kind":"line_prefix","value":18446744073709551615}"#),
+    case!("overlay" => r#"{"op":"overlay","buffer":"a","from":2,"to":3,"priority":-1000000,"front":true,"rear":null}"#),
+    case!("overlay_move" => r#"{"op":"overlay_move","buffer":"a","overlay":0,"from":1,"to":18446744073709551615}"#),
+    case!("overlay_drop" => r#"{"op":"overlay_drop","buffer":"a","overlay":7}"#),
+    case!("overlay_put" => r#"{"op":"overlay_put","buffer":"a","overlay":7,"kind":"before","value":null}"#),
+    case!("margin_put" => r#"{"op":"margin_put","buffer":"a","overlay":7,"string":4096}"#),
+    case!("setting" => r#"{"op":"setting","buffer":"a","name":"tab_width","value":32}"#),
+    case!("string" => r#"{"op":"string","text":"ab","runs":[[0,1,"display",9]]}"#),
+    case!("spec" => r#"{"op":"spec","kind":"align","value":400}"#),
+    case!("face" => r#"{"op":"face","fg":7,"underline":true}"#),
+    case!("table" => r#"{"op":"table","entries":[[97,""],[1114111,"b中"]],"ellipsis":null,"border":"|"}"#),
+    case!("split" => r#"{"op":"split","window":0,"side":"below","size":18446744073709551615}"#),
+    case!("remove" => r#"{"op":"remove","window":18446744073709551615}"#),
+    case!("select" => r#"{"op":"select","window":1}"#),
+    case!("show" => r#"{"op":"show","window":1,"buffer":"a"}"#),
+    case!("point" => r#"{"op":"point","window":0,"pos":0}"#),
+    case!("start" => r#"{"op":"start","window":2,"pos":3,"row":1000000}"#),
+    case!("scroll" => r#"{"op":"scroll","window":0,"rows":-1000000}"#),
+    case!("hscroll" => r#"{"op":"hscroll","window":0,"columns":1000000}"#),
+    case!("wrap" => r#"{"op":"wrap","window":2,"mode":"word"}"#),
+    case!("mode_line" => r#"{"op":"mode_line","window":0}"#),
+    case!("go" => r#"{"op":"go","window":3,"side":"right"}"#),
+    case!("hit" => r#"{"op":"hit","window":0,"row":199,"column":399}"#),
+    case!("margin" => r#"{"op":"margin","window":0,"numbers":10,"strings":20}"#),
+    case!("scrolling" => r#"{"op":"scrolling","margin":200,"conservatively":0}"#),
+    case!("echo" => r#"{"op":"echo","text":"é\t"}"#),
+    case!("redisplay" => r#"{"op":"redisplay","stop":200}"#),
+    case!("shift" => r#"{"op":"shift","on":false}"#),
+    case!("buffer with blanks" => " {\"name\" : \"b c\" ,\t\"op\":\"buffer\"}"),
 ];
 
 #[test]
 fn each_op_is_read(rt: HostRuntime) {
-    assert_each(&rt, &OPS, |line, name| reads(rt.alloc(), line, name));
+    assert_each(&rt, &OPS, |name, line| reads(rt.alloc(), line, name));
 }
 
 /// Whether a line is read as the op of a name.
@@ -126,7 +75,7 @@ fn is_op(op: &Op, name: &str) -> bool {
 /// Whether an op about a buffer and its text is the one that stands under its name.
 fn is_text_op(op: &Op, name: &str) -> bool {
     match op {
-        Op::Buffer { name: buffer } => name == "buffer" && buffer.as_str() == "b c",
+        Op::Buffer { name: buffer } => name.starts_with("buffer") && buffer.as_str() == "b c",
         Op::Insert { buffer, pos, text } => {
             name == "insert"
                 && buffer.as_str() == "main"

@@ -5,17 +5,14 @@ use crate::claims::assert_each;
 use std::alloc::{AllocError, Global};
 
 /// Lines with such keys, and the first of them in byte order.
-const EXTRA: [(&'static str, &'static str); 7] = [
-    (r#"{"op":"buffer","name":"a","buffer":"a"}"#, "buffer"),
-    (r#"{"op":"widen","y":1,"buffer":"a","x":1}"#, "x"),
-    (r#"{"op":"widen","b":1,"buffer":"a","é":1,"a":null}"#, "a"),
-    (r#"{"op":"widen","buffer":"a","é":1}"#, "é"),
-    (r#"{"op":"widen","buffer":"a","":1}"#, ""),
-    (
-        r#"{"op":"wrap","window":0,"mode":"continue","Mode":1}"#,
-        "Mode",
-    ),
-    (r#"{"op":"redisplay","stop":0,"x":1}"#, "x"),
+const EXTRA: [(&'static str, &'static str, &'static str); 7] = [
+    case!("a key of other ops" => r#"{"op":"buffer","name":"a","buffer":"a"}"#, "buffer"),
+    case!("two other keys, against their order" => r#"{"op":"widen","y":1,"buffer":"a","x":1}"#, "x"),
+    case!("three other keys around the buffer" => r#"{"op":"widen","b":1,"buffer":"a","é":1,"a":null}"#, "a"),
+    case!("a key beyond ASCII" => r#"{"op":"widen","buffer":"a","é":1}"#, "é"),
+    case!("an empty key" => r#"{"op":"widen","buffer":"a","":1}"#, ""),
+    case!("a key with a capital" => r#"{"op":"wrap","window":0,"mode":"continue","Mode":1}"#, "Mode"),
+    case!("a key beside one that may be left out" => r#"{"op":"redisplay","stop":0,"x":1}"#, "x"),
 ];
 
 #[test]
@@ -41,5 +38,5 @@ fn takes_no_other(alloc: Global, line: &str) -> bool {
 
 #[test]
 fn no_op_takes_another_key(rt: HostRuntime) {
-    assert_each(&rt, &OPS, |line, _name| takes_no_other(rt.alloc(), line));
+    assert_each(&rt, &OPS, |_name, line| takes_no_other(rt.alloc(), line));
 }

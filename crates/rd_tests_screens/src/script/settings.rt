@@ -4,57 +4,24 @@ use rd_base::{Direction, Invisible};
 use rd_script::{Op, Setting, read_op};
 use std::alloc::Global;
 
-/// Each setting, and its name.
+/// Each setting by its name, which a failure tells.
 const SETTINGS: [(&'static str, &'static str); 11] = [
-    (
-        r#"{"op":"setting","buffer":"a","name":"tab_width","value":1}"#,
-        "tab_width",
-    ),
-    (
-        r#"{"op":"setting","buffer":"a","name":"ctl_arrow","value":false}"#,
-        "ctl_arrow",
-    ),
-    (
-        r#"{"op":"setting","buffer":"a","name":"direction","value":"right"}"#,
-        "direction",
-    ),
-    (
-        r#"{"op":"setting","buffer":"a","name":"reorder","value":false}"#,
-        "reorder",
-    ),
-    (
-        r#"{"op":"setting","buffer":"a","name":"table","value":64}"#,
-        "table",
-    ),
-    (
-        r#"{"op":"setting","buffer":"a","name":"invisible","value":true}"#,
-        "all invisible",
-    ),
-    (
-        r#"{"op":"setting","buffer":"a","name":"invisible","value":[[65535,true]]}"#,
-        "invisible",
-    ),
-    (
-        r#"{"op":"setting","buffer":"a","name":"line_prefix"}"#,
-        "line_prefix",
-    ),
-    (
-        r#"{"op":"setting","buffer":"a","name":"wrap_prefix","value":18446744073709551615}"#,
-        "wrap_prefix",
-    ),
-    (
-        r#"{"op":"setting","buffer":"a","name":"modified","value":true}"#,
-        "modified",
-    ),
-    (
-        r#"{"op":"setting","buffer":"a","name":"read_only","value":true}"#,
-        "read_only",
-    ),
+    case!("tab_width" => r#"{"op":"setting","buffer":"a","name":"tab_width","value":1}"#),
+    case!("ctl_arrow" => r#"{"op":"setting","buffer":"a","name":"ctl_arrow","value":false}"#),
+    case!("direction" => r#"{"op":"setting","buffer":"a","name":"direction","value":"right"}"#),
+    case!("reorder" => r#"{"op":"setting","buffer":"a","name":"reorder","value":false}"#),
+    case!("table" => r#"{"op":"setting","buffer":"a","name":"table","value":64}"#),
+    case!("all invisible" => r#"{"op":"setting","buffer":"a","name":"invisible","value":true}"#),
+    case!("invisible" => r#"{"op":"setting","buffer":"a","name":"invisible","value":[[65535,true]]}"#),
+    case!("line_prefix" => r#"{"op":"setting","buffer":"a","name":"line_prefix"}"#),
+    case!("wrap_prefix" => r#"{"op":"setting","buffer":"a","name":"wrap_prefix","value":18446744073709551615}"#),
+    case!("modified" => r#"{"op":"setting","buffer":"a","name":"modified","value":true}"#),
+    case!("read_only" => r#"{"op":"setting","buffer":"a","name":"read_only","value":true}"#),
 ];
 
 #[test]
 fn each_setting_is_read(rt: HostRuntime) {
-    assert_each(&rt, &SETTINGS, |line, name| sets(rt.alloc(), line, name));
+    assert_each(&rt, &SETTINGS, |name, line| sets(rt.alloc(), line, name));
 }
 
 /// Whether a line is read as the setting of a name.
