@@ -1,24 +1,24 @@
 //! The line of a verdict, written without memory.
-ghost use Rattle.rd_dump.specs.Prints.{Prints};
+ghost use Rattle.rd_io.specs.Devices.{Prints};
 ghost use Rattle.rd_audit.specs.Verdicts.{line_of, difference_line, cell_line, bad_line};
 
 use crate::verdict::{Difference, Verdict};
-use rd_dump::{print_between, print_bytes, print_placed};
-use rd_io::{Failed, Sink};
+use rd_dump::{print_between, print_placed};
+use rd_io::{Failed, Sink, write_whole};
 
 /// Writes the line of a verdict.
 pub fn tell<R: Sink>(report: &mut R, verdict: Verdict) -> Result<(), Failed>
     ensures { Prints (R.written report.old) (R.written report.new) (R.faults report.old) (R.faults report.new) (line_of verdict) result }
 {
     match verdict {
-        Verdict::Yes => print_bytes(report, b"yes\n"),
+        Verdict::Yes => write_whole(report, b"yes\n"),
         Verdict::No(difference) => tell_difference(report, difference),
-        Verdict::Usage => print_bytes(report, b"usage: redisplay_audit FILE\n"),
+        Verdict::Usage => write_whole(report, b"usage: redisplay_audit FILE\n"),
         Verdict::BadDump(number) => tell_bad(report, number),
-        Verdict::TooLong => print_bytes(report, b"too long\n"),
-        Verdict::ReadFault => print_bytes(report, b"read fault\n"),
+        Verdict::TooLong => write_whole(report, b"too long\n"),
+        Verdict::ReadFault => write_whole(report, b"read fault\n"),
         Verdict::WriteFault => Ok(()),
-        Verdict::NoMemory => print_bytes(report, b"no memory\n"),
+        Verdict::NoMemory => write_whole(report, b"no memory\n"),
     }
 }
 
@@ -27,9 +27,9 @@ fn tell_difference<R: Sink>(report: &mut R, difference: Difference) -> Result<()
     ensures { Prints (R.written report.old) (R.written report.new) (R.faults report.old) (R.faults report.new) (difference_line difference) result }
 {
     match difference {
-        Difference::Confused => print_bytes(report, b"no confused\n"),
+        Difference::Confused => write_whole(report, b"no confused\n"),
         Difference::Cell(row, column) => tell_cell(report, row, column),
-        Difference::Cursor => print_bytes(report, b"no cursor\n"),
+        Difference::Cursor => write_whole(report, b"no cursor\n"),
     }
 }
 

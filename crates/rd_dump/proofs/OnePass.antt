@@ -10,8 +10,8 @@ use Rattle.rd_base.proofs.Lists.{drop-read}
 use Rattle.rd_dump.specs.Dumps.{with_columns, runs_of, run_text, runs_text, ended_text, faces_of, numbers_text, number_text, numbers_behind, rows_text, row_line}
 use Rattle.std.specs.Result.{IsErr}
 use Rattle.rd_base.specs.Cells.{face_after}
+use Rattle.rd_io.specs.Devices.{Prints}
 use Rattle.rd_io.proofs.Bytes.{Going}
-use Rattle.rd_dump.specs.Prints.{Prints}
 use Rattle.rd_dump.proofs.Writing.{going-stop}
 use Rattle.rd_base.specs.declared.cell.Cell.{Cell}
 

@@ -1,8 +1,8 @@
 //! Texts that are written in one piece where a `Piece` has room for them.
-ghost use Rattle.rd_dump.specs.Prints.{Prints};
+ghost use Rattle.rd_io.specs.Devices.{Prints};
 
-use crate::print::{Token, print_bytes, print_tokens};
-use rd_io::{Failed, Piece, Sink};
+use crate::print::{Token, print_tokens};
+use rd_io::{Failed, Piece, Sink, write_whole};
 
 /// What has a text that can be written to any sink, without taking memory.
 pub trait Printed {
@@ -22,7 +22,7 @@ pub fn print_at_once<K: Sink, T: Printed>(sink: &mut K, thing: &T) -> Result<(),
 {
     let mut piece = Piece::new();
     match thing.print(&mut piece) {
-        Ok(()) => print_bytes(sink, piece.bytes()),
+        Ok(()) => write_whole(sink, piece.bytes()),
         Err(_full) => thing.print(sink),
     }
 }

@@ -1,9 +1,8 @@
 //! The dump of a screen and of the windows on it.
-ghost use Rattle.std.specs.Prelude.{◌≤◌, ◌++◌, OnErr, Some};
+ghost use Rattle.std.specs.Prelude.{◌++◌, Some};
 ghost use Rattle.rd_base.specs.Glyphs.{glyph_bytes};
-ghost use Rattle.rd_io.specs.Devices.{Rose, Writes};
+ghost use Rattle.rd_io.specs.Devices.{Prints};
 ghost use Rattle.rd_dump.specs.Dumps.{dump_text, windows_text, window_line, place_text, rows_text, row_line, cells_text, cell_text};
-ghost use Rattle.rd_dump.specs.Prints.{Prints};
 
 use crate::at_once::{Printed, print_at_once};
 use crate::print::{Token, print_between, print_character, print_each, print_tokens};
@@ -40,9 +39,7 @@ pub fn print_dump<K: Sink>(
     screen: &Screen,
     windows: &[WindowFacts],
 ) -> Result<(), Failed>
-    ensures bytes { Writes (K.written sink.old) (K.written sink.new) (dump_text screen.now windows.now) result }
-    ensures never_falls { K.faults sink.old ≤ K.faults sink.new }
-    ensures failed { OnErr result (Rose (K.faults sink.old) (K.faults sink.new)) }
+    ensures { Prints (K.written sink.old) (K.written sink.new) (K.faults sink.old) (K.faults sink.new) (dump_text screen.now windows.now) result }
 {
     print_windows(sink, windows)?;
     print_rows(sink, screen)?;

@@ -2,8 +2,9 @@
 ghost use Rattle.std.specs.Prelude.{ℕ, List, [], ◌∷◌};
 ghost use Rattle.std.specs.List.{flat_map};
 ghost use Rattle.rd_base.specs.Chars.{encoded};
+ghost use Rattle.rd_io.specs.Devices.{Prints};
 ghost use Rattle.rd_dump.specs.Dumps.{token_text, tokens_text};
-ghost use Rattle.rd_dump.specs.Prints.{Prints, PrintsItems};
+ghost use Rattle.rd_dump.specs.Prints.{PrintsItems};
 
 use itoa::Buffer;
 use rd_io::{Failed, Sink, write_character, write_whole};
@@ -59,8 +60,8 @@ fn print_token<K: Sink>(sink: &mut K, token: &Token) -> Result<(), Failed>
     ensures { Prints (K.written sink.old) (K.written sink.new) (K.faults sink.old) (K.faults sink.new) (token_text token.now) result }
 {
     match token {
-        Token::Text(text) => print_bytes(sink, text.as_bytes()),
-        Token::Number(number) => print_bytes(sink, Buffer::new().format(*number).as_bytes()),
+        Token::Text(text) => write_whole(sink, text.as_bytes()),
+        Token::Number(number) => write_whole(sink, Buffer::new().format(*number).as_bytes()),
     }
 }
 
@@ -69,11 +70,4 @@ pub fn print_character<K: Sink>(sink: &mut K, code: &u32) -> Result<(), Failed>
     ensures { Prints (K.written sink.old) (K.written sink.new) (K.faults sink.old) (K.faults sink.new) (encoded code.now) result }
 {
     write_character(sink, *code)
-}
-
-/// Writes bytes.
-pub fn print_bytes<K: Sink>(sink: &mut K, bytes: &[u8]) -> Result<(), Failed>
-    ensures { Prints (K.written sink.old) (K.written sink.new) (K.faults sink.old) (K.faults sink.new) bytes.now result }
-{
-    write_whole(sink, bytes)
 }

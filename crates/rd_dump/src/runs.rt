@@ -2,8 +2,8 @@
 ghost use Rattle.std.specs.Prelude.{◌≡◌, ◌-◌, IfOk, if◌then◌else◌, ◌||◌, is_some};
 ghost use Rattle.rd_base.specs.Cells.{face_after};
 ghost use Rattle.rd_base.specs.Equals.{same_face};
+ghost use Rattle.rd_io.specs.Devices.{Prints};
 ghost use Rattle.rd_dump.specs.Dumps.{runs_of_row, run_text, ended_text, numbers_text, number_text};
-ghost use Rattle.rd_dump.specs.Prints.{Prints};
 
 use crate::print::{Token, print_tokens};
 use rd_base::{Cell, Face};

@@ -89,7 +89,7 @@ ReadsBytes file told Failed (Err (Bad fault)) = (fault ≡ too_large file) × If
 ReadsBytes file told Failed (Err Read) = Failed
 ReadsBytes file told Failed (Err Memory) = Unit {0}
 
--- what a fault of a file's lines is
+-- the fault of the data files that a fault in this file's lines is
 abbrev pub fault_of : DataFile → UcdFault → DataFault
 fault_of file ucd.Memory = Memory
 fault_of file fault = Bad (bad file fault)

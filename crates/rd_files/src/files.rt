@@ -110,7 +110,7 @@ fn read_bytes<F: Files>(
     }
 }
 
-/// What a fault of a file's lines is.
+/// The fault of the data files that a fault in this file's lines is.
 fn fault_of(file: DataFile, fault: UcdFault) -> DataFault
     requires { line_of fault < 2 ^ 32 }
     ensures { result ≡ fault_of file fault }

@@ -2,7 +2,7 @@
 use Rattle.std.specs.Prelude.{ℕ, zero, suc, ◌+◌, ◌*◌, ◌/◌, ◌%◌, ◌==◌, if◌then◌else◌, List, [], ◌∷◌, ◌++◌, replicate, get_or, codes}
 use Rattle.std.specs.Fmt.{decimal}
 use Rattle.std.specs.List.{flat_map, range_with_len}
--- what functions name, for their proofs to compute it
+-- handed on for the proofs of this crate, which compute them
 pub use Rattle.std.specs.Char.{encode_utf8}
 pub use Rattle.std.specs.Fmt.{digits}
 

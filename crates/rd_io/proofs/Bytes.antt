@@ -34,7 +34,7 @@ front-before a b xs ys front =
     (n, omega (arith, front.1, length-append xs ys), subst (Appends a b) (sym (take-append-le n xs ys front.1)) front.2)
 
 -- bytes were written, and then a front of others
-pub front-after : (a b c : Option (List ℕ)) (xs ys : List ℕ) → Appends a b xs → AppendsFront b c ys → AppendsFront a c (xs ++ ys)
+front-after : (a b c : Option (List ℕ)) (xs ys : List ℕ) → Appends a b xs → AppendsFront b c ys → AppendsFront a c (xs ++ ys)
 front-after a b c xs ys p front =
     let n = front.0 in
     (length xs + n, omega (arith, front.1, length-append xs ys), subst (Appends a c) (sym (take-append-add xs ys n)) (Appends-trans a b c xs (take n ys) p front.2))

@@ -21,3 +21,9 @@ AppendsFront old new bytes = (n : ℕ) × (n ≤ length bytes) × Appends old ne
 pub record Writes {T E : Type 0} (old new : Option (List ℕ)) (bytes : List ℕ) (result : Result T E) : Type 0 where
   pub whole : OnOk result (Appends old new bytes)
   pub front : OnErr result (AppendsFront old new bytes)
+
+-- the text was written, or after a failure a front of it; the count of faults did not fall, and rose with a failure
+pub record Prints {T E : Type 0} (old new : Option (List ℕ)) (before after : ℕ) (text : List ℕ) (result : Result T E) : Type 0 where
+  pub bytes : Writes old new text result
+  pub never_falls : before ≤ after
+  pub failed : OnErr result (Rose before after)

@@ -71,8 +71,8 @@ pub record GivesNone (old new : Reading) (bytes : List ℕ) (left : Option (List
   pub end : old.ended ≡ false → IsAtEnd left
   pub fault : new.fault ≡ None
 
--- When each fault comes: the source failed while the bytes held and taken had no newline, and neither limit was passed; more than
--- 1,048,576 bytes have come without a newline; a byte has come that begins the 1,000,001st line; or memory was wanting.
+-- What holds where each fault comes: the source failed while the bytes held and taken had no newline, and neither limit was passed; more
+-- than 1,048,576 bytes have come without a newline; a byte has come that begins the 1,000,001st line; or memory was wanting.
 abbrev pub Cause : LineFault → ℕ → List ℕ → Type 0
 Cause Failed given come = IsUnbroken come × (length come ≤ LINE_BYTES) × ((given < LINES) ⊎ (come ≡ []))
 Cause TooLong given come = (given < LINES) × (LINE_BYTES < length come) × IsUnbroken (take (LINE_BYTES + 1) come)

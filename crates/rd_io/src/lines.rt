@@ -157,7 +157,7 @@ fn gather<S: Source>(
     }
 }
 
-/// What the bytes make that no newline follows.
+/// What is found at the source's end: a last line, or none.
 fn what_is_left(line: &[u8]) -> Found
     ensures { IsLeft result line.now }
 {

@@ -3,7 +3,7 @@ ghost use Rattle.std.specs.Prelude.{◌≡◌, ◌≤◌, ◌<◌, IfOk, OnErr, 
 ghost use Rattle.std.specs.Io.{ReadsAtMost, WritesAtMost};
 ghost use Rattle.std.specs.Io.KnownBytes.{ReadConsumes, WriteAppends};
 ghost use Rattle.rd_base.specs.Chars.{encoded};
-ghost use Rattle.rd_io.specs.Devices.{Rose, Fetches, Writes};
+ghost use Rattle.rd_io.specs.Devices.{Rose, Fetches, Prints};
 
 use rd_base::encode;
 use thiserror::Error;
@@ -83,9 +83,7 @@ pub trait Sink {
 
 /// Writes all the bytes. After a failure a front of them was written.
 pub fn write_whole<K: Sink>(sink: &mut K, bytes: &[u8]) -> Result<(), Failed>
-    ensures bytes { Writes (K.written sink.old) (K.written sink.new) bytes.now result }
-    ensures never_falls { K.faults sink.old ≤ K.faults sink.new }
-    ensures failed { OnErr result (Rose (K.faults sink.old) (K.faults sink.new)) }
+    ensures { Prints (K.written sink.old) (K.written sink.new) (K.faults sink.old) (K.faults sink.new) bytes.now result }
 {
     let mut rest = bytes;
     while !rest.is_empty() {
@@ -97,9 +95,7 @@ pub fn write_whole<K: Sink>(sink: &mut K, bytes: &[u8]) -> Result<(), Failed>
 
 /// Writes a scalar value's code in UTF-8, and nothing for a number that is none.
 pub fn write_character<K: Sink>(sink: &mut K, code: u32) -> Result<(), Failed>
-    ensures bytes { Writes (K.written sink.old) (K.written sink.new) (encoded code) result }
-    ensures never_falls { K.faults sink.old ≤ K.faults sink.new }
-    ensures failed { OnErr result (Rose (K.faults sink.old) (K.faults sink.new)) }
+    ensures { Prints (K.written sink.old) (K.written sink.new) (K.faults sink.old) (K.faults sink.new) (encoded code) result }
 {
     write_whole(sink, encode(code, &mut [0; 4]))
 }

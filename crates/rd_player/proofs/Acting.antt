@@ -2,8 +2,7 @@
 use Rattle.std.proofs.Common.{◌≡◌, ℕ, ◌+◌, inl, inr, Bool, true, false, List, [], ◌++◌, Option, None, Some, is_some, if◌then◌else◌, OnErr, Result, Ok, Err, refl, sym, ap, ◌∙◌, subst}
 use Rattle.std.specs.Io.KnownBytes.{Appends}
 use Rattle.std.proofs.KnownBytes.{Appends-nil}
-use Rattle.rd_dump.specs.Prints.{Prints}
-use Rattle.rd_io.specs.Devices.{AppendsFront, Rose}
+use Rattle.rd_io.specs.Devices.{AppendsFront, Prints, Rose}
 use Rattle.rd_io.specs.declared.traits.Failed.{Failed}
 use Rattle.rd_layout.specs.Copies.{redisplayed as redisplayed_session, without_copies}
 use Rattle.rd_layout.specs.Facts.{facts_of}
@@ -72,11 +71,11 @@ sent-acts law (Ok x) result dumps generated lines shown old new stop rows done s
     let now : next ≡ (redisplayed place stop).now =
     λ i. record { mode = record { files = h.files i; dumps = dumps; generated = generated }; session = same i; lines = lines + 1; shown = counts i } in
     subst (λ (r : Result Unit Halt). Acts r (λ starved. if starved then unshown place else redisplayed place stop) next (sunk s0 s1 m0 m1) (sunk r0 r1 n0 n1)) (sym told)
-    (false, refl, now, h.bytes, subst (Appends r0 r1) (told-same law dumps generated (lines + 1) rows done old new stop same h.count h.whole) prints.whole)
+    (false, refl, now, h.bytes, subst (Appends r0 r1) (told-same law dumps generated (lines + 1) rows done old new stop same h.count h.whole) prints.bytes.whole)
 sent-acts law (Err x) result dumps generated lines shown old new stop rows done s0 s1 r0 r1 m0 m1 n0 n1 told same h prints read =
     let place = stand dumps generated lines shown old in
     let next = stand dumps generated (lines + 1) (if done then shown + 1 else shown) new in
-    let front = subst (AppendsFront r0 r1) (told-same law dumps generated (lines + 1) rows done old new stop same h.count h.whole) prints.front in
+    let front = subst (AppendsFront r0 r1) (told-same law dumps generated (lines + 1) rows done old new stop same h.count h.whole) prints.bytes.front in
     subst (λ (r : Result Unit Halt). Acts r (λ starved. if starved then unshown place else redisplayed place stop) next (sunk s0 s1 m0 m1) (sunk r0 r1 n0 n1)) (sym told)
     (false, is-sent (update_of old stop), h.bytes, record { rose = prints.failed; front = front }, inl read)
 
@@ -91,12 +90,12 @@ starved-acts (Ok x) result dumps generated lines shown old new stop s0 s1 r0 r1 
     let next = stand dumps generated (lines + 1) shown new in
     let now : next ≡ (unshown place).now = ap (stand dumps generated (lines + 1) shown) becomes in
     subst (λ (r : Result Unit Halt). Acts r (λ starved. if starved then unshown place else redisplayed place stop) next (sunk s0 s1 m0 m1) (sunk r0 r1 n0 n1)) (sym told)
-    (true, refl, now, sent, prints.whole)
+    (true, refl, now, sent, prints.bytes.whole)
 starved-acts (Err x) result dumps generated lines shown old new stop s0 s1 r0 r1 m0 m1 n0 n1 told becomes sent prints =
     let place = stand dumps generated lines shown old in
     let next = stand dumps generated (lines + 1) shown new in
     subst (λ (r : Result Unit Halt). Acts r (λ starved. if starved then unshown place else redisplayed place stop) next (sunk s0 s1 m0 m1) (sunk r0 r1 n0 n1)) (sym told)
-    (true, is-sent (update_of old stop), sent, record { rose = prints.failed; front = prints.front }, inr refl)
+    (true, is-sent (update_of old stop), sent, record { rose = prints.failed; front = prints.bytes.front }, inr refl)
 
 -- the screen broke
 pub broke-acts : (dumps : Bool) (generated : Option ℕ) (lines shown : ℕ) (next : Standing) (old : SessionValue) (stop : Option ℕ) (s0 s1 r : Option (List ℕ)) (m0 m1 n : ℕ)

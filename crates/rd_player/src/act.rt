@@ -1,7 +1,7 @@
 //! `Playing`, a run in progress, and `Playing::line`, which does what one line says: it reads an op, applies it, or redisplays and
 //! writes the lines of the report.
 ghost use Rattle.std.specs.Prelude.{◌≡◌, ℕ, ◌≤◌, ◌++◌, [], false, None, List, IfOk, OnErr, Option, if◌then◌else◌, is_some, unwrap_or};
-ghost use Rattle.rd_dump.specs.Prints.{Prints};
+ghost use Rattle.rd_io.specs.Devices.{Prints};
 ghost use Rattle.rd_layout.specs.Copies.{without_copies};
 ghost use Rattle.rd_layout.specs.Facts.{facts_of};
 ghost use Rattle.rd_layout.specs.Sessions.{length_of, session_step};

@@ -1,16 +1,14 @@
 //! The last line of a report: `done`, the place and the kind of a fault, or the name of a fault that has no place.
 ghost use Rattle.std.specs.Prelude.{ℕ, ◌++◌, option_map, codes};
 ghost use Rattle.rd_base.specs.Chars.{encoded};
-ghost use Rattle.rd_dump.specs.Prints.{Prints};
+ghost use Rattle.rd_io.specs.Devices.{Prints};
 ghost use Rattle.rd_run.specs.Reports.{named_key, last_line, located, behind_kind, named_column};
 
 use crate::names::{data_kind, file_word, kind_of, op_key};
 use rd_base::Ch;
-use rd_dump::{
-    Printed, Token, print_between, print_bytes, print_character, print_each, print_tokens,
-};
+use rd_dump::{Printed, Token, print_between, print_character, print_each, print_tokens};
 use rd_files::{DataFile, DataKind};
-use rd_io::{Failed, Sink};
+use rd_io::{Failed, Sink, write_whole};
 use rd_run::{ScriptFault, Status};
 use rd_state::Refused;
 
@@ -30,12 +28,12 @@ impl Printed for LastLine<'_> {
     fn print<K: Sink>(&self, sink: &mut K) -> Result<(), Failed> {
         match self.0 {
             Status::Done => print_done(sink, self.1),
-            Status::Usage => print_bytes(sink, USAGE),
+            Status::Usage => write_whole(sink, USAGE),
             Status::BadData(file, number, kind) => print_bad_data(sink, *file, *number, *kind),
             Status::BadScript(number, fault) => print_bad(sink, *number, fault),
-            Status::ReadFault => print_bytes(sink, b"read fault\n"),
-            Status::WriteFault => print_bytes(sink, b"write fault\n"),
-            Status::NoMemory => print_bytes(sink, b"no memory\n"),
+            Status::ReadFault => write_whole(sink, b"read fault\n"),
+            Status::WriteFault => write_whole(sink, b"write fault\n"),
+            Status::NoMemory => write_whole(sink, b"no memory\n"),
         }
     }
 }
@@ -57,7 +55,7 @@ fn print_bad_data<K: Sink>(
     ensures { (lines : ℕ) → Prints (K.written sink.old) (K.written sink.new) (K.faults sink.old) (K.faults sink.new) (last_line (Status.BadData file number kind) lines) result }
 {
     print_located(sink, file_word(file), number, data_kind(kind))?;
-    print_bytes(sink, b"\n")
+    write_whole(sink, b"\n")
 }
 
 /// Writes that a line of the script is bad.
@@ -92,7 +90,7 @@ fn print_end<K: Sink>(sink: &mut K, fault: &ScriptFault) -> Result<(), Failed>
     ensures { Prints (K.written sink.old) (K.written sink.new) (K.faults sink.old) (K.faults sink.new) (behind_kind fault.now ++ codes "\n") result }
 {
     print_behind_kind(sink, fault)?;
-    print_bytes(sink, b"\n")
+    write_whole(sink, b"\n")
 }
 
 /// Writes what stands behind the kind of a fault: the key of a field or the column of a bad format, behind a space.
@@ -125,7 +123,7 @@ fn print_key<K: Sink>(sink: &mut K, key: Option<&[Ch]>) -> Result<(), Failed>
 {
     match key {
         Some(key) => {
-            print_bytes(sink, b" ")?;
+            write_whole(sink, b" ")?;
             print_each(sink, key, print_ch)
         }
         None => Ok(()),

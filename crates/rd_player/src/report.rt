@@ -1,7 +1,7 @@
 //! The lines of the report. Each is one write where a `Piece` of rd_io has room for it, and takes no memory.
 ghost use Rattle.std.specs.Prelude.{◌++◌, codes};
 ghost use Rattle.std.specs.Fmt.{decimal};
-ghost use Rattle.rd_dump.specs.Prints.{Prints};
+ghost use Rattle.rd_io.specs.Devices.{Prints};
 ghost use Rattle.rd_run.specs.Reports.{no_memory_line};
 
 use crate::halt::Summary;

@@ -84,7 +84,7 @@ impl Tree {
     }
 
     /// Takes a window away. Its sibling, the window or windows that share a split rectangle with it, takes the rectangle of both.
-    /// Answers the first leaf of the sibling. The first of these faults counts, and changes nothing: NoWindow, where the window
+    /// Answers the first window of the sibling. The first of these faults counts, and changes nothing: NoWindow, where the window
     /// does not live; LastWindow, where it is the only one.
     #[tactic(auto, unfolding(crate::specs::Calls::remove_tree))]
     pub fn remove(&mut self, window: u32) -> Result<u32, TreeFault>

@@ -76,7 +76,7 @@ pub fn read_words<'a>(alloc: Global, words: &'a [String]) -> Result<Words<'a>, W
     }
 }
 
-/// What an error of this kind is.
+/// The fault that an error of `clap` is: want of memory, or faulty words.
 fn fault_of(kind: ErrorKind) -> WordsFault
     ensures { result ≡ fault_of kind }
 {

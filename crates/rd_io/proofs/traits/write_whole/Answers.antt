@@ -2,12 +2,12 @@ use Rattle.std.proofs.Common.{◌++◌, ◌∙◌, ap, sym, take, take-append-dr
 use Rattle.rd_io.proofs.Bytes.{front-stopped, going-by}
 use Rattle.rd_io.proofs.traits.write_whole.Goals as goal
 
-pub returns-in_err-n-clause-bytes : goal.returns-in_err-n-clause-bytes
-returns-in_err-n-clause-bytes g c =
+pub returns-in_err-n : goal.returns-in_err-n
+returns-in_err-n g c =
     let front = c.loop-rest.invariant in
     let kept = c.in_err-n.ensures.bytes in
     let stopped = front-stopped _ _ _ c.args.bytes.now front.done c.loop-rest.rest.now front.split front.printed kept in
-    record { whole = search rules; front = search rules }
+    record { bytes = record { whole = search rules; front = search rules }; never_falls = search rules; failed = search rules }
 
 pub loop-rest-preserved : goal.loop-rest-preserved
 loop-rest-preserved g c =

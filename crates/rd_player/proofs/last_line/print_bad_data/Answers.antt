@@ -11,4 +11,4 @@ returns-in_err-print_located g c lines =
 pub returns : goal.returns
 returns g c lines =
     prints-as _ _ _ _ _ _ _ (λ i. located (c.file_word.ensures i) c.args.number (c.data_kind.ensures i) ++ codes "\n")
-    (prints-then _ _ _ _ _ _ _ _ _ _ c.in_ok-print_located.ensures c.print_bytes.ensures)
+    (prints-then _ _ _ _ _ _ _ _ _ _ c.in_ok-print_located.ensures c.write_whole.ensures)

@@ -5,4 +5,4 @@ pub returns-in_err-print_behind_kind : goal.returns-in_err-print_behind_kind
 returns-in_err-print_behind_kind g c = prints-failed _ _ _ _ _ _ _ _ c.in_err-print_behind_kind.ensures c.from_residual.ensures.0
 
 pub returns : goal.returns
-returns g c = prints-then _ _ _ _ _ _ _ _ _ _ c.in_ok-print_behind_kind.ensures c.print_bytes.ensures
+returns g c = prints-then _ _ _ _ _ _ _ _ _ _ c.in_ok-print_behind_kind.ensures c.write_whole.ensures
