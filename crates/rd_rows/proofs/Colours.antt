@@ -1,12 +1,12 @@
 -- In the rows of elements whose colours are in their range each cell has such colours.
-use Rattle.std.proofs.Common.{ℕ, zero, ◌+◌, ◌-◌, ◌&&◌, min, max, nat_le, Bool, true, false, List, [], ◌∷◌, ◌++◌, replicate, All, arith}
+use Rattle.std.proofs.Common.{ℕ, zero, ◌+◌, ◌-◌, ◌&&◌, min, max, nat_le, Bool, true, false, List, [], ◌∷◌, ◌++◌, replicate, All, sym, subst, arith}
 use Rattle.std.proofs.lemmas.List.Elements.{All-nil, All-cons, All-tail, All-append}
 use Rattle.std.specs.List.{AllByRecursion}
 use Rattle.rd_base.proofs.Choices.{either}
 use Rattle.rd_base.specs.Cells.{HasColours, IsColoured}
 use Rattle.rd_base.specs.Faces.{plain}
 use Rattle.rd_base.specs.declared.cell.Cell.{Cell}
-use Rattle.rd_base.specs.declared.cell.Cell.TheVariants.{Blank, First, Rest}
+use Rattle.rd_base.specs.declared.cell.Cell.TheVariants.{Rest}
 use Rattle.rd_base.specs.declared.cell.Glyph.{Glyph}
 use Rattle.rd_base.specs.declared.element.Element.{Element}
 use Rattle.rd_base.proofs.Colours.{plain-coloured, blanks-coloured, with-rests, look-coloured}
@@ -18,6 +18,7 @@ use Rattle.rd_rows.specs.Placing.{next_row, columns_of}
 use Rattle.rd_rows.specs.Rows.{seen, from_edge, row_of, rows_of, cutting_of}
 use Rattle.rd_rows.specs.Shapes.{ShapeValues}
 use Rattle.rd_rows.proofs.Marks.{mark-coloured, row-has}
+use Rattle.rd_rows.proofs.Mirroring.{by-mirror}
 use Rattle.rd_rows.proofs.Placings.{fitted-each, placed-each}
 use Rattle.rd_rows.proofs.Splits.{placed_in, over-rows}
 
@@ -36,14 +37,11 @@ seen-coloured from to p h =
 -- the cells of a row
 
 mirror-coloured : (cells : List Cell) → All IsColoured cells → All IsColoured (mirror_image cells)
-mirror-coloured [] h = h
-mirror-coloured (Rest ∷ cells) h = mirror-coloured cells (All-tail IsColoured Rest cells h)
-mirror-coloured (Blank f ∷ cells) h =
-    All-append IsColoured (mirror_image cells) (Blank f ∷ replicate (leading_rests cells) Rest)
-    (mirror-coloured cells (All-tail IsColoured (Blank f) cells h)) (with-rests (Blank f) (leading_rests cells) (h zero (Blank f) (omega arith)))
-mirror-coloured (First g f ∷ cells) h =
-    All-append IsColoured (mirror_image cells) (First g f ∷ replicate (leading_rests cells) Rest)
-    (mirror-coloured cells (All-tail IsColoured (First g f) cells h)) (with-rests (First g f) (leading_rests cells) (h zero (First g f) (omega arith)))
+mirror-coloured = by-mirror (λ cells. All IsColoured cells → All IsColoured (mirror_image cells)) (λ h. h)
+    (λ cells so h. so (All-tail IsColoured Rest cells h)) (λ x cells image none so h.
+    subst (All IsColoured) (sym image)
+    (All-append IsColoured (mirror_image cells) (x ∷ replicate (leading_rests cells) Rest)
+    (so (All-tail IsColoured x cells h)) (with-rests x (leading_rests cells) (h zero x (omega arith)))))
 
 edge-coloured : (reversed : Bool) (cells : List Cell) → All IsColoured cells → All IsColoured (from_edge reversed cells)
 edge-coloured true cells h = mirror-coloured cells h

@@ -10,20 +10,22 @@ use Rattle.rd_rows.specs.Mirrors.{mirror_image, leading_rests}
 use Rattle.rd_rows.specs.Rows.{front_mark, first_seen, from_edge, mark}
 use Rattle.rd_rows.specs.Shapes.{room}
 
+-- what holds of no cells, and goes on past a later column and past each other cell, by its mirror image, holds of all cells
+pub by-mirror : (P : List Cell → Type 0) → P [] → ((cells : List Cell) → P cells → P (Rest ∷ cells))
+    → ((x : Cell) (cells : List Cell) → mirror_image (x ∷ cells) ≡ mirror_image cells ++ x ∷ replicate (leading_rests cells) Rest
+    → leading_rests (x ∷ cells) ≡ 0 → P cells → P (x ∷ cells))
+    → (cells : List Cell) → P cells
+by-mirror P none rest other [] = none
+by-mirror P none rest other (Rest ∷ cells) = rest cells (by-mirror P none rest other cells)
+by-mirror P none rest other (Blank f ∷ cells) = other (Blank f) cells refl refl (by-mirror P none rest other cells)
+by-mirror P none rest other (First g f ∷ cells) = other (First g f) cells refl refl (by-mirror P none rest other cells)
+
 -- no cell is lost but later columns at the beginning, whose glyph is not there
 pub mirror-length : (cells : List Cell) → length (mirror_image cells) + leading_rests cells ≡ length cells
-mirror-length [] = refl
-mirror-length (Rest ∷ cells) = let e = mirror-length cells in omega (arith, e)
-mirror-length (Blank f ∷ cells) =
-    let e = mirror-length cells in
-    let a = length-append (mirror_image cells) (Blank f ∷ replicate (leading_rests cells) Rest) in
-    let n = length-replicate (leading_rests cells) Rest in
-    omega (arith, e, a, n)
-mirror-length (First g f ∷ cells) =
-    let e = mirror-length cells in
-    let a = length-append (mirror_image cells) (First g f ∷ replicate (leading_rests cells) Rest) in
-    let n = length-replicate (leading_rests cells) Rest in
-    omega (arith, e, a, n)
+mirror-length = by-mirror (λ cells. length (mirror_image cells) + leading_rests cells ≡ length cells) refl
+    (λ cells e. omega (arith, e)) (λ x cells image none e.
+    let a = length-append (mirror_image cells) (x ∷ replicate (leading_rests cells) Rest) in
+    omega (arith, e, none, ap length image, a, length-replicate (leading_rests cells) Rest))
 
 edge-length : (b : Bool) (cells : List Cell) → length (from_edge b cells) ≤ length cells
 edge-length true cells = let e = mirror-length cells in omega (arith, e)
