@@ -31,6 +31,23 @@ copied_codes old new src dest n is codes k =
     (λ more inside. subst C (sym (is.copied k 0 more inside)) (codes (src + (k - dest))))
     (λ more past. subst C (sym (is.from k 0 past)) (codes k))
 
+-- a list without a gap is another one without another gap, where what stands between the places of the two gaps stands on the other side
+gap_moved : (xs ys : List ℕ) (at dest front back : ℕ) → at ≤ dest → at ≤ front → dest + (front - at) ≡ back → back ≤ length ys → length xs ≡ length ys
+    → ((k : ℕ) → k < at → get_or xs k 0 ≡ get_or ys k 0) → ((k : ℕ) → at ≤ k → k < front → get_or xs (dest + (k - at)) 0 ≡ get_or ys k 0)
+    → ((k : ℕ) → back ≤ k → get_or xs k 0 ≡ get_or ys k 0) → take at xs ++ drop dest xs ≡ take front ys ++ drop back ys
+gap_moved xs ys at dest front back gap left moved within size below between behind =
+    let lx = length-gap xs at dest gap (omega arith) in
+    let ly = length-gap ys front back (omega arith) within in
+    ext_get_or 0 (take at xs ++ drop dest xs) (take front ys ++ drop back ys) (omega arith)
+    (λ k less. elim (cases_lt k at) [
+      | inl near ↦ gap_front xs at dest gap (omega arith) k 0 near ∙ below k near ∙ sym (gap_front ys front back (omega arith) within k 0 (omega arith))
+      | inr far ↦ gap_back xs at dest gap (omega arith) k 0 far ∙ elim (cases_lt k front) [
+        | inl inside ↦ between k far inside ∙ sym (gap_front ys front back (omega arith) within k 0 inside)
+        | inr past ↦ behind (dest + (k - at)) (omega arith) ∙ (let e : dest + (k - at) ≡ back + (k - front) = omega arith in ap (λ (n : ℕ). get_or ys n 0) e)
+            ∙ sym (gap_back ys front back (omega arith) within k 0 past)
+      ]
+    ])
+
 -- to the left: what stood between goes behind the gap
 module _ (old new : List ℕ) (olds news : List Stretch) (front back at first last : ℕ) (right : IsGapped old olds front back) (place : at < front)
     (is : IsCopied old new at (back - (front - at)) (front - at)) where
@@ -40,20 +57,9 @@ module _ (old new : List ℕ) (olds news : List Stretch) (front back at first la
       let within = right.within in
       let size = is.size in
       let dest : ℕ = back - (front - at) in
-      let ln = length-gap new at dest (omega arith) (omega arith) in
-      let lo = length-gap old front back order within in
-      ext_get_or 0 (take at new ++ drop dest new) (take front old ++ drop back old) (omega arith)
-      (λ k less. elim (cases_lt k at) [
-        | inl near ↦ gap_front new at dest (omega arith) (omega arith) k 0 near ∙ is.below k 0 (omega arith) ∙ sym (gap_front old front back order within k 0 (omega arith))
-        | inr far ↦ gap_back new at dest (omega arith) (omega arith) k 0 far ∙ elim (cases_lt k front) [
-          | inl inside ↦ is.copied (dest + (k - at)) 0 (omega arith) (omega arith)
-              ∙ (let e : at + (dest + (k - at) - dest) ≡ k = omega arith in ap (λ (n : ℕ). get_or old n 0) e)
-              ∙ sym (gap_front old front back order within k 0 inside)
-          | inr past ↦ is.from (dest + (k - at)) 0 (omega arith)
-              ∙ (let e : dest + (k - at) ≡ back + (k - front) = omega arith in ap (λ (n : ℕ). get_or old n 0) e)
-              ∙ sym (gap_back old front back order within k 0 past)
-        ]
-      ])
+      gap_moved new old at dest front back (omega arith) (omega arith) (omega arith) within size (λ k less. is.below k 0 (omega arith))
+      (λ k far inside. is.copied (dest + (k - at)) 0 (omega arith) (omega arith) ∙ (let e : at + (dest + (k - at) - dest) ≡ k = omega arith in ap (λ (n : ℕ). get_or old n 0) e))
+      (λ k past. is.from k 0 (omega arith))
 
   pub left_right : IsRecounted new olds news first last → back - (front - at) ≤ first * 1024 → first * 1024 < back - (front - at) + 1024
       → ((k : ℕ) → k * 1024 < back → k * 1024 + 1024 ≤ length old → k < last) → ((k : ℕ) → back ≤ k * 1024 → last ≤ k)
@@ -111,19 +117,8 @@ module _ (old new : List ℕ) (olds news : List Stretch) (front back at first la
       let order = right.order in
       let within = right.within in
       let size = is.size in
-      let dest : ℕ = back + (at - front) in
-      let ln = length-gap new at dest (omega arith) (omega arith) in
-      let lo = length-gap old front back order within in
-      ext_get_or 0 (take at new ++ drop dest new) (take front old ++ drop back old) (omega arith)
-      (λ k less. elim (cases_lt k at) [
-        | inl near ↦ gap_front new at dest (omega arith) (omega arith) k 0 near ∙ elim (cases_lt k front) [
-          | inl inside ↦ is.below k 0 inside ∙ sym (gap_front old front back order within k 0 inside)
-          | inr past ↦ is.copied k 0 past (omega arith) ∙ sym (gap_back old front back order within k 0 past)
-        ]
-        | inr far ↦ gap_back new at dest (omega arith) (omega arith) k 0 far ∙ is.from (dest + (k - at)) 0 (omega arith)
-            ∙ (let e : dest + (k - at) ≡ back + (k - front) = omega arith in ap (λ (n : ℕ). get_or old n 0) e)
-            ∙ sym (gap_back old front back order within k 0 (omega arith))
-      ])
+      sym (gap_moved old new front back at (back + (at - front)) order place refl (omega arith) (sym size) (λ k less. sym (is.below k 0 less))
+      (λ k low less. sym (is.copied k 0 low (omega arith))) (λ k past. sym (is.from k 0 (omega arith))))
 
   pub right_right : IsRecounted new olds news first last → first * 1024 ≤ front → front < first * 1024 + 1024 → last * 1024 ≤ at → at < last * 1024 + 1024
       → IsGapped new news at (back + (at - front))
