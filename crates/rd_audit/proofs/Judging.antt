@@ -1,8 +1,8 @@
 -- When verdicts come, put together from what was read.
 use Rattle.std.proofs.Common.{◌≡◌, ◌≢◌, ℕ, ◌+◌, ◌<◌, ◌≤◌, ◌⊎◌, inl, inr, if◌then◌else◌, List, [], ◌∷◌, length, map, get_or, Option, None, Some, IfSome, is_some, is_ok, Result, Ok, Err, refl, sym, ap, subst, ◌∙◌, arith, length-append, true≢false}
 use Rattle.std.specs.Prelude.{⊤}
-use Rattle.std.specs.Io.KnownBytes.{Consumes, IsAtEnd}
-use Rattle.std.proofs.KnownBytes.{Consumes-all}
+use Rattle.std.specs.Io.KnownBytes.{Consumes}
+use Rattle.std.proofs.KnownBytes.{Consumes-whole}
 use Rattle.std.proofs.lemmas.Option.{MatchOption-at_some, same_Some}
 use Rattle.rd_base.proofs.Equals.{cell-itself}
 use Rattle.rd_base.specs.declared.cell.Cell.{Cell}
@@ -79,10 +79,6 @@ no-difference (differences.Cell row column) p t s (sure, place) =
     true≢false (sym (ap is_some (sym (rows-known 0 p.rows) ∙ ap (other_place 0 p.rows) (sym s.cells) ∙ place)))
 no-difference differences.Cursor p t s (sure, place, apart) = apart s.cursor
 
--- all that a stream has was taken
-taken-all : (left after : Option (List ℕ)) (stream bytes : List ℕ) → left ≡ Some stream → Consumes left after bytes → IsAtEnd after → bytes ≡ stream
-taken-all left after stream bytes e c end = subst (λ o. IfSome o (λ xs. bytes ≡ xs)) e (Consumes-all left after bytes [] bytes c end refl)
-
 same-dump : (p q : Picture) (r : Result Picture ℕ) → r ≡ Ok p → r ≡ Ok q → p ≡ q
 same-dump p q r e f = let k : Ok p ≡ Ok q = sym e ∙ f in cc
 
@@ -90,7 +86,7 @@ no-no : (x : Difference) (told : Option (List ℕ)) (file stream : List ℕ) (du
     → Shows (terminal_after dump stream) dump → Consumes left after bytes → JudgesFile (No x) told bytes after → ⊥
 no-no x told file stream dump left after bytes t d e s c (other, (found, (small, is), good), ((short, end), differs)) =
     let same : other ≡ dump = same-dump other dump (dump_in file) (ap dump_in (sym (MatchOption-at_some ⊤ (λ bytes. found ≡ bytes) file t is)) ∙ good) d in
-    let all = taken-all left after stream bytes e c end in
+    let all = MatchOption-at_some ⊤ (λ xs. bytes ≡ xs) stream e (Consumes-whole left after bytes (λ xs. bytes ≡ xs) c end refl) in
     no-difference x dump (terminal_after dump stream) s (subst (λ b. IsDifference x dump (terminal_after dump b)) all (subst (λ p. IsDifference x p (terminal_after p bytes)) same differs))
 
 neither : {P : Type 0} → ⊥ ⊎ (⊥ ⊎ ⊥) → P

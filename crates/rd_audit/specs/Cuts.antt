@@ -1,14 +1,11 @@
 -- Pieces of bytes.
-use Rattle.std.specs.Prelude.{ℕ, ◌==◌, Bool, if◌then◌else◌, List, [], ◌∷◌, length, take, drop, Option, None, Some, is_some}
+use Rattle.std.specs.Prelude.{ℕ, ◌==◌, if◌then◌else◌, List, [], ◌∷◌, length, take, drop, Option, None, Some}
 use Rattle.std.specs.List.{slice_split}
 use Rattle.std.specs.Str.{bytes_eq}
 
 -- what stands behind these bytes, where the others begin with them
 abbrev pub stripped : List ℕ → List ℕ → Option (List ℕ)
 stripped front bytes = if bytes_eq (take (length front) bytes) front then Some (drop (length front) bytes) else None
-
-abbrev pub begins_with : List ℕ → List ℕ → Bool
-begins_with front bytes = is_some (stripped front bytes)
 
 -- what stands before the last of a byte, and what stands behind it
 abbrev pub cut_last_or : ℕ → ℕ → List ℕ → Option (List ℕ × List ℕ) → Option (List ℕ × List ℕ)

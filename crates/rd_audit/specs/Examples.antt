@@ -17,7 +17,7 @@ redisplay = input_of (codes "{\"op\":\"redisplay\"}") false
 abbrev pub short_inputs : List Input
 short_inputs = before_redisplay ++ redisplay ∷ []
 
--- over files without an entry, with dumps or without
+-- the mode of a run over files without an entry, with dumps or without
 abbrev pub short_mode : Bool → Mode
 short_mode dumps = record { files = record { classes = []; mirrors = []; brackets = [] }; dumps = dumps; generated = None }
 

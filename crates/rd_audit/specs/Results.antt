@@ -33,7 +33,7 @@ pub record IsShape (rows : List (List Cell)) : Type 0 where
   pub wide : width_of rows ≤ FRAME_COLUMNS
   pub tall : length rows ≤ FRAME_ROWS
 
--- when a verdict comes by the bytes of the file
+-- what holds where a verdict comes, by the bytes of the file
 abbrev pub JudgesBytes : Verdict → List ℕ → List ℕ → Option (List ℕ) → Type 0
 JudgesBytes (BadDump n) file bytes left = (dump_in file ≡ Err n) × (bytes ≡ [])
 JudgesBytes ReadFault file bytes left = Unit {0}

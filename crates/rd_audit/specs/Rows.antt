@@ -1,9 +1,10 @@
 -- The lines of a dump.
-use Rattle.std.specs.Prelude.{ℕ, ◌==◌, nat_lt, nat_le, Bool, if◌then◌else◌, ◌&&◌, List, [], ◌∷◌, length, Option, None, Some, option_and_then, decimal, codes}
+use Rattle.std.specs.Prelude.{ℕ, ◌==◌, nat_eq, nat_lt, nat_le, Bool, if◌then◌else◌, ◌&&◌, List, [], ◌∷◌, length, Option, None, Some, option_and_then, decimal, codes}
+use Rattle.std.specs.List.{starts_with}
 use Rattle.rd_base.specs.declared.cell.Cell.{Cell}
 use Rattle.rd_base.specs.declared.limits.TheConstants.{FRAME_COLUMNS, FRAME_ROWS, LEAST_FRAME_COLUMNS, LEAST_FRAME_ROWS}
 use Rattle.rd_term.specs.Pictures.{width_of}
-use Rattle.rd_audit.specs.Cuts.{stripped, begins_with, cut_last}
+use Rattle.rd_audit.specs.Cuts.{stripped, cut_last}
 use Rattle.rd_audit.specs.Numbers.{pair_of}
 use Rattle.rd_audit.specs.Runs.{runs_over}
 use Rattle.rd_audit.specs.Texts.{text_cells}
@@ -16,10 +17,10 @@ abbrev pub cursor_key : List ℕ
 cursor_key = codes "cursor "
 
 abbrev pub is_row : List ℕ → Bool
-is_row line = begins_with row_key line
+is_row line = starts_with nat_eq line row_key
 
 abbrev pub is_cursor : List ℕ → Bool
-is_cursor line = begins_with cursor_key line
+is_cursor line = starts_with nat_eq line cursor_key
 
 -- `row N |`, and what stands behind it
 abbrev pub row_text : ℕ → List ℕ → Option (List ℕ)

@@ -52,7 +52,7 @@ IsAnswer Yes dump t = Shows t dump
 IsAnswer (No difference) dump t = IsDifference difference dump t
 IsAnswer verdict dump t = ⊥
 
--- ---- when each verdict comes
+-- ---- what holds where each verdict comes
 
 -- a terminal of a dump's size, of which nothing was known, after these bytes
 abbrev pub terminal_after : Picture → List ℕ → Tty
@@ -71,7 +71,7 @@ IsBadFile told n =
 abbrev pub IsWholeStream : List ℕ → Option (List ℕ) → Type 0
 IsWholeStream bytes left = (length bytes ≤ STREAM_BYTES) × IsAtEnd left
 
--- when a verdict comes on a dump, by the bytes that were taken from the stream, which has `left` then
+-- what holds where a verdict comes on a dump, by the bytes that were taken from the stream, which has `left` then
 abbrev pub Judges : Verdict → Picture → List ℕ → Option (List ℕ) → Type 0
 Judges TooLong dump bytes left = STREAM_BYTES < length bytes
 Judges verdict dump bytes left = IsWholeStream bytes left × IsAnswer verdict dump (terminal_after dump bytes)
@@ -82,14 +82,14 @@ JudgesDump ReadFault dump bytes left = Unit {0}
 JudgesDump NoMemory dump bytes left = Unit {0}
 JudgesDump verdict dump bytes left = Judges verdict dump bytes left
 
--- when it comes on what was read of FILE
+-- where it comes on what was read of FILE
 abbrev pub JudgesFile : Verdict → Option (List ℕ) → List ℕ → Option (List ℕ) → Type 0
 JudgesFile (BadDump n) told bytes left = IsBadFile told n × (bytes ≡ [])
 JudgesFile ReadFault told bytes left = Unit {0}
 JudgesFile NoMemory told bytes left = Unit {0}
 JudgesFile verdict told bytes left = (dump : Picture) × ((file : List ℕ) × IsFile told file × (dump_in file ≡ Ok dump)) × Judges verdict dump bytes left
 
--- when it comes by the words and by what is known of the files
+-- where it comes, by the words and by what is known of the files
 abbrev pub Comes : Verdict → List (List ℕ) → (List ℕ → Option (List ℕ)) → List ℕ → Option (List ℕ) → Type 0
 Comes Usage words told bytes left = (length words ≢ 1) × (bytes ≡ [])
 Comes verdict words told bytes left = (name : List ℕ) × (words ≡ name ∷ []) × JudgesFile verdict (told name) bytes left

@@ -22,8 +22,8 @@ use std::alloc::Global;
 /// end, which is that since the last accepted `frame`: the terminal has the dump's size, and nothing of it is known. A sequence or a
 /// character that the stream's end cuts counts as unread.
 ///
-/// `answers` says when each verdict comes and what was written then. ReadFault comes only where the count of `stream` or that of the
-/// file's name rose, WriteFault only where that of `report` did, and then a front of the line was written that would have come.
+/// `answers` says what holds where each verdict comes and what was written then. ReadFault comes only where the count of `stream` or
+/// that of the file's name rose, WriteFault only where that of `report` did, and then a front of the line was written that would have come.
 /// NoMemory may come at any time where there is one word, and tells nothing of the file or the stream. With one word, a file with a
 /// dump and a stream that is not too long, and where no count rose, nothing else comes besides yes and no (`complete`). The cost is linear
 /// in the bytes of the file and of the stream.

@@ -1,7 +1,7 @@
 //! Pieces of bytes.
 ghost use Rattle.std.specs.Prelude.{◌≡◌, ◌<◌, ◌-◌, ◌∷◌, [], option_map, IfSome, MatchOption, drop, length};
 ghost use Rattle.rd_io.specs.Lines.{lines_of};
-ghost use Rattle.rd_audit.specs.Cuts.{stripped, begins_with, cut_last};
+ghost use Rattle.rd_audit.specs.Cuts.{stripped, cut_last};
 
 use rd_base::cut;
 
@@ -10,13 +10,6 @@ pub fn stripped<'a>(front: &[u8], bytes: &'a [u8]) -> Option<&'a [u8]>
     ensures { option_map (λ rest. rest.now) result ≡ stripped front.now bytes.now }
 {
     bytes.strip_prefix(front)
-}
-
-/// Whether bytes begin with a front.
-pub fn begins_with(front: &[u8], bytes: &[u8]) -> bool
-    ensures { result ≡ begins_with front.now bytes.now }
-{
-    stripped(front, bytes).is_some()
 }
 
 /// What stands before the last of a byte, and what stands behind it. None exactly where it stands nowhere. It looks at each byte from

@@ -3,7 +3,7 @@ ghost use Rattle.std.specs.Prelude.{◌≡◌, ◌≤◌, IfOk, IfSome, length, 
 ghost use Rattle.rd_base.specs.declared.limits.TheConstants.{LEAST_FRAME_ROWS};
 ghost use Rattle.rd_audit.specs.Rows.{is_row, is_cursor, row_text, row_cells, is_as_wide, next_row, place_in, cursor_place};
 
-use crate::cuts::{begins_with, cut_last, stripped};
+use crate::cuts::{cut_last, stripped};
 use crate::number::pair_of;
 use crate::run::runs_over;
 use crate::text::text_cells;
@@ -22,14 +22,14 @@ const CURSOR: &[u8] = b"cursor ";
 pub fn is_row(line: &[u8]) -> bool
     ensures { result ≡ is_row line.now }
 {
-    begins_with(ROW, line)
+    line.starts_with(ROW)
 }
 
 /// Whether a line is that of a cursor.
 pub fn is_cursor(line: &[u8]) -> bool
     ensures { result ≡ is_cursor line.now }
 {
-    begins_with(CURSOR, line)
+    line.starts_with(CURSOR)
 }
 
 /// The cells of the line of the next row, behind those that were read. None where it has a bad form, another number or another width,

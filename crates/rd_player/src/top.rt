@@ -44,14 +44,14 @@ use std::sync::ledger::Ledger;
 /// of the screen the report still gets its last line, and after one of the report nothing more is written. No line of the report
 /// takes memory.
 ///
-/// `ran` says, by the lines that were run and the bytes that were taken from `script`, when each status comes, what was written then,
-/// that behind each redisplay that was shown the written terminal shows what the rules give from nothing, that behind each that was
-/// shown or stopped the current screen is what the terminal shows, and that the steps rise by no more than the redisplays that were
-/// begun may place. It says too that under valid words, over good files whose bytes are known, a script without a bad line ends Done
-/// or NoMemory, where no count rose. A script has no bad line if each op is accepted for some choice of redisplays without memory that
-/// is the run's own as far as it went: want of memory at a redisplay can make a later hit be refused. Its bytes are to be known too,
-/// unless it is generated. `free` says that want of memory is no kind of a bad data file, nor of a line that is no op, nor of an op
-/// that is refused.
+/// `ran` says, by the lines that were run and the bytes that were taken from `script`, what holds where each status comes, what was
+/// written then, that behind each redisplay that was shown the written terminal shows what the rules give from nothing, that behind
+/// each that was shown or stopped the current screen is what the terminal shows, and that the steps rise by no more than the
+/// redisplays that were begun may place. Of bytes it speaks only where they are known: those of devices that tell theirs. It says too
+/// that under valid words, over good files whose bytes are known, a script without a bad line ends Done or NoMemory, where no count
+/// rose. A script has no bad line if each op is accepted for some choice of redisplays without memory that is the run's own as far as
+/// it went: want of memory at a redisplay can make a later hit be refused. Its bytes are to be known too, unless it is generated.
+/// `free` says that want of memory is no kind of a bad data file, nor of a line that is no op, nor of an op that is refused.
 ///
 /// Each file and each line is read once.
 pub fn play<S: Source, F: Files, K: Sink, R: Sink, L: Ledger>(

@@ -1,6 +1,7 @@
 -- The law of two ends: the words, the files, the bytes of the script and the lines that found no memory determine how a run ends.
 use Rattle.std.proofs.Common.{◌≡◌, ℕ, suc, ◌+◌, ◌<◌, ◌≤◌, ◌⊎◌, inl, inr, List, [], ◌∷◌, ◌++◌, length, drop, Option, None, Some, refl, sym, ap, ◌∙◌, subst, append_assoc, append-nil, arith}
 use Rattle.std.specs.List.{AllByRecursion}
+use Rattle.std.proofs.KnownBytes.{Consumes-whole}
 use Rattle.std.proofs.lemmas.List.{take-append-drop, length_push}
 use Rattle.std.proofs.lemmas.Option.{same_Some, none-some}
 use Rattle.rd_generate.specs.Generated.{script as generated}
@@ -17,7 +18,7 @@ use Rattle.rd_run.specs.declared.status.ScriptFault.TheVariants.{TooLong, TooMan
 use Rattle.rd_run.specs.declared.status.Status.{Status}
 use Rattle.rd_run.specs.declared.status.Status.TheVariants.{Done, BadScript, ReadFault, NoMemory}
 use Rattle.rd_run.proofs.Begun.{flipped, modes-same, not-begun, refused-alike, refuses}
-use Rattle.rd_run.proofs.Scripts.{IsTakenFrom, IsTakenIn, ends-there, first-lines, goes-on, long-line, more-line}
+use Rattle.rd_run.proofs.Scripts.{IsTakenFrom, IsTakenIn, first-lines, goes-on, long-line, more-line}
 use Rattle.rd_run.proofs.Starved.{run_line-alike}
 use Rattle.rd_run.proofs.Inputs.{lines-length, lines-push, run-push, run-clear}
 use Rattle.rd_run.proofs.Whole.{whole-of}
@@ -172,7 +173,8 @@ stops-before o mode lines inputs more s clear passed split h =
 done-stops : (o : Option ℕ) (mode : Mode) (script : List ℕ) (inputs : List Input) (bytes : List ℕ) (left : Option (List ℕ)) → IsTakenIn o script bytes left → Ran mode inputs
     → AreAll o inputs bytes left → Stops o (opened mode) 0 inputs (script_of o script) Done
 done-stops None mode script inputs bytes left p ran all =
-    let whole : lines_of script ≡ lines_in inputs ++ [] = ap lines_of (ends-there script bytes left (p refl) all.2) ∙ all.1 ∙ sym (append-nil (lines_in inputs)) in
+    let taken : script ≡ bytes = Consumes-whole (Some script) left bytes (λ s. s ≡ bytes) (p refl) all.2 refl in
+    let whole : lines_of script ≡ lines_in inputs ++ [] = ap lines_of taken ∙ all.1 ∙ sym (append-nil (lines_in inputs)) in
     stops-before None mode (lines_of script) inputs [] Done ran (passed-limits inputs all.0) whole (inl (refl, refl))
 done-stops (Some number) mode script inputs bytes left p ran all =
     let whole : generated number ≡ lines_in inputs ++ [] = sym all.0 ∙ sym (append-nil (lines_in inputs)) in

@@ -2,7 +2,8 @@
 use Rattle.std.proofs.Common.{◌≡◌, ℕ, zero, suc, ◌<◌, ◌≤◌, inl, inr, ◌==◌, Bool, true, false, if◌then◌else◌, List, [], ◌∷◌, ◌++◌, length, take, Option, None, Some, refl, sym, ap, ◌∙◌, subst, append_assoc, append-nil, arith, length-append}
 use Rattle.std.proofs.lemmas.List.{take-append-le}
 use Rattle.std.specs.List.{onto_first}
-use Rattle.std.specs.Io.KnownBytes.{Consumes, IsAtEnd}
+use Rattle.std.specs.Io.KnownBytes.{Consumes}
+use Rattle.std.proofs.KnownBytes.{Consumes-whole}
 use Rattle.std.proofs.lemmas.Bool.{ne_eqb}
 use Rattle.rd_io.specs.Lines.{lines_of, text_of_lines, IsUnbroken}
 use Rattle.rd_io.proofs.Cuts.{lines-behind}
@@ -77,12 +78,8 @@ goes-on lines script bytes rest (Some more) p b =
     let whole : script ≡ text_of_lines lines ++ (rest ++ more) = p ∙ ap (λ l. l ++ more) b.1 ∙ append_assoc (text_of_lines lines) rest more in
     (more, ap lines_of whole ∙ lines-behind lines (rest ++ more) b.0)
 
-pub ends-there : (script bytes : List ℕ) (left : Option (List ℕ)) → IsTakenFrom script bytes left → IsAtEnd left → script ≡ bytes
-ends-there script bytes None p q = absurd p
-ends-there script bytes (Some more) p q = p ∙ ap (λ l. bytes ++ l) q ∙ append-nil bytes
-
 -- the first lines of the bytes taken are the first of the script
 pub first-lines : (lines : List (List ℕ)) (script bytes : List ℕ) (left : Option (List ℕ)) → IsTakenFrom script bytes left → AreFirst lines bytes left
     → (more : List (List ℕ)) × (lines_of script ≡ lines ++ more)
 first-lines lines script bytes left p (limits, inl first) = let on = goes-on lines script bytes first.0 left p first.1 in (lines_of (first.0 ++ on.0), on.1)
-first-lines lines script bytes left p (limits, inr all) = ([], ap lines_of (ends-there script bytes left p all.1) ∙ all.0 ∙ sym (append-nil lines))
+first-lines lines script bytes left p (limits, inr all) = ([], ap lines_of (Consumes-whole (Some script) left bytes (λ s. s ≡ bytes) p all.1 refl) ∙ all.0 ∙ sym (append-nil lines))

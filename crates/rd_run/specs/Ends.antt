@@ -1,4 +1,4 @@
--- How a run ends: when each status comes, and what was then written to the screen and to the report.
+-- How a run ends: what holds where each status comes, and what was then written to the screen and to the report.
 use Rattle.std.specs.Prelude.{◌≡◌, ℕ, ◌+◌, ◌<◌, ◌≤◌, ◌⊎◌, true, false, List, [], ◌∷◌, ◌++◌, length, take, map, Option, None, Some, unwrap_or}
 use Rattle.std.specs.List.{AllByRecursion}
 use Rattle.std.specs.Io.KnownBytes.{Appends, IsAtEnd}
@@ -71,7 +71,7 @@ GoesOn inputs bytes rest = AreInLimits (lines_in inputs) × Begins (lines_in inp
 abbrev pub AreFirst : List (List ℕ) → List ℕ → Option (List ℕ) → Type 0
 AreFirst lines bytes left = AreInLimits lines × (((rest : List ℕ) × Begins lines bytes rest) ⊎ ((lines_of bytes ≡ lines) × IsAtEnd left))
 
--- ---- when each status comes
+-- ---- what holds where each status comes
 
 -- what has come of a line behind those that were run: it has no newline, is not too long, and begins no line that is one too many
 abbrev pub IsBegun : List Input → List ℕ → Type 0
@@ -128,8 +128,8 @@ pub record IsPast (mode : Mode) (fault : ScriptFault) (number : ℕ) (inputs : L
 abbrev pub IsNothing : List Input → List ℕ → Type 0
 IsNothing inputs bytes = (inputs ≡ []) × (bytes ≡ [])
 
--- when a status comes that is no write fault, in a run that has begun, for the lines that were run before and the bytes taken from the
--- source
+-- what holds where a status comes that is no write fault, in a run that has begun, for the lines that were run before and the bytes taken
+-- from the source
 abbrev pub ComesIn : Mode → Status → List Input → List ℕ → Drawn → Type 0
 -- the script was run to its end, and each op was accepted
 ComesIn mode Done inputs bytes source = Ran mode inputs × AreAll mode.generated inputs bytes source.left
@@ -141,8 +141,8 @@ ComesIn mode ReadFault inputs bytes source =
 ComesIn mode NoMemory inputs bytes source = Ran mode inputs × IsTaken mode.generated inputs bytes
 ComesIn mode status inputs bytes source = ⊥
 
--- When a status comes that is no write fault. A run begins where the words are those of the command and the data files were read and are
--- good; else no line is run.
+-- What holds where a status comes that is no write fault. A run begins where the words are those of the command and the data files were
+-- read and are good; else no line is run.
 abbrev pub Comes : Given → Option Mode → Status → List Input → List ℕ → Drawn → Type 0
 Comes given None Usage inputs bytes source = (given.words ≡ None) × IsNothing inputs bytes
 Comes given None (BadData file number kind) inputs bytes source = IsBadData given file number kind × IsNothing inputs bytes
