@@ -129,7 +129,7 @@ fn joined_held(held: Option<Glyph>, code: u32) -> Glyph
     ensures value { result ≡ joined_held held code }
     ensures columns { HoldsColumns held → (1 ≤ result.width) × (result.width ≤ 3) }
 {
-    marked_glyph(held, Some(code)).unwrap_or(on_blank(code))
+    marked_glyph(held, Some(code)).unwrap_or_else(|| on_blank(code))
 }
 
 /// Looks in so many columns, while they fit, and blanks in the rest.

@@ -1,6 +1,7 @@
 //! Runs a script: standard input is the script, the terminal's bytes go to standard output, the report to standard error, and the
 //! status ends the process. The words name the data files; with `--generate N` a script that is made from N takes the place of
-//! standard input, which is not read, and with `--dump` the report has a dump behind each redisplay that is shown.
+//! standard input, which is not read. With `--dump` the report has a dump behind each redisplay that is shown, unless the script is
+//! generated.
 //!
 //! The rules are in docs/RULES.md, "The program".
 #![tactic(auto)]

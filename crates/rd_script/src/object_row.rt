@@ -9,7 +9,7 @@ ghost use Rattle.rd_script.specs.declared.name.ObjectOp.TheVariants as objects;
 
 use crate::asked::Asked;
 use crate::fault::OpFault;
-use crate::field::{KIND, VALUE, defaulted, named, number, optional, required};
+use crate::field::{KIND, VALUE, defaulted, named, number, optional};
 use crate::form::{Flag, Form, Within};
 use crate::item::AtMost;
 use crate::name::ObjectOp;

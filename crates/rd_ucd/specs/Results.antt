@@ -1,4 +1,4 @@
--- What reading a file answers.
+-- What reading a file answers, and values put before those of a result.
 use Rattle.std.specs.Prelude.{◌≡◌, List, ◌++◌, Result, Ok, Err}
 use Rattle.rd_ucd.specs.declared.fault.UcdFault.{UcdFault}
 use Rattle.rd_ucd.specs.declared.fault.UcdFault.TheVariants.{Memory}
