@@ -8,7 +8,7 @@
 mod neutral_walk;
 mod raise;
 mod reset;
-mod walk;
+pub mod walk;
 mod weak_walk;
 
 pub use neutral_walk::neutral;

@@ -38,11 +38,18 @@ impl WalkRules for Sides {
     ghost use Rattle.rd_resolve.specs.Neutral.{n1, n2};
     ghost use Rattle.rd_resolve.specs.Walks.{SideIs};
 
-    ghost left = { λ sides types levels. n2 (n1 sides.before sides.eos types) levels };
+    ghost left = { λ sides classes types levels. n2 (n1 sides.before sides.eos types) levels };
 
     ghost is_known = { λ sides types. SideIs sides.run sides.eos types };
 
-    fn step(&mut self, class: Class, level: u8, types: &[Class], rest: &[u32]) -> Class {
+    fn step(
+        &mut self,
+        _original: Class,
+        class: Class,
+        level: u8,
+        types: &[Class],
+        rest: &[u32],
+    ) -> Class {
         if !is_ni(class) {
             self.before = n1_side(class);
             self.run = None;

@@ -48,11 +48,18 @@ pub fn weak(line: &mut Line, seq: &Seq)
 impl WalkRules for Before {
     ghost use Rattle.rd_resolve.specs.Walks.{weak_left, RunIs};
 
-    ghost left = { λ before types levels. weak_left before types };
+    ghost left = { λ before classes types levels. weak_left before types };
 
     ghost is_known = { λ before types. RunIs before.w5_run before types };
 
-    fn step(&mut self, class: Class, _level: u8, types: &[Class], rest: &[u32]) -> Class {
+    fn step(
+        &mut self,
+        _original: Class,
+        class: Class,
+        _level: u8,
+        types: &[Class],
+        rest: &[u32],
+    ) -> Class {
         let after_w1 = w1_nonspacing_marks(self.w1_before, class);
         let strong = strong_after(self.w2_strong, after_w1);
         let after_w2 = w2_european_numbers_after_arabic(self.w2_strong, after_w1);

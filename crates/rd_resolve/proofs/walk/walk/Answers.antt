@@ -1,6 +1,6 @@
-use Rattle.std.proofs.Common.{◌≡◌, ◌+◌, ◌∷◌, drop, ap, sym, subst, ◌∙◌}
+use Rattle.std.proofs.Common.{◌≡◌, ◌+◌, ◌∷◌, drop, ap, ap₂, sym, subst, ◌∙◌}
 use Rattle.rd_resolve.specs.Places.{types_at, levels_at}
-use Rattle.rd_resolve.proofs.Places.{levels-read, walk-step, keeps-on}
+use Rattle.rd_resolve.proofs.Places.{types-read, levels-read, walk-step, keeps-on}
 use Rattle.rd_resolve.proofs.walk.walk.Goals as goal
 
 pub step-given-requires-clause-known : goal.step-given-requires-clause-known
@@ -17,11 +17,18 @@ loop-k-preserved g c =
     let new = c.step-given.new.self in
     let inv = c.loop-k.invariant in
     let vs = types_at walked.result.rest.now walked.result.types.now in
+    let CS = types_at (drop (k + 1) is) line.classes in
     let LS = levels_at (drop (k + 1) is) line.levels in
+    let classes : types_at (drop k is) c.loop-k.line.classes ≡ walked.result.original ∷ CS =
+    types-read is k walked.result.index walked.ensures.index c.loop-k.line.classes walked.result.original walked.ensures.original
+    ∙ ap (λ cs. walked.result.original ∷ types_at (drop (k + 1) is) cs) (sym c.set_type.ensures.rest.classes) in
     let levels : levels_at (drop k is) c.loop-k.line.levels ≡ level ∷ LS =
     levels-read is k walked.result.index walked.ensures.index c.loop-k.line.levels level walked.ensures.level ∙ ap (λ ms. level ∷ levels_at (drop (k + 1) is) ms) (sym c.set_type.ensures.levels) in
-    let (step, stays) = walk-step is k walked.result.index walked.ensures.index c.requires.ascend (λ us. left us (levels_at (drop k is) c.loop-k.line.levels)) (λ us. g.R.WalkRules.left new us LS)
-    c.loop-k.line.types line.types c.step-given.result walked.result.class vs walked.ensures.left (ap (left (walked.result.class ∷ vs)) levels ∙ c.step-given.ensures.left LS) c.set_type.ensures.types in
+    let (step, stays) = walk-step is k walked.result.index walked.ensures.index c.requires.ascend
+    (λ us. left (types_at (drop k is) c.loop-k.line.classes) us (levels_at (drop k is) c.loop-k.line.levels))
+    (λ us. g.R.WalkRules.left new CS us LS)
+    c.loop-k.line.types line.types c.step-given.result walked.result.class vs walked.ensures.left
+    (ap₂ (λ cs ls. left cs (walked.result.class ∷ vs) ls) classes levels ∙ c.step-given.ensures.left CS LS) c.set_type.ensures.types in
     record {
       left = step ∙ inv.left;
       known = subst (g.R.WalkRules.is_known new) stays c.step-given.ensures.known;

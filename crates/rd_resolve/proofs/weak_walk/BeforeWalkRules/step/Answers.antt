@@ -46,7 +46,7 @@ returns c =
     c.w5_terminators-after_w5.ensures ∙ ap₂ (λ r n. w5_terminators r n) (c.w5_beside.ensures ∙ ap (λ r. b.w5_number || unwrap_or r false) known_run) after_w4 in
     let after_w6 : c.w6_remaining_separators-after_w6.result ≡ w6_remaining_separators (w5_type b c.args.class cs) = c.w6_remaining_separators-after_w6.ensures ∙ ap w6_remaining_separators after_w5 in
     record {
-      left = λ levels. assembled _ _ _ _ _ _ _ _ _ _ _ _ cs _ (weak-step b c.args.class cs c.w5_run_ends-run.result)
+      left = λ classes levels. assembled _ _ _ _ _ _ _ _ _ _ _ _ cs _ (weak-step b c.args.class cs c.w5_run_ends-run.result)
           (c.w7_latin_numbers-given.ensures ∙ ap (w7_latin_numbers b.w7_strong) after_w6) (c.strong_after-self.ensures ∙ ap (strong_after b.w7_strong) after_w6)
           (c.is_en-self.ensures ∙ ap is_en after_w5) after_w3 strong after_w1;
       known = w5-run-is c.w5_run_ends-run.result (w4_type b c.args.class cs) (w5_run_ends b.w2_strong cs) _ cs known_run
