@@ -9,6 +9,7 @@ ghost use Rattle.rd_brackets.specs.Matchings.{ArePairsBefore};
 use crate::matching::{Pair, bd16_pairs_of};
 use crate::sides::{n0_take_pairs, side_taken};
 use rd_base::{Class, Line, ListOf, Memory, Seq, mapped};
+use rd_resolve::walk::{WalkRules, walk};
 use rd_ucd::Brackets;
 use std::alloc::Global;
 
@@ -82,6 +83,14 @@ fn types_at(alloc: Global, line: &Line, seq: &Seq) -> Result<ListOf<Class>, Memo
     })
 }
 
+/// What the end of N0 knows at a character: the direction that the one before it took, and the types that it and those behind it have
+/// after the pairs.
+#[derive(Clone, Copy)]
+pub struct Marks<'a> {
+    pub side: Option<Class>,
+    pub given: &'a [Class],
+}
+
 /// The end of N0: gives the characters of a sequence the types that they have after the pairs, and the marks behind brackets that took a
 /// direction that one.
 fn n0_put_types(line: &mut Line, seq: &Seq, types: &[Class])
@@ -91,12 +100,32 @@ fn n0_put_types(line: &mut Line, seq: &Seq, types: &[Class])
     ensures { TakesTypes line.old line.new seq.now.indexes
         (n0_with_marks None (types_at seq.now.indexes line.old.classes) (types_at seq.now.indexes line.old.types) types.now) }
 {
-    let mut side = None;
-    for place in 0..seq.indexes.len() {
-        let i = seq.indexes.at(place) as usize;
-        let before = line.types.at(i);
-        let after = types[place];
-        side = side_taken(side, line.classes.at(i), before, after);
-        line.set_type(i, side.unwrap_or(after));
+    let marks = Marks {
+        side: None,
+        given: types,
+    };
+    walk(line, seq, marks);
+}
+
+impl WalkRules for Marks<'_> {
+    ghost use Rattle.std.specs.Prelude.{◌≡◌, length};
+    ghost use Rattle.rd_brackets.specs.Sides.{n0_with_marks};
+
+    ghost left = { λ marks classes types levels. n0_with_marks marks.side classes types marks.given.now };
+
+    ghost is_known = { λ marks types. length marks.given.now ≡ length types };
+
+    fn step(
+        &mut self,
+        original: Class,
+        class: Class,
+        _level: u8,
+        _types: &[Class],
+        _rest: &[u32],
+    ) -> Class {
+        let after = self.given[0];
+        self.side = side_taken(self.side, original, class, after);
+        self.given = &self.given[1..];
+        self.side.unwrap_or(after)
     }
 }
