@@ -182,14 +182,14 @@ const TWO_BLOCKS: [(&'static str, Pos, (Pos, Pos)); 4] = [
     ("the letter", 1, (1, 3)),
     ("the newline, which is shown", 2, (1, 3)),
     ("the mark", 3, (3, 5)),
-    ("the end behind a newline", 4, (3, 5)),
+    ("the end, behind the mark", 4, (3, 5)),
 ];
 
 /// Positions of two lines whose newline is hidden, each with its block.
 const ONE_BLOCK: [(&'static str, Pos, (Pos, Pos)); 3] = [
     ("the letter", 1, (1, 5)),
     ("the newline, which is hidden", 2, (1, 5)),
-    ("the end behind a hidden newline", 4, (1, 5)),
+    ("the end, behind the mark", 4, (1, 5)),
 ];
 
 #[test]

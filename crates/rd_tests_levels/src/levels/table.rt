@@ -126,8 +126,8 @@ W1: a mark behind a PDI alone | 0 | PDI NSM R | 0 0 1 | 0 1 2
 W1: a mark behind a PDI alone, from the right | 1 | PDI NSM R | 1 1 1 | 0 1 2
 W7: a number behind isolates of L and R | 0 | LRI L PDI LRI R PDI EN | 0 2 0 0 3 0 0 | 0 1 2 3 4 5 6
 W7: a number behind isolates of L and R, from the right | 1 | LRI L PDI LRI R PDI EN | 1 2 1 1 3 1 2 | 0 1 2 3 4 5 6
-N2: neutrals inside an isolate and behind it | 0 | R RLI ON PDI L ON | 1 0 1 0 0 0 | 0 1 2 3 4 5
-N2: neutrals inside an isolate and behind it, from the right | 1 | R RLI ON PDI L ON | 1 1 3 1 2 1 | 0 1 2 3 4 5
+N2: an isolate between R and L, and neutrals inside and behind it | 0 | R RLI ON PDI L ON | 1 0 1 0 0 0 | 0 1 2 3 4 5
+N2: an isolate between R and L, and neutrals inside and behind it, from the right | 1 | R RLI ON PDI L ON | 1 1 3 1 2 1 | 0 1 2 3 4 5
 X3: embeddings inside embeddings | 0 | L LRE RLE LRE R PDF PDF PDF L | 0 0 0 0 5 5 5 5 0 | 0 1 2 3 7 6 5 4 8
 X3: embeddings inside embeddings, from the right | 1 | L LRE RLE LRE R PDF PDF PDF L | 2 2 2 2 5 5 5 5 2 | 8 4 5 6 7 3 2 1 0
 X8: a B before L | 0 | B L | 0 0 | 0 1

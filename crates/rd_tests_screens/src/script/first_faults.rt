@@ -20,7 +20,7 @@ const FIRST: [(&'static str, &'static str, &'static str, &'static str); 27] = [
     case!("a bad position before a missing text" => r#"{"op":"insert","buffer":"a","pos":-1}"#, "BadField", "pos"),
     case!("a missing buffer before a bad range" => r#"{"op":"delete","to":-1,"from":-1}"#, "Missing", "buffer"),
     case!("a missing window, and another key" => r#"{"op":"remove","x":1}"#, "Missing", "window"),
-    case!("a bad mode, and another key before it" => r#"{"op":"wrap","window":0,"mode":1,"a":1}"#, "BadField", "mode"),
+    case!("a bad mode, and another key, less in byte order" => r#"{"op":"wrap","window":0,"mode":1,"a":1}"#, "BadField", "mode"),
     case!("a bad buffer before missing fields" => r#"{"op":"put","buffer":1}"#, "BadField", "buffer"),
     case!("a bad value, and another key"
         => r#"{"op":"put","buffer":"a","from":1,"to":1,"kind":"face","value":-1,"x":1}"#, "BadField", "value"),
