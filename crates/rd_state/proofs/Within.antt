@@ -59,19 +59,17 @@ shrunk-in size from to o one h within is =
 
 -- ---- buffers
 
--- a buffer whose values came from another's and lie in its text where they lay in that one's, and whose overlays are that one's, changed
-came-within : (b c : props.BufferValue) (change : Overlay → Overlay) → IsWithin b
+-- a buffer whose values came from another's and lie in its text where they lay in that one's, and whose few overlays lie in its text
+came-within : (b c : props.BufferValue) (slots : List (Option Overlay)) → IsWithin b
     → ((kind p value : ℕ) → c.properties kind p ≡ Some value
     → (q : ℕ) × (b.properties kind q ≡ Some value) × (1 ≤ q → q ≤ length b.text.text → (1 ≤ p) × (p ≤ length c.text.text)))
-    → ((o : Overlay) → IsOverlayIn (length b.text.text) o → IsOverlayIn (length c.text.text) (change o))
-    → c.overlays ≡ map (option_map change) b.overlays → IsWithin c
-came-within b c change within came stays overlays = record {
+    → c.overlays ≡ slots → length slots ≤ 65536 → AreIn (length c.text.text) slots → IsWithin c
+came-within b c slots within came overlays few all = record {
   kinds = λ kind p value h. let was = came kind p value h in within.kinds kind was.0 value was.1;
   first = λ kind p value h. let was = came kind p value h in (was.2 (within.first kind was.0 value was.1) (within.last kind was.0 value was.1)).0;
   last = λ kind p value h. let was = came kind p value h in (was.2 (within.first kind was.0 value was.1) (within.last kind was.0 value was.1)).1;
-  few = subst (λ xs. length xs ≤ 65536) (sym overlays) (rw length-map within.few);
-  overlays = subst (AreIn (length c.text.text)) (sym overlays)
-      (changed-each (IsOverlayIn (length c.text.text)) change b.overlays (λ k o at. stays o (within.overlays k o at)));
+  few = subst (λ xs. length xs ≤ 65536) (sym overlays) few;
+  overlays = subst (AreIn (length c.text.text)) (sym overlays) all;
 }
 
 -- a buffer with characters put in
@@ -82,11 +80,12 @@ grown-within b c pos new text within at same values overlays =
     let n = length new in
     let last = text.last in
     let size : length c.text.text ≡ length b.text.text + n = ap (λ t. length t.text) same ∙ length-grown b.text.text new (pos - 1) (omega (arith, at.1)) in
-    came-within b c (grown pos n) within
+    came-within b c (map (slot_grown pos n) b.overlays) within
     (λ kind p value h.
     let from = opened-from (b.properties kind) pos n p value (sym (values kind p) ∙ h) in
     (from.0, from.1, λ one most. (omega (arith, from.2, one), omega (arith, from.3, most, size))))
-    (λ o is. subst (λ s. IsOverlayIn s (grown pos n o)) (sym size) (grown-in (length b.text.text) pos n o is)) overlays
+    overlays (rw length-map within.few) (changed-each (IsOverlayIn (length c.text.text)) (grown pos n) b.overlays
+    (λ k o at. subst (λ s. IsOverlayIn s (grown pos n o)) (sym size) (grown-in (length b.text.text) pos n o (within.overlays k o at))))
 
 -- a buffer with a range taken away
 pub shrunk-within : (b c : props.BufferValue) (from to : ℕ) → IsText b.text → IsWithin b → IsAccessibleRange b.text from to
@@ -102,7 +101,7 @@ shrunk-within b c from to text within at same values overlays =
     let most : to ≤ length b.text.text + 1 = omega arith in
     let cut = length-gap b.text.text (from - 1) (to - 1) (omega arith) (omega arith) in
     let size : length c.text.text ≡ length b.text.text - (to - from) = ap (λ t. length t.text) same ∙ omega (arith, cut) in
-    came-within b c (shrunk from to) within
+    came-within b c (map (slot_shrunk from to) b.overlays) within
     (λ kind p value h.
     let was = closed-from (b.properties kind) from to p value (sym (values kind p) ∙ h) in
     let stays : 1 ≤ was.0 → was.0 ≤ length b.text.text → (1 ≤ p) × (p ≤ length c.text.text) = λ least last. elim was.2 [
@@ -110,18 +109,17 @@ shrunk-within b c from to text within at same values overlays =
       | inr behind ↦ (omega (arith, behind.1, one), omega (arith, behind.0, last, size))
     ] in
     (was.0, was.1, stays))
-    (λ o is. subst (λ s. IsOverlayIn s (shrunk from to o)) (sym size) (shrunk-in (length b.text.text) from to o one ordered most is)) overlays
+    overlays (rw length-map within.few) (changed-each (IsOverlayIn (length c.text.text)) (shrunk from to) b.overlays
+    (λ k o at. subst (λ s. IsOverlayIn s (shrunk from to o)) (sym size)
+    (shrunk-in (length b.text.text) from to o one ordered most (within.overlays k o at))))
 
 -- a buffer whose characters and values are another's, with few overlays, of which each lies in the text
 overlays-within : (b c : props.BufferValue) (slots : List (Option Overlay)) → IsWithin b → c.text.text ≡ b.text.text
     → ((kind p : ℕ) → c.properties kind p ≡ b.properties kind p) → c.overlays ≡ slots → length slots ≤ 65536 → AreIn (length b.text.text) slots → IsWithin c
-overlays-within b c slots within same values overlays few all = record {
-  kinds = λ kind p value h. within.kinds kind p value (sym (values kind p) ∙ h);
-  first = λ kind p value h. within.first kind p value (sym (values kind p) ∙ h);
-  last = λ kind p value h. subst (λ t. p ≤ length t) (sym same) (within.last kind p value (sym (values kind p) ∙ h));
-  few = subst (λ xs. length xs ≤ 65536) (sym overlays) few;
-  overlays = subst (λ t. AreIn (length t) c.overlays) (sym same) (subst (AreIn (length b.text.text)) (sym overlays) all);
-}
+overlays-within b c slots within same values overlays few all =
+    came-within b c slots within
+    (λ kind p value h. (p, sym (values kind p) ∙ h, λ one most. (one, subst (λ t. p ≤ length t) (sym same) most))) overlays few
+    (subst (λ t. AreIn (length t) slots) (sym same) all)
 
 -- one whose overlays are that one's too
 pub same-within : (b c : props.BufferValue) → IsWithin b → c.text.text ≡ b.text.text → ((kind p : ℕ) → c.properties kind p ≡ b.properties kind p)
