@@ -1,12 +1,11 @@
 -- Lines that leave the screen as it is send nothing, and what they tell has no line of a cursor.
-use Rattle.std.proofs.Common.{◌≡◌, ◌==◌, ℕ, ◌+◌, Bool, true, false, if◌then◌else◌, is_some, Option, None, Some, decimal, codes, List, [], ◌∷◌, ◌++◌, refl, sym, ap, ◌∙◌, subst, append_assoc, append-nil, true≢false}
+use Rattle.std.proofs.Common.{◌≡◌, ◌==◌, ℕ, ◌+◌, true, false, if◌then◌else◌, is_some, Option, None, Some, decimal, codes, List, [], ◌∷◌, ◌++◌, refl, sym, ap, ◌∙◌, subst, append_assoc, append-nil, true≢false}
 use Rattle.std.proofs.lemmas.Bool.{and_parts, not-true}
 use Rattle.std.proofs.lemmas.List.Elements.{All-cons}
 use Rattle.rd_io.specs.Lines.{lines_of}
 use Rattle.rd_layout.specs.Redisplays.{update_of}
 use Rattle.rd_layout.specs.declared.outcome.Outcome.{Outcome}
-use Rattle.rd_layout.specs.declared.outcome.Outcome.TheVariants.{Shown, Stopped}
-use Rattle.rd_run.proofs.Effects.{effect-is}
+use Rattle.rd_run.proofs.Effects.{effect-is, is-sent}
 use Rattle.rd_run.proofs.Inputs.{run-clear, run_line-goes}
 use Rattle.rd_run.specs.Reports.{no_memory_line}
 use Rattle.rd_run.specs.Runs.{Effect, Input, Standing, World, effect, is_sent, run, run_line}
@@ -50,10 +49,6 @@ record IsCalm (e : Effect) : Type 0 where
 silent : (e : Effect) → e.sent ≡ [] → e.told ≡ [] → IsCalm e
 silent e sent told = record { sent = sent; told = λ rest h. subst (λ l. HasNoCursor (lines_of (l ++ rest))) (sym told) h }
 
-sent-of : {P : Type 0} (done : Bool) (rows : ℕ) → is_sent (Some (if done then Shown rows else Stopped rows)) ≡ false → P
-sent-of true rows h = absurd (true≢false h)
-sent-of false rows h = absurd (true≢false h)
-
 calm-effect : (place : Standing) (t : Input) → is_sent (effect place t).outcome ≡ false → IsCalm (effect place t)
 calm-effect place t = effect-is place t (λ e. is_sent e.outcome ≡ false → IsCalm e) (record {
   blank = λ s. silent _ refl refl;
@@ -61,7 +56,7 @@ calm-effect place t = effect-is place t (λ e. is_sent e.outcome ≡ false → I
   refusal = λ op cause is s. silent _ refl refl;
   accepted = λ op state form step is s. silent _ refl refl;
   starved = λ s. record { sent = refl; told = passed-no_memory (place.lines + 1) };
-  fed = λ stop s. let u = update_of place.session stop in sent-of u.done u.rows s;
+  fed = λ stop s. let u = update_of place.session stop in absurd (true≢false (sym (is-sent u.done u.rows) ∙ s));
 })
 
 sent-if : (fault : Option ScriptFault) (o : Option Outcome) → fault ≡ None → is_sent (if is_some fault then None else o) ≡ false → is_sent o ≡ false

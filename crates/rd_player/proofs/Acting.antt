@@ -6,13 +6,13 @@ use Rattle.rd_io.specs.Devices.{AppendsFront, Prints, Rose}
 use Rattle.rd_io.specs.declared.traits.Failed.{Failed}
 use Rattle.rd_layout.specs.Copies.{redisplayed as redisplayed_session, without_copies}
 use Rattle.rd_layout.specs.Facts.{facts_of}
-use Rattle.rd_layout.specs.Redisplays.{IsSent, update_of, outcome_of}
+use Rattle.rd_layout.specs.Redisplays.{IsSent, update_of}
 use Rattle.rd_layout.specs.Sessions.{SessionValue}
+use Rattle.rd_run.proofs.Effects.{is-sent}
 use Rattle.rd_run.specs.Ends.{Sunk, sunk}
 use Rattle.rd_run.specs.Reports.{no_memory_line, shown_line, stopped_line}
-use Rattle.rd_run.specs.Runs.{Effect, Standing, asked, dump_lines, effect_by, effect_of_op, is_sent, redisplayed, told_of, unshown}
+use Rattle.rd_run.specs.Runs.{Effect, Standing, asked, dump_lines, effect_by, effect_of_op, redisplayed, told_of, unshown}
 use Rattle.rd_script.specs.declared.op.Op.{Op}
-use Rattle.rd_update.specs.Updates.{Update}
 use Rattle.rd_player.specs.Acts.{Acts, IsTold}
 use Rattle.rd_player.specs.declared.halt.Halt.{Halt}
 use Rattle.rd_player.specs.declared.halt.Halt.TheVariants as halts
@@ -32,12 +32,6 @@ op-acts result place next op screen report answer asks p q h =
     subst (λ o. Acts result (λ starved. effect_by o starved place op) next screen report) (sym (sym p ∙ q)) h
 
 -- ---- a redisplay
-
-is-sent : (u : Update) → is_sent (Some (outcome_of u.done u.rows)) ≡ true
-is-sent u = by u.done where
-  by : (d : Bool) → is_sent (Some (outcome_of d u.rows)) ≡ true
-  by true = refl
-  by false = refl
 
 -- what the report is told of a redisplay that was sent
 abbrev pub sent_lines : Bool → Option ℕ → Bool → ℕ → ℕ → SessionValue → List ℕ
@@ -75,9 +69,10 @@ sent-acts law (Ok x) result dumps generated lines shown old new stop rows done s
 sent-acts law (Err x) result dumps generated lines shown old new stop rows done s0 s1 r0 r1 m0 m1 n0 n1 told same h prints read =
     let place = stand dumps generated lines shown old in
     let next = stand dumps generated (lines + 1) (if done then shown + 1 else shown) new in
+    let u = update_of old stop in
     let front = subst (AppendsFront r0 r1) (told-same law dumps generated (lines + 1) rows done old new stop same h.count h.whole) prints.bytes.front in
     subst (λ (r : Result Unit Halt). Acts r (λ starved. if starved then unshown place else redisplayed place stop) next (sunk s0 s1 m0 m1) (sunk r0 r1 n0 n1)) (sym told)
-    (false, is-sent (update_of old stop), h.bytes, record { rose = prints.failed; front = front }, inl read)
+    (false, is-sent u.done u.rows, h.bytes, record { rose = prints.failed; front = front }, inl read)
 
 -- it found no memory
 pub starved-acts : (answer : Result Unit Failed) (result : Result Unit Halt) (dumps : Bool) (generated : Option ℕ) (lines shown : ℕ) (old new : SessionValue) (stop : Option ℕ)
@@ -94,12 +89,14 @@ starved-acts (Ok x) result dumps generated lines shown old new stop s0 s1 r0 r1 
 starved-acts (Err x) result dumps generated lines shown old new stop s0 s1 r0 r1 m0 m1 n0 n1 told becomes sent prints =
     let place = stand dumps generated lines shown old in
     let next = stand dumps generated (lines + 1) shown new in
+    let u = update_of old stop in
     subst (λ (r : Result Unit Halt). Acts r (λ starved. if starved then unshown place else redisplayed place stop) next (sunk s0 s1 m0 m1) (sunk r0 r1 n0 n1)) (sym told)
-    (true, is-sent (update_of old stop), sent, record { rose = prints.failed; front = prints.bytes.front }, inr refl)
+    (true, is-sent u.done u.rows, sent, record { rose = prints.failed; front = prints.bytes.front }, inr refl)
 
 -- the screen broke
 pub broke-acts : (dumps : Bool) (generated : Option ℕ) (lines shown : ℕ) (next : Standing) (old : SessionValue) (stop : Option ℕ) (s0 s1 r : Option (List ℕ)) (m0 m1 n : ℕ)
     → AppendsFront s0 s1 (update_of old stop).bytes → Rose m0 m1
     → Acts (Err halts.ScreenBroke) (λ starved. if starved then unshown (stand dumps generated lines shown old) else redisplayed (stand dumps generated lines shown old) stop) next
     (sunk s0 s1 m0 m1) (sunk r r n n)
-broke-acts dumps generated lines shown next old stop s0 s1 r m0 m1 n front rose = (is-sent (update_of old stop), record { rose = rose; front = front }, Appends-nil r)
+broke-acts dumps generated lines shown next old stop s0 s1 r m0 m1 n front rose =
+    let u = update_of old stop in (is-sent u.done u.rows, record { rose = rose; front = front }, Appends-nil r)

@@ -10,7 +10,7 @@ use Rattle.rd_state.specs.States.{StateValue}
 use Rattle.rd_state.specs.declared.refused.Refused.{Refused}
 use Rattle.rd_layout.specs.Sessions.{IsStep, session_step}
 use Rattle.rd_layout.specs.declared.outcome.Outcome.TheVariants.{Shown, Stopped}
-use Rattle.rd_run.specs.Runs.{Effect, Input, Standing, asked, effect, effect_by, effect_of_reading, input_of, is_blank, is_shown, quiet, redisplayed, refused, stepped, unshown}
+use Rattle.rd_run.specs.Runs.{Effect, Input, Standing, asked, effect, effect_by, effect_of_reading, input_of, is_blank, is_sent, is_shown, quiet, redisplayed, refused, stepped, unshown}
 use Rattle.rd_run.specs.declared.status.ScriptFault.TheVariants as faults
 use Rattle.rd_run.proofs.Ops.{step-of}
 
@@ -62,3 +62,8 @@ effects-pair place line s r P same shown = by (is_blank line) (reading line) whe
 pub shown-done : (done : Bool) (rows : ℕ) → is_shown (Some (if done then Shown rows else Stopped rows)) ≡ true → done ≡ true
 shown-done true rows h = refl
 shown-done false rows h = absurd (let k : false ≡ true = h in cc)
+
+-- a redisplay that is shown or stopped is one that was sent
+pub is-sent : (done : Bool) (rows : ℕ) → is_sent (Some (if done then Shown rows else Stopped rows)) ≡ true
+is-sent true rows = refl
+is-sent false rows = refl
