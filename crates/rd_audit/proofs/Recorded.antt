@@ -65,7 +65,7 @@ windows-told v valid =
 -- ---- what a redisplay tells that is shown
 
 told-shown : (mode : Mode) (number : ℕ) (u : Update) (next : SessionValue) (screen : Picture) → mode.generated ≡ None → mode.dumps ≡ true → u.done ≡ true → next.current ≡ Some screen
-    → told_of mode number u next ≡ shown_line number u.rows ++ dump_text screen (facts_of next)
+    → told_of mode number u.done u.rows next ≡ shown_line number u.rows ++ dump_text screen (facts_of next)
 unfolding dump_lines
 told-shown mode number u next screen read dumps done current =
     ap (λ o. if is_some o then [] else if u.done then shown_line number u.rows ++ dump_lines mode.dumps next.current (facts_of next) else stopped_line number u.rows) read

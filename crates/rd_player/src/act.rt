@@ -1,6 +1,6 @@
 //! `Playing`, a run in progress, and `Playing::line`, which does what one line says: it reads an op, applies it, or redisplays and
 //! writes the lines of the report.
-ghost use Rattle.std.specs.Prelude.{◌≡◌, ℕ, ◌≤◌, ◌++◌, [], false, None, List, IfOk, OnErr, Option, if◌then◌else◌, is_some, unwrap_or};
+ghost use Rattle.std.specs.Prelude.{◌≡◌, ℕ, ◌≤◌, true, false, None, List, IfOk, OnErr, Option, if◌then◌else◌, unwrap_or};
 ghost use Rattle.rd_io.specs.Devices.{Prints};
 ghost use Rattle.rd_layout.specs.Copies.{without_copies};
 ghost use Rattle.rd_layout.specs.Facts.{facts_of};
@@ -10,8 +10,7 @@ ghost use Rattle.rd_state.specs.Windows.{selected_window};
 ghost use Rattle.rd_player.specs.Acts.{Acts, CanGoOn, IsNew, IsTold, Places, mode_of, standing, summary_of};
 ghost use Rattle.rd_player.specs.Devices.{sunk_by};
 ghost use Rattle.rd_run.specs.Ends.{summary, sunk};
-ghost use Rattle.rd_run.specs.Reports.{shown_line, stopped_line};
-ghost use Rattle.rd_run.specs.Runs.{asked, dump_lines, effect, effect_of_op, is_blank, redisplayed, stepped, unshown, input_of};
+ghost use Rattle.rd_run.specs.Runs.{asked, dump_lines, effect, effect_of_op, is_blank, redisplayed, stepped, told_of, unshown, input_of};
 ghost use Rattle.rd_script.specs.Forms.{IsInForm};
 
 use crate::halt::{Halt, Summary};
@@ -170,8 +169,8 @@ impl Playing {
     /// Writes that the redisplay of the last line was shown, with its dump where that is asked for; of a generated script it writes
     /// nothing.
     fn tell_shown<R: Sink>(&mut self, report: &mut R, rows: u32) -> Result<(), Failed>
-        ensures printed { Prints (R.written report.old) (R.written report.new) (R.faults report.old) (R.faults report.new) (if is_some self.old.generated then []
-            else shown_line self.old.lines rows ++ dump_lines self.old.dumps self.old.session.current (facts_of self.old.session)) result }
+        ensures printed { Prints (R.written report.old) (R.written report.new) (R.faults report.old) (R.faults report.new)
+            (told_of (mode_of self.old) self.old.lines true rows self.old.session) result }
         ensures read { OnErr result (self.old.generated ≡ None) }
         ensures same { standing self.new ≡ standing self.old }
     {
@@ -186,7 +185,8 @@ impl Playing {
 
     /// Writes that the redisplay of the last line was stopped; of a generated script it writes nothing.
     fn tell_stopped<R: Sink>(&self, report: &mut R, rows: u32) -> Result<(), Failed>
-        ensures printed { Prints (R.written report.old) (R.written report.new) (R.faults report.old) (R.faults report.new) (if is_some self.now.generated then [] else stopped_line self.now.lines rows) result }
+        ensures printed { Prints (R.written report.old) (R.written report.new) (R.faults report.old) (R.faults report.new)
+            (told_of (mode_of self.now) self.now.lines false rows self.now.session) result }
         ensures read { OnErr result (self.now.generated ≡ None) }
     {
         match self.generated {

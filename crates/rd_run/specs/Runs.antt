@@ -4,7 +4,6 @@ use Rattle.std.specs.List.{list_all}
 use Rattle.rd_ucd.specs.Data.{Data}
 use Rattle.rd_term.specs.Pictures.{Picture}
 use Rattle.rd_term.specs.Terminals.{Tty, known, unknown, feed_bytes, Shows}
-use Rattle.rd_update.specs.Updates.{Update}
 use Rattle.rd_dump.specs.Dumps.{dump_text}
 use Rattle.rd_dump.specs.declared.dump.WindowFacts.{WindowFacts}
 use Rattle.rd_script.specs.Reading.{reading}
@@ -91,13 +90,13 @@ dump_lines true (Some screen) facts = dump_text screen facts
 dump_lines true None facts = []
 dump_lines false screen facts = []
 
--- what is written to the report of such a redisplay: that it was shown, with its dump, or that it was stopped; nothing of a generated
--- script
-abbrev pub told_of : Mode → ℕ → Update → SessionValue → List ℕ
-told_of mode number u next =
+-- what is written to the report of a redisplay that was sent: that it was shown, with its dump, or that it was stopped; nothing of a
+-- generated script
+abbrev pub told_of : Mode → ℕ → Bool → ℕ → SessionValue → List ℕ
+told_of mode number done rows next =
     if is_some mode.generated then []
-    else if u.done then shown_line number u.rows ++ dump_lines mode.dumps next.current (facts_of next)
-    else stopped_line number u.rows
+    else if done then shown_line number rows ++ dump_lines mode.dumps next.current (facts_of next)
+    else stopped_line number rows
 
 -- a redisplay: what the rules give from nothing, by the update from the current screen
 abbrev pub redisplayed : Standing → Option ℕ → Effect
@@ -106,7 +105,7 @@ redisplayed now stop =
     record {
       now = record (counted now) { session = redisplayed_session now.session stop; shown = if u.done then now.shown + 1 else now.shown };
       sent = u.bytes;
-      told = told_of now.mode (now.lines + 1) u (redisplayed_session now.session stop);
+      told = told_of now.mode (now.lines + 1) u.done u.rows (redisplayed_session now.session stop);
       fresh = false;
       outcome = Some (outcome_of u.done u.rows);
       allowed = allowed now.session;
