@@ -1,6 +1,7 @@
 -- Lines that leave the screen as it is send nothing, and what they tell has no line of a cursor.
-use Rattle.std.proofs.Common.{◌≡◌, ◌==◌, ℕ, ◌+◌, true, false, if◌then◌else◌, is_some, Option, None, Some, decimal, codes, List, [], ◌∷◌, ◌++◌, refl, sym, ap, ◌∙◌, subst, append_assoc, append-nil, true≢false}
+use Rattle.std.proofs.Common.{◌≡◌, ◌==◌, ℕ, ◌+◌, true, false, if◌then◌else◌, is_some, Option, None, Some, decimal, codes, List, [], ◌∷◌, ◌++◌, refl, sym, ap, ◌∙◌, subst, append_assoc, append-nil, true≢false, arith}
 use Rattle.std.proofs.lemmas.Bool.{and_parts, not-true}
+use Rattle.std.proofs.lemmas.Bool.Decides.{nat_tests}
 use Rattle.std.proofs.lemmas.List.Elements.{All-cons}
 use Rattle.rd_io.specs.Lines.{lines_of}
 use Rattle.rd_layout.specs.Redisplays.{update_of}
@@ -31,7 +32,10 @@ passed-line line rest unbroken other h =
 -- a number begins with no letter
 other-letter : (digits rest : List ℕ) → lacks 99 digits ≡ true → is_cursor (digits ++ 58 ∷ rest) ≡ false
 other-letter [] rest h = refl
-other-letter (b ∷ bs) rest h = rw (not-true (b == 99) (and_parts _ (lacks 99 bs) h).0) refl
+other-letter (b ∷ bs) rest h =
+    let letter = not-true (b == 99) (and_parts _ (lacks 99 bs) h).0 in
+    let other : (99 == b) ≡ false = grind (arith, nat_tests, letter) in
+    rw other refl
 
 passed-no_memory : (number : ℕ) → IsPassed (no_memory_line number)
 passed-no_memory number rest h =
