@@ -63,7 +63,11 @@ fn assert_taken(rt: &impl Abort, alloc: Global, brackets: &Brackets) {
     let plain = take(alloc, brackets, &left, &[0, 0x28, 0, 0x29, 0], &inside);
     assert_of(rt, "N0b: the embedding direction inside", plain);
     let equal = take(alloc, brackets, &left, &[0, 0x2329, 0, 0x3009, 0], &inside);
-    assert_of(rt, "BD16: a bracket that stands for another, with the pair of that one", equal);
+    assert_of(
+        rt,
+        "BD16: a bracket that stands for another, with the pair of that one",
+        equal,
+    );
     let right = [Class::R, Class::ON, Class::EN, Class::ON, Class::WS];
     let before = [Class::R, Class::R, Class::EN, Class::R, Class::WS];
     let other = take(alloc, brackets, &right, &[0, 0x28, 0, 0x29, 0], &before);
