@@ -4,10 +4,11 @@ use Rattle.std.proofs.lemmas.Bool.{cases_eq, eqb-true, cond-false, cond-true, eq
 use Rattle.std.proofs.lemmas.Option.{slice_get_within}
 use Rattle.std.specs.Ordering.{int_eq}
 use Rattle.std.specs.Prelude.{ℤ, ◌-ℤ◌, slice_get}
+use Rattle.rd_base.specs.Lists.{moved}
 use Rattle.rd_base.proofs.Choices.{either}
 use Rattle.rd_base.proofs.Lists.{get-first, get-set}
 use Rattle.rd_overlays.specs.declared.overlay.Overlay.{Overlay}
-use Rattle.rd_reuse.specs.Changes.{all, change_of, edit, is_all, is_none, is_small, join, moved, none}
+use Rattle.rd_reuse.specs.Changes.{all, change_of, edit, is_all, is_none, is_small, join, none}
 use Rattle.rd_reuse.specs.declared.change.Change.{Change}
 use Rattle.rd_state.specs.Effects.{covered_effect, moved_effect}
 use Rattle.rd_state.specs.Moves.{moved as moved_window, moved_by, moved_in}

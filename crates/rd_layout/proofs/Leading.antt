@@ -3,6 +3,7 @@ use Rattle.std.proofs.Common.{◌≡◌, ◌≢◌, ◌⊎◌, inl, inr, ℕ, �
 use Rattle.std.proofs.lemmas.Bool.{cases_eq, cond-false, cond-true, eq-eqb, ne_eqb}
 use Rattle.std.proofs.lemmas.Int.{ints}
 use Rattle.std.specs.Prelude.{ℤ, pos, ◌+ℤ◌, ◌-ℤ◌, ◌≤ℤ◌}
+use Rattle.rd_base.specs.Lists.{moved}
 use Rattle.rd_base.proofs.Choices.{either}
 use Rattle.rd_blocks.specs.Leads.{LeadsTo}
 use Rattle.rd_blocks.proofs.Leading.{leads-none, leads-ranged}
@@ -10,7 +11,7 @@ use Rattle.rd_objects.specs.Sound.{IsClosed, Extends}
 use Rattle.rd_objects.specs.Things.{ObjectLists}
 use Rattle.rd_props.specs.Made.{AreMade}
 use Rattle.rd_reuse.proofs.Joining.{all-last}
-use Rattle.rd_reuse.specs.Changes.{all, change_of, edit, is_all, is_small, join, moved, none}
+use Rattle.rd_reuse.specs.Changes.{all, change_of, edit, is_all, is_small, join, none}
 use Rattle.rd_reuse.specs.declared.change.Change.{Change}
 use Rattle.rd_state.specs.Changes.{Stays, StaysWhole, Leaves}
 use Rattle.rd_state.specs.States.{ContentValue, seen}

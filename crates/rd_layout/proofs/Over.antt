@@ -1,5 +1,6 @@
 -- A last layout stands over a later state in which nothing changed of what its window shows.
 use Rattle.std.proofs.Common.{◌≡◌, ◌⊎◌, inl, inr, ℕ, ◌^◌, ◌<◌, ◌==◌, ◌&&◌, ◌||◌, min, max, nat_le, true, ◌+ℤ◌, ap, refl, subst, ◌∙◌, arith}
+use Rattle.rd_base.specs.Lists.{moved}
 use Rattle.rd_base.proofs.Choices.{either}
 use Rattle.rd_base.specs.declared.settings.Anchor.{Anchor}
 use Rattle.rd_base.specs.Settings.{without_flags}
@@ -18,7 +19,7 @@ use Rattle.rd_props.specs.Buffers.{BufferValue}
 use Rattle.rd_props.specs.Made.{AreMade}
 use Rattle.rd_reuse.proofs.Changes.{all-is-change, change-by}
 use Rattle.rd_reuse.proofs.Joining.{none-last}
-use Rattle.rd_reuse.specs.Changes.{IsChange, all, edit, is_all, is_none, is_small, join, moved, none}
+use Rattle.rd_reuse.specs.Changes.{IsChange, all, edit, is_all, is_none, is_small, join, none}
 use Rattle.rd_reuse.specs.declared.change.Change.{Change}
 use Rattle.rd_rows.specs.Laws.{seen_rows}
 use Rattle.rd_rows.specs.Shapes.{ShapeValues}
