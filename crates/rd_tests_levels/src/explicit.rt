@@ -1,6 +1,7 @@
 //! Levels and sequences that were worked out by hand.
 ghost use Rattle.std.specs.Prelude.{◌≡◌, ◌<◌, ◌≤◌, ◌+◌, ◌^◌, length, IfOk, OnOk};
 
+use crate::claims::assert_of;
 use rd_base::{Class, Line, ListOf, Memory, Seq};
 use rd_explicit::{explicit, sequences};
 use std::alloc::Global;
@@ -71,12 +72,24 @@ fn parts_into(
 fn lines_by_hand(rt: HostRuntime) {
     let alloc = rt.alloc();
     let isolate = [Class::LRI, Class::R, Class::PDI];
-    assert!(rt; parts_into(alloc, &isolate, 0, &[0, 2, 0], &[0, 2], &[1], Class::L));
+    assert_of(
+        &rt,
+        "BD13: LRI and its PDI are one sequence, R between them another",
+        parts_into(alloc, &isolate, 0, &[0, 2, 0], &[0, 2], &[1], Class::L),
+    );
     let open = [Class::L, Class::RLI];
-    assert!(rt; parts_into(alloc, &open, 1, &[1, 1], &[0, 1], &[], Class::R));
+    assert_of(
+        &rt,
+        "X10: RLI that no PDI closes",
+        parts_into(alloc, &open, 1, &[1, 1], &[0, 1], &[], Class::R),
+    );
     let given = [Class::RLO, Class::L, Class::PDF, Class::L];
     let types = [Class::RLO, Class::R, Class::PDF, Class::L];
-    assert!(rt; has_levels(alloc, &given, 0, &[0, 1, 0, 0], &types));
+    assert_of(
+        &rt,
+        "X4 and X7: L is R behind RLO, up to PDF",
+        has_levels(alloc, &given, 0, &[0, 1, 0, 0], &types),
+    );
     let strong = [
         Class::FSI,
         Class::LRI,
@@ -85,7 +98,11 @@ fn lines_by_hand(rt: HostRuntime) {
         Class::AL,
         Class::PDI,
     ];
-    assert!(rt; has_levels(alloc, &strong, 0, &[0, 1, 2, 1, 1, 0], &strong));
+    assert_of(
+        &rt,
+        "X5c: the first strong character is AL, behind an isolate with L",
+        has_levels(alloc, &strong, 0, &[0, 1, 2, 1, 1, 0], &strong),
+    );
 }
 
 /// RLE and LRE in turn.
@@ -132,8 +149,24 @@ fn ends_at(alloc: Global, count: usize, rest: &[Class], level: u8) -> bool
 
 #[test]
 fn nesting_ends_at_level_125(rt: HostRuntime) {
-    assert!(rt; ends_at(rt.alloc(), 125, &[Class::L], 125));
-    assert!(rt; ends_at(rt.alloc(), 126, &[Class::L], 125));
-    assert!(rt; ends_at(rt.alloc(), 125, &[Class::PDF, Class::L], 124));
-    assert!(rt; ends_at(rt.alloc(), 126, &[Class::PDF, Class::L], 125));
+    assert_of(
+        &rt,
+        "125 embeddings",
+        ends_at(rt.alloc(), 125, &[Class::L], 125),
+    );
+    assert_of(
+        &rt,
+        "126 embeddings, of which the last overflows",
+        ends_at(rt.alloc(), 126, &[Class::L], 125),
+    );
+    assert_of(
+        &rt,
+        "PDF behind 125 embeddings",
+        ends_at(rt.alloc(), 125, &[Class::PDF, Class::L], 124),
+    );
+    assert_of(
+        &rt,
+        "PDF behind 126 embeddings",
+        ends_at(rt.alloc(), 126, &[Class::PDF, Class::L], 125),
+    );
 }

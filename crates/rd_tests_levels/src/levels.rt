@@ -182,10 +182,26 @@ fn ends_at(alloc: Global, cache: &mut LevelCache, count: usize, rest: &[Class], 
 
 /// Asserts that characters in nested embeddings have levels up to 126.
 fn assert_nested(rt: &impl Abort, alloc: Global, cache: &mut LevelCache) {
-    assert!(rt; ends_at(alloc, cache, 125, &[Class::L], 126));
-    assert!(rt; ends_at(alloc, cache, 126, &[Class::L], 126));
-    assert!(rt; ends_at(alloc, cache, 125, &[Class::PDF, Class::L], 124));
-    assert!(rt; ends_at(alloc, cache, 126, &[Class::PDF, Class::L], 126));
+    assert_of(
+        rt,
+        "125 embeddings",
+        ends_at(alloc, cache, 125, &[Class::L], 126),
+    );
+    assert_of(
+        rt,
+        "126 embeddings, of which the last overflows",
+        ends_at(alloc, cache, 126, &[Class::L], 126),
+    );
+    assert_of(
+        rt,
+        "PDF behind 125 embeddings",
+        ends_at(alloc, cache, 125, &[Class::PDF, Class::L], 124),
+    );
+    assert_of(
+        rt,
+        "PDF behind 126 embeddings",
+        ends_at(alloc, cache, 126, &[Class::PDF, Class::L], 126),
+    );
 }
 
 #[test]
@@ -262,9 +278,17 @@ fn turns(alloc: Global, reorder: bool, wanted: &[Turn; 3]) -> bool {
 #[test]
 fn turns_of_a_line(rt: HostRuntime) {
     let numbers = [turn(1, false), turn(0, true), turn(2, false)];
-    assert!(rt; turns(rt.alloc(), true, &numbers));
+    assert_of(
+        &rt,
+        "characters in visual order",
+        turns(rt.alloc(), true, &numbers),
+    );
     let unordered = [turn(0, false), turn(1, false), turn(2, false)];
-    assert!(rt; turns(rt.alloc(), false, &unordered));
+    assert_of(
+        &rt,
+        "characters that are not reordered",
+        turns(rt.alloc(), false, &unordered),
+    );
 }
 
 /// A turn.

@@ -1,6 +1,7 @@
 //! The walk on worked lines, and its cost.
 ghost use Rattle.std.specs.Prelude.{◌≤◌};
 
+use crate::claims::assert_of;
 use rd_base::{ListOf, Memory};
 use rd_order::Visual;
 use std::alloc::Global;
@@ -22,10 +23,22 @@ fn walks(levels: &[u8], base: u8, order: &[usize]) -> bool
 
 #[test]
 fn worked_lines(rt: HostRuntime) {
-    assert!(rt; walks(&[2, 2, 1, 2], 1, &[1, 0, 2, 3]));
-    assert!(rt; walks(&[1, 1, 1, 0], 0, &[2, 1, 0, 3]));
-    assert!(rt; walks(&[1, 1, 1, 2, 2], 1, &[0, 1, 2, 4, 3]));
-    assert!(rt; walks(&[], 0, &[]));
+    assert_of(
+        &rt,
+        "level 2 before and behind level 1, from the right edge",
+        walks(&[2, 2, 1, 2], 1, &[1, 0, 2, 3]),
+    );
+    assert_of(
+        &rt,
+        "level 1 before level 0, from the left edge",
+        walks(&[1, 1, 1, 0], 0, &[2, 1, 0, 3]),
+    );
+    assert_of(
+        &rt,
+        "level 2 behind level 1, from the right edge",
+        walks(&[1, 1, 1, 2, 2], 1, &[0, 1, 2, 4, 3]),
+    );
+    assert_of(&rt, "no character", walks(&[], 0, &[]));
 }
 
 #[test]

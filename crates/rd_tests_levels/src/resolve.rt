@@ -1,6 +1,7 @@
 //! Lines that were worked out by hand, each one isolating run sequence.
 ghost use Rattle.std.specs.Prelude.{◌<◌, ◌≤◌, All, AllPairs, IfOk};
 
+use crate::claims::assert_of;
 use rd_base::{Class, Line, ListOf, Memory, Seq};
 use rd_resolve::{implicit, neutral, weak};
 use std::alloc::Global;
@@ -47,7 +48,15 @@ fn has_levels(alloc: Global, classes: &[Class; 4], base: u8, side: Class, levels
 #[test]
 fn lines_by_hand(rt: HostRuntime) {
     let numbers = [Class::EN, Class::ET, Class::ES, Class::EN];
-    assert!(rt; has_levels(rt.alloc(), &numbers, 1, Class::R, &[2, 2, 1, 2]));
+    assert_of(
+        &rt,
+        "W4 and W5: ET behind EN becomes EN, ES behind that does not",
+        has_levels(rt.alloc(), &numbers, 1, Class::R, &[2, 2, 1, 2]),
+    );
     let blanks = [Class::R, Class::WS, Class::R, Class::WS];
-    assert!(rt; has_levels(rt.alloc(), &blanks, 0, Class::L, &[1, 1, 1, 0]));
+    assert_of(
+        &rt,
+        "N1: a blank between R and R; N2: a blank between R and L",
+        has_levels(rt.alloc(), &blanks, 0, Class::L, &[1, 1, 1, 0]),
+    );
 }
