@@ -158,18 +158,38 @@ fn data_files_are_read_in_order(rt: HostRuntime) {
     let alloc = rt.alloc();
     let all_bad = files_of(alloc, b"0041;A;Lu;0", Some(b"x"), Some(b"x"));
     let fault = bad(DataFile::ClassFile, 1, UcdFault::BadLine(1));
-    assert!(rt; have_fault(alloc, all_bad, Some("B"), fault));
+    assert_of(
+        &rt,
+        "three bad files, of which the class file is read first",
+        have_fault(alloc, all_bad, Some("B"), fault),
+    );
     let no_mirrors = files_of(alloc, b"\n0041;A;Lu;0;X", None, None);
     let fault = bad(DataFile::ClassFile, 2, UcdFault::BadClass(2));
-    assert!(rt; have_fault(alloc, no_mirrors, None, fault));
+    assert_of(
+        &rt,
+        "a bad class file and no mirror file",
+        have_fault(alloc, no_mirrors, None, fault),
+    );
     let missing = files_of(alloc, b"", None, Some(b"x"));
-    assert!(rt; have_fault(alloc, missing, Some("B"), DataFault::Read));
+    assert_of(
+        &rt,
+        "no mirror file and a bad bracket file",
+        have_fault(alloc, missing, Some("B"), DataFault::Read),
+    );
     let bad_mirrors = files_of(alloc, b"", Some(b"0028; 29"), Some(b"x"));
     let fault = bad(DataFile::MirrorFile, 1, UcdFault::BadCode(1));
-    assert!(rt; have_fault(alloc, bad_mirrors, Some("B"), fault));
+    assert_of(
+        &rt,
+        "a bad mirror file and a bad bracket file",
+        have_fault(alloc, bad_mirrors, Some("B"), fault),
+    );
     let bad_brackets = files_of(alloc, b"", Some(b""), Some(b"0028; 0029; x"));
     let fault = bad(DataFile::BracketFile, 1, UcdFault::BadClass(1));
-    assert!(rt; have_fault(alloc, bad_brackets, Some("B"), fault));
+    assert_of(
+        &rt,
+        "a bad bracket file alone",
+        have_fault(alloc, bad_brackets, Some("B"), fault),
+    );
 }
 
 /// Files that are good.

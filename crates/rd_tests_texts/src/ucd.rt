@@ -189,15 +189,59 @@ fn has_bracket(alloc: Global, code: u32, bracket: Option<Bracket>) -> bool {
 #[test]
 fn files_are_looked_up(rt: HostRuntime) {
     let alloc = rt.alloc();
-    assert!(rt; has_class(alloc, '\t', Class::S));
-    assert!(rt; has_class(alloc, 'a', Class::L));
-    assert!(rt; has_class(alloc, '\u{5D0}', Class::R));
-    assert!(rt; has_class(alloc, '\u{5E0}', Class::R));
-    assert!(rt; has_class(alloc, '\u{5EB}', Class::L));
-    assert!(rt; has_mirror(alloc, 0x28, Some(0x29)));
-    assert!(rt; has_mirror(alloc, 0x29, Some(0x28)));
-    assert!(rt; has_mirror(alloc, 0x2A, None));
-    assert!(rt; has_bracket(alloc, 0x28, Some(Bracket::Opens(0x29))));
-    assert!(rt; has_bracket(alloc, 0x29, Some(Bracket::Closes(0x28))));
-    assert!(rt; has_bracket(alloc, 0x2A, None));
+    assert_of(
+        &rt,
+        "the class of a character that is listed",
+        has_class(alloc, '\t', Class::S),
+    );
+    assert_of(
+        &rt,
+        "the class of a character that is not listed",
+        has_class(alloc, 'a', Class::L),
+    );
+    assert_of(
+        &rt,
+        "the class of a range's first character",
+        has_class(alloc, '\u{5D0}', Class::R),
+    );
+    assert_of(
+        &rt,
+        "the class of a character within a range",
+        has_class(alloc, '\u{5E0}', Class::R),
+    );
+    assert_of(
+        &rt,
+        "the class of the character behind a range",
+        has_class(alloc, '\u{5EB}', Class::L),
+    );
+    assert_of(
+        &rt,
+        "the mirror of a left parenthesis",
+        has_mirror(alloc, 0x28, Some(0x29)),
+    );
+    assert_of(
+        &rt,
+        "the mirror of a right parenthesis",
+        has_mirror(alloc, 0x29, Some(0x28)),
+    );
+    assert_of(
+        &rt,
+        "an asterisk, which has no mirror",
+        has_mirror(alloc, 0x2A, None),
+    );
+    assert_of(
+        &rt,
+        "a bracket that opens",
+        has_bracket(alloc, 0x28, Some(Bracket::Opens(0x29))),
+    );
+    assert_of(
+        &rt,
+        "a bracket that closes",
+        has_bracket(alloc, 0x29, Some(Bracket::Closes(0x28))),
+    );
+    assert_of(
+        &rt,
+        "an asterisk, which is no bracket",
+        has_bracket(alloc, 0x2A, None),
+    );
 }
