@@ -1,4 +1,5 @@
 //! Base levels of three paragraphs.
+use crate::claims::assert_of;
 use rd_base::{Ch, Direction};
 use rd_para::{base_level, next_line, paragraph_at};
 use rd_text::Buffer;
@@ -34,11 +35,31 @@ fn paragraphs_have_their_levels(rt: HostRuntime) -> Result<(), Fail> {
     text.insert(1, &chars)?;
     assert!(rt; text.begin() == 1);
     assert!(rt; text.end() == 8);
-    assert!(rt; base_level(&text, &classes, Direction::Auto, 1) == 1);
-    assert!(rt; base_level(&text, &classes, Direction::Auto, 4) == 1);
-    assert!(rt; base_level(&text, &classes, Direction::Auto, 6) == 1);
-    assert!(rt; base_level(&text, &classes, Direction::Auto, 7) == 0);
-    assert!(rt; base_level(&text, &classes, Direction::Right, 7) == 1);
+    assert_of(
+        &rt,
+        "a digit before the first strong character",
+        base_level(&text, &classes, Direction::Auto, 1) == 1,
+    );
+    assert_of(
+        &rt,
+        "the first strong character, on the second line",
+        base_level(&text, &classes, Direction::Auto, 4) == 1,
+    );
+    assert_of(
+        &rt,
+        "the blank line behind the paragraph",
+        base_level(&text, &classes, Direction::Auto, 6) == 1,
+    );
+    assert_of(
+        &rt,
+        "the paragraph behind the blank line",
+        base_level(&text, &classes, Direction::Auto, 7) == 0,
+    );
+    assert_of(
+        &rt,
+        "that paragraph where the direction is right-to-left",
+        base_level(&text, &classes, Direction::Right, 7) == 1,
+    );
     let known = paragraph_at(&text, &classes, 4);
     assert!(rt; (known.from, known.to, known.base) == (1, 5, 1));
     assert!(rt; known.to < text.end());
