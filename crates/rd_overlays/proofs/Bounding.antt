@@ -124,12 +124,12 @@ pub away : (pos : ℕ) (b : Bounds) (slot : Option Overlay) → SlotHolds b slot
 away pos b None h p = tt
 away pos b (Some o) h p = λ m. outside m pos o b h p
 
--- what stands in the block of a place lies within its bounds
-pub whole_order-holds : (slots : List (Option Overlay)) (order : List ℕ) (bounds : List Bounds) (size block k number : ℕ) (b : Bounds) → IsBounded slots order bounds
-    → slice_get bounds block ≡ Some b → block * 256 ≤ k → k < block * 256 + 256 → k < length order → slice_get (whole_order order size) k ≡ Some number
+-- what stands in the batch of a place lies within its bounds
+pub whole_order-holds : (slots : List (Option Overlay)) (order : List ℕ) (bounds : List Bounds) (size batch k number : ℕ) (b : Bounds) → IsBounded slots order bounds
+    → slice_get bounds batch ≡ Some b → batch * 256 ≤ k → k < batch * 256 + 256 → k < length order → slice_get (whole_order order size) k ≡ Some number
     → SlotHolds b (overlay_at slots number)
-whole_order-holds slots order bounds size block k number b h at low high inside here =
-    let same : k / 256 ≡ block = omega arith in
+whole_order-holds slots order bounds size batch k number b h at low high inside here =
+    let same : k / 256 ≡ batch = omega arith in
     h.holds k number b (sym (get-first order (range_with_len (length order) (size - length order)) k inside) ∙ here) (ap (slice_get bounds) same ∙ at)
 
 -- the bounds still hold what they held where some are wider
@@ -142,7 +142,7 @@ wider old new place k slot other c w held at =
     let at_old = slice_get-get_or old k c (omega (arith, size, inside)) in
     w.kept k b c other at_old at (held b at_old)
 
--- an overlay lies within the bounds of the blocks of its number from a place on
+-- an overlay lies within the bounds of the batches of its number from a place on
 abbrev pub HoldsFrom : List ℕ → List Bounds → ℕ → Option Overlay → ℕ → Type 0
 HoldsFrom order bounds number slot place =
     (k : ℕ) (c : Bounds) → place ≤ k → slice_get order k ≡ Some number → slice_get bounds (k / 256) ≡ Some c → SlotHolds c slot
@@ -169,7 +169,7 @@ pub other-step : (order : List ℕ) (bounds : List Bounds) (number : ℕ) (slot 
 other-step order bounds number slot place other h =
     from_before order bounds number slot place (λ c there at. absurd (other (get_or_from_slice_get order (place - 1) number 0 there))) h
 
--- what lies within the bounds of each block in which a number stands can come in place of its overlay
+-- what lies within the bounds of each batch in which a number stands can come in place of its overlay
 pub widened-bounded : (slots : List (Option Overlay)) (order : List ℕ) (old new : List Bounds) (number : ℕ) (slot : Option Overlay)
     → length new ≡ length old
     → ((place : ℕ) (c : Bounds) (other : Option Overlay) → ((b : Bounds) → slice_get old place ≡ Some b → SlotHolds b other) → slice_get new place ≡ Some c → SlotHolds c other)

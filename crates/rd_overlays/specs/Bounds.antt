@@ -1,11 +1,11 @@
--- What is kept beside the overlays: their numbers in another order, and bounds of the edges of each block of them.
+-- What is kept beside the overlays: their numbers in another order, and bounds of the edges of each batch of them.
 use Rattle.std.specs.Prelude.{◌≡◌, ℕ, ◌+◌, ◌-◌, ◌*◌, ◌/◌, ◌<◌, ◌≤◌, min, nat_lt, if◌then◌else◌, false, List, ◌++◌, length, slice_get, Option, None, Some, ⊤}
 use Rattle.std.specs.List.{range_with_len}
 use Rattle.std.specs.List.Sorted.{IsPermutation}
 use Rattle.rd_overlays.specs.declared.overlay.Overlay.{Overlay}
 use Rattle.rd_overlays.specs.declared.overlay.Meeting.{Meeting}
 use Rattle.rd_overlays.specs.declared.bounds.Bounds.{Bounds}
-use Rattle.rd_overlays.specs.declared.index.TheConstants.{BLOCK}
+use Rattle.rd_overlays.specs.declared.index.TheConstants.{BATCH}
 use Rattle.rd_overlays.specs.Overlays.{overlay_at, meets, after_deletion}
 
 -- both edges of an overlay lie within bounds
@@ -19,21 +19,21 @@ abbrev pub SlotHolds : Bounds → Option Overlay → Type 0
 SlotHolds b None = ⊤
 SlotHolds b (Some o) = Holds b o
 
--- each overlay of these numbers lies within the bounds of its block
+-- each overlay of these numbers lies within the bounds of its batch
 pub record IsBounded (slots : List (Option Overlay)) (order : List ℕ) (bounds : List Bounds) : Type 0 where
-  pub room : length order ≤ length bounds * BLOCK
-  pub holds : (place number : ℕ) (b : Bounds) → slice_get order place ≡ Some number → slice_get bounds (place / BLOCK) ≡ Some b → SlotHolds b (overlay_at slots number)
+  pub room : length order ≤ length bounds * BATCH
+  pub holds : (place number : ℕ) (b : Bounds) → slice_get order place ≡ Some number → slice_get bounds (place / BATCH) ≡ Some b → SlotHolds b (overlay_at slots number)
 
 -- bounds that hold of the numbers before a place alone
 pub record IsBoundedTo (place : ℕ) (slots : List (Option Overlay)) (order : List ℕ) (bounds : List Bounds) : Type 0 where
-  pub room : place ≤ length bounds * BLOCK
-  pub holds : (k number : ℕ) (b : Bounds) → k < place → slice_get order k ≡ Some number → slice_get bounds (k / BLOCK) ≡ Some b → SlotHolds b (overlay_at slots number)
+  pub room : place ≤ length bounds * BATCH
+  pub holds : (k number : ℕ) (b : Bounds) → k < place → slice_get order k ≡ Some number → slice_get bounds (k / BATCH) ≡ Some b → SlotHolds b (overlay_at slots number)
 
--- each block of new bounds holds what it held, and the block of a place holds one more overlay
+-- each batch of new bounds holds what it held, and the batch of a place holds one more overlay
 pub record IsWidened (old new : List Bounds) (place : ℕ) (slot : Option Overlay) : Type 0 where
   pub size : length new ≡ length old
-  pub kept : (block : ℕ) (b c : Bounds) (other : Option Overlay) → slice_get old block ≡ Some b → slice_get new block ≡ Some c → SlotHolds b other → SlotHolds c other
-  pub holds : (b : Bounds) → slice_get new (place / BLOCK) ≡ Some b → SlotHolds b slot
+  pub kept : (batch : ℕ) (b c : Bounds) (other : Option Overlay) → slice_get old batch ≡ Some b → slice_get new batch ≡ Some c → SlotHolds b other → SlotHolds c other
+  pub holds : (b : Bounds) → slice_get new (place / BATCH) ≡ Some b → SlotHolds b slot
 
 -- the first numbers, each once, in some order, with bounds
 pub record IsIndex (slots : List (Option Overlay)) (order : List ℕ) (bounds : List Bounds) : Type 0 where

@@ -4,7 +4,7 @@ ghost use Rattle.std.specs.List.{range_with_len};
 ghost use Rattle.std.specs.List.Sorted.{IsPermutation};
 ghost use Rattle.rd_overlays.specs.declared.overlay.Overlay.{Overlay};
 ghost use Rattle.rd_overlays.specs.declared.bounds.Bounds.{Bounds};
-ghost use Rattle.rd_overlays.specs.declared.index.TheConstants.{BLOCK};
+ghost use Rattle.rd_overlays.specs.declared.index.TheConstants.{BATCH};
 ghost use Rattle.rd_overlays.specs.Bounds.{SlotHolds, IsBounded, IsBoundedTo, IsIndex, IsWidened};
 
 use crate::bounds::{Bounds, has_no_nearer_edge, widened};
@@ -15,10 +15,10 @@ use rd_base::{ListOf, Memory, Pos};
 use std::alloc::{AllocError, Global};
 
 /// How many numbers that follow one another in the order have bounds together.
-pub(crate) const BLOCK: usize = 256;
+pub(crate) const BATCH: usize = 256;
 
 /// The numbers of the overlays by the start that each had when they were put in order, without those made since; bounds of the
-/// edges of each block of them; and how many overlays were moved since.
+/// edges of each batch of them; and how many overlays were moved since.
 #[derive(Drop)]
 pub(crate) struct Index {
     pub(crate) order: ListOf<u32>,
@@ -29,7 +29,7 @@ pub(crate) struct Index {
 impl Index {
     ghost use Rattle.std.specs.Prelude.{◌≡◌, ℕ, ◌<◌, ◌≤◌, ◌*◌, [], List, Option, Some, length, slice_get};
     ghost use Rattle.rd_overlays.specs.declared.overlay.Overlay.{Overlay};
-    ghost use Rattle.rd_overlays.specs.declared.index.TheConstants.{BLOCK};
+    ghost use Rattle.rd_overlays.specs.declared.index.TheConstants.{BATCH};
     ghost use Rattle.rd_overlays.specs.Overlays.{overlay_at, nearer, slot_edge};
     ghost use Rattle.rd_overlays.specs.Bounds.{IsAway, IsBounded, whole_order};
 
@@ -50,7 +50,7 @@ impl Index {
     pub(crate) fn is_stale(&self, size: usize) -> bool {
         let indexed = self.order.len();
         let made = size.saturating_sub(indexed);
-        made > BLOCK + indexed / 128 || self.moved > 16 + indexed / 1024
+        made > BATCH + indexed / 128 || self.moved > 16 + indexed / 1024
     }
 
     /// The number at a place. Those that were made since the others were put in order come last.
@@ -67,7 +67,7 @@ impl Index {
 
     /// The place down to which a look-up at a position can go at once.
     pub(crate) fn skip_to(&self, place: usize, pos: Pos) -> usize
-        requires { length self.now.order ≤ length self.now.bounds * BLOCK }
+        requires { length self.now.order ≤ length self.now.bounds * BATCH }
         ensures bound { result ≤ place }
         ensures away { (slots : List (Option Overlay)) (k number : ℕ) → IsBounded slots self.now.order self.now.bounds → result ≤ k → k < place → slice_get (whole_order self.now.order (length slots)) k ≡ Some number → IsAway pos (overlay_at slots number) }
     {
@@ -77,10 +77,10 @@ impl Index {
         if self.order.len() < place {
             return place;
         }
-        let block = (place - 1) / BLOCK;
-        let bounds = self.bounds.at(block);
+        let batch = (place - 1) / BATCH;
+        let bounds = self.bounds.at(batch);
         if pos < bounds.low || bounds.high < pos {
-            return block * BLOCK;
+            return batch * BATCH;
         }
         place
     }
@@ -88,7 +88,7 @@ impl Index {
     /// The place up to which a search for the nearest edge on the way from a position can go at once, where `nearest` is the one
     /// that it has found so far: no overlay passed over has a nearer one.
     pub(crate) fn skip_edges(&self, place: usize, way: Way, pos: Pos, nearest: Option<Pos>) -> usize
-        requires { length self.now.order ≤ length self.now.bounds * BLOCK }
+        requires { length self.now.order ≤ length self.now.bounds * BATCH }
         ensures low { place ≤ result }
         ensures high { place < result → result ≤ length self.now.order }
         ensures idle { (slots : List (Option Overlay)) (k number : ℕ) → IsBounded slots self.now.order self.now.bounds → place ≤ k → k < result → slice_get (whole_order self.now.order (length slots)) k ≡ Some number → nearer way nearest (slot_edge way pos (overlay_at slots number)) ≡ nearest }
@@ -96,9 +96,9 @@ impl Index {
         if self.order.len() <= place {
             return place;
         }
-        let block = place / BLOCK;
-        if has_no_nearer_edge(self.bounds.at(block), way, pos, nearest) {
-            return self.order.len().min((block * BLOCK).saturating_add(BLOCK));
+        let batch = place / BATCH;
+        if has_no_nearer_edge(self.bounds.at(batch), way, pos, nearest) {
+            return self.order.len().min((batch * BATCH).saturating_add(BATCH));
         }
         place
     }
@@ -130,11 +130,11 @@ fn sort_by_start(numbers: &mut Vec<u32>, slots: &[Option<Overlay>]) -> Result<()
 
 /// Adds bounds where one more overlay than these has none.
 fn make_room(bounds: &mut ListOf<Bounds>, size: usize) -> Result<(), Memory>
-    requires { size ≤ length bounds.old * BLOCK }
-    ensures room { OnOk result (size < length bounds.new * BLOCK) }
+    requires { size ≤ length bounds.old * BATCH }
+    ensures room { OnOk result (size < length bounds.new * BATCH) }
     ensures kept { (slots : List (Option Overlay)) (order : List ℕ) → IsBoundedTo size slots order bounds.old → IsBoundedTo size slots order bounds.new }
 {
-    if size / BLOCK < bounds.len() {
+    if size / BATCH < bounds.len() {
         return Ok(());
     }
     bounds.push(Bounds {
@@ -144,14 +144,14 @@ fn make_room(bounds: &mut ListOf<Bounds>, size: usize) -> Result<(), Memory>
     Ok(())
 }
 
-/// Widens the bounds of a block so that an overlay at a place lies within them.
+/// Widens the bounds of a batch so that an overlay at a place lies within them.
 fn widen(bounds: &mut ListOf<Bounds>, place: usize, slot: Option<Overlay>)
-    requires { place < length bounds.old * BLOCK }
+    requires { place < length bounds.old * BATCH }
     ensures { IsWidened bounds.old bounds.new place slot }
 {
-    let block = place / BLOCK;
-    let each = widened(bounds.at(block), slot);
-    bounds.set(block, each);
+    let batch = place / BATCH;
+    let each = widened(bounds.at(batch), slot);
+    bounds.set(batch, each);
 }
 
 /// The bounds of the overlays of these numbers.
@@ -201,9 +201,9 @@ fn lies_within(before: Option<Overlay>, after: Option<Overlay>) -> bool
     }
 }
 
-/// Widens the bounds of each block in which a number stands, so that an overlay lies within them. Costs a pass over the order.
+/// Widens the bounds of each batch in which a number stands, so that an overlay lies within them. Costs a pass over the order.
 fn widen_all(order: &[u32], bounds: &mut ListOf<Bounds>, number: u32, slot: Option<Overlay>)
-    requires { length order.now ≤ length bounds.old * BLOCK }
+    requires { length order.now ≤ length bounds.old * BATCH }
     ensures { (slots : List (Option Overlay)) → IsBounded slots order.now bounds.old → IsBounded (slice_set slots number slot) order.now bounds.new }
 {
     let mut place = order.len();
@@ -222,7 +222,7 @@ pub(crate) fn make_fit(
     before: Option<Overlay>,
     after: Option<Overlay>,
 )
-    requires { length index.old.order ≤ length index.old.bounds * BLOCK }
+    requires { length index.old.order ≤ length index.old.bounds * BATCH }
     ensures order { index.new.order ≡ index.old.order }
     ensures bounded { (slots : List (Option Overlay)) → slice_get slots number ≡ Some before → IsBounded slots index.old.order index.old.bounds → IsBounded (slice_set slots number after) index.new.order index.new.bounds }
 {

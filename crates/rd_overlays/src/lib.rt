@@ -1,6 +1,6 @@
 //! The overlays of a buffer: ranges of its text that carry properties, and move with the text as it is edited.
 //!
-//! Emacs has overlays in buffer.c and itree.c, with a tree where this crate has blocks with bounds. The rules are in docs/RULES.md,
+//! Emacs has overlays in buffer.c and itree.c, with a tree where this crate has batches with bounds. The rules are in docs/RULES.md,
 //! "Overlays".
 #![tactic(auto)]
 

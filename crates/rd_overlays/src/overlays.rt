@@ -11,10 +11,10 @@ use rd_base::{ListOf, Memory, Pos};
 use std::alloc::Global;
 use std::marker::Model;
 
-/// All overlays of a buffer. A number counts from 0 in order of making and is never used again. A block is 256 overlays that
-/// follow one another by their starts, whatever the order in which they were made. The blocks are made anew when more than 256
-/// overlays and a 128th of those in blocks were made since, which are in no block, or when more than 16 and a 1,024th of them
-/// were moved since, each of which can widen the bounds of one block.
+/// All overlays of a buffer. A number counts from 0 in order of making and is never used again. A batch is 256 overlays that
+/// follow one another by their starts, whatever the order in which they were made. The batches are made anew when more than 256
+/// overlays and a 128th of those in batches were made since, which are in no batch, or when more than 16 and a 1,024th of them
+/// were moved since, each of which can widen the bounds of one batch.
 #[derive(Drop)]
 pub struct Overlays {
     alloc: Global,
@@ -59,8 +59,8 @@ impl Overlays {
 
     /// Makes an overlay without values from `from` to `to - 1`, and answers its number, which is the count of those made so far. The first
     /// of these faults counts: OutOfRange, where the start stands behind the end; TooMany, where 65,536 overlays were made. The cost is
-    /// constant, and now and then that of making the blocks: the number of the overlays times its logarithm, which comes to looking at some
-    /// hundred numbers for each that is made. It takes memory for this; where there is none nothing changes.
+    /// constant, and now and then that of making the batches: the number of the overlays times its logarithm, which comes to looking at
+    /// some hundred numbers for each that is made. It takes memory for this; where there is none nothing changes.
     pub fn make(
         &mut self,
         from: Pos,
@@ -93,7 +93,7 @@ impl Overlays {
 
     /// Moves an overlay to the range from `from` to `to - 1`. The first of these faults counts, and each changes nothing:
     /// NoOverlay, where no such overlay lives; OutOfRange, where the start stands behind the end; Memory. Costs a pass over the
-    /// order of the overlays where its range changes, and now and then, after at least 17 such moves, the making of the blocks
+    /// order of the overlays where its range changes, and now and then, after at least 17 such moves, the making of the batches
     /// as in `make`.
     pub fn move_to(&mut self, number: u32, from: Pos, to: Pos) -> Result<(), OverlayFault>
         ensures { Moves result (move_fault self.old number from to) self.old self.new (moved self.old number from to) }
@@ -177,8 +177,8 @@ impl Overlays {
     }
 
     /// The numbers of the overlays that cover a position, `from <= pos < to`, in increasing order of priority and number.
-    /// Costs a pass over the bounds of all blocks, over each block whose bounds hold the position and over the overlays in no
-    /// block, and for those listed their number times its logarithm, for which it takes memory.
+    /// Costs a pass over the bounds of all batches, over each batch whose bounds hold the position and over the overlays in no
+    /// batch, and for those listed their number times its logarithm, for which it takes memory.
     pub fn covering(&self, pos: Pos) -> Result<ListOf<u32>, Memory>
         ensures { IfOk result (λ list. list ≡ covering pos self.now) }
     {
@@ -186,8 +186,8 @@ impl Overlays {
     }
 
     /// The numbers of the overlays that start at a position, empty ones too, in increasing order of priority and number.
-    /// Costs a pass over the bounds of all blocks, over each block whose bounds hold the position and over the overlays in no
-    /// block, and for those listed their number times its logarithm, for which it takes memory.
+    /// Costs a pass over the bounds of all batches, over each batch whose bounds hold the position and over the overlays in no
+    /// batch, and for those listed their number times its logarithm, for which it takes memory.
     pub fn starting(&self, pos: Pos) -> Result<ListOf<u32>, Memory>
         ensures { IfOk result (λ list. list ≡ starting pos self.now) }
     {
@@ -195,17 +195,17 @@ impl Overlays {
     }
 
     /// The numbers of the overlays whose `to` is a position, empty ones too, in increasing order of priority and number.
-    /// Costs a pass over the bounds of all blocks, over each block whose bounds hold the position and over the overlays in no
-    /// block, and for those listed their number times its logarithm, for which it takes memory.
+    /// Costs a pass over the bounds of all batches, over each batch whose bounds hold the position and over the overlays in no
+    /// batch, and for those listed their number times its logarithm, for which it takes memory.
     pub fn ending(&self, pos: Pos) -> Result<ListOf<u32>, Memory>
         ensures { IfOk result (λ list. list ≡ ending pos self.now) }
     {
         listed(self.alloc, &self.slots, Meeting::Ends, pos)
     }
 
-    /// The least start or end after a position, and None where there is none. Costs a pass over the bounds of all blocks, over
-    /// each block in which a start or an end may stand behind the position and before the least of the blocks so far, and over the
-    /// overlays in no block.
+    /// The least start or end after a position, and None where there is none. Costs a pass over the bounds of all batches, over
+    /// each batch in which a start or an end may stand behind the position and before the least of the batches so far, and over the
+    /// overlays in no batch.
     pub fn next_edge(&self, pos: Pos) -> Option<Pos>
         ensures { result ≡ next_edge pos self.now }
     {
@@ -213,8 +213,8 @@ impl Overlays {
     }
 
     /// The greatest start or end at a position or before it, and None where there is none. Costs a pass over the bounds of all
-    /// blocks, over each block in which a start or an end may stand there and behind the greatest of the blocks so far, and over
-    /// the overlays in no block.
+    /// batches, over each batch in which a start or an end may stand there and behind the greatest of the batches so far, and over
+    /// the overlays in no batch.
     pub fn last_edge(&self, pos: Pos) -> Option<Pos>
         ensures { result ≡ last_edge pos self.now }
     {

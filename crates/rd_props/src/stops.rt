@@ -33,7 +33,7 @@ fn first_change(overlays: &Overlays, spans: &[Spans], pos: Pos, end: Pos) -> Pos
 /// The least position behind an accessible one at which a text property has another value or an overlay starts or ends, and the
 /// end of the accessible text where there is none before it. It costs a binary search in each of the five properties, and one more
 /// for each further run up to there with the same value, as the place of the last edit can leave them; and the search of the
-/// overlays for their next edge, which passes over the bounds of their blocks and over the overlays of those blocks alone that may
+/// overlays for their next edge, which passes over the bounds of their batches and over the overlays of those batches alone that may
 /// hold a nearer one.
 pub fn next_stop(view: &View, pos: Pos) -> Pos
     requires first { view.now.state.now.text.begin ≤ pos }

@@ -11,8 +11,8 @@ loop-place-preserved-then-order-place c =
     record {
       within = omega (arith, within);
       size = c.widen.ensures.size ∙ c.loop-place.invariant.size;
-      kept = λ block b other held at.
-          wider now new (place - 1) block c.args.slot other b c.widen.ensures (λ d at_now. c.loop-place.invariant.kept block d other held at_now) at;
+      kept = λ batch b other held at.
+          wider now new (place - 1) batch c.args.slot other b c.widen.ensures (λ d at_now. c.loop-place.invariant.kept batch d other held at_now) at;
       holds = widened-step c.args.order.now now new c.args.number c.args.slot place c.widen.ensures c.loop-place.invariant.holds;
     }
 

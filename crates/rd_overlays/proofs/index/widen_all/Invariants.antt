@@ -5,12 +5,12 @@ use Rattle.rd_overlays.specs.declared.bounds.Bounds.{Bounds}
 use Rattle.rd_overlays.specs.Bounds.{SlotHolds}
 use Rattle.rd_overlays.proofs.index.widen_all.Given as goal
 
--- all blocks hold what they held, and those of the places passed hold the overlay where the number stands in them
+-- all batches hold what they held, and those of the places passed hold the overlay where the number stands in them
 abbrev pub invariant-loop-place : goal.invariant-loop-place
 invariant-loop-place l = record {
   within : l.place ≤ length l.order;
   size : length l.bounds ≡ length l.initial.bounds;
-  kept : (block : ℕ) (c : Bounds) (other : Option Overlay) → ((b : Bounds) → slice_get l.initial.bounds block ≡ Some b → SlotHolds b other) → slice_get l.bounds block ≡ Some c → SlotHolds c other;
+  kept : (batch : ℕ) (c : Bounds) (other : Option Overlay) → ((b : Bounds) → slice_get l.initial.bounds batch ≡ Some b → SlotHolds b other) → slice_get l.bounds batch ≡ Some c → SlotHolds c other;
   holds : (k : ℕ) (c : Bounds) → l.place ≤ k → slice_get l.order k ≡ Some l.number → slice_get l.bounds (k / 256) ≡ Some c → SlotHolds c l.slot;
 }
 
