@@ -32,9 +32,9 @@ unfolding split_tree
 split-means c d n side size h =
     let ws = split_at n side size c.made c.windows in
     let new : Configuration = record c { windows = ws; made = suc c.made } in
-    let outer = if-ok (holds n c.windows) (split_to c ws) NoWindow d h in
-    let inner = ok-unless (fits ws (frame_of c)) (is_full c) new TooMany TooSmall d outer.1 in
-    (outer.0, inner.0, inner.1, inner.2)
+    let lives = if-ok (holds n c.windows) (split_to c ws) NoWindow d h in
+    let room = ok-unless (fits ws (frame_of c)) (is_full c) new TooMany TooSmall d lives.1 in
+    (lives.0, room.0, room.1, room.2)
 
 pub remove-means : (c d : Configuration) (n : ℕ) → remove_tree c n ≡ Ok d
     → (holds n c.windows ≡ true) × (is_single c.windows ≡ false) × (record c { windows = removed n c.windows (frame_of c) } ≡ d)
