@@ -47,15 +47,16 @@ scenes-go-on o n a b files extends made same = record {
   brackets = refl;
 }
 
+-- control characters are shown with an arrow in both scenes, or in neither
+pub same-arrow : (old new : Scene) → GoesOnFrom old new → new.parts.settings.ctl_arrow ≡ old.parts.settings.ctl_arrow
+same-arrow old new goes = ap (λ (s : SettingValues). s.ctl_arrow) goes.settings
+
 -- ---- pieces
 
 pub spec-named : (o : ObjectLists) (n : ℕ) → IsClosed o → n < length o.specs → NamesMade (length o.strings) (spec_in o n)
 spec-named o n closed made = rw (unwrap_or-slice_get o.specs n (Width 0)) (All-get_or (NamesMade (length o.strings)) o.specs n (Width 0) made closed.specs)
 
 module _ (old new : Scene) (goes : GoesOnFrom old new) (closed : IsClosed old.objects) where
-  ctl : new.parts.settings.ctl_arrow ≡ old.parts.settings.ctl_arrow
-  ctl = ap (λ (s : SettingValues). s.ctl_arrow) goes.settings
-
   setting : new.parts.settings.invisible ≡ old.parts.settings.invisible
   setting = ap (λ (s : SettingValues). s.invisible) goes.settings
 
@@ -65,7 +66,7 @@ module _ (old new : Scene) (goes : GoesOnFrom old new) (closed : IsClosed old.ob
   same-spec (Align n) face p to made = refl
 
   same-char : (face : Attributes) (c p : ℕ) → char_piece new face c p ≡ char_piece old face c p
-  same-char face c p = rw (goes.table, ctl, goes.classes)
+  same-char face c p = rw (goes.table, same-arrow old new goes, goes.classes)
 
   same-open : (face : Attributes) (ch : Option ℕ) (p : ℕ) → open_piece new face ch p ≡ open_piece old face ch p
   same-open face None p = refl

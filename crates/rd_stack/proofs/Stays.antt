@@ -19,7 +19,7 @@ use Rattle.rd_objects.proofs.Soundness.{goes_kept, named_specs, named_strings}
 use Rattle.rd_glyphs.specs.Characters.{entry_of, elements_by, elements_of}
 use Rattle.rd_glyphs.proofs.Joined.{Grows}
 use Rattle.rd_props.specs.Seen.{Seen}
-use Rattle.rd_items.proofs.Growing.{same-items}
+use Rattle.rd_items.proofs.Growing.{same-arrow, same-items}
 use Rattle.rd_items.proofs.Naming.{items-made}
 use Rattle.rd_items.specs.Growing.{ShowsMade, ShowMade, ReadsMade, GoesOnFrom}
 use Rattle.rd_items.specs.Items.{items_of}
@@ -78,9 +78,6 @@ module _ (s : Scene) (closed : IsClosed s.objects) where
 -- ---- what stays
 
 module _ (old new : Scene) (goes : GoesOnFrom old new) (closed : IsClosed old.objects) where
-  ctl : new.parts.settings.ctl_arrow ≡ old.parts.settings.ctl_arrow
-  ctl = ap (λ (s : SettingValues). s.ctl_arrow) goes.settings
-
   tab : new.parts.settings.tab_width ≡ old.parts.settings.tab_width
   tab = ap (λ (s : SettingValues). s.tab_width) goes.settings
 
@@ -89,7 +86,7 @@ module _ (old new : Scene) (goes : GoesOnFrom old new) (closed : IsClosed old.ob
 
   elements-by : (entry : Option (List Glyph)) (c : ℕ) (odd : Bool) (face : Attributes) (origin : Origin) → elements_by entry new.parts c odd face origin ≡ elements_by entry old.parts c odd face origin
   elements-by (Some text) c odd face origin = refl
-  elements-by None c odd face origin = rw (goes.table, ctl, tab, goes.classes, goes.mirrors)
+  elements-by None c odd face origin = rw (goes.table, same-arrow old new goes, tab, goes.classes, goes.mirrors)
 
   same-elements : (c : ℕ) (odd : Bool) (face : Attributes) (origin : Origin) → elements_of new.parts c odd face origin ≡ elements_of old.parts c odd face origin
   same-elements c odd face origin =
@@ -116,7 +113,7 @@ module _ (old new : Scene) (goes : GoesOnFrom old new) (closed : IsClosed old.ob
   same-named (Some n) made = ap (λ (x : Option Spec). Some (unwrap_or x (Width 0))) (goes_kept old.objects.specs new.objects.specs n goes.objects.specs made)
 
   same-by : (spec : Option Spec) (p : Place) → part_by new spec p ≡ part_by old spec p
-  same-by None p = rw (goes.table, ctl, goes.classes)
+  same-by None p = rw (goes.table, same-arrow old new goes, goes.classes)
   same-by (Some spec) p = refl
 
   same-part : (p : Place) → IsMade p → part_of new p ≡ part_of old p
