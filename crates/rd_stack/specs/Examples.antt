@@ -10,7 +10,6 @@ use Rattle.rd_base.specs.declared.element.Look.{Look}
 use Rattle.rd_base.specs.declared.element.Look.TheVariants as look
 use Rattle.rd_base.specs.declared.settings.Invisible.{Invisible}
 use Rattle.rd_ucd.specs.declared.spans.Span.{Span}
-use Rattle.rd_ucd.specs.declared.spans.Bracket.TheVariants.{Opens, Closes}
 use Rattle.rd_ucd.specs.declared.spans.BracketEntry.{BracketEntry}
 use Rattle.rd_ucd.specs.Data.{Data}
 use Rattle.rd_overlays.specs.declared.overlay.Overlay.{Overlay}
@@ -25,6 +24,7 @@ use Rattle.rd_props.specs.Buffers.{BufferValue}
 use Rattle.rd_props.specs.Examples as props
 use Rattle.rd_items.specs.Readings.{reading}
 use Rattle.rd_items.specs.Pieces.{Scene, scene_in}
+use Rattle.rd_levels.specs.Examples.{round}
 use Rattle.rd_stack.specs.Shown.{outside}
 use Rattle.rd_stack.specs.Lines.{line_elements}
 
@@ -98,9 +98,6 @@ scene s objects = scene_in s.settings objects (files [])
 -- the line of the block that starts at a position of a buffer, with a base level
 abbrev pub line_at : BufferValue → ObjectLists → ℕ → ℕ → List Element
 line_at s objects base start = line_elements (scene s objects) base (reading s objects start)
-
-abbrev pub round : List BracketEntry
-round = record { code = 40; bracket = Opens 41 } ∷ record { code = 41; bracket = Closes 40 } ∷ []
 
 -- the same where round brackets are paired
 abbrev pub paired_line_at : BufferValue → ObjectLists → ℕ → ℕ → List Element
