@@ -1,6 +1,5 @@
 -- What an audit answers, and when.
-use Rattle.std.specs.Prelude.{◌≡◌, ◌≢◌, ℕ, ◌+◌, ◌<◌, ◌≤◌, ◌⊎◌, Bool, true, false, if◌then◌else◌, List, [], ◌∷◌, ◌++◌, length, map, Option, None, Some, IfSome, Ok, Err, codes, decimal, String, string_bytes}
-use Rattle.std.specs.Global.{Global}
+use Rattle.std.specs.Prelude.{◌≡◌, ◌≢◌, ℕ, ◌+◌, ◌<◌, ◌≤◌, ◌⊎◌, Bool, true, false, if◌then◌else◌, List, [], ◌∷◌, ◌++◌, length, Option, None, Some, IfSome, Ok, Err, codes, decimal}
 use Rattle.std.specs.Io.KnownBytes.{Appends, IsAtEnd}
 use Rattle.rd_base.specs.Equals.{same_cell}
 use Rattle.rd_base.specs.declared.cell.Cell.{Cell}
@@ -150,10 +149,6 @@ abbrev pub Answers : Verdict → List (List ℕ) → (List ℕ → Option (List 
 Answers verdict words told bytes left before after =
     (Comes verdict words told bytes left × Appends before after (line_of verdict))
     ⊎ ((verdict ≡ WriteFault) × ((other : Verdict) × Comes other words told bytes left × AppendsFront before after (line_of other)))
-
--- the words as texts
-abbrev pub texts : List (String Global) → List (List ℕ)
-texts words = map (λ word. string_bytes word) words
 
 -- the exit status of a verdict
 abbrev pub code_of : Verdict → ℕ

@@ -1,10 +1,10 @@
 //! The top call.
-ghost use Rattle.std.specs.Prelude.{◌≡◌, ◌≤◌, ◌⊎◌, ℕ, List, length};
+ghost use Rattle.std.specs.Prelude.{◌≡◌, ◌≤◌, ◌⊎◌, ℕ, List, length, map, string_bytes};
 ghost use Rattle.std.specs.Io.KnownBytes.{Consumes};
 ghost use Rattle.rd_io.specs.Devices.{Rose};
 ghost use Rattle.rd_base.specs.declared.limits.TheConstants.{FILE_BYTES, LEAST_FRAME_ROWS};
 ghost use Rattle.rd_audit.specs.Results.{IsShape, JudgesBytes, picture_in};
-ghost use Rattle.rd_audit.specs.Verdicts.{Answers, Comes, JudgesFile, JudgesDump, IsSound, IsJudged, ReadFails, texts};
+ghost use Rattle.rd_audit.specs.Verdicts.{Answers, Comes, JudgesFile, JudgesDump, IsSound, IsJudged, ReadFails};
 
 use crate::compare::answer;
 use crate::dump::{Dump, DumpFault, read_dump};
@@ -35,11 +35,11 @@ pub fn audit<S: Source, F: Files, R: Sink>(
     report: &mut R,
 ) -> Verdict
     ensures answers { (bytes : List ℕ) × Consumes (S.left stream.old) (S.left stream.new) bytes
-        × Answers result (texts words.items) (F.contents files.old) bytes (S.left stream.new) (R.written report.old) (R.written report.new) }
-    ensures read { result ≡ Verdict.ReadFault → ReadFails S.faults stream.old stream.new F.faults files.old files.new (texts words.items) }
+        × Answers result (map string_bytes words.items) (F.contents files.old) bytes (S.left stream.new) (R.written report.old) (R.written report.new) }
+    ensures read { result ≡ Verdict.ReadFault → ReadFails S.faults stream.old stream.new F.faults files.old files.new (map string_bytes words.items) }
     ensures write { result ≡ Verdict.WriteFault → Rose (R.faults report.old) (R.faults report.new) }
-    ensures complete { IsSound (texts words.items) (F.contents files.old) (S.left stream.old)
-        → IsJudged result ⊎ (ReadFails S.faults stream.old stream.new F.faults files.old files.new (texts words.items)
+    ensures complete { IsSound (map string_bytes words.items) (F.contents files.old) (S.left stream.old)
+        → IsJudged result ⊎ (ReadFails S.faults stream.old stream.new F.faults files.old files.new (map string_bytes words.items)
         ⊎ Rose (R.faults report.old) (R.faults report.new)) }
     ensures stream { S.faults stream.old ≤ S.faults stream.new }
     ensures files { (name : List ℕ) → F.faults files.old name ≤ F.faults files.new name }
@@ -61,8 +61,8 @@ fn judge<S: Source, F: Files>(
     files: &mut F,
 ) -> Verdict
     ensures comes { (bytes : List ℕ) × Consumes (S.left stream.old) (S.left stream.new) bytes
-        × Comes result (texts words.now) (F.contents files.old) bytes (S.left stream.new) }
-    ensures read { result ≡ Verdict.ReadFault → ReadFails S.faults stream.old stream.new F.faults files.old files.new (texts words.now) }
+        × Comes result (map string_bytes words.now) (F.contents files.old) bytes (S.left stream.new) }
+    ensures read { result ≡ Verdict.ReadFault → ReadFails S.faults stream.old stream.new F.faults files.old files.new (map string_bytes words.now) }
     ensures stream { S.faults stream.old ≤ S.faults stream.new }
     ensures files { (name : List ℕ) → F.faults files.old name ≤ F.faults files.new name }
     ensures contents { (name : List ℕ) → F.contents files.new name ≡ F.contents files.old name }
