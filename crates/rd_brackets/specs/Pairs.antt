@@ -13,10 +13,11 @@ use Rattle.rd_brackets.specs.declared.role.Role.TheVariants.{Other, Opening, Clo
 use Rattle.rd_brackets.specs.declared.matching.Opened.{Opened}
 use Rattle.rd_brackets.specs.declared.matching.Pair.{Pair}
 
--- U+2329 and U+232A count as U+3008 and U+3009, which they are canonically equivalent to
+-- for BD16, U+2329 and U+232A count as U+3008 and U+3009, which they are canonically equivalent to
 abbrev pub canonical : ℕ → ℕ
 canonical code = if code == 9001 then 12296 else (if code == 9002 then 12297 else code)
 
+-- for BD14 and BD15, the role of a code by what the brackets list for it
 abbrev pub role_by : ℕ → Option Bracket → Role
 role_by code None = Other
 role_by code (Some (Opens partner)) = Opening (canonical partner)
@@ -28,6 +29,7 @@ abbrev pub bd14_bd15_role : List BracketEntry → Class → ℕ → Role
 bd14_bd15_role entries ON code = role_by (canonical code) (bracket_in entries (canonical code))
 bd14_bd15_role entries c code = Other
 
+-- BD14, BD15: the roles of these types and codes
 abbrev pub roles : List BracketEntry → List Class → List ℕ → List Role
 roles entries [] codes = []
 roles entries (t ∷ ts) [] = []
@@ -39,7 +41,7 @@ abbrev pub opener : ℕ → List Opened → Option ℕ
 opener code [] = None
 opener code (o ∷ os) = if o.partner == code then Some o.place else opener code os
 
--- the entries below that one
+-- for BD16, the entries below that one
 abbrev pub below : ℕ → List Opened → List Opened
 below code [] = []
 below code (o ∷ os) = if o.partner == code then os else below code os
@@ -48,6 +50,7 @@ below code (o ∷ os) = if o.partner == code then os else below code os
 abbrev pub closed : ℕ → List Opened → List Opened
 closed code os = if is_some (opener code os) then below code os else os
 
+-- for BD16, the pair that a closing bracket makes with an opening one, if there is one
 abbrev pub pair_at : Option ℕ → ℕ → List Pair
 pair_at None place = []
 pair_at (Some opening) place = record { opening = opening; closing = place } ∷ []
@@ -66,11 +69,11 @@ bd16_pairs_from place os (Closing code ∷ rs) =
 abbrev pub bd16_pairs_of : List Role → List Pair
 bd16_pairs_of rs = unwrap_or (bd16_pairs_from 0 [] rs) []
 
--- where the pair closes that opens at a place
+-- for N0, where the pair closes that opens at a place
 abbrev pub closing_of : List Pair → ℕ → Option ℕ
 closing_of [] place = None
 closing_of (p ∷ ps) place = if p.opening == place then Some p.closing else closing_of ps place
 
--- for each of so many places, where the pair closes that opens there: the pairs in the order of their opening brackets
+-- for N0, for each of so many places, where the pair closes that opens there: the pairs in the order of their opening brackets
 abbrev pub closings : List Pair → ℕ → List (Option ℕ)
 closings pairs count = map (closing_of pairs) (range_with_len 0 count)

@@ -9,7 +9,7 @@ use Rattle.rd_ucd.specs.declared.spans.BracketEntry.{BracketEntry}
 use Rattle.rd_resolve.specs.Places.{types_at, levels_at, put_at}
 use Rattle.rd_brackets.specs.Pairs.{roles, bd16_pairs_of, closings}
 
--- whether a type counts as this direction: EN and AN count as R
+-- for N0, whether a type counts as this direction: EN and AN count as R
 abbrev pub counts_as : Class → Class → Bool
 counts_as L L = true
 counts_as R R = true
@@ -17,14 +17,16 @@ counts_as R EN = true
 counts_as R AN = true
 counts_as side t = false
 
+-- for N0, whether one of these types counts as this direction
 abbrev pub holds : Class → List Class → Bool
 holds side ts = list_any (counts_as side) ts
 
+-- for N0, the other direction
 abbrev pub opposite : Class → Class
 opposite L = R
 opposite side = L
 
--- the direction of the last strong type, and the one before these types where none of them is strong
+-- for N0, the direction of the last strong type, and the one before these types where none of them is strong
 abbrev pub last_side : Class → List Class → Class
 last_side before ts = fold (λ side t. if counts_as L t then L else (if counts_as R t then R else side)) before ts
 
@@ -38,10 +40,11 @@ n0_pair_side embedding before between =
     then Some (if counts_as (opposite embedding) before then opposite embedding else embedding)
     else None)
 
--- the types between two places
+-- for N0, the types between two places
 abbrev pub between : ℕ → ℕ → List Class → List Class
 between opening closing ts = take (closing - suc opening) (drop (suc opening) ts)
 
+-- for N0, the types once both brackets of a pair took a direction, if there is one
 abbrev pub put_both : Option Class → ℕ → ℕ → List Class → List Class
 put_both None opening closing ts = ts
 put_both (Some side) opening closing ts = slice_set (slice_set ts opening side) closing side
@@ -57,18 +60,19 @@ n0_with_pairs embedding sos place [] ts = ts
 n0_with_pairs embedding sos place (None ∷ cs) ts = n0_with_pairs embedding sos (suc place) cs ts
 n0_with_pairs embedding sos place (Some closing ∷ cs) ts = n0_with_pairs embedding sos (suc place) cs (n0_with_pair embedding sos place closing ts)
 
--- whether a bracket took a direction
+-- for the end of N0, whether a bracket took a direction
 abbrev pub became : Class → Class → Bool
 became ON ON = false
 became ON t = true
 became before t = false
 
--- the direction that a mark takes behind a bracket that took one, or behind a mark that did
+-- for the end of N0, the direction that a mark takes behind a bracket that took one, or behind a mark that did
 abbrev pub followed : Option Class → Class → Class → Option Class
 followed side NSM ON = side
 followed side c t = None
 
--- the direction that a character took by the pairs or by this last step, with its class, its type before and its type after the pairs
+-- for the end of N0, the direction that a character took by the pairs or by this last step, with its class, its type before and its
+-- type after the pairs
 abbrev pub side_taken : Option Class → Class → Class → Class → Option Class
 side_taken side c before t = if became before t then Some t else followed side c t
 
@@ -85,11 +89,11 @@ abbrev pub n0_bracket_types : List BracketEntry → Class → Class → List Cla
 n0_bracket_types entries embedding sos cs codes ts =
     n0_with_marks None cs ts (n0_with_pairs embedding sos 0 (closings (bd16_pairs_of (roles entries ts codes)) (length ts)) ts)
 
--- the codes at these indexes
+-- for BD14 to BD16, the codes at these indexes
 abbrev pub codes_at : List ℕ → List ℕ → List ℕ
 codes_at is codes = levels_at is codes
 
--- the embedding direction of a sequence: that of the level of its first character, which all have
+-- for N0, the embedding direction of a sequence: that of the level of its first character, which all have
 abbrev pub embedding_of : List ℕ → List ℕ → Class
 embedding_of is levels = direction_of (slice_index (levels_at is levels) 0)
 

@@ -46,7 +46,7 @@ pub fn pair(
     Ok(())
 }
 
-/// The direction of a sequence's level.
+/// For N0, the embedding direction of a sequence: that of its level.
 fn embedding_of(line: &Line, seq: &Seq) -> Class
     requires { All (λ i. i < length line.now.classes) seq.now.indexes }
     ensures { result ≡ embedding_of seq.now.indexes line.now.levels }
@@ -73,7 +73,7 @@ fn closings(alloc: Global, pairs: &[Pair], count: usize) -> Result<ListOf<Option
     Ok(found)
 }
 
-/// The types of a sequence.
+/// For N0, the types of a sequence.
 fn types_at(alloc: Global, line: &Line, seq: &Seq) -> Result<ListOf<Class>, Memory>
     requires { All (λ i. i < length line.now.classes) seq.now.indexes }
     ensures { IfOk result (λ types. types ≡ types_at seq.now.indexes line.now.types) }

@@ -18,11 +18,11 @@ top (e ∷ es) = e
 abbrev pub x1_start : ℕ → State
 x1_start base = record { stack = record { level = base; override_status = None; isolate = false } ∷ []; overflow_isolates = 0; overflow_embeddings = 0; valid_isolates = 0 }
 
--- the least level of a parity, 1 for odd and 0 for even, above another
+-- for X2 to X5c, the least level of a parity, 1 for odd and 0 for even, above another
 abbrev pub level_above : ℕ → ℕ → ℕ
 level_above parity level = if level % 2 == parity then level + 2 else level + 1
 
--- at most MAX_DEPTH (BD2), and nothing has overflowed
+-- for X2 to X5c, at most MAX_DEPTH (BD2), and nothing has overflowed
 abbrev pub is_valid : ℕ → State → Bool
 is_valid level s = nat_le level MAX_DEPTH && (s.overflow_isolates == 0 && s.overflow_embeddings == 0)
 

@@ -4,13 +4,13 @@ use Rattle.rd_base.specs.Classes.{p2_depth_after}
 use Rattle.rd_base.specs.declared.class.Class.{Class}
 use Rattle.rd_base.specs.declared.class.Class.TheVariants.{PDI}
 
--- the classes before the PDI that closes what is open, so many isolates inside it; all classes, where there is no such PDI
+-- for BD9, the classes before the PDI that closes what is open, so many isolates inside it; all classes, where there is no such PDI
 abbrev pub inside : List Class → ℕ → List Class
 inside [] depth = []
 inside (PDI ∷ cs) zero = []
 inside (c ∷ cs) depth = c ∷ inside cs (p2_depth_after depth c)
 
--- what an isolate initiator isolates, of the classes after it
+-- for BD9, what an isolate initiator isolates, of the classes after it
 abbrev pub content : List Class → List Class
 content cs = inside cs zero
 

@@ -44,7 +44,7 @@ gathered before i (c ∷ cs) (l ∷ ls) (k ∷ ks) (b ∷ bs) =
 abbrev pub sequences_from : ℕ → ℕ → ℕ → List Class → List ℕ → List Seq
 sequences_from base before i cs ls = map sequence (bd13_joined_runs (bd7_level_runs (x9_items base before i cs ls)))
 
--- the indexes of the PDIs that no initiator of these classes matches, the first one first
+-- for BD9, the indexes of the PDIs that no initiator of these classes matches, the first one first
 abbrev pub unmatched : ℕ → List Class → List ℕ
 unmatched i [] = []
 unmatched i (PDI ∷ cs) = i ∷ unmatched (i + 1) cs

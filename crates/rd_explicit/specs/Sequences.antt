@@ -21,11 +21,12 @@ pub record Item : Type 0 where
 abbrev pub bd9_partner : ℕ → Class → List Class → Option ℕ
 bd9_partner i c cs = if is_initiator c then bd9_matching_pdi (i + 1) cs else None
 
--- the level of the first item, or the base
+-- for X10, the level of the first item, or the base
 abbrev pub first_level : ℕ → List Item → ℕ
 first_level base [] = base
 first_level base (x ∷ xs) = x.level
 
+-- for X9, the item at an index, with the level of the item before it, its class and the classes and items after it
 abbrev pub item_at : ℕ → ℕ → ℕ → Class → List Class → ℕ → List Item → Item
 item_at base before i c cs level xs = record {
   index = i;
@@ -59,21 +60,22 @@ abbrev pub bd7_level_runs : List Item → List (List Item)
 bd7_level_runs [] = []
 bd7_level_runs (x ∷ xs) = with_item x (bd7_level_runs xs)
 
--- where the PDI is that matches the last item of a run
+-- for BD13, where the PDI is that matches the last item of a run
 abbrev pub last_partner : List Item → Option ℕ
 last_partner xs = option_and_then (λ (x : Item). x.partner) (last_or None xs)
 
--- whether a run or a sequence begins with the item at an index
+-- for BD13, whether a run or a sequence begins with the item at an index
 abbrev pub begins : Option ℕ → List Item → Bool
 begins None r = false
 begins (Some p) [] = false
 begins (Some p) (y ∷ ys) = p == y.index
 
--- of these sequences the one that begins with the item at an index, and the others
+-- for BD13, of these sequences the one that begins with the item at an index
 abbrev pub continued : Option ℕ → List (List Item) → List Item
 continued p [] = []
 continued p (s ∷ ss) = if begins p s then s else continued p ss
 
+-- for BD13, the sequences but the one that begins with the item at an index
 abbrev pub others : Option ℕ → List (List Item) → List (List Item)
 others p [] = []
 others p (s ∷ ss) = if begins p s then ss else s ∷ others p ss
@@ -94,9 +96,10 @@ abbrev pub x10_sos : List Item → Class
 x10_sos [] = L
 x10_sos (x ∷ xs) = direction_of (max x.level x.before)
 
+-- for BD13 and X10, the sequence of these items
 abbrev pub sequence : List Item → Seq
 sequence xs = record { indexes = map (λ x. x.index) xs; sos = x10_sos xs; eos = x10_eos xs }
 
--- the isolating run sequences of a line
+-- BD13: the isolating run sequences of a line
 abbrev pub sequences_of : ℕ → List Class → List ℕ → List Seq
 sequences_of base cs ls = map sequence (bd13_joined_runs (bd7_level_runs (x9_items base base 0 cs ls)))

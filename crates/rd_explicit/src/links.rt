@@ -96,7 +96,7 @@ impl Links {
         None
     }
 
-    /// Takes the class at index i, those behind it being done. What X9 takes out stands in no sequence.
+    /// For BD13 and X10, takes the class at index i, those behind it being done. What X9 takes out stands in no sequence.
     fn step(&mut self, line: &Line, i: usize) -> Result<(), Memory>
         requires within { i < length line.now.classes }
         requires begins { length self.old.begins ≡ length line.now.classes }
@@ -132,7 +132,7 @@ impl Links {
         Ok(())
     }
 
-    /// The links of a line.
+    /// The links of a line, by BD9, BD13 and X10.
     pub fn of_line(alloc: Global, line: &Line) -> Result<Links, Memory>
         ensures begins { IfOk result (λ s. length s.begins ≡ length line.now.classes) }
         ensures links { IfOk result (λ s. (length s.links ≡ length line.now.classes) × LeadsOn (length line.now.classes) s.links) }
@@ -148,7 +148,7 @@ impl Links {
         Ok(links)
     }
 
-    /// The sequence that begins at an index.
+    /// The sequence of BD13 that begins at an index, with its types of X10.
     pub fn sequence(&self, alloc: Global, i: usize, sos: Class) -> Result<Seq, Memory>
         requires within { i < length self.now.links }
         requires short { length self.now.links < 2 ^ 32 }

@@ -29,7 +29,7 @@ pub fn sequences(alloc: Global, line: &Line) -> Result<ListOf<Seq>, Memory>
     Ok(found)
 }
 
-/// Adds the sequence that begins at an index, if one does.
+/// For BD13, adds the sequence that begins at an index, if one does.
 fn add_sequence(
     alloc: Global,
     links: &Links,

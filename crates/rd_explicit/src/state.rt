@@ -138,7 +138,7 @@ impl State {
         }
     }
 
-    /// Takes one character, with these classes after it, and says its level and type: by the rule of its class.
+    /// Takes one character, with these classes after it, and says its level and type: by the rule of its class, X2 to X8.
     pub fn step(&mut self, base: u8, class: Class, rest: &[Class]) -> Given
         requires short { length rest.now < 2 ^ 32 }
         requires ready { IsReady 4294967294 self.old }

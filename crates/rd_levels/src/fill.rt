@@ -10,7 +10,7 @@ use rd_resolve::{implicit, neutral, weak};
 use rd_ucd::Brackets;
 use std::alloc::Global;
 
-/// Gives a line these classes and their levels.
+/// Gives a line these classes and their levels, by the rules X1 to L1 in turn.
 pub fn fill_line(
     alloc: Global,
     line: &mut Line,

@@ -14,6 +14,7 @@ abbrev pub l2_reversed_down : List ℕ → ℕ → ℕ → List ℕ → List ℕ
 l2_reversed_down levels base zero is = is
 l2_reversed_down levels base (suc n) is = l2_reversed_down levels base n (l2_reversed levels (base + suc n) [] is)
 
+-- for L2, the highest of these levels
 abbrev pub highest : List ℕ → ℕ
 highest [] = 0
 highest (level ∷ levels) = max level (highest levels)

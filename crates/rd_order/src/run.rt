@@ -11,7 +11,7 @@ pub struct ReversedRun {
 }
 
 impl ReversedRun {
-    /// The index at which an index of the run comes to stand when the run is turned round so many times.
+    /// For L2, the index at which an index of the run comes to stand when the run is turned round so many times.
     pub fn turned(&self, place: usize, times: u8) -> usize
         requires from { self.now.start ≤ place }
         requires to { place < self.now.end }

@@ -14,7 +14,7 @@ use Rattle.rd_ucd.specs.Lookup.{class_of}
 abbrev pub p2_p3_level_of_line : List Span → List ℕ → Option ℕ
 p2_p3_level_of_line classes line = p2_p3_first_strong 0 (map (class_of classes) line)
 
--- the level that the first deciding line of a paragraph gives, from its first line on
+-- for P2 and P3, the level that the first deciding line of a paragraph gives, from its first line on
 abbrev pub decided : List Span → List (List ℕ) → Option ℕ
 decided classes [] = None
 decided classes (line ∷ lines) = if is_separator line then None else option_or (p2_p3_level_of_line classes line) (decided classes lines)

@@ -4,7 +4,7 @@ use Rattle.rd_base.proofs.Lists.{all-at, drop-at, get-drop, written}
 use Rattle.rd_base.specs.Classes.{x9_is_removed}
 use Rattle.rd_base.specs.declared.limits.TheConstants.{MAX_DEPTH}
 use Rattle.rd_base.specs.declared.class.Class.{Class}
-use Rattle.rd_resolve.specs.Implicit.{raised, i1_i2, kept}
+use Rattle.rd_resolve.specs.Implicit.{i1_i2_level, i1_i2, kept}
 
 pub bounded : (xs ys : List ℕ) (i r : ℕ) → All (λ l. l ≤ MAX_DEPTH) ys → drop i xs ≡ drop i ys → slice_get xs i ≡ Some r → r ≤ MAX_DEPTH
 bounded xs ys i r all same read =
@@ -21,7 +21,7 @@ kept-step before own c cs ls v e = rw e (elim (x9_is_removed c) as (λ b. (if b 
 pub raise-step : (before v i : ℕ) (cs ts : List Class) (ls all : List ℕ) (c t : Class) (l : ℕ)
     → i < length cs → length ts ≡ length cs → length ls ≡ length cs
     → slice_get cs i ≡ Some c → slice_get ts i ≡ Some t → slice_get ls i ≡ Some l
-    → v ≡ (if x9_is_removed c then before else raised l t)
+    → v ≡ (if x9_is_removed c then before else i1_i2_level l t)
     → take i ls ++ kept before (drop i cs) (i1_i2 (drop i ts) (drop i ls)) ≡ all
     → take (i + 1) (set ls i v) ++ kept v (drop (i + 1) cs) (i1_i2 (drop (i + 1) ts) (drop (i + 1) ls)) ≡ all
 raise-step before v i cs ts ls all c t l within same_ts same_ls read_c read_t read_l e h =
@@ -29,6 +29,6 @@ raise-step before v i cs ts ls all c t l within same_ts same_ls read_c read_t re
     let at_ts = drop-at ts i t read_t in
     let at_ls = drop-at ls i l read_l in
     let whole : kept before (drop i cs) (i1_i2 (drop i ts) (drop i ls)) ≡ v ∷ kept v (drop (i + 1) cs) (i1_i2 (drop (i + 1) ts) (drop (i + 1) ls)) =
-    rw (at_cs, at_ts, at_ls) (kept-step before (raised l t) c (drop (i + 1) cs) _ v e) in
+    rw (at_cs, at_ts, at_ls) (kept-step before (i1_i2_level l t) c (drop (i + 1) cs) _ v e) in
     let fits : i < length ls = omega arith in
     written ls i v _ all fits (ap (λ r. take i ls ++ r) (sym whole) ∙ h)

@@ -3,20 +3,20 @@ use Rattle.std.proofs.Common.{◌≡◌, ℕ, ◌+◌, ◌≤◌, ◌<◌, Bool,
 use Rattle.std.proofs.lemmas.List.{drop_more, drop-set, take-set, take-take, get_or-take}
 use Rattle.std.proofs.lemmas.Option.{get_or_from_slice_get}
 use Rattle.rd_base.specs.declared.class.Class.{Class}
-use Rattle.rd_resolve.specs.Implicit.{is_separator, is_white, l1_resets, l1}
+use Rattle.rd_resolve.specs.Implicit.{l1_is_separator, l1_is_white, l1_resets, l1}
 use Rattle.rd_base.proofs.Lists.{drop-at}
 
 -- one character nearer to the front
 module _ (base i j : ℕ) (cs : List Class) (ls old : List ℕ) (c : Class) (l v : ℕ) (white now : Bool)
     (next : j + 1 ≡ i) (within : i ≤ length cs) (same_ls : length ls ≡ length cs) (same_old : length old ≡ length cs)
     (read_c : slice_get cs j ≡ Some c) (read_l : slice_get ls j ≡ Some l)
-    (was : white ≡ l1_resets (drop i cs)) (is : now ≡ (is_separator c || (is_white c && white))) (given : v ≡ (if now then base else l))
+    (was : white ≡ l1_resets (drop i cs)) (is : now ≡ (l1_is_separator c || (l1_is_white c && white))) (given : v ≡ (if now then base else l))
     (done : drop i ls ≡ l1 base (drop i cs) (drop i old)) (left : take i ls ≡ take i old) where
   at_cs : drop j cs ≡ c ∷ drop i cs
   at_cs = drop-at cs j c read_c ∙ ap (λ n. c ∷ drop n cs) next
 
   pub l1-white-step : now ≡ l1_resets (drop j cs)
-  l1-white-step = rw at_cs (is ∙ ap (λ b. is_separator c || (is_white c && b)) was)
+  l1-white-step = rw at_cs (is ∙ ap (λ b. l1_is_separator c || (l1_is_white c && b)) was)
 
   at_old : drop j old ≡ l ∷ drop i old
   at_old =

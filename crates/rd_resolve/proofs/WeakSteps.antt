@@ -3,7 +3,7 @@ use Rattle.std.proofs.Common.{◌≡◌, Bool, true, false, ◌||◌, List, ◌�
 use Rattle.rd_base.specs.declared.class.Class.{Class}
 use Rattle.rd_base.specs.declared.class.Class.TheVariants.{AL, EN, AN, ES, ET, CS}
 use Rattle.rd_resolve.specs.declared.weak_walk.Before.{Before}
-use Rattle.rd_resolve.specs.Weak.{w1_nonspacing_marks, strong_after, w2_european_numbers_after_arabic, w3_arabic_letters, w4_separators, first_type, is_en, w5_comes_en, w5_terminators, w6_remaining_separators, w7_latin_numbers, w1, w2, w3, w4, w5, w6, w7}
+use Rattle.rd_resolve.specs.Weak.{w1_nonspacing_marks, strong_after, w2_european_numbers_after_arabic, w3_arabic_letters, w4_separators, first_type, w5_is_en, w5_comes_en, w5_terminators, w6_remaining_separators, w7_latin_numbers, w1, w2, w3, w4, w5, w6, w7}
 use Rattle.rd_resolve.specs.Walks.{weak_left, w5_run_ends, w5_run_of, RunIs}
 
 w4_separators-et : (before c next : Class) → w4_separators before c next ≡ ET → c ≡ ET
@@ -61,10 +61,10 @@ module _ (b : Before) (c : Class) (cs : List Class) where
   w5_type = w5_terminators (b.w5_number || unwrap_or (w5_run_of w4_type (w5_run_ends b.w2_strong cs)) false) w4_type
 
   pub weak-step : (run : Option Bool)
-      → (let next : Before = record { w1_before = w1_type; w2_strong = strong_type; w4_before = w3_type; w5_number = is_en w5_type; w5_run = run; w7_strong = strong_after b.w7_strong (w6_remaining_separators w5_type) } in
+      → (let next : Before = record { w1_before = w1_type; w2_strong = strong_type; w4_before = w3_type; w5_number = w5_is_en w5_type; w5_run = run; w7_strong = strong_after b.w7_strong (w6_remaining_separators w5_type) } in
       weak_left b (c ∷ cs) ≡ w7_latin_numbers b.w7_strong (w6_remaining_separators w5_type) ∷ weak_left next cs)
   weak-step run =
-      ap (λ e. w7_latin_numbers b.w7_strong (w6_remaining_separators e) ∷ w7 (strong_after b.w7_strong (w6_remaining_separators e)) (w6 (w5 (is_en e) (w4 w3_type (w3 (w2 strong_type (w1 w1_type cs)))))))
+      ap (λ e. w7_latin_numbers b.w7_strong (w6_remaining_separators e) ∷ w7 (strong_after b.w7_strong (w6_remaining_separators e)) (w6 (w5 (w5_is_en e) (w4 w3_type (w3 (w2 strong_type (w1 w1_type cs)))))))
       (sym (w5_terminators-same b.w5_number (w5_run_ends b.w2_strong cs) (w5_comes_en (w4 w3_type (w3 (w2 strong_type (w1 w1_type cs))))) w4_type w5-comes-here))
 
 -- W5: what is known of a run is so behind each of its characters

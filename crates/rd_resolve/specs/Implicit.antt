@@ -19,14 +19,14 @@ i2_odd_levels level AN = level + 1
 i2_odd_levels level c = level
 
 -- I1 at an even level, I2 at an odd one
-abbrev pub raised : ℕ → Class → ℕ
-raised level c = if level % 2 == 0 then i1_even_levels level c else i2_odd_levels level c
+abbrev pub i1_i2_level : ℕ → Class → ℕ
+i1_i2_level level c = if level % 2 == 0 then i1_even_levels level c else i2_odd_levels level c
 
 -- I1 and I2 over a line
 abbrev pub i1_i2 : List Class → List ℕ → List ℕ
 i1_i2 [] ls = ls
 i1_i2 (c ∷ cs) [] = []
-i1_i2 (c ∷ cs) (l ∷ ls) = raised l c ∷ i1_i2 cs ls
+i1_i2 (c ∷ cs) (l ∷ ls) = i1_i2_level l c ∷ i1_i2 cs ls
 
 -- What X9 took out takes the level of the nearest item before it that stayed, else the base. This is a choice of this project: UAX 9
 -- leaves these levels open.
@@ -36,22 +36,22 @@ kept before (c ∷ cs) [] = []
 kept before (c ∷ cs) (l ∷ ls) = if x9_is_removed c then before ∷ kept before cs ls else l ∷ kept l cs ls
 
 -- for L1, what ends a segment or a paragraph
-abbrev pub is_separator : Class → Bool
-is_separator S = true
-is_separator B = true
-is_separator c = false
+abbrev pub l1_is_separator : Class → Bool
+l1_is_separator S = true
+l1_is_separator B = true
+l1_is_separator c = false
 
 -- for L1, white space, isolate formatting characters and what X9 took out
-abbrev pub is_white : Class → Bool
-is_white WS = true
-is_white PDI = true
-is_white c = is_initiator c || x9_is_removed c
+abbrev pub l1_is_white : Class → Bool
+l1_is_white WS = true
+l1_is_white PDI = true
+l1_is_white c = is_initiator c || x9_is_removed c
 
 -- L1: whether the base is taken by the first of these characters, by their classes: it is a separator, or begins a run of white space
 -- that ends at a separator or at the line's end
 abbrev pub l1_resets : List Class → Bool
 l1_resets [] = true
-l1_resets (c ∷ cs) = is_separator c || (is_white c && l1_resets cs)
+l1_resets (c ∷ cs) = l1_is_separator c || (l1_is_white c && l1_resets cs)
 
 -- L1 over a line with a base level
 abbrev pub l1 : ℕ → List Class → List ℕ → List ℕ

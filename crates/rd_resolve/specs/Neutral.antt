@@ -4,7 +4,7 @@ use Rattle.rd_base.specs.Classes.{direction_of}
 use Rattle.rd_base.specs.declared.class.Class.{Class}
 use Rattle.rd_base.specs.declared.class.Class.TheVariants.{L, R, B, S, WS, ON, LRI, RLI, FSI, PDI}
 
--- NI: neutrals, and the isolate formatting characters
+-- for N1 and N2, NI: neutrals, and the isolate formatting characters
 abbrev pub is_ni : Class → Bool
 is_ni B = true
 is_ni S = true

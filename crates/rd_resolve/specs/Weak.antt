@@ -18,7 +18,7 @@ abbrev pub w1 : Class → List Class → List Class
 w1 before [] = []
 w1 before (c ∷ cs) = w1_nonspacing_marks before c ∷ w1 (w1_nonspacing_marks before c) cs
 
--- the last strong type up to a character, where it was known before it: what W2 and W7 search backward for
+-- for W2 and W7, the last strong type up to a character, where it was known before it, which these rules search backward for
 abbrev pub strong_after : Class → Class → Class
 strong_after strong L = L
 strong_after strong R = R
@@ -51,7 +51,7 @@ w4_separators EN CS EN = EN
 w4_separators AN CS AN = AN
 w4_separators before c next = c
 
--- the type after one, or ON at the end, where there is no number
+-- for W4, the type after one, or ON at the end, where there is no number
 abbrev pub first_type : List Class → Class
 first_type [] = ON
 first_type (c ∷ cs) = c
@@ -61,9 +61,10 @@ abbrev pub w4 : Class → List Class → List Class
 w4 before [] = []
 w4 before (c ∷ cs) = w4_separators before c (first_type cs) ∷ w4 c cs
 
-abbrev pub is_en : Class → Bool
-is_en EN = true
-is_en c = false
+-- for W5, whether a type is EN
+abbrev pub w5_is_en : Class → Bool
+w5_is_en EN = true
+w5_is_en c = false
 
 -- for W5, whether EN comes at once or behind ET alone
 abbrev pub w5_comes_en : List Class → Bool
@@ -80,7 +81,7 @@ w5_terminators beside c = c
 -- W5 over a sequence, with whether EN stands before it
 abbrev pub w5 : Bool → List Class → List Class
 w5 en [] = []
-w5 en (c ∷ cs) = w5_terminators (en || w5_comes_en cs) c ∷ w5 (is_en (w5_terminators (en || w5_comes_en cs) c)) cs
+w5 en (c ∷ cs) = w5_terminators (en || w5_comes_en cs) c ∷ w5 (w5_is_en (w5_terminators (en || w5_comes_en cs) c)) cs
 
 -- W6: ES, ET and CS that W4 and W5 left become ON
 abbrev pub w6_remaining_separators : Class → Class

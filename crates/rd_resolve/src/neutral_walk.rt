@@ -90,7 +90,7 @@ fn n1_following(eos: Class, types: &[Class], rest: &[u32]) -> Class
     eos
 }
 
-/// Whether a type is neutral or an isolate formatting character (NI).
+/// For N1 and N2, whether a type is neutral or an isolate formatting character (NI).
 fn is_ni(class: Class) -> bool
     ensures { result ≡ is_ni class }
 {

@@ -2,7 +2,7 @@
 ghost use Rattle.std.specs.Prelude.{◌≡◌, ◌≤◌, All};
 ghost use Rattle.rd_base.specs.declared.limits.TheConstants.{MAX_DEPTH};
 ghost use Rattle.rd_base.specs.Lines.{KeepsClasses};
-ghost use Rattle.rd_resolve.specs.Implicit.{raised, i1_i2, kept, implicit_levels, i1_even_levels, i2_odd_levels};
+ghost use Rattle.rd_resolve.specs.Implicit.{i1_i2_level, i1_i2, kept, implicit_levels, i1_even_levels, i2_odd_levels};
 
 use crate::reset::l1_reset;
 use rd_base::{Class, Line};
@@ -18,12 +18,12 @@ pub fn implicit(line: &mut Line)
     ensures types { line.new.types ≡ line.old.types }
     ensures rest { KeepsClasses line.old line.new }
 {
-    raise(line);
+    i1_i2_levels(line);
     l1_reset(line);
 }
 
 /// Rules I1 and I2, and the levels of what X9 took out.
-fn raise(line: &mut Line)
+fn i1_i2_levels(line: &mut Line)
     requires { All (λ l. l ≤ MAX_DEPTH) line.old.levels }
     ensures levels { line.new.levels ≡ kept line.old.base line.old.classes (i1_i2 line.old.types line.old.levels) }
     ensures types { line.new.types ≡ line.old.types }
@@ -31,16 +31,16 @@ fn raise(line: &mut Line)
 {
     let mut before = line.base;
     for i in 0..line.len() {
-        let own = raised(line.levels.at(i), line.types.at(i));
+        let own = i1_i2_level(line.levels.at(i), line.types.at(i));
         before = line.classes.at(i).level_behind(before, own);
         line.set_level(i, before);
     }
 }
 
 /// I1 at an even level, I2 at an odd one.
-fn raised(level: u8, class: Class) -> u8
+fn i1_i2_level(level: u8, class: Class) -> u8
     requires { level ≤ MAX_DEPTH }
-    ensures { result ≡ raised level class }
+    ensures { result ≡ i1_i2_level level class }
 {
     if level % 2 == 0 {
         i1_even_levels(level, class)

@@ -1,7 +1,7 @@
 //! Rule L1 of UAX 9 over a line.
 ghost use Rattle.std.specs.Prelude.{◌≡◌, ◌||◌, ◌&&◌, if◌then◌else◌};
 ghost use Rattle.rd_base.specs.Lines.{KeepsClasses};
-ghost use Rattle.rd_resolve.specs.Implicit.{is_separator, is_white, l1};
+ghost use Rattle.rd_resolve.specs.Implicit.{l1_is_separator, l1_is_white, l1};
 
 use rd_base::{Class, Line};
 
@@ -25,7 +25,7 @@ pub fn l1_reset(line: &mut Line)
 
 /// For L1, whether it resets a character, where it is known whether it resets what is behind.
 fn l1_resets(class: Class, behind: bool) -> bool
-    ensures { result ≡ (is_separator class || (is_white class && behind)) }
+    ensures { result ≡ (l1_is_separator class || (l1_is_white class && behind)) }
 {
     match class {
         Class::S | Class::B => true,

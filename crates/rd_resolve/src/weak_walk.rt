@@ -2,7 +2,7 @@
 //! definitions a whole walk; `Before` has the state in which each pass stands.
 ghost use Rattle.std.specs.Prelude.{◌≡◌, ◌<◌, length, ◌||◌, false, unwrap_or, All, AllPairs, IfSome};
 ghost use Rattle.rd_resolve.specs.Places.{types_at, TakesTypes};
-ghost use Rattle.rd_resolve.specs.Weak.{w1_nonspacing_marks, strong_after, w2_european_numbers_after_arabic, w3_arabic_letters, w4_separators, first_type, is_en, w5_terminators, w6_remaining_separators, w7_latin_numbers, weak_types, w1, w2, w3};
+ghost use Rattle.rd_resolve.specs.Weak.{w1_nonspacing_marks, strong_after, w2_european_numbers_after_arabic, w3_arabic_letters, w4_separators, first_type, w5_is_en, w5_terminators, w6_remaining_separators, w7_latin_numbers, weak_types, w1, w2, w3};
 ghost use Rattle.rd_resolve.specs.Walks.{w5_run_ends, w5_run_of};
 
 use crate::walk::{WalkRules, walk};
@@ -73,7 +73,7 @@ impl WalkRules for Before {
         self.w1_before = after_w1;
         self.w2_strong = strong;
         self.w4_before = after_w3;
-        self.w5_number = is_en(after_w5);
+        self.w5_number = w5_is_en(after_w5);
         self.w5_run = run;
         self.w7_strong = strong_after(self.w7_strong, after_w6);
         given
@@ -175,7 +175,7 @@ fn w5_comes_en(strong: Class, types: &[Class], rest: &[u32]) -> bool
     for i in rest {
         match types[*i as usize] {
             Class::ET | Class::NSM => {}
-            Class::EN => return is_en(w2_european_numbers_after_arabic(strong, Class::EN)),
+            Class::EN => return w5_is_en(w2_european_numbers_after_arabic(strong, Class::EN)),
             _ => return false,
         }
     }
@@ -199,9 +199,9 @@ fn w5_terminators(beside: bool, class: Class) -> Class
     }
 }
 
-/// Whether a type is EN.
-fn is_en(class: Class) -> bool
-    ensures { result ≡ is_en class }
+/// For W5, whether a type is EN.
+fn w5_is_en(class: Class) -> bool
+    ensures { result ≡ w5_is_en class }
 {
     matches!(class, Class::EN)
 }

@@ -1,6 +1,6 @@
 use Rattle.std.proofs.Common.{◌≡◌, ◌||◌, false, unwrap_or, ap, ap₂, sym, ◌∙◌}
 use Rattle.rd_resolve.specs.Places.{types_at}
-use Rattle.rd_resolve.specs.Weak.{strong_after, w2_european_numbers_after_arabic, w3_arabic_letters, w4_separators, first_type, is_en, w5_terminators, w6_remaining_separators, w7_latin_numbers, w1, w2, w3}
+use Rattle.rd_resolve.specs.Weak.{strong_after, w2_european_numbers_after_arabic, w3_arabic_letters, w4_separators, first_type, w5_is_en, w5_terminators, w6_remaining_separators, w7_latin_numbers, w1, w2, w3}
 use Rattle.rd_resolve.specs.Walks.{w5_run_ends, w5_run_of}
 use Rattle.rd_resolve.proofs.WeakSteps.{w1_type, strong_type, w3_type, w4_type, w5_type, weak-step, w5-run-known, w5-run-is, w1_type-et, w3_type-et, strong_type-et, assembled}
 use Rattle.rd_resolve.proofs.weak_walk.BeforeWalkRules.step.Goals as goal
@@ -48,7 +48,7 @@ returns c =
     record {
       left = λ classes levels. assembled _ _ _ _ _ _ _ _ _ _ _ _ cs _ (weak-step b c.args.class cs c.w5_run_ends-run.result)
           (c.w7_latin_numbers-given.ensures ∙ ap (w7_latin_numbers b.w7_strong) after_w6) (c.strong_after-self.ensures ∙ ap (strong_after b.w7_strong) after_w6)
-          (c.is_en-self.ensures ∙ ap is_en after_w5) after_w3 strong after_w1;
+          (c.w5_is_en-self.ensures ∙ ap w5_is_en after_w5) after_w3 strong after_w1;
       known = w5-run-is c.w5_run_ends-run.result (w4_type b c.args.class cs) (w5_run_ends b.w2_strong cs) _ cs known_run
           (λ e. (after_w1 ∙ w1_type-et b c.args.class cs e, after_w3 ∙ w3_type-et b c.args.class cs e, ap (λ s. w5_run_ends s cs) (sym (strong ∙ strong_type-et b c.args.class cs e))));
     }

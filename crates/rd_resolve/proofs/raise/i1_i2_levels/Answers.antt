@@ -1,12 +1,12 @@
 use Rattle.std.proofs.Common.{◌≡◌, ◌<◌, ◌+◌, if◌then◌else◌, length, drop, set, refl, ap, ◌∙◌, arith}
 use Rattle.rd_base.proofs.Lists.{drop-next}
 use Rattle.rd_base.specs.Classes.{x9_is_removed}
-use Rattle.rd_resolve.specs.Implicit.{raised}
+use Rattle.rd_resolve.specs.Implicit.{i1_i2_level}
 use Rattle.rd_resolve.proofs.Raising.{bounded, raise-step}
-use Rattle.rd_resolve.proofs.raise.raise.Goals as goal
+use Rattle.rd_resolve.proofs.raise.i1_i2_levels.Goals as goal
 
-pub raised-own-requires : goal.raised-own-requires
-raised-own-requires c =
+pub i1_i2_level-own-requires : goal.i1_i2_level-own-requires
+i1_i2_level-own-requires c =
     let line = c.loop-i.line in
     let old = c.args.line.now in
     bounded line.levels old.levels c.loop-i.i c.at.result c.requires c.loop-i.invariant.left c.at.ensures
@@ -20,8 +20,8 @@ loop-i-preserved c =
     let inv = c.loop-i.invariant in
     let new = c.set_level.ensures in
     let within : i < length line.classes = omega (arith, c.loop-i-test.true, c.len-i-end.ensures, ap length inv.keeps.classes) in
-    let given : v ≡ (if x9_is_removed c.at-in-loop-i-2.result then c.loop-i.before else raised c.at.result c.at-in-loop-i.result) =
-    c.level_behind-before.ensures ∙ ap (λ own. if x9_is_removed c.at-in-loop-i-2.result then c.loop-i.before else own) c.raised-own.ensures in
+    let given : v ≡ (if x9_is_removed c.at-in-loop-i-2.result then c.loop-i.before else i1_i2_level c.at.result c.at-in-loop-i.result) =
+    c.level_behind-before.ensures ∙ ap (λ own. if x9_is_removed c.at-in-loop-i-2.result then c.loop-i.before else own) c.i1_i2_level-own.ensures in
     let left : drop (i + 1) (set line.levels i v) ≡ drop (i + 1) old.levels = drop-next line.levels old.levels i v inv.left in
     let behind : drop (i + 1) (set line.levels i v) ≡ drop (i + 1) line.levels = drop-next line.levels line.levels i v refl in
     let step = raise-step c.loop-i.before v i line.classes line.types line.levels _ c.at-in-loop-i-2.result c.at-in-loop-i.result c.at.result

@@ -1,7 +1,7 @@
 use Rattle.std.proofs.Common.{◌≡◌, ◌++◌, take, drop}
 use Rattle.rd_base.specs.Lines.{KeepsClasses}
 use Rattle.rd_resolve.specs.Implicit.{i1_i2, kept}
-use Rattle.rd_resolve.proofs.raise.raise.Given as goal
+use Rattle.rd_resolve.proofs.raise.i1_i2_levels.Given as goal
 
 -- what is done and what is left are the whole
 abbrev pub invariant-loop-i : goal.invariant-loop-i
