@@ -13,7 +13,7 @@ use Rattle.rd_base.specs.Lists.{moved}
 use Rattle.rd_base.specs.Settings.{without_flags}
 use Rattle.rd_reuse.specs.Changes.{change_of, edit, is_all, is_small, join, none}
 use Rattle.rd_reuse.specs.declared.change.Change.{Change}
-use Rattle.rd_reuse.proofs.Joining.{all-last}
+use Rattle.rd_reuse.proofs.Combining.{all-last}
 use Rattle.rd_blocks.specs.Leads.{Leads, LeadsTo}
 
 -- what is known of changes

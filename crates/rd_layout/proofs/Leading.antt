@@ -10,7 +10,7 @@ use Rattle.rd_blocks.proofs.Leading.{leads-none, leads-ranged}
 use Rattle.rd_objects.specs.Sound.{IsClosed, Extends}
 use Rattle.rd_objects.specs.Things.{ObjectLists}
 use Rattle.rd_props.specs.Made.{AreMade}
-use Rattle.rd_reuse.proofs.Joining.{all-last}
+use Rattle.rd_reuse.proofs.Combining.{all-last}
 use Rattle.rd_reuse.specs.Changes.{all, change_of, edit, is_all, is_small, join, none}
 use Rattle.rd_reuse.specs.declared.change.Change.{Change}
 use Rattle.rd_state.specs.Changes.{Stays, StaysWhole, Leaves}

@@ -18,7 +18,7 @@ use Rattle.rd_objects.specs.Things.{ObjectLists}
 use Rattle.rd_props.specs.Buffers.{BufferValue}
 use Rattle.rd_props.specs.Made.{AreMade}
 use Rattle.rd_reuse.proofs.Changes.{all-is-change, change-by}
-use Rattle.rd_reuse.proofs.Joining.{none-last}
+use Rattle.rd_reuse.proofs.Combining.{none-last}
 use Rattle.rd_reuse.specs.Changes.{IsChange, all, edit, is_all, is_none, is_small, join, none}
 use Rattle.rd_reuse.specs.declared.change.Change.{Change}
 use Rattle.rd_rows.specs.Laws.{seen_rows}

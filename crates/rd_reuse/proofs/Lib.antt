@@ -1,5 +1,5 @@
 pub mod Changes
-pub mod Joining
+pub mod Combining
 mod Lists
 pub mod Places
 mod Placing

@@ -18,7 +18,7 @@ fn edits()
 
 /// A character put at 9, and later one at 3: what ends before 3 stands, and what starts at 12 or later. The other way round it
 /// starts at 11 or later.
-fn joined_edits()
+fn combined_edits()
     ensures before { join (edit 9 0 1) (edit 3 0 1) ≡ record { head = 3; tail = 12; added = pos 2 } }
     ensures behind { join (edit 3 0 1) (edit 9 0 1) ≡ record { head = 3; tail = 11; added = pos 2 } }
     ensures inside { join (edit 9 0 1) (edit 3 20 0) ≡ record { head = 3; tail = 4; added = negsuc 18 } }

@@ -13,13 +13,13 @@ ghost use Rattle.rd_reuse.specs.declared.change.Change.{Change};
 ghost use Rattle.rd_rows.specs.Shapes.{ShapeValues};
 
 /// Joined with a change of anything each change is one.
-pub fn joined_with_all()
+pub fn combined_with_all()
     ensures first { (c : Change) → join all c ≡ all }
     ensures last { (c : Change) → join c all ≡ all }
 {}
 
 /// Joined with none a change stays as it is: before it, where no more was added than what stands before the tail, as in each edit.
-pub fn joined_with_none()
+pub fn combined_with_none()
     ensures first { (c : Change) → IsChange c → moved c.added 0 ≤ c.tail → join none c ≡ c }
     ensures last { (c : Change) → IsChange c → join c none ≡ c }
 {}

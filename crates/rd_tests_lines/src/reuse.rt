@@ -15,7 +15,7 @@ use crate::blocks::{Made, SHAPE};
 use crate::claims::assert_of;
 use crate::starts::stands;
 use cases::{
-    BASE_LEVELS, CHANGES, Case, JOINED_CHANGES, MOVES, OLDER_LAYOUTS, OTHER_SHAPES, STARTS,
+    BASE_LEVELS, CHANGES, COMBINED_CHANGES, Case, MOVES, OLDER_LAYOUTS, OTHER_SHAPES, STARTS,
     whole_change,
 };
 use rd_base::{Memory, Steps, Wrap};
@@ -228,8 +228,8 @@ fn assert_moves(rt: &impl Abort, alloc: Global, way: Way) {
 }
 
 /// Each case of this table holds.
-fn assert_joined_changes(rt: &impl Abort, alloc: Global, way: Way) {
-    assert_all(rt, alloc, way, &JOINED_CHANGES);
+fn assert_combined_changes(rt: &impl Abort, alloc: Global, way: Way) {
+    assert_all(rt, alloc, way, &COMBINED_CHANGES);
 }
 
 /// Each case of this table holds.
@@ -256,7 +256,7 @@ fn assert_other_shapes(rt: &impl Abort, alloc: Global, way: Way) {
 fn rows_are_kept_where_nothing_changed(rt: HostRuntime) {
     assert_changes(&rt, rt.alloc(), Way::Relay);
     assert_moves(&rt, rt.alloc(), Way::Relay);
-    assert_joined_changes(&rt, rt.alloc(), Way::Relay);
+    assert_combined_changes(&rt, rt.alloc(), Way::Relay);
     assert_base_levels(&rt, rt.alloc(), Way::Relay);
     assert_older_layouts(&rt, rt.alloc(), Way::Relay);
     assert_starts(&rt, rt.alloc(), Way::Relay);

@@ -86,7 +86,7 @@ macro_rules! case {
 
 /// What a window shows from the first row on where something changed later too: the case's name, the older rows, both changes, the text
 /// and its rows.
-macro_rules! joined {
+macro_rules! combined {
     ($name:expr => $older:expr, $changed:expr, $later:expr, $text:expr, $rows:expr) => {
         Case {
             name: $name,
@@ -142,13 +142,13 @@ const ANEW: &'static str = "1.0 0 a\n3.0 0 x\n5.0 0 c\n";
 const ONE: &'static str = "1.0 1 a\n3.0 0 x\n5.0 1 c\n";
 
 /// Two lines more, the first one behind or before the other; a change of anything, before or later; no change before or later.
-pub const JOINED_CHANGES: [Case; 6] = [
-    joined!("a line, and one before it" => ABCDE, Edit(7, 0, 2), Edit(3, 0, 2), "aybcxde", TWO),
-    joined!("a line, and one behind it" => ABCDE, Edit(3, 0, 2), Edit(9, 0, 2), "aybcxde", TWO),
-    joined!("anything, and then a letter" => ABC, Anything, Edit(3, 1, 1), "axc", ANEW),
-    joined!("a letter, and then anything" => ABC, Edit(3, 1, 1), Anything, "axc", ANEW),
-    joined!("nothing, and then a letter" => ABC, Nothing, Edit(3, 1, 1), "axc", ONE),
-    joined!("a letter, and then nothing" => ABC, Edit(3, 1, 1), Nothing, "axc", ONE),
+pub const COMBINED_CHANGES: [Case; 6] = [
+    combined!("a line, and one before it" => ABCDE, Edit(7, 0, 2), Edit(3, 0, 2), "aybcxde", TWO),
+    combined!("a line, and one behind it" => ABCDE, Edit(3, 0, 2), Edit(9, 0, 2), "aybcxde", TWO),
+    combined!("anything, and then a letter" => ABC, Anything, Edit(3, 1, 1), "axc", ANEW),
+    combined!("a letter, and then anything" => ABC, Edit(3, 1, 1), Anything, "axc", ANEW),
+    combined!("nothing, and then a letter" => ABC, Nothing, Edit(3, 1, 1), "axc", ONE),
+    combined!("a letter, and then nothing" => ABC, Edit(3, 1, 1), Nothing, "axc", ONE),
 ];
 
 /// A line whose base level turned is laid out anew, also behind the tail, and one of the base level that it had is not.

@@ -1,4 +1,4 @@
-use Rattle.rd_reuse.proofs.Joining.{all-right, none-kept}
+use Rattle.rd_reuse.proofs.Combining.{all-right, none-kept}
 use Rattle.rd_reuse.proofs.laws.all_keeps_no_block.Goals as goal
 
 pub returns-clause-block : goal.returns-clause-block

@@ -1,5 +1,5 @@
 use Rattle.std.proofs.Common.{arith}
-use Rattle.rd_reuse.proofs.Joining.{edit-is, edit-low}
+use Rattle.rd_reuse.proofs.Combining.{edit-is, edit-low}
 use Rattle.rd_reuse.proofs.laws.edits_add_less_than_stands_before.Goals as goal
 
 pub returns-clause-change : goal.returns-clause-change

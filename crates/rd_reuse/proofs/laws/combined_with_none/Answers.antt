@@ -1,5 +1,5 @@
-use Rattle.rd_reuse.proofs.Joining.{none-first, none-last}
-use Rattle.rd_reuse.proofs.laws.joined_with_none.Goals as goal
+use Rattle.rd_reuse.proofs.Combining.{none-first, none-last}
+use Rattle.rd_reuse.proofs.laws.combined_with_none.Goals as goal
 
 pub returns-clause-first : goal.returns-clause-first
 returns-clause-first c = λ x is low. none-first x is low

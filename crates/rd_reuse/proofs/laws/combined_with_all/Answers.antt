@@ -1,6 +1,6 @@
 use Rattle.std.proofs.Common.{refl}
-use Rattle.rd_reuse.proofs.Joining.{all-last}
-use Rattle.rd_reuse.proofs.laws.joined_with_all.Goals as goal
+use Rattle.rd_reuse.proofs.Combining.{all-last}
+use Rattle.rd_reuse.proofs.laws.combined_with_all.Goals as goal
 
 pub returns-clause-first : goal.returns-clause-first
 returns-clause-first c = λ x. refl
