@@ -5,21 +5,20 @@ use Rattle.rd_base.specs.Settings.{opening}
 use Rattle.rd_base.specs.declared.cell.Cell.{Cell}
 use Rattle.rd_base.specs.declared.class.Class.TheVariants.{R, WS, EN}
 use Rattle.rd_base.specs.declared.settings.Direction.{Direction}
-use Rattle.rd_base.specs.declared.settings.Wrap.TheVariants.{Truncate, Continue}
 use Rattle.rd_ucd.specs.Data.{Data}
 use Rattle.rd_objects.specs.Tables.{empty_table}
-use Rattle.rd_objects.specs.Texts.{text_of}
 use Rattle.rd_objects.specs.Things.{ObjectLists, nothing_made}
 use Rattle.rd_props.specs.Buffers.{BufferValue, values_of}
 use Rattle.rd_props.specs.Examples.{put_once}
 use Rattle.rd_props.specs.Examples as props
+use Rattle.rd_items.specs.Examples.{bare}
 use Rattle.rd_matrix.specs.Entries.{made_entry}
 use Rattle.rd_matrix.specs.Sources.{rows_at}
 use Rattle.rd_matrix.specs.declared.block.Block.{Block}
 use Rattle.rd_matrix.specs.declared.matrix.Entry.{Entry}
 use Rattle.rd_reuse.specs.Keeping.{is_kept}
 use Rattle.rd_reuse.specs.declared.change.Change.{Change}
-use Rattle.rd_rows.specs.Examples.{cells}
+use Rattle.rd_rows.specs.Examples.{cells, twelve_continued}
 use Rattle.rd_rows.specs.Shapes.{ShapeValues}
 use Rattle.rd_blocks.specs.Bases.{blocks_in}
 use Rattle.rd_blocks.specs.Sources.{rows_in, text_source}
@@ -56,12 +55,9 @@ narrowed_to begin end chars =
     let s = buffer chars in
     record s { text = record { text = chars; begin = begin; end = end } }
 
-abbrev pub no_objects : ObjectLists
-no_objects = nothing_made
-
 -- the strings of an arrow and a plus sign, each with a blank
 abbrev pub arrows : ObjectLists
-arrows = record nothing_made { strings = text_of (62 ∷ 32 ∷ []) [] [] ∷ text_of (43 ∷ 32 ∷ []) [] [] ∷ [] }
+arrows = record nothing_made { strings = bare (62 ∷ 32 ∷ []) ∷ bare (43 ∷ 32 ∷ []) ∷ [] }
 
 -- a text behind these prefixes
 abbrev pub with_prefixes : List ℕ → BufferValue
@@ -84,13 +80,6 @@ with_marks chars =
     let s = buffer chars in
     record s { settings = record opening { table = Some 0 } }
 
--- twelve columns of truncated lines that are scrolled sideways, and of lines that go on
-abbrev pub cut_by : ℕ → ShapeValues
-cut_by hscroll = record { width = 12; wrap = Truncate; hscroll = hscroll }
-
-abbrev pub going_on : ShapeValues
-going_on = record { width = 12; wrap = Continue; hscroll = 0 }
-
 -- the blocks of a buffer with their base levels
 abbrev pub bases_of : BufferValue → List Block
 bases_of s = blocks_in files.classes s
@@ -101,7 +90,7 @@ cells_of shape s objects b = cells (rows_in s objects files b shape)
 
 -- all rows of a text, as they were laid out
 abbrev pub older_rows : BufferValue → List Entry
-older_rows s = map made_entry (rows_at (text_source s no_objects files) going_on)
+older_rows s = map made_entry (rows_at (text_source s nothing_made files) twelve_continued)
 
 -- which blocks of a text keep the rows that they had in an older one
 abbrev pub keeping : BufferValue → BufferValue → Change → List Bool

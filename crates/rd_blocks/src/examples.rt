@@ -3,9 +3,10 @@ ghost use Rattle.std.specs.Prelude.{◌≡◌, ◌∷◌, ◌++◌, [], true, fa
 ghost use Rattle.rd_base.specs.Faces.{plain};
 ghost use Rattle.rd_base.specs.Glyphs.{blanks};
 ghost use Rattle.rd_base.specs.declared.settings.Direction.TheVariants.{Auto, Right};
-ghost use Rattle.rd_rows.specs.Examples.{text};
+ghost use Rattle.rd_objects.specs.Things.{nothing_made};
+ghost use Rattle.rd_rows.specs.Examples.{text, twelve_continued, twelve_truncated};
 ghost use Rattle.rd_reuse.specs.Changes.{all, edit, none};
-ghost use Rattle.rd_blocks.specs.Examples.{buffer, two_lines, hidden_at, narrowed_to, with_prefixes, prefixed, with_marks, arrows, no_objects, marks, cut_by, going_on, bases_of, cells_of, keeping};
+ghost use Rattle.rd_blocks.specs.Examples.{buffer, two_lines, hidden_at, narrowed_to, with_prefixes, prefixed, with_marks, arrows, marks, bases_of, cells_of, keeping};
 
 /// Two blocks of which the second has a letter that is read from the right, by each setting of the direction.
 fn blocks_with_their_bases()
@@ -26,30 +27,30 @@ fn blocks_of_paragraphs()
 
 /// A line that is read from the right edge: two letters, a blank and 12.
 fn a_row_from_the_right_edge()
-    ensures { cells_of (cut_by 0) (buffer (114 ∷ 116 ∷ 32 ∷ 49 ∷ 50 ∷ [])) no_objects (record { start = 1; end = 7; base = 1 }) ≡ (blanks 7 plain ++ text (49 ∷ 50 ∷ 32 ∷ 116 ∷ 114 ∷ [])) ∷ [] }
+    ensures { cells_of twelve_truncated (buffer (114 ∷ 116 ∷ 32 ∷ 49 ∷ 50 ∷ [])) nothing_made (record { start = 1; end = 7; base = 1 }) ≡ (blanks 7 plain ++ text (49 ∷ 50 ∷ 32 ∷ 116 ∷ 114 ∷ [])) ∷ [] }
 {}
 
 /// Sixteen letters that are scrolled by three columns, and by none.
 fn a_row_scrolled_sideways()
-    ensures scrolled { cells_of (cut_by 3) (buffer (97 ∷ 98 ∷ 99 ∷ 100 ∷ 101 ∷ 102 ∷ 103 ∷ 104 ∷ 105 ∷ 106 ∷ 107 ∷ 108 ∷ 109 ∷ 110 ∷ 111 ∷ 112 ∷ [])) no_objects (record { start = 1; end = 18; base = 0 }) ≡ text (36 ∷ 101 ∷ 102 ∷ 103 ∷ 104 ∷ 105 ∷ 106 ∷ 107 ∷ 108 ∷ 109 ∷ 110 ∷ 36 ∷ []) ∷ [] }
-    ensures whole { cells_of (cut_by 0) (buffer (97 ∷ 98 ∷ 99 ∷ 100 ∷ 101 ∷ 102 ∷ 103 ∷ 104 ∷ 105 ∷ 106 ∷ 107 ∷ 108 ∷ 109 ∷ 110 ∷ 111 ∷ 112 ∷ [])) no_objects (record { start = 1; end = 18; base = 0 }) ≡ text (97 ∷ 98 ∷ 99 ∷ 100 ∷ 101 ∷ 102 ∷ 103 ∷ 104 ∷ 105 ∷ 106 ∷ 107 ∷ 36 ∷ []) ∷ [] }
+    ensures scrolled { cells_of (record twelve_truncated { hscroll = 3 }) (buffer (97 ∷ 98 ∷ 99 ∷ 100 ∷ 101 ∷ 102 ∷ 103 ∷ 104 ∷ 105 ∷ 106 ∷ 107 ∷ 108 ∷ 109 ∷ 110 ∷ 111 ∷ 112 ∷ [])) nothing_made (record { start = 1; end = 18; base = 0 }) ≡ text (36 ∷ 101 ∷ 102 ∷ 103 ∷ 104 ∷ 105 ∷ 106 ∷ 107 ∷ 108 ∷ 109 ∷ 110 ∷ 36 ∷ []) ∷ [] }
+    ensures whole { cells_of twelve_truncated (buffer (97 ∷ 98 ∷ 99 ∷ 100 ∷ 101 ∷ 102 ∷ 103 ∷ 104 ∷ 105 ∷ 106 ∷ 107 ∷ 108 ∷ 109 ∷ 110 ∷ 111 ∷ 112 ∷ [])) nothing_made (record { start = 1; end = 18; base = 0 }) ≡ text (97 ∷ 98 ∷ 99 ∷ 100 ∷ 101 ∷ 102 ∷ 103 ∷ 104 ∷ 105 ∷ 106 ∷ 107 ∷ 36 ∷ []) ∷ [] }
 {}
 
 /// Twelve letters behind the settings' prefixes; letters of which the first has a line prefix of its own; and an empty block,
 /// which has the setting's prefix alone.
 fn rows_behind_prefixes()
-    ensures settings { cells_of going_on (with_prefixes (97 ∷ 98 ∷ 99 ∷ 100 ∷ 101 ∷ 102 ∷ 103 ∷ 104 ∷ 105 ∷ 106 ∷ 107 ∷ 108 ∷ [])) arrows (record { start = 1; end = 14; base = 0 }) ≡ text (62 ∷ 32 ∷ 97 ∷ 98 ∷ 99 ∷ 100 ∷ 101 ∷ 102 ∷ 103 ∷ 104 ∷ 105 ∷ 92 ∷ []) ∷ (text (43 ∷ 32 ∷ 106 ∷ 107 ∷ 108 ∷ []) ++ blanks 7 plain) ∷ [] }
-    ensures first { cells_of going_on (prefixed 1) arrows (record { start = 1; end = 4; base = 0 }) ≡ (text (43 ∷ 32 ∷ 97 ∷ 98 ∷ []) ++ blanks 8 plain) ∷ [] }
-    ensures second { cells_of going_on (prefixed 2) arrows (record { start = 1; end = 4; base = 0 }) ≡ (text (62 ∷ 32 ∷ 97 ∷ 98 ∷ []) ++ blanks 8 plain) ∷ [] }
-    ensures empty { cells_of going_on (with_prefixes []) arrows (record { start = 1; end = 2; base = 0 }) ≡ (text (62 ∷ 32 ∷ []) ++ blanks 10 plain) ∷ [] }
+    ensures settings { cells_of twelve_continued (with_prefixes (97 ∷ 98 ∷ 99 ∷ 100 ∷ 101 ∷ 102 ∷ 103 ∷ 104 ∷ 105 ∷ 106 ∷ 107 ∷ 108 ∷ [])) arrows (record { start = 1; end = 14; base = 0 }) ≡ text (62 ∷ 32 ∷ 97 ∷ 98 ∷ 99 ∷ 100 ∷ 101 ∷ 102 ∷ 103 ∷ 104 ∷ 105 ∷ 92 ∷ []) ∷ (text (43 ∷ 32 ∷ 106 ∷ 107 ∷ 108 ∷ []) ++ blanks 7 plain) ∷ [] }
+    ensures first { cells_of twelve_continued (prefixed 1) arrows (record { start = 1; end = 4; base = 0 }) ≡ (text (43 ∷ 32 ∷ 97 ∷ 98 ∷ []) ++ blanks 8 plain) ∷ [] }
+    ensures second { cells_of twelve_continued (prefixed 2) arrows (record { start = 1; end = 4; base = 0 }) ≡ (text (62 ∷ 32 ∷ 97 ∷ 98 ∷ []) ++ blanks 8 plain) ∷ [] }
+    ensures empty { cells_of twelve_continued (with_prefixes []) arrows (record { start = 1; end = 2; base = 0 }) ≡ (text (62 ∷ 32 ∷ []) ++ blanks 10 plain) ∷ [] }
 {}
 
 /// Twelve letters of a line that goes on, from either edge, with a backslash, a slash and the mark of a table.
 fn marks_of_rows_that_go_on()
-    ensures left { cells_of going_on (buffer (97 ∷ 98 ∷ 99 ∷ 100 ∷ 101 ∷ 102 ∷ 103 ∷ 104 ∷ 105 ∷ 106 ∷ 107 ∷ 108 ∷ [])) no_objects (record { start = 1; end = 14; base = 0 }) ≡ text (97 ∷ 98 ∷ 99 ∷ 100 ∷ 101 ∷ 102 ∷ 103 ∷ 104 ∷ 105 ∷ 106 ∷ 107 ∷ 92 ∷ []) ∷ (text (108 ∷ []) ++ blanks 11 plain) ∷ [] }
-    ensures right { cells_of going_on (buffer (114 ∷ 114 ∷ 114 ∷ 114 ∷ 114 ∷ 114 ∷ 114 ∷ 114 ∷ 114 ∷ 114 ∷ 114 ∷ 114 ∷ [])) no_objects (record { start = 1; end = 14; base = 1 }) ≡ text (47 ∷ 114 ∷ 114 ∷ 114 ∷ 114 ∷ 114 ∷ 114 ∷ 114 ∷ 114 ∷ 114 ∷ 114 ∷ 114 ∷ []) ∷ (blanks 11 plain ++ text (114 ∷ [])) ∷ [] }
-    ensures table { cells_of going_on (with_marks (97 ∷ 98 ∷ 99 ∷ 100 ∷ 101 ∷ 102 ∷ 103 ∷ 104 ∷ 105 ∷ 106 ∷ 107 ∷ 108 ∷ [])) marks (record { start = 1; end = 14; base = 0 }) ≡ text (97 ∷ 98 ∷ 99 ∷ 100 ∷ 101 ∷ 102 ∷ 103 ∷ 104 ∷ 105 ∷ 106 ∷ 107 ∷ 38 ∷ []) ∷ (text (108 ∷ []) ++ blanks 11 plain) ∷ [] }
-    ensures cut { cells_of (cut_by 0) (with_marks (97 ∷ 98 ∷ 99 ∷ 100 ∷ 101 ∷ 102 ∷ 103 ∷ 104 ∷ 105 ∷ 106 ∷ 107 ∷ 108 ∷ [])) marks (record { start = 1; end = 14; base = 0 }) ≡ text (97 ∷ 98 ∷ 99 ∷ 100 ∷ 101 ∷ 102 ∷ 103 ∷ 104 ∷ 105 ∷ 106 ∷ 107 ∷ 43 ∷ []) ∷ [] }
+    ensures left { cells_of twelve_continued (buffer (97 ∷ 98 ∷ 99 ∷ 100 ∷ 101 ∷ 102 ∷ 103 ∷ 104 ∷ 105 ∷ 106 ∷ 107 ∷ 108 ∷ [])) nothing_made (record { start = 1; end = 14; base = 0 }) ≡ text (97 ∷ 98 ∷ 99 ∷ 100 ∷ 101 ∷ 102 ∷ 103 ∷ 104 ∷ 105 ∷ 106 ∷ 107 ∷ 92 ∷ []) ∷ (text (108 ∷ []) ++ blanks 11 plain) ∷ [] }
+    ensures right { cells_of twelve_continued (buffer (114 ∷ 114 ∷ 114 ∷ 114 ∷ 114 ∷ 114 ∷ 114 ∷ 114 ∷ 114 ∷ 114 ∷ 114 ∷ 114 ∷ [])) nothing_made (record { start = 1; end = 14; base = 1 }) ≡ text (47 ∷ 114 ∷ 114 ∷ 114 ∷ 114 ∷ 114 ∷ 114 ∷ 114 ∷ 114 ∷ 114 ∷ 114 ∷ 114 ∷ []) ∷ (blanks 11 plain ++ text (114 ∷ [])) ∷ [] }
+    ensures table { cells_of twelve_continued (with_marks (97 ∷ 98 ∷ 99 ∷ 100 ∷ 101 ∷ 102 ∷ 103 ∷ 104 ∷ 105 ∷ 106 ∷ 107 ∷ 108 ∷ [])) marks (record { start = 1; end = 14; base = 0 }) ≡ text (97 ∷ 98 ∷ 99 ∷ 100 ∷ 101 ∷ 102 ∷ 103 ∷ 104 ∷ 105 ∷ 106 ∷ 107 ∷ 38 ∷ []) ∷ (text (108 ∷ []) ++ blanks 11 plain) ∷ [] }
+    ensures cut { cells_of twelve_truncated (with_marks (97 ∷ 98 ∷ 99 ∷ 100 ∷ 101 ∷ 102 ∷ 103 ∷ 104 ∷ 105 ∷ 106 ∷ 107 ∷ 108 ∷ [])) marks (record { start = 1; end = 14; base = 0 }) ≡ text (97 ∷ 98 ∷ 99 ∷ 100 ∷ 101 ∷ 102 ∷ 103 ∷ 104 ∷ 105 ∷ 106 ∷ 107 ∷ 43 ∷ []) ∷ [] }
 {}
 
 /// The lines a, b and c. A letter that is put into the second leaves the first and the third. Where the newline behind the first is

@@ -1,5 +1,5 @@
 -- Buffers on which the definitions are worked out.
-use Rattle.std.specs.Prelude.{ℕ, ◌+◌, pos, true, false, List, [], ◌∷◌, Option, Some}
+use Rattle.std.specs.Prelude.{ℕ, ◌+◌, true, false, List, [], ◌∷◌, Option, Some}
 use Rattle.rd_base.specs.Faces.{plain}
 use Rattle.rd_base.specs.Settings.{opening}
 use Rattle.rd_base.specs.declared.class.Class.TheVariants.{L, B, ON, NSM}
@@ -9,14 +9,14 @@ use Rattle.rd_base.specs.Cells.{single}
 use Rattle.rd_ucd.specs.Data.{Data}
 use Rattle.rd_overlays.specs.declared.overlay.Overlay.{Overlay}
 use Rattle.rd_overlays.specs.declared.overlay.Kind.TheVariants.{Before, After}
-use Rattle.rd_overlays.specs.Overlays.{new_overlay, given}
+use Rattle.rd_overlays.specs.Overlays.{given}
 use Rattle.rd_objects.specs.declared.run.Spec.TheVariants.{Text, Width}
-use Rattle.rd_objects.specs.Texts.{text_of}
+use Rattle.rd_objects.specs.Texts.{TextValue, text_of}
 use Rattle.rd_objects.specs.Things.{ObjectLists, nothing_made}
 use Rattle.rd_glyphs.specs.Marks.{marks_joined}
 use Rattle.rd_glyphs.specs.declared.mark_role.MarkRole.TheVariants.{Base, Mark}
 use Rattle.rd_props.specs.Buffers.{BufferValue}
-use Rattle.rd_props.specs.Examples.{buffer, three_characters, put_once}
+use Rattle.rd_props.specs.Examples.{buffer, on_the_second, put_once, three_characters}
 use Rattle.rd_items.specs.Readings.{reading}
 use Rattle.rd_items.specs.Pieces.{scene_in, char_by}
 use Rattle.rd_items.specs.Items.{piece_joins, covering, items_of}
@@ -36,10 +36,14 @@ items_at s objects start = items_of (scene_in s.settings objects no_data) (readi
 abbrev pub no_columns : ObjectLists
 no_columns = record nothing_made { specs = Width 0 ∷ [] }
 
+-- a string without runs
+abbrev pub bare : List ℕ → TextValue
+bare chars = text_of chars [] []
+
 -- the string AB, one that is empty, and display specs of both
 abbrev pub two_strings : ObjectLists
 two_strings = record nothing_made {
-  strings = text_of (65 ∷ 66 ∷ []) [] [] ∷ text_of [] [] [] ∷ [];
+  strings = bare (65 ∷ 66 ∷ []) ∷ bare [] ∷ [];
   specs = Text 0 ∷ Text 1 ∷ [];
 }
 
@@ -53,7 +57,7 @@ two_characters overlays = a_text (120 ∷ 121 ∷ []) overlays
 
 -- an overlay on the second character with a string before it and one behind it
 abbrev pub around_the_second : List (Option Overlay)
-around_the_second = given (given (Some (new_overlay 2 3 (pos 0) false false) ∷ []) 0 Before (Some 0)) 0 After (Some 1)
+around_the_second = given (given (on_the_second false) 0 Before (Some 0)) 0 After (Some 1)
 
 -- three characters of which the second and the third are hidden with an ellipsis
 abbrev pub with_ellipsis : BufferValue

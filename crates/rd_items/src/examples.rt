@@ -5,7 +5,7 @@ ghost use Rattle.rd_base.specs.declared.class.Class.TheVariants.{L, S, ON, NSM};
 ghost use Rattle.rd_base.specs.declared.settings.Invisible.TheVariants.{Every, Listed};
 ghost use Rattle.rd_objects.specs.Things.{nothing_made};
 ghost use Rattle.rd_objects.specs.declared.run.Spec.TheVariants.{Width};
-ghost use Rattle.rd_props.specs.Examples.{three_characters, put_once, meeting, coloured, two_faces};
+ghost use Rattle.rd_props.specs.Examples.{three_characters, put_once, meeting, coloured, red, two_faces};
 ghost use Rattle.rd_items.specs.declared.item.ItemKind.TheVariants.{Marked, Text, Space, Ellipsis};
 ghost use Rattle.rd_base.specs.Cells.{single, with_mark};
 ghost use Rattle.rd_items.specs.Blocks.{blocks_of};
@@ -44,7 +44,7 @@ fn marks_that_join()
 
 /// Each item has the face of the position that it stands at.
 fn faces_of_items()
-    ensures { items_at (coloured 1) two_faces 1 ≡ record (letter 0 97) { face = record plain { fg = 1 } } ∷ record (letter 1 98) { face = record plain { fg = 1; bg = 2 } } ∷ record (letter 2 99) { face = record plain { fg = 1 } } ∷ ender 3 4 ∷ [] }
+    ensures { items_at (coloured 1) two_faces 1 ≡ record (letter 0 97) { face = red } ∷ record (letter 1 98) { face = record red { bg = 2 } } ∷ record (letter 2 99) { face = red } ∷ ender 3 4 ∷ [] }
 {}
 
 /// A newline that is not hidden cuts two lines into two blocks, and one that is hidden leaves one block.

@@ -5,11 +5,12 @@ use Rattle.rd_base.specs.Faces.{plain}
 use Rattle.rd_base.specs.Glyphs.{blanks}
 use Rattle.rd_base.specs.Settings as settings
 use Rattle.rd_base.specs.declared.cell.Cell.{Cell}
-use Rattle.rd_blocks.specs.Examples.{cut_by, files}
+use Rattle.rd_blocks.specs.Examples.{files}
 use Rattle.rd_matrix.specs.declared.matrix.Entry.{Entry}
 use Rattle.rd_props.specs.Buffers.{no_values}
+use Rattle.rd_props.specs.Examples.{whole_text}
 use Rattle.rd_reuse.specs.Changes.{edit}
-use Rattle.rd_rows.specs.Examples.{text}
+use Rattle.rd_rows.specs.Examples.{text, twelve_truncated}
 use Rattle.rd_script.specs.declared.op.Op.{Op}
 use Rattle.rd_script.specs.declared.op.Op.TheVariants.{Frame, Insert, Redisplay}
 use Rattle.rd_start.specs.Examples.{items_from}
@@ -17,7 +18,6 @@ use Rattle.rd_state.specs.Examples.{all_by, then_by}
 use Rattle.rd_state.specs.States.{ContentValue, StateValue, main_name, opening, values_on}
 use Rattle.rd_state.specs.Windows.{selected_window}
 use Rattle.rd_state.specs.declared.refused.Refused.{Refused}
-use Rattle.rd_text.specs.Texts.{TextValue}
 use Rattle.rd_tree.specs.Calls as tree
 use Rattle.rd_window.specs.declared.layout.Layout.{Layout}
 use Rattle.rd_layout.specs.Copies.{redisplayed}
@@ -78,9 +78,6 @@ turning =
     Frame 12 8 ∷ Insert main_name 1 (each_in_a_line (codes "abcde") ++ 10 ∷ 10 ∷ codes "f") ∷ Redisplay None
     ∷ Insert main_name 1 (codes "r") ∷ []
 
-abbrev pub whole_text : List ℕ → TextValue
-whole_text chars = record { text = chars; begin = 1; end = length chars + 1 }
-
 -- what a buffer holds that has characters and nothing else, and was edited
 abbrev pub edited : List ℕ → ContentValue
 edited chars = record {
@@ -113,7 +110,7 @@ seven_lines = record {
   matrix =
       line_at 1 (codes "a") ∷ line_at 3 (codes "b") ∷ line_at 5 (codes "c") ∷ line_at 7 (codes "d") ∷ line_at 9 (codes "e") ∷ line_at 11 []
       ∷ line_at 12 (codes "f") ∷ [];
-  shape = cut_by 0;
+  shape = twelve_truncated;
   height = 7;
   margin = 0;
   conservatively = 0;

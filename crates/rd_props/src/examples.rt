@@ -9,16 +9,16 @@ ghost use Rattle.rd_props.specs.Strings.{strings_at};
 ghost use Rattle.rd_props.specs.Seen.{seen_at, Agree};
 ghost use Rattle.rd_props.specs.Edits.{with_more, with_less};
 ghost use Rattle.rd_props.specs.declared.hiding.Hidden.TheVariants.{No, Plain, Ellipsis};
-ghost use Rattle.rd_props.specs.Examples.{enclosed, three_characters, coloured, two_faces, meeting, partly_invisible};
+ghost use Rattle.rd_props.specs.Examples.{enclosed, three_characters, coloured, two_faces, meeting, partly_invisible, red};
 
 /// A face of the text that an overlay's is laid over. A number that names no face is the plain one, and the face of the end is
 /// plain.
 fn faces_that_merge()
-    ensures before { face_at (coloured 1) two_faces 1 ≡ record plain { fg = 1 } }
-    ensures merged { face_at (coloured 1) two_faces 2 ≡ record plain { fg = 1; bg = 2 } }
-    ensures behind { face_at (coloured 1) two_faces 3 ≡ record plain { fg = 1 } }
+    ensures before { face_at (coloured 1) two_faces 1 ≡ red }
+    ensures merged { face_at (coloured 1) two_faces 2 ≡ record red { bg = 2 } }
+    ensures behind { face_at (coloured 1) two_faces 3 ≡ red }
     ensures end { face_at (coloured 1) two_faces 4 ≡ plain }
-    ensures missing { face_at (coloured 9) two_faces 2 ≡ record plain { fg = 1 } }
+    ensures missing { face_at (coloured 9) two_faces 2 ≡ red }
 {}
 
 /// The order of the strings where five overlays meet, one of them empty.

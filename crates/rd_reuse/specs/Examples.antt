@@ -1,14 +1,9 @@
 -- A text of three lines, and its rows at an earlier time, for worked examples.
 use Rattle.std.specs.Prelude.{ℕ, ◌+◌, ◌==◌, Bool, true, false, if◌then◌else◌, List, [], ◌∷◌}
-use Rattle.rd_base.specs.declared.settings.Wrap.TheVariants.{Continue}
 use Rattle.rd_matrix.specs.Sources.{SourceValues}
 use Rattle.rd_matrix.specs.declared.block.Block.{Block}
 use Rattle.rd_matrix.specs.declared.matrix.Entry.{Entry}
 use Rattle.rd_rows.specs.Rows.{RowMeaning}
-use Rattle.rd_rows.specs.Shapes.{ShapeValues}
-
-abbrev pub twelve_columns : ShapeValues
-twelve_columns = record { width = 12; wrap = Continue; hscroll = 0 }
 
 abbrev pub block : ℕ → ℕ → ℕ → Block
 block start end base = record { start = start; end = end; base = base }

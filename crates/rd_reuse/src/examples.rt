@@ -3,9 +3,10 @@ ghost use Rattle.std.specs.Prelude.{◌≡◌, true, false, ◌∷◌, [], map, 
 ghost use Rattle.rd_base.specs.Lists.{is_between};
 ghost use Rattle.rd_matrix.specs.Rows.{blocks_with};
 ghost use Rattle.rd_reuse.specs.Changes.{none, all, edit, join};
-ghost use Rattle.rd_reuse.specs.Examples.{twelve_columns, block, row, older, three_lines, longer_lines, letters, three_letters};
+ghost use Rattle.rd_reuse.specs.Examples.{block, row, older, three_lines, longer_lines, letters, three_letters};
 ghost use Rattle.rd_reuse.specs.Keeping.{fresh_cost, is_kept, kept_source, taken};
 ghost use Rattle.rd_reuse.specs.Views.{fresh_costs};
+ghost use Rattle.rd_rows.specs.Examples.{twelve_continued};
 
 /// Two characters are put at a position, three removed, and a range changes its properties. Behind the last position no tail
 /// stands.
@@ -33,9 +34,9 @@ fn combined_edits()
 fn an_edit_in_a_middle_line()
     ensures kept { map (is_kept three_lines (edit 6 0 1)) longer_lines.blocks ≡ true ∷ false ∷ true ∷ [] }
     ensures taken { taken three_lines (edit 6 0 1) 22 ≡ record { shown = row false true; copies = 3 } ∷ [] }
-    ensures costs { map (fresh_cost longer_lines three_lines (edit 6 0 1) twelve_columns) longer_lines.blocks ≡ 0 ∷ 17 ∷ 0 ∷ [] }
-    ensures view { fresh_costs longer_lines three_lines (edit 6 0 1) twelve_columns 0 4 ≡ 17 }
-    ensures last { fresh_costs longer_lines three_lines (edit 6 0 1) twelve_columns 3 4 ≡ 0 }
+    ensures costs { map (fresh_cost longer_lines three_lines (edit 6 0 1) twelve_continued) longer_lines.blocks ≡ 0 ∷ 17 ∷ 0 ∷ [] }
+    ensures view { fresh_costs longer_lines three_lines (edit 6 0 1) twelve_continued 0 4 ≡ 17 }
+    ensures last { fresh_costs longer_lines three_lines (edit 6 0 1) twelve_continued 3 4 ≡ 0 }
 {}
 
 /// With no change all three lines keep their rows, after a change of the first character the two behind it, after one of the last
@@ -75,21 +76,21 @@ fn rows_that_are_taken()
 
 /// At the shape of the older rows a block that keeps them costs nothing; at another one it costs what it costs its source.
 fn costs_of_a_source_with_kept_rows()
-    ensures same { map (λ b. (kept_source longer_lines three_lines (edit 6 0 1) twelve_columns).cost_of b twelve_columns) longer_lines.blocks ≡ 0 ∷ 17 ∷ 0 ∷ [] }
-    ensures other { map (λ b. (kept_source longer_lines three_lines (edit 6 0 1) twelve_columns).cost_of b (record twelve_columns { hscroll = 1 })) longer_lines.blocks ≡ 3 ∷ 17 ∷ 3 ∷ [] }
+    ensures same { map (λ b. (kept_source longer_lines three_lines (edit 6 0 1) twelve_continued).cost_of b twelve_continued) longer_lines.blocks ≡ 0 ∷ 17 ∷ 0 ∷ [] }
+    ensures other { map (λ b. (kept_source longer_lines three_lines (edit 6 0 1) twelve_continued).cost_of b (record twelve_continued { hscroll = 1 })) longer_lines.blocks ≡ 3 ∷ 17 ∷ 3 ∷ [] }
 {}
 
 /// The lines `a`, `b` and `c`: all of them are laid out at first, none where nothing changed, and the last one after `x` was put
 /// before its letter.
 fn an_edit_in_a_short_line()
-    ensures first { fresh_costs (letters 2) [] all twelve_columns 0 3 ≡ 6 }
-    ensures again { fresh_costs (letters 2) (three_letters 0) none twelve_columns 0 3 ≡ 0 }
-    ensures edited { fresh_costs (letters 3) (three_letters 0) (edit 5 0 1) twelve_columns 0 3 ≡ 3 }
+    ensures first { fresh_costs (letters 2) [] all twelve_continued 0 3 ≡ 6 }
+    ensures again { fresh_costs (letters 2) (three_letters 0) none twelve_continued 0 3 ≡ 0 }
+    ensures edited { fresh_costs (letters 3) (three_letters 0) (edit 5 0 1) twelve_continued 0 3 ≡ 3 }
 {}
 
 /// The lines that have a row in view: from the second row of the second line on, the first row, and none.
 fn blocks_in_view_of_a_window()
-    ensures middle { blocks_with (is_between 2 4) (λ b. longer_lines.rows_of b twelve_columns) 0 longer_lines.blocks ≡ block 5 22 0 ∷ block 22 25 0 ∷ [] }
-    ensures first { blocks_with (is_between 0 1) (λ b. longer_lines.rows_of b twelve_columns) 0 longer_lines.blocks ≡ block 1 5 0 ∷ [] }
-    ensures empty { blocks_with (is_between 2 2) (λ b. longer_lines.rows_of b twelve_columns) 0 longer_lines.blocks ≡ [] }
+    ensures middle { blocks_with (is_between 2 4) (λ b. longer_lines.rows_of b twelve_continued) 0 longer_lines.blocks ≡ block 5 22 0 ∷ block 22 25 0 ∷ [] }
+    ensures first { blocks_with (is_between 0 1) (λ b. longer_lines.rows_of b twelve_continued) 0 longer_lines.blocks ≡ block 1 5 0 ∷ [] }
+    ensures empty { blocks_with (is_between 2 2) (λ b. longer_lines.rows_of b twelve_continued) 0 longer_lines.blocks ≡ [] }
 {}

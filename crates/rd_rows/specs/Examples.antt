@@ -51,11 +51,12 @@ stretch item column = item_element item (Column column) Blank
 abbrev pub spaces : ℕ → ℕ → Element
 spaces item columns = item_element item (Fixed columns) Blank
 
-abbrev pub narrow : ShapeValues
-narrow = record { width = 12; wrap = Continue; hscroll = 0 }
+-- twelve columns, in which lines are continued, truncated, or cut at words
+abbrev pub twelve_continued : ShapeValues
+twelve_continued = record { width = 12; wrap = Continue; hscroll = 0 }
 
-abbrev pub cut : ShapeValues
-cut = record { width = 12; wrap = Truncate; hscroll = 0 }
+abbrev pub twelve_truncated : ShapeValues
+twelve_truncated = record { width = 12; wrap = Truncate; hscroll = 0 }
 
 abbrev pub by_words : ShapeValues
 by_words = record { width = 12; wrap = Word; hscroll = 0 }

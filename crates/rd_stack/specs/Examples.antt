@@ -1,5 +1,5 @@
 -- Buffers and strings on which the definitions are worked out.
-use Rattle.std.specs.Prelude.{ℕ, pos, false, true, List, [], ◌∷◌, Option, Some}
+use Rattle.std.specs.Prelude.{ℕ, false, true, List, [], ◌∷◌, Option, Some}
 use Rattle.rd_base.specs.Faces.{Attributes, plain}
 use Rattle.rd_base.specs.Cells.{single}
 use Rattle.rd_base.specs.Settings.{opening}
@@ -14,14 +14,16 @@ use Rattle.rd_ucd.specs.declared.spans.BracketEntry.{BracketEntry}
 use Rattle.rd_ucd.specs.Data.{Data}
 use Rattle.rd_overlays.specs.declared.overlay.Overlay.{Overlay}
 use Rattle.rd_overlays.specs.declared.overlay.Kind.TheVariants.{Before}
-use Rattle.rd_overlays.specs.Overlays.{new_overlay, given}
+use Rattle.rd_overlays.specs.Overlays.{given}
 use Rattle.rd_objects.specs.declared.run.Spec.TheVariants.{Text, Align}
 use Rattle.rd_objects.specs.declared.run.RunKind.TheVariants as run
-use Rattle.rd_objects.specs.Texts.{TextValue, text_of}
+use Rattle.rd_objects.specs.Texts.{text_of}
 use Rattle.rd_objects.specs.Things.{ObjectLists, nothing_made}
 use Rattle.rd_glyphs.specs.Characters.{element_of}
 use Rattle.rd_props.specs.Buffers.{BufferValue}
+use Rattle.rd_props.specs.Examples.{on_green, on_the_second, red}
 use Rattle.rd_props.specs.Examples as props
+use Rattle.rd_items.specs.Examples.{bare}
 use Rattle.rd_items.specs.Readings.{reading}
 use Rattle.rd_items.specs.Pieces.{Scene, scene_in}
 use Rattle.rd_levels.specs.Examples.{round}
@@ -44,10 +46,6 @@ stretch extent item from to = record { extent = extent; look = look.Blank; face 
 abbrev pub buffer : List ℕ → List (List (Option ℕ)) → List (Option Overlay) → Invisible → BufferValue
 buffer chars properties overlays invisible = props.buffer chars properties overlays (record opening { invisible = invisible })
 
--- a string without runs
-abbrev pub bare : List ℕ → TextValue
-bare chars = text_of chars [] []
-
 -- the strings A, B, C, D, E and F
 abbrev pub six_strings : ObjectLists
 six_strings = record nothing_made { strings = bare (65 ∷ []) ∷ bare (66 ∷ []) ∷ bare (67 ∷ []) ∷ bare (68 ∷ []) ∷ bare (69 ∷ []) ∷ bare (70 ∷ []) ∷ [] }
@@ -64,13 +62,7 @@ nested_strings = record nothing_made {
 
 -- an overlay on the second character with that string before it
 abbrev pub string_before : List (Option Overlay)
-string_before = given (Some (new_overlay 2 3 (pos 0) false false) ∷ []) 0 Before (Some 0)
-
-abbrev pub red : Attributes
-red = record plain { fg = 1 }
-
-abbrev pub on_green : Attributes
-on_green = record plain { bg = 2 }
+string_before = given (on_the_second false) 0 Before (Some 0)
 
 -- a string on green, whose newline is replaced by another string, in bold; and a red face
 abbrev pub coloured_strings : ObjectLists

@@ -3,10 +3,10 @@ ghost use Rattle.std.specs.Prelude.{◌≡◌, ◌∷◌, [], true};
 ghost use Rattle.rd_base.specs.declared.element.Extent.TheVariants.{Fixed, Column};
 ghost use Rattle.rd_base.specs.declared.element.Look.TheVariants.{RowEnd, LineEnd};
 ghost use Rattle.rd_base.specs.declared.settings.Invisible.TheVariants.{Every, Listed};
-ghost use Rattle.rd_props.specs.Examples.{put_once, meeting};
+ghost use Rattle.rd_props.specs.Examples.{put_once, meeting, red};
 ghost use Rattle.rd_items.specs.Examples.{no_columns};
 ghost use Rattle.rd_stack.specs.Shown.{prefix};
-ghost use Rattle.rd_stack.specs.Examples.{plain_look, letter, stretch, buffer, coloured, outside_letter, six_strings, nested_strings, string_before, red, coloured_strings, arrow, scene, line_at, paired_line_at};
+ghost use Rattle.rd_stack.specs.Examples.{plain_look, letter, stretch, buffer, coloured, outside_letter, six_strings, nested_strings, string_before, coloured_strings, arrow, scene, line_at, paired_line_at};
 
 /// A line where five overlays with strings meet between two characters. The call does nothing.
 fn line_where_overlays_meet()

@@ -1,15 +1,10 @@
 -- Sources and windows for worked examples.
 use Rattle.std.specs.Prelude.{ℕ, zero, suc, ◌+◌, ◌==◌, if◌then◌else◌, true, false, List, [], ◌∷◌, ◌++◌, pos}
-use Rattle.rd_base.specs.declared.settings.Wrap.TheVariants.{Truncate}
 use Rattle.rd_matrix.specs.Sources.{SourceValues}
 use Rattle.rd_matrix.specs.declared.block.Block.{Block}
 use Rattle.rd_rows.specs.Rows.{RowMeaning}
-use Rattle.rd_rows.specs.Shapes.{ShapeValues}
 use Rattle.rd_rows.specs.declared.begin.Begin.{Begin}
 use Rattle.rd_start.specs.declared.wanted.Wanted.{Wanted}
-
-abbrev pub twelve_columns : ShapeValues
-twelve_columns = record { width = 12; wrap = Truncate; hscroll = 0 }
 
 -- so many items, each of one position, from an offset on
 abbrev pub items_from : ℕ → ℕ → List Begin

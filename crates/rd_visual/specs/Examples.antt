@@ -2,11 +2,12 @@
 use Rattle.std.specs.Prelude.{ℕ, ◌+◌, Bool, true, false, List, [], ◌∷◌, map}
 use Rattle.rd_base.specs.Faces.{plain}
 use Rattle.rd_base.specs.Glyphs.{blanks}
+use Rattle.rd_objects.specs.Things.{nothing_made}
 use Rattle.rd_props.specs.Buffers.{BufferValue}
 use Rattle.rd_matrix.specs.Entries.{EntryMeaning}
 use Rattle.rd_matrix.specs.declared.block.Block.{Block}
 use Rattle.rd_rows.specs.declared.begin.Begin.{Begin}
-use Rattle.rd_blocks.specs.Examples.{buffer, no_objects, files}
+use Rattle.rd_blocks.specs.Examples.{buffer, files}
 use Rattle.rd_visual.specs.Motion.{block_ranges}
 use Rattle.rd_visual.specs.declared.range.Range.{Range}
 
@@ -32,7 +33,7 @@ abbrev pub left_block : Block
 left_block = record { start = 1; end = 6; base = 0 }
 
 abbrev pub ranges_in : BufferValue → Block → List Range
-ranges_in s b = block_ranges s no_objects files b
+ranges_in s b = block_ranges s nothing_made files b
 
 -- an item, by the offsets from which and to which it covers, and its column
 abbrev pub item : ℕ → ℕ → ℕ → Begin

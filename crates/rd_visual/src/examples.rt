@@ -1,7 +1,8 @@
 //! Worked examples. They have no body: what they promise is computed from the definitions.
 ghost use Rattle.std.specs.Prelude.{◌≡◌, ℕ, ◌∷◌, [], map, Some, None};
 ghost use Rattle.rd_matrix.specs.Cursors.{cursor_in};
-ghost use Rattle.rd_blocks.specs.Examples.{buffer, no_objects, files};
+ghost use Rattle.rd_objects.specs.Things.{nothing_made};
+ghost use Rattle.rd_blocks.specs.Examples.{buffer, files};
 ghost use Rattle.rd_visual.specs.Examples.{from_the_left, from_the_right, item, left_block, ranges_in, right_block, right_row, row_from_the_left, row_from_the_right, singles};
 ghost use Rattle.rd_visual.specs.Hits.{hit_in};
 ghost use Rattle.rd_visual.specs.Motion.{base_of, before, behind, left_of};
@@ -40,5 +41,5 @@ fn steps_in_a_line_from_the_left_edge()
     ensures ranges { ranges_in from_the_left left_block ≡ singles (1 ∷ 3 ∷ 2 ∷ 4 ∷ 5 ∷ []) }
     ensures forward { map (λ (pos : ℕ). behind pos (singles (1 ∷ 3 ∷ 2 ∷ 4 ∷ 5 ∷ []))) (1 ∷ 3 ∷ 2 ∷ 5 ∷ []) ≡ Some 3 ∷ Some 2 ∷ Some 4 ∷ None ∷ [] }
     ensures base { base_of (left_block ∷ record { start = 6; end = 7; base = 1 } ∷ []) 5 ≡ 0 }
-    ensures nothing { left_of (buffer []) no_objects files 1 ≡ None }
+    ensures nothing { left_of (buffer []) nothing_made files 1 ≡ None }
 {}
