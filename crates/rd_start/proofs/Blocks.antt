@@ -51,20 +51,20 @@ pub any-fit : (rows : Block → List RowMeaning) (from point : ℕ) (bs : List B
 any-fit rows from point bs h = any-told point (all_rows rows bs) (leb from point && ltb point (end_from from bs)) (count-fit rows from point bs h)
 
 -- the row in which an item that covers a position begins, among rows of blocks up to the position, of those that hold it, and of others
-pub record FirstRow (point : ℕ) (front middle back : List EntryMeaning) : Type 0 where
-  pub some : list_any (begins_item point) middle ≡ true
-  pub place : position_or_len (begins_item point) (front ++ (middle ++ back)) ≡ length front + position_or_len (begins_item point) middle
-  pub inside : position_or_len (begins_item point) middle < length middle
+pub record FirstRow (point : ℕ) (front held back : List EntryMeaning) : Type 0 where
+  pub some : list_any (begins_item point) held ≡ true
+  pub place : position_or_len (begins_item point) (front ++ (held ++ back)) ≡ length front + position_or_len (begins_item point) held
+  pub inside : position_or_len (begins_item point) held < length held
 
-pub first-row : (point start end from to : ℕ) (front middle back : List EntryMeaning) → list_any (begins_item point) front ≡ (leb start point && ltb point end)
-    → list_any (begins_item point) middle ≡ (leb from point && ltb point to) → end ≤ point → from ≤ point → point < to → FirstRow point front middle back
-first-row point start end from to front middle back in_front in_middle above low high =
+pub first-row : (point start end from to : ℕ) (front held back : List EntryMeaning) → list_any (begins_item point) front ≡ (leb start point && ltb point end)
+    → list_any (begins_item point) held ≡ (leb from point && ltb point to) → end ≤ point → from ≤ point → point < to → FirstRow point front held back
+first-row point start end from to front held back in_front in_held above low high =
     let begins = begins_item point in
-    let some = in_middle ∙ in-range from to point low high in
+    let some = in_held ∙ in-range from to point low high in
     record {
       some = some;
-      place = first-behind begins front (middle ++ back) (in_front ∙ above-range start end point above) ∙ ap (λ n. length front + n) (first-among begins middle back some);
-      inside = first-inside begins middle some;
+      place = first-behind begins front (held ++ back) (in_front ∙ above-range start end point above) ∙ ap (λ n. length front + n) (first-among begins held back some);
+      inside = first-inside begins held some;
     }
 
 -- an item that covers a position of a source begins in one of its rows

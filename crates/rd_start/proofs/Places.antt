@@ -32,11 +32,11 @@ anchor-strip_row m s place strip_row h inside at =
     let from = z.from in
     let count = z.count in
     let first : first_row m s + place ≡ length z.front + place = omega arith in
-    let low : place < length z.middle = omega arith in
+    let low : place < length z.own = omega arith in
     let here = ap (λ (ys : List EntryMeaning). slice_get ys (first_row m s + place)) z.whole
-    ∙ (get-second z.front (z.middle ++ z.back) (first_row m s + place) place first ∙ get-first z.middle z.back place low) in
-    let mapped = sym (slice_get-map (strip_row_of s.sweep.point) z.middle place) ∙ (ap (λ (ys : List StripRow). slice_get ys place) (sym z.strip_rows) ∙ at) in
-    anchor-same s.sweep.point (slice_get z.middle place) strip_row mapped ∙ ap anchor_from (sym here)
+    ∙ (get-second z.front (z.own ++ z.back) (first_row m s + place) place first ∙ get-first z.own z.back place low) in
+    let mapped = sym (slice_get-map (strip_row_of s.sweep.point) z.own place) ∙ (ap (λ (ys : List StripRow). slice_get ys place) (sym z.strip_rows) ∙ at) in
+    anchor-same s.sweep.point (slice_get z.own place) strip_row mapped ∙ ap anchor_from (sym here)
 
 -- the rows of a strip from one place up to another, among all rows
 pub rows-between : (m : SourceValues) (s : Strip) (from to : ℕ) → IsStrip m s → from ≤ to → to ≤ length s.strip_rows.items
@@ -47,12 +47,12 @@ rows-between m s from to h low high =
     let count = z.count in
     let first : first_row m s + from ≡ length z.front + from = omega arith in
     let apart : from + (to - from) ≡ to = omega arith in
-    let left = length-drop from z.middle in
-    ap (λ n. drop from (take n z.middle)) (sym apart)
-    ∙ (drop-take from (to - from) z.middle
+    let left = length-drop from z.own in
+    ap (λ n. drop from (take n z.own)) (sym apart)
+    ∙ (drop-take from (to - from) z.own
     ∙ sym (ap₂ (λ (n : ℕ) (ys : List EntryMeaning). take (to - from) (drop n ys)) first z.whole
-    ∙ (ap (take (to - from)) (drop-append-add z.front (z.middle ++ z.back) from ∙ drop-append-le from z.middle z.back (omega arith))
-    ∙ take-append-le (to - from) (drop from z.middle) z.back (omega arith))))
+    ∙ (ap (take (to - from)) (drop-append-add z.front (z.own ++ z.back) from ∙ drop-append-le from z.own z.back (omega arith))
+    ∙ take-append-le (to - from) (drop from z.own) z.back (omega arith))))
 
 pub span-strip_rows : (m : SourceValues) (s : Strip) (from to place : ℕ) (span : Option Span) → to ≤ length s.strip_rows.items → place ≡ to → span ≡ spans None (drop from (take place s.strip_rows.items)) → IsStrip m s → from ≤ to
     → span ≡ span_of (first_positions (take (to - from) (drop (first_row m s + from) (all_rows (rows_in m s.sweep) m.blocks))))

@@ -84,8 +84,8 @@ no-prev m s first h at gives =
     let home = h.home in
     omega arith
 
-among-middle : (all front : List Block) (b : Block) (rest : List Block) → all ≡ (front ++ (b ∷ [])) ++ rest → IsAmong all b
-among-middle all front b rest e =
+among-between : (all front : List Block) (b : Block) (rest : List Block) → all ≡ (front ++ (b ∷ [])) ++ rest → IsAmong all b
+among-between all front b rest e =
     let whole = e ∙ append_assoc front (b ∷ []) rest in
     (length front, ap (λ ys. slice_get ys (length front)) whole ∙ get-second front (b ∷ rest) (length front) 0 (omega arith))
 
@@ -101,7 +101,7 @@ prev-of m s first b h at gives =
       after = h.after;
       pieces = pieces-above m.blocks h.before s.blocks.items h.after front b h.pieces e.1;
       home = omega (arith, h.home, count);
-      among = among-middle m.blocks front b (s.blocks.items ++ h.after) whole;
+      among = among-between m.blocks front b (s.blocks.items ++ h.after) whole;
     }
 
 pub prev-beyond : (r : Result (Option Block) Memory) (m : SourceValues) (s : Strip) (first : Block) → IsStrip m s → slice_get s.blocks.items 0 ≡ Some first
@@ -240,13 +240,7 @@ grown-smaller edge m s new b rows next pushed =
     let back = length-append (pushed_at edge s.blocks.items (b ∷ [])) next.after in
     (omega arith, omega arith)
 
--- what is said of one source, as it was said of the same
-pub at-source : (P : SourceValues → Type 0) (m other : SourceValues) → other ≡ m → P other → P m
-at-source P m other e h = subst P e h
-
-pub among-same : (m other : SourceValues) (b : Block) → other ≡ m → IsAmong m.blocks b → IsAmong other.blocks b
-among-same m other b e h = subst (λ (x : SourceValues). IsAmong x.blocks b) (sym e) h
-
+-- what is said of one source, as it was said of the same: the cost of a block, and its rows
 pub cost-same : (m other : SourceValues) (sweep : Sweep) (b : Block) (more steps : ℕ) → other ≡ m → more ≤ steps + cost_in other sweep b → more ≤ steps + cost_in m sweep b
 cost-same m other sweep b more steps e h = subst (λ (x : SourceValues). more ≤ steps + cost_in x sweep b) e h
 

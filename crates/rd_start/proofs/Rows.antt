@@ -27,31 +27,31 @@ use Rattle.rd_start.proofs.Lists.{first-among, first-behind, position-mapped, po
 -- all rows are those before a strip, its own and those behind it
 pub record RowsAround (m : SourceValues) (sweep : Sweep) (bs : List Block) (ls : List StripRow) (at : ℕ) : Type 0 where
   pub front : List EntryMeaning
-  pub middle : List EntryMeaning
+  pub own : List EntryMeaning
   pub back : List EntryMeaning
-  pub whole : all_rows (rows_in m sweep) m.blocks ≡ front ++ (middle ++ back)
+  pub whole : all_rows (rows_in m sweep) m.blocks ≡ front ++ (own ++ back)
   pub from : length front + at ≡ home_row m sweep
-  pub strip_rows : ls ≡ map (strip_row_of sweep.point) middle
-  pub count : length ls ≡ length middle
+  pub strip_rows : ls ≡ map (strip_row_of sweep.point) own
+  pub count : length ls ≡ length own
   pub total : length front + (length ls + length back) ≡ count_in m sweep m.blocks
 
 abbrev pub rows_around : (m : SourceValues) (sweep : Sweep) (bs : List Block) (ls : List StripRow) (at : ℕ) → IsStripOf m sweep bs ls at → RowsAround m sweep bs ls at
 rows_around m sweep bs ls at h =
     let rows = λ (b : Block). rows_in m sweep b in
     let front = all_rows rows h.before in
-    let middle = all_rows rows bs in
+    let own = all_rows rows bs in
     let back = all_rows rows h.after in
     let whole = ap (all_rows rows) h.pieces ∙ (all-append rows h.before (bs ++ h.after) ∙ ap (λ ys. front ++ ys) (all-append rows bs h.after)) in
-    let count = ap length h.strip_rows ∙ length-map middle (strip_row_of sweep.point) in
+    let count = ap length h.strip_rows ∙ length-map own (strip_row_of sweep.point) in
     record {
       front = front;
-      middle = middle;
+      own = own;
       back = back;
       whole = whole;
       from = h.home;
       strip_rows = h.strip_rows;
       count = count;
-      total = omega (arith, count, ap length whole, length-append front (middle ++ back), length-append middle back);
+      total = omega (arith, count, ap length whole, length-append front (own ++ back), length-append own back);
     }
 
 -- a strip's rows are rows of its source
@@ -118,7 +118,7 @@ pub record Bounds (m : SourceValues) (sweep : Sweep) (bs before after : List Blo
   pub last : ℕ
   pub end : ℕ
   pub front : Fit (rows_in m sweep) start before
-  pub middle : Fit (rows_in m sweep) first bs
+  pub own : Fit (rows_in m sweep) first bs
   pub back : Fit (rows_in m sweep) last after
   pub at_first : first ≡ end_from start before
   pub at_last : last ≡ end_from first bs
@@ -142,7 +142,7 @@ bounds m sweep bs ls at h =
       last = last;
       end = end_from last h.after;
       front = fit-front rows start h.before (bs ++ h.after) whole;
-      middle = fit-front rows first bs h.after rest;
+      own = fit-front rows first bs h.after rest;
       back = fit-back rows first bs h.after rest;
       at_first = refl;
       at_last = refl;
@@ -161,10 +161,10 @@ whereabouts m sweep bs ls at h =
     let z = rows_around m sweep bs ls at h in
     let row = ap (position_or_len begins) z.whole in
     let in_front = any-fit rows w.start p h.before w.front in
-    let in_middle = any-fit rows w.first p bs w.middle in
+    let in_own = any-fit rows w.first p bs w.own in
     let in_back = any-fit rows w.last p h.after w.back in
     let size = z.count in
-    let head = first-of rows w.first bs h.some w.middle in
+    let head = first-of rows w.first bs h.some w.own in
     let start_low = w.low in
     let end_high = w.high in
     let e1 = w.at_first in
@@ -176,25 +176,25 @@ whereabouts m sweep bs ls at h =
           let t = in-range w.start (end_from w.start h.before) p w.low (omega (arith, low, e1)) in
           let u = below-range w.first (end_from w.first bs) p low in
           let some = in_front ∙ t in
-          let place = row ∙ first-among begins z.front (z.middle ++ z.back) some in
+          let place = row ∙ first-among begins z.front (z.own ++ z.back) some in
           let inside = first-inside begins z.front some in
           let start = head.start in
           inl (record {
             first = head.first;
             here = head.here;
             low = omega (arith, low, start);
-            none = ap find_point h.strip_rows ∙ not-found p z.middle (in_middle ∙ u);
+            none = ap find_point h.strip_rows ∙ not-found p z.own (in_own ∙ u);
             row = omega (arith, place, inside, z.from);
           })
       | inl from ↦ elim (cases_Bool (ltb p w.last)) [
         | inl here ↦
             let low = leb-true w.first p from in
             let high = ltb-true p w.last here in
-            let first = first-row p w.start (end_from w.start h.before) w.first (end_from w.first bs) z.front z.middle z.back in_front in_middle (omega (arith, low, e1)) low (omega (arith, high, e2)) in
+            let first = first-row p w.start (end_from w.start h.before) w.first (end_from w.first bs) z.front z.own z.back in_front in_own (omega (arith, low, e1)) low (omega (arith, high, e2)) in
             let place = row ∙ first.place in
             inr (inl (record {
-              row = position_or_len begins z.middle;
-              here = ap find_point h.strip_rows ∙ found p z.middle first.some;
+              row = position_or_len begins z.own;
+              here = ap find_point h.strip_rows ∙ found p z.own first.some;
               inside = omega (arith, first.inside, size);
               place = omega (arith, place, z.from);
             }))
@@ -204,14 +204,14 @@ whereabouts m sweep bs ls at h =
             let t = above-range w.start (end_from w.start h.before) p (omega (arith, high, e1)) in
             let u = above-range w.first (end_from w.first bs) p (omega (arith, past, e2)) in
             let v = in-range w.last (end_from w.last h.after) p past (omega (arith, end_high, e3)) in
-            let place = row ∙ (first-behind begins z.front (z.middle ++ z.back) (in_front ∙ t) ∙ ap (λ n. length z.front + n) (first-behind begins z.middle z.back (in_middle ∙ u))) in
+            let place = row ∙ (first-behind begins z.front (z.own ++ z.back) (in_front ∙ t) ∙ ap (λ n. length z.front + n) (first-behind begins z.own z.back (in_own ∙ u))) in
             let inside = first-inside begins z.back (in_back ∙ v) in
             let start = head.start in
             inr (inr (record {
               first = head.first;
               here = head.here;
               high = omega (arith, high, start);
-              none = ap find_point h.strip_rows ∙ not-found p z.middle (in_middle ∙ u);
+              none = ap find_point h.strip_rows ∙ not-found p z.own (in_own ∙ u);
               row = omega (arith, place, size, z.from);
               inside = omega (arith, place, inside, size, z.total);
             }))

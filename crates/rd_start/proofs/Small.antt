@@ -31,13 +31,13 @@ pub span-small : (m : SourceValues) (s : Strip) (from to : ℕ) (span : Span) �
     → Some span ≡ span_of (first_positions (take (to - from) (drop (first_row m s + from) (all_rows (rows_in m s.sweep) m.blocks)))) → (span.first < 2 ^ 32) × (span.last < 2 ^ 32)
 span-small m s from to span h low high e =
     let rows = λ (b : Block). rows_in m s.sweep b in
-    let middle = all_rows rows s.blocks.items in
+    let own = all_rows rows s.blocks.items in
     let ends = All-from_recursion (λ (b : Block). b.end < 2 ^ 32) s.blocks.items h.small in
     let all = rows-cover (Below (2 ^ 32)) rows s.blocks.items
     (λ b among. h.source.rows b s.sweep.shape (strip-among m s.sweep s.blocks.items s.strip_rows.items s.home b h among) h.shape)
     (λ b among p least most. let end = all-at (λ (c : Block). c.end < 2 ^ 32) s.blocks.items among.0 b ends among.1 in omega (arith, most, end)) in
-    let part = All-drop (OfRow (Below (2 ^ 32))) from (take to middle) (All-take (OfRow (Below (2 ^ 32))) to middle all) in
-    span-below (2 ^ 32) (first_positions (drop from (take to middle))) span (positions-each (Below (2 ^ 32)) (drop from (take to middle)) part)
+    let part = All-drop (OfRow (Below (2 ^ 32))) from (take to own) (All-take (OfRow (Below (2 ^ 32))) to own all) in
+    span-below (2 ^ 32) (first_positions (drop from (take to own))) span (positions-each (Below (2 ^ 32)) (drop from (take to own)) part)
     (e ∙ ap (λ (ys : List EntryMeaning). span_of (first_positions ys)) (sym (rows-between m s from to h low high)))
 
 pub view-small : (m : SourceValues) (s : Strip) (start height end : ℕ) (span : Span) → IsStrip m s → start < length s.strip_rows.items → end ≡ min (start + height) (length s.strip_rows.items) → Spans s start end (Some span)

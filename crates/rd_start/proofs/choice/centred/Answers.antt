@@ -2,7 +2,7 @@ use Rattle.std.proofs.Common.{◌≡◌, ℕ, ◌+◌, ◌-◌, ◌/◌, ap, sub
 use Rattle.rd_matrix.specs.Sources.{SourceValues}
 use Rattle.rd_start.specs.Strips.{IsStrip, BeginsAbove, all_costs, first_row, point_row}
 use Rattle.rd_start.specs.declared.strip.Edge.TheVariants.{Top}
-use Rattle.rd_start.proofs.Reaching.{EdgeFails, at-source}
+use Rattle.rd_start.proofs.Reaching.{EdgeFails}
 use Rattle.rd_start.proofs.Moving.{CentredPays, asks-above, centre-place, costs-same, pays, value-centre}
 use Rattle.rd_start.proofs.choice.centred.Given as given
 use Rattle.rd_start.proofs.choice.centred.Goals as goal
@@ -29,7 +29,7 @@ spent g c steps fails = λ kind base paid asks.
     let rows : up ≡ s.home + w.height / 2 - row = omega (arith, c.saturating_sub-above.ensures, c.home-home.ensures) in
     let had = c.in_ok-strip.ensures.paid kind base paid (asks (point_row m old) (omega arith) (omega arith)) in
     let above = asks-above kind m old s w row (w.height / 2) up found.0 at.0 at.1 (omega arith) rows found.1 found.2 asks in
-    let here = at-source (λ (x : SourceValues). EdgeFails Top x s c.with_point.new.steps steps up) m (g.B.BlockSource.meaning c.with_point.new.source) c.with_point.ensures.stays fails in
+    let here = subst (λ (x : SourceValues). EdgeFails Top x s c.with_point.new.steps steps up) c.with_point.ensures.stays fails in
     let bound = here kind (base + all_costs kind m old) had above in
     let costs = costs-same kind m old s.sweep found.2 in
     omega (arith, bound, costs)
@@ -41,7 +41,6 @@ returns-in_err-reach-clause-steps g c =
 pub returns-clause-value : goal.returns-clause-value
 returns-clause-value g c =
     let m = g.B.BlockSource.meaning c.args.source.now in
-    let other = g.B.BlockSource.meaning c.with_point.new.source in
     let old = c.args.window.strip.sweep in
     let s = c.in_ok-strip.strip in
     let new = c.reach.new.self in
@@ -52,8 +51,8 @@ returns-clause-value g c =
     let at = c.in_ok-strip.ensures.place in
     let up = c.saturating_sub-above.result in
     let rows : up ≡ s.home + half - row = omega (arith, c.saturating_sub-above.ensures, c.home-home.ensures) in
-    let strip = at-source (λ (x : SourceValues). IsStrip x new) m other c.with_point.ensures.stays c.in_ok-reach.ensures.strip in
-    let begins = subst (λ n. BeginsAbove m new n) rows (at-source (λ (x : SourceValues). BeginsAbove x new up) m other c.with_point.ensures.stays c.in_ok-reach.ensures.reached) in
+    let strip = subst (λ (x : SourceValues). IsStrip x new) c.with_point.ensures.stays c.in_ok-reach.ensures.strip in
+    let begins = subst (λ n. BeginsAbove m new n) rows (subst (λ (x : SourceValues). BeginsAbove x new up) c.with_point.ensures.stays c.in_ok-reach.ensures.reached) in
     let grows = c.in_ok-reach.ensures.grows in
     let place = centre-place m s new row half found.0 strip c.in_ok-reach.ensures.sweep at.0 at.1 grows.0 grows.1 begins in
     let start = c.saturating_sub.result in

@@ -7,7 +7,6 @@ use Rattle.rd_start.specs.declared.wanted.Wanted.{Wanted}
 use Rattle.rd_start.specs.declared.window.Window.{Window}
 use Rattle.rd_rows.specs.Shapes.{ShapeValues}
 use Rattle.rd_start.proofs.Moving.{affords-same, asks-home, chosen-same, near_of}
-use Rattle.rd_start.proofs.Reaching.{at-source}
 use Rattle.rd_start.proofs.choice.choose.Given as given
 use Rattle.rd_start.proofs.choice.choose.Goals as goal
 use Rattle.rd_start.proofs.choice.choose.Goals.{In_ok-strip}
@@ -23,7 +22,7 @@ laid : (g : given.Over) (c : goal.In_ok-strip g) (forced : Bool) → c.args.want
 laid g c forced kind =
     let w = c.args.wanted in
     let win : Window = record { wanted = w; strip = c.in_ok-strip.strip } in
-    at-source (λ (x : SourceValues). IsLaidOut x win forced) (g.B.BlockSource.meaning c.around.new.source) (g.B.BlockSource.meaning c.args.source.now) (sym c.around.ensures.stays) (record {
+    subst (λ (x : SourceValues). IsLaidOut x win forced) (sym c.around.ensures.stays) (record {
       strip = c.in_ok-strip.ensures.strip.0;
       of = subst (IsFor w) (sym c.in_ok-strip.ensures.strip.1) (is-for w c.args.shape);
       height = c.requires.height;

@@ -6,7 +6,6 @@ use Rattle.rd_start.specs.Starts.{suits}
 use Rattle.rd_start.specs.Strips.{IsLaidOut, IsUnsuited, first_row, rows_in}
 use Rattle.rd_start.specs.declared.strip.Sweep.{Sweep}
 use Rattle.rd_start.specs.declared.window.Window.{Window}
-use Rattle.rd_start.proofs.Reaching.{at-source}
 use Rattle.rd_start.proofs.Moving.{NearPaid, affords-same, chosen-same, follows-home, laid-on, near_of, spent-near, value-free, view-below}
 use Rattle.rd_start.proofs.choice.following.Given as given
 use Rattle.rd_start.proofs.choice.following.Goals as goal
@@ -41,16 +40,15 @@ returns-then-branch-clause-steps g c = λ base paid.
 suited : (g : given.Over) (c : goal.In_ok-home_suits g) → c.in_ok-home_suits.field-0
     ≡ suits c.args.window.wanted (places_of (g.B.BlockSource.meaning c.args.source.now) c.reach.new.self.sweep.shape c.args.window.wanted) (first_row (g.B.BlockSource.meaning c.args.source.now) c.reach.new.self + c.reach.new.self.home)
 suited g c =
-    let m = g.B.BlockSource.meaning c.args.source.now in
     let w = c.args.window.wanted in
     let new = c.reach.new.self in
-    at-source (λ (x : SourceValues). c.in_ok-home_suits.field-0 ≡ suits w (places_of x new.sweep.shape w) (first_row x new + new.home)) m (g.B.BlockSource.meaning c.reach.new.source) c.reach.ensures.stays c.in_ok-home_suits.ensures.value
+    subst (λ (x : SourceValues). c.in_ok-home_suits.field-0 ≡ suits w (places_of x new.sweep.shape w) (first_row x new + new.home)) c.reach.ensures.stays c.in_ok-home_suits.ensures.value
 
 pub home_suits-requires-clause-laid : goal.home_suits-requires-clause-laid
 home_suits-requires-clause-laid g c =
     let m = g.B.BlockSource.meaning c.args.source.now in
     let win : Window = record { wanted = c.args.window.wanted; strip = c.reach.new.self } in
-    at-source (λ (x : SourceValues). IsLaidOut x win false) (g.B.BlockSource.meaning c.reach.new.source) m (sym c.reach.ensures.stays)
+    subst (λ (x : SourceValues). IsLaidOut x win false) (sym c.reach.ensures.stays)
     (laid-on m c.args.window false c.reach.new.self c.requires c.in_ok-reach.ensures.strip c.in_ok-reach.ensures.sweep)
 
 pub returns-then-branch-clause-value : goal.returns-then-branch-clause-value
@@ -73,7 +71,7 @@ moving-requires g c =
     let m = g.B.BlockSource.meaning c.args.source.now in
     let new = c.reach.new.self in
     let win : Window = record { wanted = c.args.window.wanted; strip = new } in
-    at-source (λ (x : SourceValues). IsUnsuited x win) (g.B.BlockSource.meaning c.home_suits.new.source) m (sym (c.home_suits.ensures.stays ∙ c.reach.ensures.stays)) (record {
+    subst (λ (x : SourceValues). IsUnsuited x win) (sym (c.home_suits.ensures.stays ∙ c.reach.ensures.stays)) (record {
       laid = laid-on m c.args.window false new c.requires c.in_ok-reach.ensures.strip c.in_ok-reach.ensures.sweep;
       home = sym (suited g (goal.at.moving-requires g c).In_ok-home_suits) ∙ c.if-branch.false;
     })

@@ -1,9 +1,9 @@
-use Rattle.std.proofs.Common.{ℕ, ◌+◌, ap, ◌∙◌, arith}
+use Rattle.std.proofs.Common.{ℕ, ◌+◌, subst, ap, ◌∙◌, arith}
 use Rattle.rd_matrix.specs.Sources.{SourceValues}
 use Rattle.rd_start.specs.Strips.{IsStrip, AsksAt, Reaches, all_costs}
 use Rattle.rd_start.specs.declared.strip.Edge.TheVariants.{Bottom}
 use Rattle.rd_start.specs.declared.strip.Sweep.{Sweep}
-use Rattle.rd_start.proofs.Reaching.{EdgeFails, EdgePays, at-source}
+use Rattle.rd_start.proofs.Reaching.{EdgeFails, EdgePays}
 use Rattle.rd_start.proofs.Moving.{NearPaid, asks-forced, asks-scrolled, first-same, near_of, pays, value-forced}
 use Rattle.rd_start.proofs.choice.forced.Given as given
 use Rattle.rd_start.proofs.choice.forced.Goals as goal
@@ -38,7 +38,7 @@ returns-in_err-reach-clause-steps g c = λ base paid.
     let win = c.args.window in
     let kind = near_of m win.strip.sweep win.wanted in
     let start = goal.at.returns-in_err-reach-clause-steps g c in
-    let fails = at-source (λ (x : SourceValues). EdgeFails Bottom x c.scroll.new.self c.scroll.new.steps c.reach.new.steps (c.in_ok-start.start + win.wanted.height)) m (g.B.BlockSource.meaning c.scroll.new.source) c.scroll.ensures.stays
+    let fails = subst (λ (x : SourceValues). EdgeFails Bottom x c.scroll.new.self c.scroll.new.steps c.reach.new.steps (c.in_ok-start.start + win.wanted.height)) c.scroll.ensures.stays
     c.in_err-reach.ensures.paid in
     let bound = fails kind base (scrolled g start.In_ok-start base paid) (asks g start.In_ok-start) in
     let costs = ap (λ (x : Sweep). all_costs kind m x) c.in_ok-start.ensures.sweep in
@@ -47,12 +47,11 @@ returns-in_err-reach-clause-steps g c = λ base paid.
 pub returns-clause-value : goal.returns-clause-value
 returns-clause-value g c =
     let m = g.B.BlockSource.meaning c.args.source.now in
-    let other = g.B.BlockSource.meaning c.scroll.new.source in
     let win = c.args.window in
     let new = c.reach.new.self in
     let start = c.in_ok-start.start in
-    let strip = at-source (λ (x : SourceValues). IsStrip x new) m other c.scroll.ensures.stays c.in_ok-reach.ensures.strip in
-    let reached = at-source (λ (x : SourceValues). Reaches x new (start + win.wanted.height)) m other c.scroll.ensures.stays c.in_ok-reach.ensures.reached in
+    let strip = subst (λ (x : SourceValues). IsStrip x new) c.scroll.ensures.stays c.in_ok-reach.ensures.strip in
+    let reached = subst (λ (x : SourceValues). Reaches x new (start + win.wanted.height)) c.scroll.ensures.stays c.in_ok-reach.ensures.reached in
     let first = first-same m c.scroll.new.self new c.in_ok-reach.ensures.sweep c.in_ok-reach.ensures.grows.0 in
     value-forced m win.strip.sweep new win.wanted start c.forced_point.result c.anchor.result (c.in_ok-reach.ensures.sweep ∙ c.in_ok-start.ensures.sweep) c.requires.of c.requires.kind
     (ap (λ n. n + start) first ∙ c.in_ok-start.ensures.place.1) (c.anchor.ensures m strip) (c.forced_point.ensures m strip reached)
@@ -63,7 +62,7 @@ returns-clause-steps g c = λ base paid.
     let win = c.args.window in
     let new = c.reach.new.self in
     let start = goal.at.returns-clause-steps g c in
-    let paying = at-source (λ (x : SourceValues). EdgePays Bottom x c.scroll.new.self new c.scroll.new.steps c.reach.new.steps (c.in_ok-start.start + win.wanted.height)) m (g.B.BlockSource.meaning c.scroll.new.source) c.scroll.ensures.stays
+    let paying = subst (λ (x : SourceValues). EdgePays Bottom x c.scroll.new.self new c.scroll.new.steps c.reach.new.steps (c.in_ok-start.start + win.wanted.height)) c.scroll.ensures.stays
     c.in_ok-reach.ensures.paid in
     let bound = pays (near_of m win.strip.sweep win.wanted) base m win.strip.sweep new c.reach.new.steps (c.in_ok-reach.ensures.sweep ∙ c.in_ok-start.ensures.sweep)
     (paying (near_of m win.strip.sweep win.wanted) base (scrolled g start.In_ok-start base paid) (asks g start.In_ok-start)) in

@@ -1,10 +1,9 @@
-use Rattle.std.proofs.Common.{◌+◌, ◌<◌, Some, sym, ap, ◌∙◌, arith}
+use Rattle.std.proofs.Common.{◌+◌, ◌<◌, Some, subst, sym, ap, ◌∙◌, arith}
 use Rattle.std.specs.Option.{option_map}
 use Rattle.rd_matrix.specs.Sources.{SourceValues}
 use Rattle.rd_start.specs.Chosen.{places_of}
 use Rattle.rd_start.specs.Starts.{both_at, suits}
 use Rattle.rd_start.specs.Strips.{Finds, ShowsPoint, first_row}
-use Rattle.rd_start.proofs.Reaching.{at-source}
 use Rattle.rd_start.proofs.Sides.{point-told}
 use Rattle.rd_start.proofs.Suits.{lost-nearest, nearest-here, nearest-later}
 use Rattle.rd_start.proofs.view.nearest.Given as given
@@ -20,7 +19,7 @@ suiting_at-requires-clause-shows g c =
     let m = g.B.BlockSource.meaning c.args.source.now in
     let win = c.args.window.now in
     let place = point-told m win.strip (Some c.in-Some.row) c.requires.moves.laid.strip (sym c.point_row.ensures ∙ c.in-Some.is) in
-    at-source (λ (x : SourceValues). ShowsPoint x win c.in-Some.row) (g.B.BlockSource.meaning c.loop-step.source) m (sym c.loop-step.invariant.source)
+    subst (λ (x : SourceValues). ShowsPoint x win c.in-Some.row) (sym c.loop-step.invariant.source)
     (record { laid = c.requires.moves.laid; inside = place.0; point = place.1 })
 
 -- what the search at a distance answered, as rows of the source
@@ -29,9 +28,7 @@ told : (g : given.Over) (c : In_ok-found g)
     Finds m win c.in_ok-found.found (both_at (first_row m win.strip + win.strip.home) (c.loop-step.step + 1))
 told g c =
     let win = c.args.window.now in
-    at-source
-    (λ (x : SourceValues). Finds x win c.in_ok-found.found (both_at (first_row x win.strip + win.strip.home) (c.loop-step.step + 1)))
-    (g.B.BlockSource.meaning c.args.source.now) (g.B.BlockSource.meaning c.loop-step.source) c.loop-step.invariant.source c.in_ok-found.ensures.value
+    subst (λ (x : SourceValues). Finds x win c.in_ok-found.found (both_at (first_row x win.strip + win.strip.home) (c.loop-step.step + 1))) c.loop-step.invariant.source c.in_ok-found.ensures.value
 
 pub returns-in-Some-found-clause-value : goal.returns-in-Some-found-clause-value
 returns-in-Some-found-clause-value g c =

@@ -1,9 +1,10 @@
-use Rattle.std.proofs.Common.{◌≡◌, ◌<◌, inr, length, None, Some, refl, sym, ap, ◌∙◌, arith}
+use Rattle.std.proofs.Common.{◌≡◌, ◌<◌, inr, length, None, Some, refl, subst, sym, ap, ◌∙◌, arith}
 use Rattle.std.proofs.lemmas.Result.{IfOk-from_err}
+use Rattle.rd_matrix.specs.Blocks.{IsAmong}
 use Rattle.rd_matrix.specs.Sources.{SourceValues}
 use Rattle.rd_rows.specs.Copies.{shown_rows}
 use Rattle.rd_start.specs.Strips.{IsStrip, GrowsAt, extent}
-use Rattle.rd_start.proofs.Reaching.{EdgeFails, among-same, asked-given, at-source, beyond-given, edge-failed, grown-fails, grown-more, grown-none, grown-pays, grown-smaller, grown-stops, rows-same}
+use Rattle.rd_start.proofs.Reaching.{EdgeFails, asked-given, beyond-given, edge-failed, grown-fails, grown-more, grown-none, grown-pays, grown-smaller, grown-stops, rows-same}
 use Rattle.rd_start.proofs.strip.Strip.reach.Given as given
 use Rattle.rd_start.proofs.strip.Strip.reach.Goals as goal
 use Rattle.rd_start.proofs.strip.Strip.reach.Goals.{After-rows}
@@ -17,7 +18,7 @@ growing-init g c = record {
 pub beyond-requires : goal.beyond-requires
 beyond-requires g c =
     let inv = c.growing.invariant in
-    at-source (λ (x : SourceValues). IsStrip x c.growing.self) (g.B.BlockSource.meaning c.growing.source) (g.B.BlockSource.meaning c.args.source.now) (sym inv.source) inv.grown.strip
+    subst (λ (x : SourceValues). IsStrip x c.growing.self) (sym inv.source) inv.grown.strip
 
 pub returns-in_err-block-clause-paid : goal.returns-in_err-block-clause-paid
 returns-in_err-block-clause-paid g c =
@@ -40,7 +41,7 @@ rows-requires g c =
     let m = g.B.BlockSource.meaning c.args.source.now in
     let inv = c.growing.invariant in
     let next = beyond-given c.args.edge m (g.B.BlockSource.meaning c.growing.source) c.growing.self c.in_ok-block.field-0 (Some c.in-Some.block) inv.source c.in_ok-block.ensures.value c.in-Some.is in
-    among-same m (g.B.BlockSource.meaning c.beyond.new.source) c.in-Some.block (c.beyond.ensures.stays ∙ inv.source) next.among
+    subst (λ (x : SourceValues). IsAmong x.blocks c.in-Some.block) (sym (c.beyond.ensures.stays ∙ inv.source)) next.among
 
 -- the steps that were taken for the rows of one block more
 fails : (g : given.Over) (c : goal.After-rows g) → EdgeFails c.args.edge (g.B.BlockSource.meaning c.args.source.now) c.args.self.now c.args.steps.now c.rows.new.steps c.args.count
