@@ -70,7 +70,7 @@ module _ (old : BufferValue) (made : ObjectLists) (new : BufferValue) (objects :
     reads-by : (x : ℕ) → ((p q : ℕ) → x ≤ p → p + from ≡ q + x → q < to → IsSame old made p new objects q) → reading old made x ≡ reading new objects from
     reads-by x same = same-reading (to - suc from) x from to (length-of block.some) (record { same = same; goes = inside-goes; ends = last-ends })
 
-    -- before the change
+    -- a block that ends before the change is read as it was
     pub reads-before : to ≤ c.head → reading old made from ≡ reading new objects from
     reads-before below =
         reads-by from (λ p q a e b.
@@ -79,7 +79,7 @@ module _ (old : BufferValue) (made : ObjectLists) (new : BufferValue) (objects :
         let last = block.last in
         subst (λ (r : ℕ). IsSame old made r new objects q) here (unchanged.before q (omega arith) (omega arith) (inr (omega arith))))
 
-    -- behind the change
+    -- a block that starts behind the change is read as it was where it stood
     pub reads-behind : (x : ℕ) → c.tail ≤ from → pos from -ℤ pos x ≡ c.added → reading old made x ≡ reading new objects from
     reads-behind x above moved =
         reads-by x (λ p q a e b.

@@ -22,7 +22,7 @@ x1_start base = record { stack = record { level = base; override_status = None; 
 abbrev pub level_above : ℕ → ℕ → ℕ
 level_above parity level = if level % 2 == parity then level + 2 else level + 1
 
--- for X2 to X5c, at most MAX_DEPTH (BD2), and nothing has overflowed
+-- for X2 to X5c, whether a level is at most MAX_DEPTH (BD2), and nothing has overflowed, so that it is entered
 abbrev pub is_valid : ℕ → State → Bool
 is_valid level s = nat_le level MAX_DEPTH && (s.overflow_isolates == 0 && s.overflow_embeddings == 0)
 

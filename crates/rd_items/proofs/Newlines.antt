@@ -58,7 +58,7 @@ module _ (s : BufferValue) (right : IsText s.text) where
       let ends : ends_line (accessible_char s.text q) ≡ false = ap ends_line (here q low high) ∙ none in
       and_right _ _ (and_right _ _ ends)
 
-  -- the next newline, of a search that has come so far on
+  -- the next newline, of a search that has come on to a place
   pub next-newline : (pos from end : ℕ) → s.text.begin ≤ pos → pos ≤ from → from ≤ s.text.end → end ≡ s.text.end → AreInside s pos from → ComesOn s end pos (next_newline s.text from)
   next-newline pos from end low order high last before =
       let bound = next_bound s.text right from (omega arith) high in
@@ -70,7 +70,7 @@ module _ (s : BufferValue) (right : IsText s.text) where
         ends = λ inside. ap ends_line (here (next_newline s.text from) (omega arith) (omega arith)) ∙ next_at s.text right from (omega arith) high (omega arith);
       }
 
-  -- the last newline before, of a search that has come so far back
+  -- the last newline before, of a search that has come back to a place
   pub prev-newline : (pos from begin : ℕ) → s.text.begin ≤ from → from ≤ pos → pos ≤ s.text.end → begin ≡ s.text.begin → AreInside s from pos → ComesBack s begin pos (prev_newline s.text from)
   prev-newline pos from begin low order high first behind =
       let bound = prev_bound s.text right from low (omega arith) in

@@ -162,10 +162,10 @@ turned-typed effect made ws i how n f w loud at there = record {
   ];
 }
 
--- where one comes
+-- a window more leaves the others as they were
 pub turned-end : (effect : Effect) (ws : List NumberedWindow) (e : NumberedWindow) → Turned effect e.0 ws (ws ++ e ∷ [])
 turned-end effect ws e = record { lives = λ n low l. lives-end n e ws (λ same. omega arith) l; calm = λ _. each-end (IsCalm effect) (itself effect) ws e }
 
--- where one goes
+-- a window less leaves the others as they were
 pub turned-without : (effect : Effect) (made : ℕ) (ws : List NumberedWindow) (n : ℕ) → Turned effect made ws (without_entry n ws)
 turned-without effect made ws n = record { lives = λ k _ l. lives-without n k ws l; calm = λ apart. each-without (IsCalm effect) (itself effect) n ws apart }

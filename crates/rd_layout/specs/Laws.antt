@@ -33,13 +33,13 @@ use Rattle.rd_layout.specs.Sessions.{SessionValue}
 use Rattle.rd_layout.specs.Since.{IsSession}
 use Rattle.rd_layout.specs.Windows.{place_of, view_in}
 
--- of what a window shows
+-- the laws of what a window shows
 pub record ViewLaws : Type 0 where
   pub source : (s : props.BufferValue) (objects : ObjectLists) (files : Data) → IsText s.text → IsSource (text_source s objects files)
   pub within : (s : props.BufferValue) (objects : ObjectLists) (files : Data) (pos : ℕ) → IsAccessible s.text pos → IsWithin pos (text_source s objects files).blocks
   pub listed : ListedLaw
 
--- of the sizes of what windows show
+-- the laws of the sizes of what windows show
 pub record FitLaws : Type 0 where
   pub whole : (s : props.BufferValue) (objects : ObjectLists) (files : Data) (shape : ShapeValues) → AreObjects objects → 1 ≤ s.settings.tab_width → s.settings.tab_width ≤ TAB_COLUMNS → AreCodes s.text.text → IsShape shape
       → All (λ (e : EntryMeaning). IsWhole shape.width e.row) (rows_at (text_source s objects files) shape)

@@ -123,7 +123,7 @@ noted-behind shape lead start xs e b old new break more h =
       rw (before, more) (ap (λ ys. ys ++ e ∷ []) h.2 ∙ append_assoc (up_to_break xs) old (e ∷ [])),
     )
 
--- columns
+-- ---- how wide an element is
 
 width-bound : (x : Extent) (column : ℕ) → width_at x column ≤ width_at_most x
 width-bound (Fixed n) column = omega arith

@@ -62,7 +62,7 @@ pub record Effect : Type 0 where
 abbrev pub counted : Standing → Standing
 counted now = record now { lines = now.lines + 1 }
 
--- nothing but that
+-- one more line was run, of which nothing is sent or told
 abbrev pub quiet : Standing → Effect
 quiet now = record { now = counted now; sent = []; told = []; fresh = false; outcome = None; allowed = 0; fault = None }
 

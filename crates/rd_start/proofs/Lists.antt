@@ -68,11 +68,11 @@ find-far p row far (suc more) x e =
     ∙ (find-append p (around row (far + more)) (both_at row (suc (far + more)))
     ∙ ap (λ o. option_or o (find p (both_at row (suc (far + more))))) (find-far p row far more x e))
 
--- one of the rows at most so far from a row
+-- one of the rows at most so many rows away from a row
 abbrev pub IsAround : ℕ → ℕ → ℕ → Type 0
 IsAround row far x = (row ≤ x + far) × (x ≤ row + far)
 
--- each row that is searched round one is at most so far from it
+-- each row that is searched round one is at most so many rows away from it
 pub around-each : (row far : ℕ) → All (IsAround row far) (around row far)
 around-each row zero = all-one (IsAround row zero) row (omega arith, omega arith)
 around-each row (suc far) =

@@ -29,7 +29,7 @@ pub paid-same : (kind : ℕ → Bool) (base : ℕ) (m : SourceValues) (sweep swe
     → IsPaidOf kind base m sweep bs at steps → IsPaidOf kind base m sweep' bs' at' steps
 paid-same kind base m sweep sweep' bs bs' at at' steps e f i h = rw (e, f, i) h
 
--- a strip that began as another, with n steps, and grows at an edge until it reaches so far
+-- a strip that began as another, with n steps, and grows at an edge until it reaches so many rows
 pub record Grown (edge : Edge) (m : SourceValues) (old s : Strip) (n steps count : ℕ) : Type 0 where
   pub strip : IsStrip m s
   pub sweep : s.sweep ≡ old.sweep

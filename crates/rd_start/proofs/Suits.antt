@@ -98,7 +98,7 @@ found-row p first place o is fits = sym (ap (λ (x : Option ℕ). find p (row_at
 pub lost-row : (p : ℕ → Bool) (first place : ℕ) (o : Option ℕ) → o ≡ Some place → p (first + place) ≡ false → None ≡ find p (row_at first o)
 lost-row p first place o is fails = sym (ap (λ (x : Option ℕ). find p (row_at first x)) is ∙ one-lost p (first + place) fails)
 
--- the row so far above the anchor's
+-- the row so many rows above the anchor's
 pub place-above : (m : SourceValues) (s : Strip) (far : ℕ) (o : Option ℕ) → SomeIff o (far ≤ s.home) (s.home - far) → IsStrip m s → BeginsAbove m s far
     → row_at (first_row m s) o ≡ above_at (first_row m s + s.home) far
 place-above m s far None below h begins =
@@ -119,7 +119,7 @@ reached-above m s far height (Some place) is reached =
     let same = is.1 in
     reaches-less m s (s.home + far + height) (place + height) reached (omega arith)
 
--- of the two rows so far from the anchor's the lesser is asked first
+-- of the two rows at a distance from the anchor's the lesser is asked first
 pub at-lesser : (row far x : ℕ) (p : ℕ → Bool) (o : Option ℕ) → o ≡ find p (above_at row far) → o ≡ Some x → Some x ≡ find p (both_at row far)
 at-lesser row far x p o found is =
     sym (find-append p (above_at row far) ((row + far) ∷ []) ∙ ap (λ r. option_or r (find p ((row + far) ∷ []))) (sym found ∙ is))

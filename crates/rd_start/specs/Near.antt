@@ -7,12 +7,12 @@ use Rattle.rd_start.specs.Chosen.{places_of}
 use Rattle.rd_start.specs.Starts.{Places, suits, scrolled}
 use Rattle.rd_start.specs.declared.wanted.Wanted.{Wanted}
 
--- whether a row is at most so far below another, or so far above it
+-- whether a row is at most so many rows below another, or above it
 abbrev pub is_within : ℕ → ℕ → ℕ → ℕ → Bool
 is_within above below row k = nat_le row (k + above) && nat_le k (row + below)
 
 -- whether a row is near: where the start is forced, a row from the lesser of the old and the new start up to the end of the view
--- from the greater; else, where the old start suits, a row in view from there; else a row at most so far from the old start, or
+-- from the greater; else, where the old start suits, a row in view from there; else a row at most so many rows away from the old start, or
 -- from its view, as the start may be moved, or a row at most a view's height away from point's
 abbrev pub is_near : Wanted → Places → ℕ → Bool
 is_near w at k =

@@ -34,14 +34,14 @@ is_in_view height start row = is_inside height 0 0 start row
 abbrev pub suits : Wanted → Places → ℕ → Bool
 suits w at start = nat_lt start at.count && is_inside w.height (wanted_above w start) (wanted_below w at.count start) start at.point
 
--- the row so far above a row, where there is one, and the two rows so far from it, the lesser first
+-- the row so many rows above a row, where there is one, and the two rows at this distance from it, the lesser first
 abbrev pub above_at : ℕ → ℕ → List ℕ
 above_at row far = if nat_le far row then (row - far) ∷ [] else []
 
 abbrev pub both_at : ℕ → ℕ → List ℕ
 both_at row far = above_at row far ++ (row + far) ∷ []
 
--- the rows at most so far from a row, the nearest first, and the lesser first where two are equally near
+-- the rows at most so many rows away from a row, the nearest first, and the lesser first where two are equally near
 abbrev pub around : ℕ → ℕ → List ℕ
 around row zero = row ∷ []
 around row (suc far) = around row far ++ both_at row (suc far)

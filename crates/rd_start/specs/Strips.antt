@@ -31,7 +31,7 @@ abbrev pub span_of : List ℕ → Option Span
 span_of [] = None
 span_of (p ∷ ps) = Some (record { first = fold min p ps; last = fold max p ps })
 
--- that of the positions of both
+-- the least and the greatest of the positions of two spans
 abbrev pub span_of_both : Option Span → Option Span → Option Span
 span_of_both None b = b
 span_of_both (Some a) None = Some a
@@ -118,7 +118,7 @@ abbrev pub EndsAt : Edge → SourceValues → Strip → Type 0
 EndsAt Top m s = s.home ≡ home_row m s.sweep
 EndsAt Bottom m s = first_row m s + length s.strip_rows.items ≡ count_in m s.sweep m.blocks
 
--- a strip reaches so far at an edge, or to the text's end there
+-- a strip reaches so many rows at an edge, or to the text's end there
 abbrev pub ReachesAt : Edge → SourceValues → Strip → ℕ → Type 0
 ReachesAt edge m s count = (count ≤ extent edge s) ⊎ EndsAt edge m s
 
@@ -139,7 +139,7 @@ abbrev pub IsAsked : (ℕ → Bool) → SourceValues → Sweep → Type 0
 IsAsked kind m sweep =
     (kind (home_row m sweep) ≡ true) ⊎ ((sweep.anchor.pos ≡ sweep.point) × (kind (point_row m sweep) ≡ true))
 
--- the rows of the text that a strip lacks to reach so far at an edge are each of a kind
+-- the rows of the text that a strip lacks to reach so many rows at an edge are each of a kind
 abbrev pub AsksAt : Edge → (ℕ → Bool) → SourceValues → Strip → ℕ → Type 0
 AsksAt Top kind m s count = Between kind (home_row m s.sweep - count) (first_row m s)
 AsksAt Bottom kind m s count = Between kind (first_row m s + length s.strip_rows.items) (min (first_row m s + count) (count_in m s.sweep m.blocks))

@@ -121,7 +121,7 @@ fn suiting<B: BlockSource>(
     Ok(None)
 }
 
-/// The first of the two rows so far from the anchor's that suits as the start, the lesser one first.
+/// The first of the two rows at a distance from the anchor's that suits as the start, the lesser one first.
 fn suiting_at<B: BlockSource>(
     alloc: Global,
     source: &mut B,

@@ -26,7 +26,7 @@ columns_needed (Window number mode margins) = columns_for margins
 columns_needed (Split Right size first second) = columns_needed first + columns_needed second
 columns_needed (Split Below size first second) = max (columns_needed first) (columns_needed second)
 
--- how many rows
+-- how many rows a tree of windows needs
 abbrev pub rows_needed : Windows → ℕ
 rows_needed (Window number mode margins) = rows_for mode
 rows_needed (Split Right size first second) = max (rows_needed first) (rows_needed second)
@@ -87,7 +87,7 @@ abbrev pub HasRoom : Windows → Rect → Type 0
 HasRoom (Window number mode margins) rect = (columns_for margins ≤ rect.width) × (rows_for mode ≤ rect.height)
 HasRoom (Split side size first second) rect = HasRoom first (first_part side size rect) × HasRoom second (second_part side size rect)
 
--- the test of that
+-- whether each window has the columns and rows that it needs
 abbrev pub fits : Windows → Rect → Bool
 fits (Window number mode margins) rect = nat_le (columns_for margins) rect.width && nat_le (rows_for mode) rect.height
 fits (Split side size first second) rect = fits first (first_part side size rect) && fits second (second_part side size rect)

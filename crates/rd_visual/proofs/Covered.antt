@@ -64,7 +64,7 @@ cursor-there point (suc r) (x ∷ xs) e k b few there place covered =
     let column : column_shown point x ≡ None = rw found refl in
     rw (column, cursor-there point r xs e k b rest there place covered) (ap (λ n. Some (n, shown_column e.row b.column)) (add-one r))
 
--- hits
+-- ---- the position at a row and a column
 
 pub record IsHit (es : List EntryMeaning) (row column point : ℕ) : Type 0 where
   pub entry : EntryMeaning

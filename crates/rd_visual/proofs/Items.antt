@@ -74,7 +74,7 @@ item-again column (x ∷ xs) b found = elim (nearer-one x (reaches column x) (it
       ∙ passed x b (reaches b.column x) (λ reached. let parts = reaches-parts b.column x reached in rest.1 (reaches-from column x parts.0 (let less = parts.1 in omega (arith, less, low))))
 ]
 
--- counts
+-- ---- what is found is what is counted
 
 pub found-none : (p : Begin → Bool) (bs : List Begin) → count_by p bs ≡ 0 → find p bs ≡ None
 found-none p bs none = none-found p bs (opposite _ _ (none_counted p bs) ∙ ap not (eq-eqb (count_by p bs) 0 none))

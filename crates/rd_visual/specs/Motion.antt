@@ -31,7 +31,7 @@ ranges_of scene start base es = ranges_in_turn start (items_of scene es) (item_t
 abbrev pub block_ranges : BufferValue → ObjectLists → Data → Block → List Range
 block_ranges s objects files b = ranges_of (scene_in s.settings objects files) b.start b.base (reading s objects b.start)
 
--- those of all blocks, in order
+-- the ranges of all blocks of a buffer, in order
 abbrev pub all_ranges : BufferValue → ObjectLists → Data → List Range
 all_ranges s objects files = flat_map (block_ranges s objects files) (blocks_in files.classes s)
 

@@ -13,7 +13,7 @@ returns-in_err-strip-clause-steps g c = λ kind base paid asks.
     let p = point_row (g.B.BlockSource.meaning c.args.source.now) c.args.window.strip.sweep in
     c.in_err-strip.ensures.paid kind base paid (asks p (omega arith) (omega arith))
 
--- what is spent where the strip grows to so far above point's row
+-- what is spent where the strip grows to so many rows above point's row
 spent : (g : given.Over) (c : goal.After-saturating_sub-above g) (steps : ℕ)
     → EdgeFails Top (g.B.BlockSource.meaning c.with_point.new.source) c.in_ok-strip.strip c.with_point.new.steps steps c.saturating_sub-above.result
     → CentredPays (g.B.BlockSource.meaning c.args.source.now) c.args.window.strip c.args.window.wanted c.args.steps.now steps

@@ -3,7 +3,7 @@ use Rattle.rd_base.specs.Faces.{plain}
 use Rattle.rd_update.specs.Updates.{text_by, pen_behind}
 use Rattle.rd_update.proofs.bytes.push_text.Given as goal
 
--- the bytes so far and the text of the other cells, and the pen behind them
+-- the bytes that stand, with the text of the cells that are left, are the whole, and so is the pen behind them
 abbrev pub invariant-loop-cell : goal.invariant-loop-cell
 invariant-loop-cell l = record {
   bytes : l.bytes ++ text_by l.pen (drop l.cell-index l.cells) ≡ l.fn.bytes ++ text_by plain l.cells;
