@@ -2,7 +2,7 @@
 use Rattle.std.specs.Prelude.{◌≡◌, ℕ, zero, suc, ◌-◌, ◌^◌, ◌<◌, ◌≤◌, ◌==◌, ◌&&◌, nat_le, nat_lt, Bool, true, if◌then◌else◌, IsTrue, List, [], ◌∷◌, map, count_by, All, None}
 use Rattle.rd_base.specs.Elements.{AreSound, ends_once, columns_at_most}
 use Rattle.rd_matrix.specs.Blocks.{StandFrom, first_start}
-use Rattle.rd_matrix.specs.Sources.{SourceValues}
+use Rattle.rd_matrix.specs.Sources.{SourceValues, source_by_itself}
 use Rattle.rd_matrix.specs.declared.block.Block.{Block}
 use Rattle.rd_matrix.specs.declared.held.HeldBlock.{HeldBlock}
 use Rattle.rd_rows.specs.Laws.{seen_rows, ranges_of}
@@ -24,11 +24,8 @@ laid_from shape start (h ∷ hs) = if h.block.start == start then laid_at shape 
 
 -- the source that these blocks are
 abbrev pub source_of : List HeldBlock → SourceValues
-source_of hs = record {
-  blocks = blocks_held hs;
-  rows_of = λ b shape. seen_rows (laid_from shape b.start hs);
-  cost_of = λ b shape. weight_of (laid_from shape b.start hs);
-}
+source_of hs =
+    source_by_itself (blocks_held hs) (λ b shape. seen_rows (laid_from shape b.start hs)) (λ b shape. weight_of (laid_from shape b.start hs))
 
 abbrev pub in_range : ℕ → ℕ × ℕ → Bool
 in_range offset r = nat_le r.0 offset && nat_lt offset r.1

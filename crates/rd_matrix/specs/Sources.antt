@@ -10,11 +10,17 @@ use Rattle.rd_rows.specs.Rows.{RowMeaning}
 use Rattle.rd_rows.specs.Shapes.{ShapeValues, IsShape}
 use Rattle.rd_rows.specs.declared.begin.Begin.{Begin}
 
--- what a source is: its blocks in order, the rows of a block at a shape, and by how much the making of these may raise the steps
+-- what a source is: its blocks in order, the rows of a block at a shape, and by how much the making of these may raise the steps, in
+-- this source and in the one that it stands on
 pub record SourceValues : Type 0 where
   pub blocks : List Block
   pub rows_of : Block → ShapeValues → List RowMeaning
   pub cost_of : Block → ShapeValues → ℕ
+  pub cost_beneath : Block → ShapeValues → ℕ
+
+-- a source that stands on none
+abbrev pub source_by_itself : List Block → (Block → ShapeValues → List RowMeaning) → (Block → ShapeValues → ℕ) → SourceValues
+source_by_itself blocks rows cost = record { blocks = blocks; rows_of = rows; cost_of = cost; cost_beneath = cost }
 
 -- the rows of all of its blocks at a shape
 abbrev pub rows_at : SourceValues → ShapeValues → List EntryMeaning

@@ -7,7 +7,7 @@ use std::alloc::Global;
 use std::sync::ledger::Ledger;
 
 /// A source of blocks, and of the rows of each block at a shape. Contracts see it as the list of its blocks, the rows of a block
-/// at a shape, and their cost, none of which a call changes. Each call says what holds of every source: there is a block, each
+/// at a shape, and their cost, here and in the source that this one stands on, none of which a call changes. Each call says what holds of every source: there is a block, each
 /// but the first starts at the end of the one before, and the rows of a block at a shape are at least one, of which the last and
 /// no other ends the block; each position of a block is covered by exactly one item that begins in its rows. After want of
 /// memory a source is to be made anew.

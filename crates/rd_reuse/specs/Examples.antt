@@ -1,6 +1,6 @@
 -- A text of three lines, and its rows at an earlier time, for worked examples.
 use Rattle.std.specs.Prelude.{ℕ, ◌+◌, ◌==◌, Bool, true, false, if◌then◌else◌, List, [], ◌∷◌}
-use Rattle.rd_matrix.specs.Sources.{SourceValues}
+use Rattle.rd_matrix.specs.Sources.{SourceValues, source_by_itself}
 use Rattle.rd_matrix.specs.declared.block.Block.{Block}
 use Rattle.rd_matrix.specs.declared.matrix.Entry.{Entry}
 use Rattle.rd_rows.specs.Rows.{RowMeaning}
@@ -22,19 +22,15 @@ three_lines = older 1 0 (row false true) 0 ∷ older 5 0 (row false false) 1 ∷
 
 -- the same lines after a character was put into the second one
 abbrev pub longer_lines : SourceValues
-longer_lines = record {
-  blocks = block 1 5 0 ∷ block 5 22 0 ∷ block 22 25 0 ∷ [];
-  rows_of = λ b shape. if b.start == 5 then row false false ∷ row false true ∷ [] else row false true ∷ [];
-  cost_of = λ b shape. if b.start == 5 then 17 else 3;
-}
+longer_lines =
+    source_by_itself (block 1 5 0 ∷ block 5 22 0 ∷ block 22 25 0 ∷ [])
+    (λ b shape. if b.start == 5 then row false false ∷ row false true ∷ [] else row false true ∷ [])
+    (λ b shape. if b.start == 5 then 17 else 3)
 
 -- the lines `a`, `b` and a third one of so many positions
 abbrev pub letters : ℕ → SourceValues
-letters count = record {
-  blocks = block 1 3 0 ∷ block 3 5 0 ∷ block 5 (5 + count) 0 ∷ [];
-  rows_of = λ b shape. row false true ∷ [];
-  cost_of = λ b shape. if b.start == 5 then count else 2;
-}
+letters count =
+    source_by_itself (block 1 3 0 ∷ block 3 5 0 ∷ block 5 (5 + count) 0 ∷ []) (λ b shape. row false true ∷ []) (λ b shape. if b.start == 5 then count else 2)
 
 -- the rows of the lines `a`, `b` and `c`, copied so often
 abbrev pub three_letters : ℕ → List Entry

@@ -25,7 +25,7 @@ started_at c start before = if nat_le c.tail start then int_eq (pos start -ℤ p
 abbrev pub is_under : Change → ℕ → ℕ → Entry → Bool
 is_under c start number e = started_at c start e.start && (e.number == number)
 
--- the first of these
+-- the first of the older rows that has a number in this block
 abbrev pub entry_under : List Entry → Change → ℕ → ℕ → Option Entry
 entry_under old c start number = find (is_under c start number) old
 
@@ -70,4 +70,7 @@ fresh_cost m old c shape b = if is_kept old c b then 0 else m.cost_of b shape
 
 -- a source whose blocks keep their older rows at the shape that these have
 abbrev pub kept_source : SourceValues → List Entry → Change → ShapeValues → SourceValues
-kept_source m old c shape = record m { cost_of = λ b asked. if is_same_shape asked shape then fresh_cost m old c shape b else m.cost_of b asked }
+kept_source m old c shape = record m {
+  cost_of = λ b asked. if is_same_shape asked shape then fresh_cost m old c shape b else m.cost_of b asked;
+  cost_beneath = m.cost_of;
+}

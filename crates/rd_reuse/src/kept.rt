@@ -58,6 +58,13 @@ impl<'a, B: BlockSource> Kept<'a, B> {
         }
     }
 
+    /// The source beneath.
+    pub fn into_source(self) -> B
+        ensures { result ≡ self.entry.0 }
+    {
+        self.source
+    }
+
     /// Asks the source for a block, where it was asked for none before.
     fn ask(&mut self, alloc: Global, block: &Block) -> Result<(), Memory>
         requires { IsAmong (B.meaning self.old.0).blocks block.now }

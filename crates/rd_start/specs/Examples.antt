@@ -1,6 +1,6 @@
 -- Sources and windows for worked examples.
 use Rattle.std.specs.Prelude.{ℕ, zero, suc, ◌+◌, ◌==◌, if◌then◌else◌, true, false, List, [], ◌∷◌, ◌++◌, pos}
-use Rattle.rd_matrix.specs.Sources.{SourceValues}
+use Rattle.rd_matrix.specs.Sources.{SourceValues, source_by_itself}
 use Rattle.rd_matrix.specs.declared.block.Block.{Block}
 use Rattle.rd_rows.specs.Rows.{RowMeaning}
 use Rattle.rd_rows.specs.declared.begin.Begin.{Begin}
@@ -22,15 +22,13 @@ short_lines start (suc n) = record { start = start; end = start + 2; base = 0 } 
 
 -- lines of one character, each in one row of two elements
 abbrev pub letters : ℕ → SourceValues
-letters n = record { blocks = short_lines 1 n; rows_of = λ b shape. last_row (items_from 0 2) ∷ []; cost_of = λ b shape. 2 }
+letters n = source_by_itself (short_lines 1 n) (λ b shape. last_row (items_from 0 2) ∷ []) (λ b shape. 2)
 
 -- the lines `ab` and `c`
 abbrev pub two_and_one : SourceValues
-two_and_one = record {
-  blocks = record { start = 1; end = 4; base = 0 } ∷ record { start = 4; end = 6; base = 0 } ∷ [];
-  rows_of = λ b shape. last_row (items_from 0 (if b.start == 1 then 3 else 2)) ∷ [];
-  cost_of = λ b shape. 2;
-}
+two_and_one =
+    source_by_itself (record { start = 1; end = 4; base = 0 } ∷ record { start = 4; end = 6; base = 0 } ∷ [])
+    (λ b shape. last_row (items_from 0 (if b.start == 1 then 3 else 2)) ∷ []) (λ b shape. 2)
 
 -- a row whose block goes on
 abbrev pub other_row : List Begin → RowMeaning
@@ -38,11 +36,10 @@ other_row bs = record (last_row bs) { ends_block = false }
 
 -- `xy`, and before `y` a string of seven lines
 abbrev pub seven_rows : SourceValues
-seven_rows = record {
-  blocks = record { start = 1; end = 4; base = 0 } ∷ [];
-  rows_of = λ b shape. other_row (items_from 0 1 ++ record { from = 1; to = 1; column = 1 } ∷ []) ∷ other_row [] ∷ other_row [] ∷ other_row [] ∷ other_row [] ∷ other_row [] ∷ last_row (items_from 1 2) ∷ [];
-  cost_of = λ b shape. 16;
-}
+seven_rows =
+    source_by_itself (record { start = 1; end = 4; base = 0 } ∷ [])
+    (λ b shape. other_row (items_from 0 1 ++ record { from = 1; to = 1; column = 1 } ∷ []) ∷ other_row [] ∷ other_row [] ∷ other_row [] ∷ other_row [] ∷ other_row [] ∷ last_row (items_from 1 2) ∷ [])
+    (λ b shape. 16)
 
 -- a window of so many rows that follows point
 abbrev pub window : ℕ → ℕ → ℕ → Wanted

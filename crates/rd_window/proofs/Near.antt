@@ -1,5 +1,5 @@
 -- The rows in view from a new start are near the window.
-use Rattle.std.proofs.Common.{◌≡◌, ℕ, ◌+◌, ◌<◌, ◌≤◌, ◌⊎◌, inl, inr, Bool, true, leb, ltb, List, [], ◌∷◌, length, Option, None, Some, IfSome, refl, ap, arith}
+use Rattle.std.proofs.Common.{◌≡◌, ℕ, ◌+◌, ◌<◌, ◌≤◌, ◌⊎◌, inl, inr, Bool, true, leb, ltb, List, [], ◌∷◌, length, Option, None, Some, IfSome, if◌then◌else◌, refl, sym, ap, subst, arith}
 use Rattle.std.specs.List.{find, list_any, range_with_len}
 use Rattle.std.specs.Option.{unwrap_or}
 use Rattle.std.proofs.lemmas.Bool.{and_parts, cases_Bool, leb-true, ltb-true}
@@ -11,11 +11,12 @@ use Rattle.rd_matrix.specs.Rows.{blocks_with}
 use Rattle.rd_matrix.specs.Sources.{SourceValues, costs_of}
 use Rattle.rd_matrix.specs.declared.block.Block.{Block}
 use Rattle.rd_matrix.specs.declared.matrix.Entry.{Entry}
-use Rattle.rd_reuse.specs.Keeping.{fresh_cost, is_kept}
+use Rattle.rd_reuse.specs.Keeping.{fresh_cost, kept_source}
 use Rattle.rd_reuse.specs.Views.{fresh_costs}
 use Rattle.rd_reuse.specs.declared.change.Change.{Change}
 use Rattle.rd_rows.specs.Rows.{RowMeaning}
-use Rattle.rd_rows.specs.Shapes.{ShapeValues}
+use Rattle.rd_rows.specs.Shapes.{ShapeValues, is_same_shape}
+use Rattle.rd_rows.proofs.SameShapes.{shape-itself}
 use Rattle.rd_start.specs.Chosen.{places_of}
 use Rattle.rd_start.specs.Near.{is_near, near_costs}
 use Rattle.rd_start.specs.Starts.{Places, around, centred, following, scrolled, start_of, suits}
@@ -29,7 +30,7 @@ found-or : (P : ℕ → Type 0) (o : Option ℕ) (x : ℕ) → IfSome o P → P 
 found-or P None x holds = inr refl
 found-or P (Some y) x holds = inl holds
 
--- the start of a window that follows point is at most so far from the old one as it may be moved, or brings point to the middle
+-- the start of a window that follows point is at most as many rows away from the old one as it may be moved, or brings point to the middle
 follows : (w : Wanted) (at : Places) → IsAround at.old w.conservatively (following w at) ⊎ (following w at ≡ centred w at)
 follows w at =
     let near = found-each (IsAround at.old w.conservatively) (suits w at) (around at.old w.conservatively) (around-each at.old w.conservatively) in
@@ -84,20 +85,14 @@ costs-wider p q rows cost more first (b ∷ bs) less each =
           omega (arith, left, right, rest)
     ]
 
-fresh-less : (m : SourceValues) (old : List Entry) (c : Change) (shape : ShapeValues) (b : Block) → fresh_cost m old c shape b ≤ m.cost_of b shape
-fresh-less m old c shape b =
-    elim (cases_Bool (is_kept old c b)) [
-      | inl kept ↦ let none : fresh_cost m old c shape b ≡ 0 = rw kept refl in omega (arith, none)
-      | inr fresh ↦ let same : fresh_cost m old c shape b ≡ m.cost_of b shape = rw fresh refl in omega (arith, same)
-    ]
-
--- the rows in view from a new start cost no more than the rows near the window
+-- the rows in view from a new start cost no more than the rows near the window, where blocks keep their older rows
 pub view-costs : (m : SourceValues) (old : List Entry) (c : Change) (shape : ShapeValues) (w : Wanted)
-    → fresh_costs m old c shape (start_row m shape w) (start_row m shape w + w.height) ≤ near_costs m shape w
+    → fresh_costs m old c shape (start_row m shape w) (start_row m shape w + w.height) ≤ near_costs (kept_source m old c shape) shape w
 view-costs m old c shape w =
     let at = places_of m shape w in
-    costs-wider (is_between (start_row m shape w) (start_row m shape w + w.height)) (is_near w at) (λ b. m.rows_of b shape) (fresh_cost m old c shape) (λ b. m.cost_of b shape) 0 m.blocks
-    (fresh-less m old c shape)
+    let cost = fresh_cost m old c shape in
+    costs-wider (is_between (start_row m shape w) (start_row m shape w + w.height)) (is_near w at) (λ b. m.rows_of b shape) cost (λ b. if is_same_shape shape shape then cost b else m.cost_of b shape) 0 m.blocks
+    (λ b. subst (λ (t : Bool). cost b ≤ (if t then cost b else m.cost_of b shape)) (sym (shape-itself shape)) (omega arith))
     (λ k inside.
     let parts = and_parts (leb (start_row m shape w) k) (ltb k (start_row m shape w + w.height)) inside in
     start-near w at k (leb-true (start_row m shape w) k parts.0) (ltb-true k (start_row m shape w + w.height) parts.1))

@@ -5,6 +5,7 @@ use Rattle.rd_matrix.specs.Blocks.{IsWithin}
 use Rattle.rd_matrix.specs.Entries.{EntryMeaning, shown_entries, shown_entry}
 use Rattle.rd_matrix.specs.Sources.{SourceValues, rows_at}
 use Rattle.rd_matrix.specs.declared.matrix.Entry.{Entry}
+use Rattle.rd_reuse.specs.Keeping.{kept_source}
 use Rattle.rd_reuse.specs.Views.{Names, anchor_of, fresh_costs}
 use Rattle.rd_reuse.specs.declared.change.Change.{Change}
 use Rattle.rd_rows.specs.Shapes.{IsShape, ShapeValues}
@@ -47,6 +48,11 @@ at-source P m n same told = subst P same told
 pub back-at-source : (P : SourceValues → Type 0) (m n : SourceValues) → n ≡ m → P m → P n
 back-at-source P m n same told = subst P (sym same) told
 
+-- a source with kept rows determines what the one beneath it is
+pub beneath-same : (n m : SourceValues) (old other : List Entry) (c d : Change) (shape at : ShapeValues) → kept_source n other d at ≡ kept_source m old c shape
+    → kept_source n old c shape ≡ kept_source m old c shape
+beneath-same n m old other c d shape at same = ap (λ (x : SourceValues). kept_source (record x { cost_of = x.cost_beneath }) old c shape) same
+
 -- the rows that a call lays out from the start are those in view
 pub rows-laid : (m n : SourceValues) (shape : ShapeValues) (w : Wanted) (chosen : Chosen) (es : List Entry) → IsStart m n shape w chosen
     → ((place : ℕ) → Names chosen.anchor (rows_at n shape) place → shown_entries es ≡ take w.height (drop place (rows_at n shape))) → shown_entries es ≡ rows_in_view m shape w
@@ -55,13 +61,16 @@ rows-laid m n shape w chosen es start told =
     (start_row m shape w) start.named
 
 -- the steps of both calls
-pub spent : (m n : SourceValues) (old : List Entry) (c : Change) (shape : ShapeValues) (w : Wanted) (chosen : Chosen) (before chose laid : ℕ) → IsStart m n shape w chosen
-    → chose ≤ before + 2 * near_costs m shape w → ((place : ℕ) → Names chosen.anchor (rows_at n shape) place → laid ≤ chose + fresh_costs n old c shape place (place + w.height))
-    → laid ≤ before + 3 * near_costs m shape w
+pub spent : (m n : SourceValues) (old : List Entry) (c : Change) (shape : ShapeValues) (w : Wanted) (chosen : Chosen) (before chose laid : ℕ)
+    → IsStart (kept_source m old c shape) (kept_source n old c shape) shape w chosen → chose ≤ before + 2 * near_costs (kept_source m old c shape) shape w
+    → ((place : ℕ) → Names chosen.anchor (rows_at n shape) place → laid ≤ chose + fresh_costs n old c shape place (place + w.height))
+    → laid ≤ before + 3 * near_costs (kept_source m old c shape) shape w
 spent m n old c shape w chosen before chose laid start first told =
-    let second = at-source (λ (x : SourceValues). (place : ℕ) → Names chosen.anchor (rows_at x shape) place → laid ≤ chose + fresh_costs x old c shape place (place + w.height)) m n start.same told (start_row m shape w) start.named in
-    let less = view-costs m old c shape w in
-    omega (arith, first, second, less)
+    let named = subst (λ (x : SourceValues). Names chosen.anchor (rows_at x shape) (start_row x shape w)) (sym start.same) start.named in
+    let second = told (start_row n shape w) named in
+    let less = view-costs n old c shape w in
+    let same = ap (λ (x : SourceValues). near_costs x shape w) start.same in
+    omega (arith, first, second, less, same)
 
 -- there is a row in view
 pub some-laid : (m : SourceValues) (shape : ShapeValues) (w : Wanted) (es : List Entry) → 1 ≤ w.height → start_row m shape w < length (rows_at m shape) → shown_entries es ≡ rows_in_view m shape w → 0 < length es

@@ -11,10 +11,12 @@
 //!    scrolling, and point is in view as far from the edges as the scroll margin asks, then the cursor alone moves. No row is made or
 //!    copied. In Emacs this is `try_cursor_movement`.
 //! 2. `again`: else the rows of the last layout may be kept if they have the window's shape; a window of another shape keeps none.
-//! 3. `window`: the source is put behind two others. `remembered` lays each block out once, though both of the next steps ask for its rows;
-//!    `rd_reuse::Kept` copies the rows of blocks that keep theirs.
-//! 4. `rd_start::choose` chooses the start and the point.
-//! 5. `rd_reuse::relay` takes the rows in view from there on. They are the new layout, since which nothing changed.
+//! 3. `window`: the source is put behind another, `remembered`, which lays each block out once, though both of the next steps ask for its
+//!    rows.
+//! 4. `rd_start::choose` chooses the start and the point. It reads through a `rd_reuse::Kept`, which copies the rows of blocks that keep
+//!    theirs.
+//! 5. `rd_reuse::relay` takes the rows in view from there on, and itself copies those that are kept. They are the new layout, since which
+//!    nothing changed.
 //! 6. `window`: whether the text's first row and its last one are in view is noted, for step 1 of the next redisplay and for the mode line.
 //!
 //! Emacs first measures with the iterator alone (`start_display`, `move_it_to`), and makes the rows afterwards (`try_window`), so that a

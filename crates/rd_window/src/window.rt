@@ -57,9 +57,10 @@ pub fn lay_out<B: BlockSource + Drop, L: Ledger>(
 {
     a_start_is_a_row();
     an_anchor_of_a_row_is_within();
-    let kept = Kept::new(source, old, change, shape);
-    let mut remembered = Remembered::new(alloc, kept);
-    let chosen = choose(alloc, &mut remembered, wanted, shape, steps)?;
+    let remembered = Remembered::new(alloc, source);
+    let mut kept = Kept::new(remembered, old, change, shape);
+    let chosen = choose(alloc, &mut kept, wanted, shape, steps)?;
+    let mut remembered = kept.into_source();
     remembered.hand_out();
     let matrix = relay(
         alloc,

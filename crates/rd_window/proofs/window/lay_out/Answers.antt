@@ -8,30 +8,33 @@ use Rattle.rd_rows.specs.Shapes.{IsShape, ShapeValues}
 use Rattle.rd_start.specs.Chosen.{chosen_of}
 use Rattle.rd_start.specs.Near.{near_costs}
 use Rattle.rd_window.specs.Views.{rows_in_view, start_row}
-use Rattle.rd_window.proofs.Starting.{IsStart, at-source, back-at-source, chosen-named, rows-laid, some-laid, spent}
+use Rattle.rd_window.proofs.Starting.{IsStart, at-source, back-at-source, beneath-same, chosen-named, rows-laid, some-laid, spent}
 use Rattle.rd_window.proofs.window.lay_out.Given as given
 use Rattle.rd_window.proofs.window.lay_out.Goals as goal
-use Rattle.rd_window.proofs.window.lay_out.Goals.{After-hand_out, After-new-remembered, After-relay, In_ok-matrix}
+use Rattle.rd_window.proofs.window.lay_out.Goals.{After-hand_out, After-new-kept, After-relay, In_ok-matrix}
 
--- the source that remembers is the one whose blocks keep their older rows
-same : (g : given.Over) (c : goal.After-new-remembered g)
-    → kept_source (g.B.BlockSource.meaning c.new-remembered.result.0) c.new-remembered.result.1 c.new-remembered.result.2 c.new-remembered.result.3
+-- the source whose blocks keep their older rows
+same : (g : given.Over) (c : goal.After-new-kept g)
+    → kept_source (g.B.BlockSource.meaning c.new-kept.result.0) c.new-kept.result.1 c.new-kept.result.2 c.new-kept.result.3
     ≡ kept_source (g.B.BlockSource.meaning c.args.source) c.args.old.now c.args.change c.args.shape
-same g c = ap (λ k. kept_source (g.B.BlockSource.meaning k.0) k.1 k.2 k.3) (c.new-remembered.ensures ∙ c.new-kept.ensures)
+same g c =
+    ap (λ k. kept_source (g.B.BlockSource.meaning k.0) k.1 k.2 k.3) c.new-kept.ensures
+    ∙ ap (λ s. kept_source (g.B.BlockSource.meaning s) c.args.old.now c.args.change c.args.shape) c.new-remembered.ensures
 
 -- the start that was chosen
-start : (g : given.Over) (c : goal.After-hand_out g) → IsStart (kept_source (g.B.BlockSource.meaning c.args.source) c.args.old.now c.args.change c.args.shape) (kept_source (g.B.BlockSource.meaning c.hand_out.new.self.0) c.hand_out.new.self.1 c.hand_out.new.self.2 c.hand_out.new.self.3) c.args.shape c.args.wanted c.in_ok-chosen.chosen
+start : (g : given.Over) (c : goal.After-hand_out g) → IsStart (kept_source (g.B.BlockSource.meaning c.args.source) c.args.old.now c.args.change c.args.shape) (kept_source (g.B.BlockSource.meaning c.hand_out.new.self) c.args.old.now c.args.change c.args.shape) c.args.shape c.args.wanted c.in_ok-chosen.chosen
 start g c =
     let m = kept_source (g.B.BlockSource.meaning c.args.source) c.args.old.now c.args.change c.args.shape in
     let w = c.args.wanted in
     let shaped : IsShape c.args.shape = record { least = omega arith; most = omega arith } in
-    let is = ap (λ k. kept_source (g.B.BlockSource.meaning k.0) k.1 k.2 k.3) (c.new-remembered.ensures ∙ c.new-kept.ensures) in
+    let is = ap (λ k. kept_source (g.B.BlockSource.meaning k.0) k.1 k.2 k.3) c.new-kept.ensures ∙ ap (λ s. kept_source (g.B.BlockSource.meaning s) c.args.old.now c.args.change c.args.shape) c.new-remembered.ensures in
     let source = at-source IsSource m _ is c.choose.ensures.source in
     let chosen = at-source (λ (x : SourceValues). c.in_ok-chosen.chosen ≡ chosen_of x c.args.shape w) m _ is c.in_ok-chosen.ensures.value in
     let low = c.a_start_is_a_row.ensures m c.args.shape w source shaped c.requires.point in
     let named = chosen-named m c.args.shape w c.in_ok-chosen.chosen low chosen in
     record {
-      same = ap (λ k. kept_source (g.B.BlockSource.meaning k.0) k.1 k.2 k.3) c.hand_out.ensures ∙ (c.choose.ensures.stays ∙ is);
+      same = beneath-same (g.B.BlockSource.meaning c.hand_out.new.self) (g.B.BlockSource.meaning c.args.source) _ _ _ _ _ _
+          (ap (λ s. kept_source (g.B.BlockSource.meaning s) c.choose.new.source.1 c.choose.new.source.2 c.choose.new.source.3) (c.hand_out.ensures ∙ c.into_source-remembered.ensures) ∙ (c.choose.ensures.stays ∙ is));
       shaped = shaped;
       low = low;
       named = named;
@@ -39,29 +42,29 @@ start g c =
     }
 
 -- the steps until the rows are laid out
-steps : (g : given.Over) (c : goal.After-relay g) → IsStart (kept_source (g.B.BlockSource.meaning c.args.source) c.args.old.now c.args.change c.args.shape) (kept_source (g.B.BlockSource.meaning c.hand_out.new.self.0) c.hand_out.new.self.1 c.hand_out.new.self.2 c.hand_out.new.self.3) c.args.shape c.args.wanted c.in_ok-chosen.chosen
+steps : (g : given.Over) (c : goal.After-relay g) → IsStart (kept_source (g.B.BlockSource.meaning c.args.source) c.args.old.now c.args.change c.args.shape) (kept_source (g.B.BlockSource.meaning c.hand_out.new.self) c.args.old.now c.args.change c.args.shape) c.args.shape c.args.wanted c.in_ok-chosen.chosen
     → c.relay.new.steps ≤ c.args.steps.now + 3 * near_costs (kept_source (g.B.BlockSource.meaning c.args.source) c.args.old.now c.args.change c.args.shape) c.args.shape c.args.wanted
 steps g c begun =
-    let is = ap (λ k. kept_source (g.B.BlockSource.meaning k.0) k.1 k.2 k.3) (c.new-remembered.ensures ∙ c.new-kept.ensures) in
+    let is = ap (λ k. kept_source (g.B.BlockSource.meaning k.0) k.1 k.2 k.3) c.new-kept.ensures ∙ ap (λ s. kept_source (g.B.BlockSource.meaning s) c.args.old.now c.args.change c.args.shape) c.new-remembered.ensures in
     let chose = at-source (λ (x : SourceValues). c.choose.new.steps ≤ c.args.steps.now + 2 * near_costs x c.args.shape c.args.wanted) (kept_source (g.B.BlockSource.meaning c.args.source) c.args.old.now c.args.change c.args.shape) _ is c.choose.ensures.steps in
-    spent _ _ c.args.old.now c.args.change c.args.shape c.args.wanted c.in_ok-chosen.chosen c.args.steps.now c.choose.new.steps c.relay.new.steps begun chose c.relay.ensures.steps
+    spent (g.B.BlockSource.meaning c.args.source) (g.B.BlockSource.meaning c.hand_out.new.self) c.args.old.now c.args.change c.args.shape c.args.wanted c.in_ok-chosen.chosen c.args.steps.now c.choose.new.steps c.relay.new.steps begun chose c.relay.ensures.steps
 
 -- the rows that were laid out
-rows : (g : given.Over) (c : goal.In_ok-matrix g) → IsStart (kept_source (g.B.BlockSource.meaning c.args.source) c.args.old.now c.args.change c.args.shape) (kept_source (g.B.BlockSource.meaning c.hand_out.new.self.0) c.hand_out.new.self.1 c.hand_out.new.self.2 c.hand_out.new.self.3) c.args.shape c.args.wanted c.in_ok-chosen.chosen
+rows : (g : given.Over) (c : goal.In_ok-matrix g) → IsStart (kept_source (g.B.BlockSource.meaning c.args.source) c.args.old.now c.args.change c.args.shape) (kept_source (g.B.BlockSource.meaning c.hand_out.new.self) c.args.old.now c.args.change c.args.shape) c.args.shape c.args.wanted c.in_ok-chosen.chosen
     → shown_entries c.in_ok-matrix.matrix ≡ rows_in_view (kept_source (g.B.BlockSource.meaning c.args.source) c.args.old.now c.args.change c.args.shape) c.args.shape c.args.wanted
 rows g c begun = rows-laid _ _ c.args.shape c.args.wanted c.in_ok-chosen.chosen c.in_ok-matrix.matrix begun c.in_ok-matrix.ensures.rows
 
 pub choose-requires-clause-anchor : goal.choose-requires-clause-anchor
 choose-requires-clause-anchor g c =
-    back-at-source (λ (x : SourceValues). IsWithin c.args.wanted.anchor.pos x.blocks) _ _ (same g (goal.at.choose-requires-clause-anchor g c).After-new-remembered) c.requires.anchor
+    back-at-source (λ (x : SourceValues). IsWithin c.args.wanted.anchor.pos x.blocks) _ _ (same g (goal.at.choose-requires-clause-anchor g c).After-new-kept) c.requires.anchor
 
 pub choose-requires-clause-point : goal.choose-requires-clause-point
 choose-requires-clause-point g c =
-    back-at-source (λ (x : SourceValues). IsWithin c.args.wanted.point x.blocks) _ _ (same g (goal.at.choose-requires-clause-point g c).After-new-remembered) c.requires.point
+    back-at-source (λ (x : SourceValues). IsWithin c.args.wanted.point x.blocks) _ _ (same g (goal.at.choose-requires-clause-point g c).After-new-kept) c.requires.point
 
 pub returns-in_err-chosen-clause-steps : goal.returns-in_err-chosen-clause-steps
 returns-in_err-chosen-clause-steps g c =
-    let steps = at-source (λ (x : SourceValues). c.choose.new.steps ≤ c.args.steps.now + 2 * near_costs x c.args.shape c.args.wanted) (kept_source (g.B.BlockSource.meaning c.args.source) c.args.old.now c.args.change c.args.shape) _ (same g (goal.at.returns-in_err-chosen-clause-steps g c).After-new-remembered) c.choose.ensures.steps in
+    let steps = at-source (λ (x : SourceValues). c.choose.new.steps ≤ c.args.steps.now + 2 * near_costs x c.args.shape c.args.wanted) (kept_source (g.B.BlockSource.meaning c.args.source) c.args.old.now c.args.change c.args.shape) _ (same g (goal.at.returns-in_err-chosen-clause-steps g c).After-new-kept) c.choose.ensures.steps in
     omega (arith, steps)
 
 pub relay-requires : goal.relay-requires
@@ -94,7 +97,7 @@ has_last_row-requires g c =
     let laid = rows g at.In_ok-matrix begun in
     let stays = c.is_first_row.ensures.stays ∙ (c.relay.ensures.stays ∙ begun.same) in
     record {
-      source = back-at-source IsSource _ _ stays (at-source IsSource m _ (same g at.After-new-remembered) c.choose.ensures.source);
+      source = back-at-source IsSource _ _ stays (at-source IsSource m _ (same g at.After-new-kept) c.choose.ensures.source);
       some = some-laid m c.args.shape w c.in_ok-matrix.matrix c.requires.height begun.low laid;
       rows = back-at-source (λ (x : SourceValues). (shape : ShapeValues) × IsShape shape × ((place : ℕ) × (shown_entries c.in_ok-matrix.matrix ≡ take w.height (drop place (rows_at x shape))))) _ _
           stays (c.args.shape, begun.shaped, (start_row m c.args.shape w, laid));
@@ -112,7 +115,7 @@ returns g c =
     let place = start_row m c.args.shape w in
     let laid = rows g at.In_ok-matrix begun in
     record {
-      chosen = at-source (λ (x : SourceValues). c.in_ok-chosen.chosen ≡ chosen_of x c.args.shape w) m _ (same g at.After-new-remembered) c.in_ok-chosen.ensures.value;
+      chosen = at-source (λ (x : SourceValues). c.in_ok-chosen.chosen ≡ chosen_of x c.args.shape w) m _ (same g at.After-new-kept) c.in_ok-chosen.ensures.value;
       rows = laid;
       top = c.in_ok-top.ensures.value c.args.shape place begun.shaped
           (back-at-source (λ (x : SourceValues). Names c.in_ok-chosen.chosen.anchor (rows_at x c.args.shape) place) _ _ (c.relay.ensures.stays ∙ begun.same) begun.named);
