@@ -13,14 +13,14 @@ use Rattle.rd_reuse.specs.declared.change.Change.{Change}
 use Rattle.rd_state.specs.Effects.{covered_effect, moved_effect}
 use Rattle.rd_state.specs.Moves.{moved as moved_window, moved_by, moved_in}
 use Rattle.rd_state.specs.States.{BufferValue, ContentValue, seen}
-use Rattle.rd_state.specs.Windows.{AreApart, window_of, with_entry, without_entry, NumberedWindow}
+use Rattle.rd_state.specs.Windows.{AreApart, window_of, changed_under, removed_under, NumberedWindow}
 use Rattle.rd_state.specs.declared.effect.Effect.{Effect}
 use Rattle.rd_state.specs.declared.effect.Effect.TheVariants.{Edit, Moved, All}
 use Rattle.rd_state.specs.declared.moves.Move.{Move}
 use Rattle.rd_state.specs.declared.window.WindowState.{WindowState}
 use Rattle.rd_layout.specs.Changes.{change_by, if_shown, restyled}
 use Rattle.rd_layout.proofs.ByNumber.{Lives, lives-end, lives-moved, lives-with, lives-without}
-use Rattle.rd_state.proofs.ByNumber.{Each, each-same, each-with, each-moved, each-end, each-without, entry-other}
+use Rattle.rd_state.proofs.ByNumber.{Each, each-same, each-with, each-moved, each-end, each-without, under-other}
 use Rattle.rd_state.proofs.Options.{one-value}
 
 -- an effect tells no change of a window that shows a buffer
@@ -136,7 +136,7 @@ turned-same effect made ws = record { lives = λ n _ l. l; calm = λ _. each-sam
 
 -- where one becomes another
 pub turned-with : (effect : Effect) (made : ℕ) (ws : List NumberedWindow) (n : ℕ) (f : WindowState → WindowState) → ((w : WindowState) → Quiet effect n w.buffer → Same w (f w))
-    → Turned effect made ws (with_entry n f ws)
+    → Turned effect made ws (changed_under n f ws)
 turned-with effect made ws n f good = record { lives = λ k _ l. lives-with n f k ws l; calm = λ _. each-with (IsCalm effect) (itself effect) n f ws good }
 
 -- where all that show a buffer of which the effect tells move
@@ -151,14 +151,14 @@ turned-moved effect made ws i how loud = record { lives = λ n _ l. lives-moved 
 
 -- where one of them becomes another besides
 pub turned-typed : (effect : Effect) (made : ℕ) (ws : List NumberedWindow) (i : ℕ) (how : Move) (n : ℕ) (f : WindowState → WindowState) (w : WindowState) → Loud effect i
-    → window_of n ws ≡ Some w → w.buffer ≡ i → Turned effect made ws (with_entry n f (map (moved_in i how) ws))
+    → window_of n ws ≡ Some w → w.buffer ≡ i → Turned effect made ws (changed_under n f (map (moved_in i how) ws))
 turned-typed effect made ws i how n f w loud at there = record {
   lives = λ k _ l. lives-moved i how k ws (lives-with n f k (map (moved_in i how) ws) l);
   calm = λ _ number old new h k quiet. elim (cases_eq number n) [
     | inl p ↦
         let is : old ≡ w = one-value (window_of n ws) old w (ap (λ j. window_of j ws) (sym p) ∙ h) at in
         absurd (loud number old.buffer (ap (λ (x : WindowState). x.buffer) is ∙ there) quiet)
-    | inr q ↦ calm-moved effect ws i how loud number old new h (sym (entry-other n number f (map (moved_in i how) ws) q) ∙ k) quiet
+    | inr q ↦ calm-moved effect ws i how loud number old new h (sym (under-other n number f (map (moved_in i how) ws) q) ∙ k) quiet
   ];
 }
 
@@ -167,5 +167,5 @@ pub turned-end : (effect : Effect) (ws : List NumberedWindow) (e : NumberedWindo
 turned-end effect ws e = record { lives = λ n low l. lives-end n e ws (λ same. omega arith) l; calm = λ _. each-end (IsCalm effect) (itself effect) ws e }
 
 -- a window less leaves the others as they were
-pub turned-without : (effect : Effect) (made : ℕ) (ws : List NumberedWindow) (n : ℕ) → Turned effect made ws (without_entry n ws)
+pub turned-without : (effect : Effect) (made : ℕ) (ws : List NumberedWindow) (n : ℕ) → Turned effect made ws (removed_under n ws)
 turned-without effect made ws n = record { lives = λ k _ l. lives-without n k ws l; calm = λ apart. each-without (IsCalm effect) (itself effect) n ws apart }

@@ -14,7 +14,7 @@ use Rattle.rd_script.specs.declared.op.Op.TheVariants as ops
 use Rattle.rd_tree.specs.Calls.{Configuration, split_tree, remove_tree, resize_tree, mode_tree, margins_tree}
 use Rattle.rd_tree.specs.declared.fault.TreeFault.{TreeFault}
 use Rattle.rd_tree.proofs.Steps.{margins-means, mode-means, remove-means, resize-means, split-means}
-use Rattle.rd_state.specs.Edits.{insertion, deletion, narrowing, widening, property_putting, overlay_making, overlay_moving, overlay_dropping, overlay_putting, margin_putting, setting_putting, is_made}
+use Rattle.rd_state.specs.Edits.{insertion, deletion, narrowing, widening, property_putting, overlay_making, overlay_moving, overlay_dropping, overlay_putting, margin_putting, setting_putting, is_number_made}
 use Rattle.rd_state.specs.Effects.{effect_of, overlay_in}
 use Rattle.rd_state.specs.Making.{table_of, string_making, spec_making, face_making, table_making}
 use Rattle.rd_state.specs.States.{BufferValue, ContentValue, StateValue, new_buffer, number_of, opening_window, seen}
@@ -117,7 +117,7 @@ overlay-there s name number b r e c at is =
 
 margins-seen : (objects : ObjectLists) (number : ℕ) (string : Option ℕ) (c d : ContentValue) → margin_putting objects number string c ≡ Ok d → seen d ≡ seen c
 margins-seen objects number string c d h =
-    ap seen (sym (both-ok (is_some (overlay_at c.overlays number)) (is_made (length objects.strings) string) (record c { marks = marks.marked c.marks number string }) NoObject NoOverlay d h).2)
+    ap seen (sym (both-ok (is_some (overlay_at c.overlays number)) (is_number_made (length objects.strings) string) (record c { marks = marks.marked c.marks number string }) NoObject NoOverlay d h).2)
 
 -- ---- all ops
 

@@ -17,7 +17,7 @@ use Rattle.rd_script.specs.declared.setting.Setting.{Setting}
 use Rattle.rd_state.specs.Edits.{deletion, is_accessible, insertion, margin_putting, narrowing, overlay_dropping, overlay_making, overlay_moving, overlay_putting, property_putting, setting_putting, widening}
 use Rattle.rd_state.specs.Making.{refused_object, run_of, spec_of, unless_fault}
 use Rattle.rd_state.specs.States.{BufferValue, ContentValue, StateValue, number_of}
-use Rattle.rd_state.specs.Steps.{changing, edited, edited_moving, in_window, in_buffer, in_shown, making, moving, on_tree, placing, raw_text, refused_tree, replaced, setting, showing, step, typing, unless_bad, with_found, with_objects}
+use Rattle.rd_state.specs.Steps.{changing, edited, edited_moving, in_window, in_buffer, in_shown, making, moving, on_tree, placing, raw_text, refused_tree, content_replaced, setting, showing, step, typing, unless_bad, with_found, with_objects}
 use Rattle.rd_state.proofs.Free.{refused-free}
 use Rattle.rd_state.specs.declared.moves.Move.{Move}
 use Rattle.rd_state.specs.declared.moves.Move.TheVariants.{Deleted, Inserted, Narrowed}
@@ -58,12 +58,12 @@ goes-on-free part (Err refusal) same made h = let on = same refusal in λ e. h (
 goes-on-free part (Ok a) same made h = made a
 
 edited-free : (s : StateValue) (name : List ℕ) (edit : ContentValue → Result ContentValue Refused) → ((c : ContentValue) → AnswersFree (edit c)) → AnswersFree (edited s name edit)
-edited-free s name edit h = named-free s name (λ i b. replaced s i b (edit b.content)) (λ i b. goes-on-free (replaced s i b) (edit b.content) (λ e. refl) (λ d. ok-free _) (h b.content))
+edited-free s name edit h = named-free s name (λ i b. content_replaced s i b (edit b.content)) (λ i b. goes-on-free (content_replaced s i b) (edit b.content) (λ e. refl) (λ d. ok-free _) (h b.content))
 
 moved-free : (s : StateValue) (name : List ℕ) (how : Move) (edit : ContentValue → Result ContentValue Refused) → ((c : ContentValue) → AnswersFree (edit c)) → AnswersFree (edited_moving s name how edit)
 moved-free s name how edit h =
-    named-free s name (λ i b. moving i how (replaced s i b (edit b.content)))
-    (λ i b. goes-on-free (λ r. moving i how (replaced s i b r)) (edit b.content) (λ e. refl) (λ d. ok-free _) (h b.content))
+    named-free s name (λ i b. moving i how (content_replaced s i b (edit b.content)))
+    (λ i b. goes-on-free (λ r. moving i how (content_replaced s i b r)) (edit b.content) (λ e. refl) (λ d. ok-free _) (h b.content))
 
 insertion-free : (place : ℕ) (new : List ℕ) (c : ContentValue) → AnswersFree (insertion place new c)
 insertion-free place new c = either AnswersFree _ _ _ (either AnswersFree _ _ _ (ok-free _) (no-free TextTooLarge (λ e. cc))) (no-free OutOfRange (λ e. cc))
@@ -101,7 +101,7 @@ making-free s name = either AnswersFree _ _ _ (no-free NameTaken (λ e. cc)) (ei
 typing-free : (s : StateValue) (new : List ℕ) → AnswersFree (typing s new)
 typing-free s new =
     let done : WindowState → BufferValue → Result ContentValue Refused → Result StateValue Refused = λ w b r.
-    changing s.selected (λ old. record old { point = w.point + length new }) (moving w.buffer (Inserted w.point (length new)) (replaced s w.buffer b r)) in
+    changing s.selected (λ old. record old { point = w.point + length new }) (moving w.buffer (Inserted w.point (length new)) (content_replaced s w.buffer b r)) in
     let put : WindowState → BufferValue → Result StateValue Refused = λ w b. done w b (insertion w.point new b.content) in
     lives-free s s.selected (λ w. in_shown s w (put w))
     (λ w. shown-free s w (put w) (λ b. goes-on-free (done w b) (insertion w.point new b.content) (λ e. refl) (λ d. ok-free _) (insertion-free w.point new b.content)))

@@ -21,7 +21,7 @@ use Rattle.rd_state.specs.declared.effect.Effect.{Effect}
 use Rattle.rd_state.specs.Answers.{Applies}
 use Rattle.rd_state.specs.declared.window.WindowState.{WindowState}
 use Rattle.rd_state.specs.States.{BufferValue, ContentValue, StateValue, opening, main_name, opening_window, new_buffer}
-use Rattle.rd_state.specs.Windows.{window_of, with_entry, leaf_of}
+use Rattle.rd_state.specs.Windows.{window_of, changed_under, leaf_of}
 use Rattle.rd_state.proofs.ByNumber.{window-each}
 use Rattle.rd_state.proofs.Keeping.{holding, window-still}
 use Rattle.rd_state.specs.Valid.{IsContent, IsWindow, IsValid}
@@ -41,7 +41,7 @@ use Rattle.rd_state.proofs.Tests.{text-codes}
 -- a state in which the selected window's point is another accessible position
 pointed-valid : (s : StateValue) (number place : ℕ) → IsValid s
     → ((w : WindowState) (b : BufferValue) → window_of number s.windows ≡ Some w → slice_get s.buffers w.buffer ≡ Some b → IsAccessible b.content.text place)
-    → IsValid (record s { windows = with_entry number (λ old. record old { point = place }) s.windows })
+    → IsValid (record s { windows = changed_under number (λ old. record old { point = place }) s.windows })
 pointed-valid s number place v at =
     set-valid s number (λ old. record old { point = place }) v (λ w. refl) (λ w lives old. point-keeps s.buffers place w old (λ b h. at w b lives h))
 

@@ -12,9 +12,9 @@ use Rattle.std.specs.Option.{option_or}
 use Rattle.rd_base.proofs.Choices.{none-chosen, some-mapped}
 use Rattle.rd_state.specs.declared.window.WindowState.{WindowState}
 use Rattle.rd_state.proofs.Options.{one-value}
-use Rattle.rd_state.specs.Windows.{under, window_of, place_in, kept_as, becoming, with_entry, without_entry, AreApart, NumberedWindow}
+use Rattle.rd_state.specs.Windows.{under, window_of, place_in, kept_as, becoming, changed_under, removed_under, AreApart, NumberedWindow}
 
--- ---- the first entry, and the others
+-- ---- the first thing, and the others
 
 pub under-here : {X : Type 0} (n : ℕ) (e : ℕ × X) (rest : List (ℕ × X)) → e.0 ≡ n → under n (e ∷ rest) ≡ Some e.1
 under-here n e rest h = cond-true (e.0 == n) (Some e.1) (under n rest) (eq-eqb e.0 n h)
@@ -41,13 +41,13 @@ get-window n ws w h =
     let at = place_from_lookup (λ k. k == n) ws w h in
     (at.0, at.2 ∙ ap (λ (k : ℕ). Some (k, w)) (eqb-true at.1 n at.3))
 
--- an entry that stands at the place of a number
+-- a thing that stands at the place of a number
 pub record IsFound {X : Type 0} (n i : ℕ) (es : List (ℕ × X)) (e : ℕ × X) : Type 0 where
   pub at : slice_get es i ≡ Some e
   pub number : e.0 ≡ n
   pub stands : under n es ≡ Some e.1
-  pub changed : (f : X → X) → set es i (e.0, f e.1) ≡ with_entry n f es
-  pub removed : remove es i ≡ without_entry n es
+  pub changed : (f : X → X) → set es i (e.0, f e.1) ≡ changed_under n f es
+  pub removed : remove es i ≡ removed_under n es
 
 one-further : {X : Type 0} (n j : ℕ) (d : ℕ × X) (rest : List (ℕ × X)) (e : ℕ × X) → d.0 ≢ n → IsFound n j rest e → IsFound n (suc j) (d ∷ rest) e
 one-further {X} n j d rest e q p = record {
@@ -58,9 +58,9 @@ one-further {X} n j d rest e q p = record {
   removed = ap (λ (xs : List (ℕ × X)). d ∷ xs) p.removed ∙ sym (becoming-there n (λ x. None) d rest q);
 }
 
-pub found : {X : Type 0} (n i : ℕ) (es : List (ℕ × X)) → i ≡ place_in n es → i < length es → (e : ℕ × X) × IsFound n i es e
-found n i [] is less = absurd (omega arith)
-found n zero (e ∷ rest) is less = elim (cases_eq e.0 n) [
+pub found-at : {X : Type 0} (n i : ℕ) (es : List (ℕ × X)) → i ≡ place_in n es → i < length es → (e : ℕ × X) × IsFound n i es e
+found-at n i [] is less = absurd (omega arith)
+found-at n zero (e ∷ rest) is less = elim (cases_eq e.0 n) [
   | inl p ↦ (
     e,
     record {
@@ -73,16 +73,16 @@ found n zero (e ∷ rest) is less = elim (cases_eq e.0 n) [
   )
   | inr q ↦ absurd (omega (arith, place-there n e rest q, is))
 ]
-found n (suc j) (d ∷ rest) is less = elim (cases_eq d.0 n) [
+found-at n (suc j) (d ∷ rest) is less = elim (cases_eq d.0 n) [
   | inl p ↦ absurd (omega (arith, place-here n d rest p, is))
   | inr q ↦
-      let there = found n j rest (omega (arith, place-there n d rest q, is)) (omega arith) in
+      let there = found-at n j rest (omega (arith, place-there n d rest q, is)) (omega arith) in
       (there.0, one-further n j d rest there.0 q there.1)
 ]
 
-pub found-entry : {X : Type 0} (n i : ℕ) (es : List (ℕ × X)) (e : ℕ × X) → i ≡ place_in n es → i < length es → e ≡ get_or es i e → IsFound n i es e
-found-entry n i es e is less at =
-    let there = found n i es is less in
+pub found-under : {X : Type 0} (n i : ℕ) (es : List (ℕ × X)) (e : ℕ × X) → i ≡ place_in n es → i < length es → e ≡ get_or es i e → IsFound n i es e
+found-under n i es e is less at =
+    let there = found-at n i es is less in
     let same : there.0 ≡ e = cc (sym there.1.at ∙ (slice_get-get_or es i e less ∙ ap Some (sym at))) in
     subst (IsFound n i es) same there.1
 
@@ -99,24 +99,24 @@ kept-past n m None rest other = refl
 kept-past n m (Some x) rest other = under-there m (n, x) rest other
 
 -- the others stay, and so does the number itself where nothing stands under it
-pub entry-past : {X : Type 0} (n m : ℕ) (f : X → Option X) (es : List (ℕ × X)) → (m ≡ n → under m es ≡ None) → under m (becoming n f es) ≡ under m es
-entry-past n m f [] ne = refl
-entry-past n m f (e ∷ rest) ne = elim (cases_eq e.0 n) [
+pub under-past : {X : Type 0} (n m : ℕ) (f : X → Option X) (es : List (ℕ × X)) → (m ≡ n → under m es ≡ None) → under m (becoming n f es) ≡ under m es
+under-past n m f [] ne = refl
+under-past n m f (e ∷ rest) ne = elim (cases_eq e.0 n) [
   | inl p ↦
       let other : e.0 ≢ m = λ r. none-some e.1 (sym (ne (sym r ∙ p)) ∙ under-here m e rest r) in
       ap (under m) (becoming-here n f e rest p) ∙ (kept-past e.0 m (f e.1) rest other ∙ sym (under-there m e rest other))
   | inr q ↦ ap (under m) (becoming-there n f e rest q) ∙ elim (cases_eq e.0 m) [
     | inl r ↦ under-here m e (becoming n f rest) r ∙ sym (under-here m e rest r)
-    | inr r ↦ under-there m e (becoming n f rest) r ∙ (entry-past n m f rest (λ s. sym (under-there m e rest r) ∙ ne s) ∙ sym (under-there m e rest r))
+    | inr r ↦ under-there m e (becoming n f rest) r ∙ (under-past n m f rest (λ s. sym (under-there m e rest r) ∙ ne s) ∙ sym (under-there m e rest r))
   ]
 ]
 
-pub entry-other : {X : Type 0} (n m : ℕ) (f : X → X) (es : List (ℕ × X)) → m ≢ n → under m (with_entry n f es) ≡ under m es
-entry-other n m f es ne = entry-past n m (λ x. Some (f x)) es (λ s. absurd (ne s))
+pub under-other : {X : Type 0} (n m : ℕ) (f : X → X) (es : List (ℕ × X)) → m ≢ n → under m (changed_under n f es) ≡ under m es
+under-other n m f es ne = under-past n m (λ x. Some (f x)) es (λ s. absurd (ne s))
 
 -- none comes
 pub none-past : (n m : ℕ) (f : WindowState → Option WindowState) (ws : List NumberedWindow) → window_of m ws ≡ None → window_of m (becoming n f ws) ≡ None
-none-past n m f ws h = entry-past n m f ws (λ s. h) ∙ h
+none-past n m f ws h = under-past n m f ws (λ s. h) ∙ h
 
 apart-kept : (n : ℕ) (o : Option WindowState) (rest : List NumberedWindow) → window_of n rest ≡ None → AreApart rest → AreApart (kept_as n o rest)
 apart-kept n None rest none h = h
@@ -129,31 +129,31 @@ apart-becoming n f (e ∷ rest) h = elim (cases_eq e.0 n) [
   | inr q ↦ subst AreApart (sym (becoming-there n f e rest q)) (none-past n e.0 f rest h.0, apart-becoming n f rest h.1)
 ]
 
-pub window-same : (n : ℕ) (f : WindowState → WindowState) (ws : List NumberedWindow) → window_of n (with_entry n f ws) ≡ option_map f (window_of n ws)
+pub window-same : (n : ℕ) (f : WindowState → WindowState) (ws : List NumberedWindow) → window_of n (changed_under n f ws) ≡ option_map f (window_of n ws)
 window-same n f [] = refl
 window-same n f (e ∷ rest) = elim (cases_eq e.0 n) [
   | inl p ↦ ap (window_of n) (becoming-here n (λ w. Some (f w)) e rest p) ∙ (under-here n (e.0, f e.1) rest p ∙ sym (ap (option_map f) (under-here n e rest p)))
   | inr q ↦
       ap (window_of n) (becoming-there n (λ w. Some (f w)) e rest q)
-      ∙ (under-there n e (with_entry n f rest) q ∙ (window-same n f rest ∙ sym (ap (option_map f) (under-there n e rest q))))
+      ∙ (under-there n e (changed_under n f rest) q ∙ (window-same n f rest ∙ sym (ap (option_map f) (under-there n e rest q))))
 ]
 
 -- a number leads to what it led to, or to what became of that
 pub window-with : (n m : ℕ) (f : WindowState → WindowState) (ws : List NumberedWindow)
-    → (window_of m (with_entry n f ws) ≡ window_of m ws) ⊎ (window_of m (with_entry n f ws) ≡ option_map f (window_of m ws))
+    → (window_of m (changed_under n f ws) ≡ window_of m ws) ⊎ (window_of m (changed_under n f ws) ≡ option_map f (window_of m ws))
 window-with n m f ws = elim (cases_eq m n) [
-  | inl p ↦ inr (subst (λ (k : ℕ). window_of k (with_entry n f ws) ≡ option_map f (window_of k ws)) (sym p) (window-same n f ws))
-  | inr q ↦ inl (entry-other n m f ws q)
+  | inl p ↦ inr (subst (λ (k : ℕ). window_of k (changed_under n f ws) ≡ option_map f (window_of k ws)) (sym p) (window-same n f ws))
+  | inr q ↦ inl (under-other n m f ws q)
 ]
 
-pub some-with : (n m : ℕ) (f : WindowState → WindowState) (ws : List NumberedWindow) → IsSome (window_of m ws) → IsSome (window_of m (with_entry n f ws))
+pub some-with : (n m : ℕ) (f : WindowState → WindowState) (ws : List NumberedWindow) → IsSome (window_of m ws) → IsSome (window_of m (changed_under n f ws))
 some-with n m f ws h = elim (window-with n m f ws) [ inl p ↦ subst IsSome (sym p) h | inr p ↦ subst IsSome (sym p) (some-mapped f (window_of m ws) ∙ h) ]
 
-pub window-gone : (n : ℕ) (ws : List NumberedWindow) → AreApart ws → window_of n (without_entry n ws) ≡ None
+pub window-gone : (n : ℕ) (ws : List NumberedWindow) → AreApart ws → window_of n (removed_under n ws) ≡ None
 window-gone n [] h = refl
 window-gone n (e ∷ rest) h = elim (cases_eq e.0 n) [
   | inl p ↦ ap (window_of n) (becoming-here n (λ w. None) e rest p) ∙ (ap (λ (k : ℕ). window_of k rest) (sym p) ∙ h.0)
-  | inr q ↦ ap (window_of n) (becoming-there n (λ w. None) e rest q) ∙ (under-there n e (without_entry n rest) q ∙ window-gone n rest h.1)
+  | inr q ↦ ap (window_of n) (becoming-there n (λ w. None) e rest q) ∙ (under-there n e (removed_under n rest) q ∙ window-gone n rest h.1)
 ]
 
 -- ---- a window that comes
@@ -222,14 +222,14 @@ module _ (R : ℕ → WindowState → WindowState → Type 0) (stays : (number :
   each-same ws number w v h k = stays-found number ws w v h k
 
   -- where one becomes another
-  pub each-with : (n : ℕ) (f : WindowState → WindowState) (ws : List NumberedWindow) → ((w : WindowState) → R n w (f w)) → Each R ws (with_entry n f ws)
+  pub each-with : (n : ℕ) (f : WindowState → WindowState) (ws : List NumberedWindow) → ((w : WindowState) → R n w (f w)) → Each R ws (changed_under n f ws)
   each-with n f ws changed number w v h k = elim (cases_eq number n) [
     | inl p ↦
         let here : window_of n ws ≡ Some w = ap (λ (m : ℕ). window_of m ws) (sym p) ∙ h in
-        let after : option_map f (window_of n ws) ≡ Some v = sym (window-same n f ws) ∙ (ap (λ (m : ℕ). window_of m (with_entry n f ws)) (sym p) ∙ k) in
+        let after : option_map f (window_of n ws) ≡ Some v = sym (window-same n f ws) ∙ (ap (λ (m : ℕ). window_of m (changed_under n f ws)) (sym p) ∙ k) in
         let is : f w ≡ v = cc (sym (ap (option_map f) here) ∙ after) in
         subst (λ (m : ℕ). R m w v) (sym p) (subst (R n w) is (changed w))
-    | inr q ↦ stays-found number ws w v h (sym (entry-other n number f ws q) ∙ k)
+    | inr q ↦ stays-found number ws w v h (sym (under-other n number f ws q) ∙ k)
   ]
 
   -- where one comes
@@ -241,15 +241,15 @@ module _ (R : ℕ → WindowState → WindowState → Type 0) (stays : (number :
       subst (R number w) is (stays number w)
 
   -- where one goes
-  pub each-without : (n : ℕ) (ws : List NumberedWindow) → AreApart ws → Each R ws (without_entry n ws)
+  pub each-without : (n : ℕ) (ws : List NumberedWindow) → AreApart ws → Each R ws (removed_under n ws)
   each-without n ws apart number w v h k = elim (cases_eq number n) [
-    | inl p ↦ absurd (none-some v (sym (window-gone n ws apart) ∙ (ap (λ (m : ℕ). window_of m (without_entry n ws)) (sym p) ∙ k)))
-    | inr q ↦ stays-found number ws w v h (sym (entry-past n number (λ x. None) ws (λ s. absurd (q s))) ∙ k)
+    | inl p ↦ absurd (none-some v (sym (window-gone n ws apart) ∙ (ap (λ (m : ℕ). window_of m (removed_under n ws)) (sym p) ∙ k)))
+    | inr q ↦ stays-found number ws w v h (sym (under-past n number (λ x. None) ws (λ s. absurd (q s))) ∙ k)
   ]
 
 -- ---- places and numbers
 
--- no later entry has the number of the first
+-- no later window has the number of the first
 pub window-at : (n : ℕ) (ws : List NumberedWindow) (k : ℕ) (e : NumberedWindow) → AreApart ws → slice_get ws k ≡ Some e → e.0 ≡ n → window_of n ws ≡ Some e.1
 window-at n [] k e apart h is = absurd (cc)
 window-at n (x ∷ rest) zero e apart h is =
@@ -260,7 +260,7 @@ window-at n (x ∷ rest) (suc k) e apart h is = elim (cases_eq x.0 n) [
   | inr q ↦ under-there n x rest q ∙ window-at n rest k e apart.1 h is
 ]
 
--- ---- what holds of each entry
+-- ---- what holds of each window
 
 -- a window that lives behind lived before, where none comes
 pub some-before : (n : ℕ) (ws us : List NumberedWindow) → (window_of n ws ≡ None → window_of n us ≡ None) → (w : WindowState) × (window_of n us ≡ Some w) → (u : WindowState) × (window_of n ws ≡ Some u)
@@ -273,9 +273,9 @@ some-before n ws us none l = by (window_of n ws) refl where
 abbrev pub Hands : (WindowState → Type 0) → (WindowState → Type 0) → List NumberedWindow → ℕ → WindowState → WindowState → Type 0
 Hands P Q ws number w v = window_of number ws ≡ Some w → P w → Q v
 
-pub each-entry : (P Q : WindowState → Type 0) (ws us : List NumberedWindow) → AreApart us → ((n : ℕ) → window_of n ws ≡ None → window_of n us ≡ None) → Each (Hands P Q ws) ws us
+pub each-under : (P Q : WindowState → Type 0) (ws us : List NumberedWindow) → AreApart us → ((n : ℕ) → window_of n ws ≡ None → window_of n us ≡ None) → Each (Hands P Q ws) ws us
     → ((k : ℕ) (e : NumberedWindow) → slice_get ws k ≡ Some e → P e.1) → (k : ℕ) (e : NumberedWindow) → slice_get us k ≡ Some e → Q e.1
-each-entry P Q ws us apart none hands old k e h =
+each-under P Q ws us apart none hands old k e h =
     let lives = window-at e.0 us k e apart h refl in
     let was = some-before e.0 ws us (none e.0) (e.1, lives) in
     let at = get-window e.0 ws was.0 was.1 in

@@ -24,7 +24,7 @@ use Rattle.rd_props.specs.Values.{value_of}
 use Rattle.rd_script.specs.Forms.{is_text_kind}
 use Rattle.rd_state.specs.States.{ContentValue, seen, values_on, value_in}
 use Rattle.rd_state.specs.Valid.{IsWithin, IsContent}
-use Rattle.rd_state.specs.Edits.{is_range_of_all, is_made, is_value_made, marked_modified, grown, shrunk, seen_grown, seen_shrunk, with_seen}
+use Rattle.rd_state.specs.Edits.{is_range_of_all, is_number_made, is_value_made, marked_modified, content_grown, content_shrunk, seen_grown, seen_shrunk, with_seen}
 use Rattle.rd_state.proofs.Tables.{AreAlike, value-in-table}
 use Rattle.rd_state.proofs.Within.{grown-within, shrunk-within, same-within, made-within, put-within, moved-within, given-within}
 
@@ -50,7 +50,7 @@ seen-parts c b s within = record { text = refl; properties = listed-alike b with
 opened-within : (c : ContentValue) (pos : ℕ) (new : List ℕ) → IsText c.text → IsWithin (seen c) → IsAccessible c.text pos → IsWithin (seen_grown c pos new)
 opened-within c pos new text within at = grown-within (seen c) (seen_grown c pos new) pos new text within at refl (λ kind p. refl) refl
 
-pub grown-is : (c : ContentValue) (pos : ℕ) (new : List ℕ) → IsText c.text → IsWithin (seen c) → IsAccessible c.text pos → IsInsertion (seen c) (seen (grown c pos new)) pos new
+pub grown-is : (c : ContentValue) (pos : ℕ) (new : List ℕ) → IsText c.text → IsWithin (seen c) → IsAccessible c.text pos → IsInsertion (seen c) (seen (content_grown c pos new)) pos new
 grown-is c pos new text within at = seen-parts c (seen_grown c pos new) c.settings (opened-within c pos new text within at)
 
 settings-kept : (o : ObjectLists) (s t : SettingValues) → t.table ≡ s.table → t.line_prefix ≡ s.line_prefix → t.wrap_prefix ≡ s.wrap_prefix → SettingsMade o s → SettingsMade o t
@@ -78,32 +78,32 @@ still-valid o c tab text characters within names marks = record {
 }
 
 pub grown-valid : (o : ObjectLists) (c : ContentValue) (pos : ℕ) (new : List ℕ) → IsContent o c → AreCodes new → IsAccessible c.text pos
-    → length c.text.text + length new ≤ TEXT_CHARACTERS → IsContent o (grown c pos new)
+    → length c.text.text + length new ≤ TEXT_CHARACTERS → IsContent o (content_grown c pos new)
 grown-valid o c pos new v codes at room =
     let code = λ (x : ℕ). IsTrue (is_code x) in
     let first = All-append code (take (pos - 1) c.text.text) new (All-take code (pos - 1) c.text.text v.characters) codes in
     let settings = settings-kept o c.settings (marked_modified (nat_lt 0 (length new)) c.settings) refl refl refl v.names.settings in
-    still-valid o (grown c pos new) (v.least_tab, v.most_tab) (inserted-is_text c.text pos new v.text at room)
+    still-valid o (content_grown c pos new) (v.least_tab, v.most_tab) (inserted-is_text c.text pos new v.text at room)
     (All-append code (take (pos - 1) c.text.text ++ new) (drop (pos - 1) c.text.text) first (All-drop code (pos - 1) c.text.text v.characters))
     (listed-within (seen_grown c pos new) (opened-within c pos new v.text v.within at))
-    (made-inserted (seen c) (seen (grown c pos new)) o v.names settings pos new (grown-is c pos new v.text v.within at)) v.marks
+    (made-inserted (seen c) (seen (content_grown c pos new)) o v.names settings pos new (grown-is c pos new v.text v.within at)) v.marks
 
 -- ---- deletion
 
 closed-within : (c : ContentValue) (from to : ℕ) → IsText c.text → IsWithin (seen c) → IsAccessibleRange c.text from to → IsWithin (seen_shrunk c from to)
 closed-within c from to text within at = shrunk-within (seen c) (seen_shrunk c from to) from to text within at refl (λ kind p. refl) refl
 
-pub shrunk-is : (c : ContentValue) (from to : ℕ) → IsText c.text → IsWithin (seen c) → IsAccessibleRange c.text from to → IsDeletion (seen c) (seen (shrunk c from to)) from to
+pub shrunk-is : (c : ContentValue) (from to : ℕ) → IsText c.text → IsWithin (seen c) → IsAccessibleRange c.text from to → IsDeletion (seen c) (seen (content_shrunk c from to)) from to
 shrunk-is c from to text within at = seen-parts c (seen_shrunk c from to) c.settings (closed-within c from to text within at)
 
-pub shrunk-valid : (o : ObjectLists) (c : ContentValue) (from to : ℕ) → IsContent o c → IsAccessibleRange c.text from to → IsContent o (shrunk c from to)
+pub shrunk-valid : (o : ObjectLists) (c : ContentValue) (from to : ℕ) → IsContent o c → IsAccessibleRange c.text from to → IsContent o (content_shrunk c from to)
 shrunk-valid o c from to v at =
     let code = λ (x : ℕ). IsTrue (is_code x) in
     let settings = settings-kept o c.settings (marked_modified (nat_lt from to) c.settings) refl refl refl v.names.settings in
-    still-valid o (shrunk c from to) (v.least_tab, v.most_tab) (deleted-is_text c.text from to v.text at)
+    still-valid o (content_shrunk c from to) (v.least_tab, v.most_tab) (deleted-is_text c.text from to v.text at)
     (All-append code (take (from - 1) c.text.text) (drop (to - 1) c.text.text) (All-take code (from - 1) c.text.text v.characters) (All-drop code (to - 1) c.text.text v.characters))
     (listed-within (seen_shrunk c from to) (closed-within c from to v.text v.within at))
-    (made-deleted (seen c) (seen (shrunk c from to)) o v.names settings from to (shrunk-is c from to v.text v.within at)) v.marks
+    (made-deleted (seen c) (seen (content_shrunk c from to)) o v.names settings from to (shrunk-is c from to v.text v.within at)) v.marks
 
 -- ---- the accessible range
 
@@ -170,7 +170,7 @@ pub put-is : (c : ContentValue) (from to : ℕ) (kind : Kind) (value : Option �
     → IsPut (seen c) (seen (with_property c from to kind value)) kind from to value
 put-is c from to kind value text within is at = seen-parts c (put_values c from to kind value) c.settings (put_on-within (seen c) from to kind value text within is at)
 
-made-number : (count : ℕ) (value : Option ℕ) (v : ℕ) → is_made count value ≡ true → value ≡ Some v → v < count
+made-number : (count : ℕ) (value : Option ℕ) (v : ℕ) → is_number_made count value ≡ true → value ≡ Some v → v < count
 made-number count None v h e = absurd (cc)
 made-number count (Some n) v h e = let same : n ≡ v = cc in subst (λ (x : ℕ). x < count) same (ltb-true n count h)
 

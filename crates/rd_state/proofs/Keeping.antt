@@ -19,10 +19,10 @@ use Rattle.rd_tree.specs.Calls as tree
 use Rattle.rd_state.specs.declared.moves.Move.{Move}
 use Rattle.rd_state.specs.declared.window.WindowState.{WindowState}
 use Rattle.rd_state.specs.States.{BufferValue, ContentValue, new_buffer, new_content, number_of}
-use Rattle.rd_state.specs.Windows.{window_of, with_entry, leaf_at, leaf_of, NumberedWindow}
+use Rattle.rd_state.specs.Windows.{window_of, changed_under, leaf_at, leaf_of, NumberedWindow}
 use Rattle.rd_state.specs.Valid.{AreBuffers, IsContent, IsGoodFormat, IsWindow, AreWindows}
 use Rattle.rd_state.specs.Moves.{place_after, moved, moved_by, moved_in}
-use Rattle.rd_state.proofs.ByNumber.{Hands, became, each-entry, each-with, under-became, apart-became, window-same, entry-other, some-with, none-past, apart-becoming}
+use Rattle.rd_state.proofs.ByNumber.{Hands, became, each-under, each-with, under-became, apart-became, window-same, under-other, some-with, none-past, apart-becoming}
 use Rattle.rd_state.proofs.Options.{map-map}
 
 -- ---- buffers
@@ -189,18 +189,18 @@ windows-moved bs i b d how c ws n at keep v =
 pub windows-changed : (bs : List BufferValue) (c d : tree.Configuration) (ws : List NumberedWindow) (n number : ℕ) (f : WindowState → WindowState) → tree.IsValid d
     → leaf_at number d.windows ≡ option_map (λ w. leaf_of (f w)) (window_of number ws)
     → ((k : ℕ) → k ≢ number → leaf_at k d.windows ≡ leaf_at k c.windows)
-    → ((w : WindowState) → window_of number ws ≡ Some w → IsWindow bs w → IsWindow bs (f w)) → AreWindows bs c ws n → AreWindows bs d (with_entry number f ws) n
+    → ((w : WindowState) → window_of number ws ≡ Some w → IsWindow bs w → IsWindow bs (f w)) → AreWindows bs c ws n → AreWindows bs d (changed_under number f ws) n
 windows-changed bs c d ws n number f valid here others keep v = record {
   tree = valid;
   leaves = λ k. elim (cases_eq k number) [
     | inl p ↦
         ap (λ (x : ℕ). leaf_at x d.windows) p
         ∙ (here ∙ (sym (map-map f leaf_of (λ w. leaf_of (f w)) (window_of number ws) (λ w. refl))
-        ∙ (sym (ap (option_map leaf_of) (window-same number f ws)) ∙ ap (λ (x : ℕ). option_map leaf_of (window_of x (with_entry number f ws))) (sym p))))
-    | inr q ↦ others k q ∙ (v.leaves k ∙ sym (ap (option_map leaf_of) (entry-other number k f ws q)))
+        ∙ (sym (ap (option_map leaf_of) (window-same number f ws)) ∙ ap (λ (x : ℕ). option_map leaf_of (window_of x (changed_under number f ws))) (sym p))))
+    | inr q ↦ others k q ∙ (v.leaves k ∙ sym (ap (option_map leaf_of) (under-other number k f ws q)))
   ];
   apart = apart-becoming number (λ w. Some (f w)) ws v.apart;
-  each = each-entry (IsWindow bs) (IsWindow bs) ws (with_entry number f ws) (apart-becoming number (λ w. Some (f w)) ws v.apart) (λ k. none-past number k (λ w. Some (f w)) ws)
+  each = each-under (IsWindow bs) (IsWindow bs) ws (changed_under number f ws) (apart-becoming number (λ w. Some (f w)) ws v.apart) (λ k. none-past number k (λ w. Some (f w)) ws)
       (each-with (Hands (IsWindow bs) (IsWindow bs) ws) (λ k w lives old. old) number f ws keep) v.each;
   selected = some-with number n f ws v.selected;
 }

@@ -18,7 +18,7 @@ use Rattle.rd_state.specs.declared.refused.Refused.TheVariants.{NoObject, NoOver
 use Rattle.rd_state.specs.States.{BufferValue, ContentValue, StateValue, seen}
 use Rattle.rd_state.specs.Valid.{IsContent}
 use Rattle.rd_state.specs.Changes.{Stays, StaysWhole}
-use Rattle.rd_state.specs.Edits.{is_made, grown, shrunk, insertion, deletion, property_putting, overlay_making, overlay_moving, overlay_dropping, overlay_putting, margin_putting}
+use Rattle.rd_state.specs.Edits.{is_number_made, content_grown, content_shrunk, insertion, deletion, property_putting, overlay_making, overlay_moving, overlay_dropping, overlay_putting, margin_putting}
 use Rattle.rd_state.proofs.Contents.{grown-is, shrunk-is, put-is, overlays-are, with_property, with_overlays}
 use Rattle.rd_state.proofs.Keeping.{holding}
 use Rattle.rd_state.proofs.Stepping.{IsEditOf, insertion-means, deletion-means, putting-means, making-means, dropping-means, giving-means, moving-means}
@@ -48,7 +48,7 @@ stays-inserted o place new c d v h =
     let m = insertion-means place new c d h in
     let n = length new in
     subst (λ (x : ContentValue). Stays c o x o place (place + n + 1) (pos n -ℤ pos 0)) m.2 (record {
-      seen = insertion-edits (seen c) (seen (grown c place new)) o v.text (ordered o c v) place new m.0 (grown-is c place new v.text v.within m.0);
+      seen = insertion-edits (seen c) (seen (content_grown c place new)) o v.text (ordered o c v) place new m.0 (grown-is c place new v.text v.within m.0);
       settings = refl;
     })
 
@@ -58,7 +58,7 @@ stays-deleted o from to c d v h =
     let m = deletion-means from to c d h in
     let n = to - from in
     subst (λ (x : ContentValue). Stays c o x o from (from + 0 + 1) (pos 0 -ℤ pos n)) m.1 (record {
-      seen = deletion-edits (seen c) (seen (shrunk c from to)) o v.text (ordered o c v) from to m.0 (shrunk-is c from to v.text v.within m.0);
+      seen = deletion-edits (seen c) (seen (content_shrunk c from to)) o v.text (ordered o c v) from to m.0 (shrunk-is c from to v.text v.within m.0);
       settings = refl;
     })
 
@@ -123,7 +123,7 @@ stays-moved o number from to c d v h =
 pub stays-margin : (o : ObjectLists) (number : ℕ) (string : Option ℕ) (c d : ContentValue) → margin_putting o number string c ≡ Ok d → StaysWhole c o d o
 stays-margin o number string c d h =
     let new : ContentValue = record c { marks = marks.marked c.marks number string } in
-    let m = both-ok (is_some (overlay_at c.overlays number)) (is_made (length o.strings) string) new NoObject NoOverlay d h in
+    let m = both-ok (is_some (overlay_at c.overlays number)) (is_number_made (length o.strings) string) new NoObject NoOverlay d h in
     subst (λ (x : ContentValue). StaysWhole c o x o) m.2 (λ head tail. record { seen = (whole o c head tail).seen; settings = refl })
 
 -- ---- one buffer of a state

@@ -29,7 +29,7 @@ use Rattle.rd_script.specs.declared.setting.Setting.TheVariants as setting
 use Rattle.rd_state.specs.declared.refused.Refused.TheVariants.{NoObject, NoOverlay}
 use Rattle.rd_state.specs.States.{ContentValue, StateValue, seen, value_in, values_on, new_buffer, new_content, number_of}
 use Rattle.rd_state.specs.Valid.{IsContent, IsValid}
-use Rattle.rd_state.specs.Edits.{is_made, is_setting_made, margin_putting, setting_putting, with_setting}
+use Rattle.rd_state.specs.Edits.{is_number_made, is_setting_made, margin_putting, setting_putting, with_setting}
 use Rattle.rd_state.specs.Making.{unless_fault, spec_of}
 use Rattle.rd_state.specs.Steps.{with_objects, making}
 use Rattle.rd_state.proofs.Contents.{IsTab, still-valid}
@@ -42,7 +42,7 @@ use Rattle.rd_state.proofs.WithParts.{with_parts}
 
 -- ---- settings
 
-number-made : (count : ℕ) (number : Option ℕ) → is_made count number ≡ true → IfSome number (λ n. n < count)
+number-made : (count : ℕ) (number : Option ℕ) → is_number_made count number ≡ true → IfSome number (λ n. n < count)
 number-made count None h = tt
 number-made count (Some n) h = ltb-true n count h
 
@@ -67,7 +67,7 @@ setting-keeps o value form c d v h =
 
 -- ---- margin strings
 
-margin-made : (count : ℕ) (m : MarkValues) (number : ℕ) (string : Option ℕ) → is_made count string ≡ true → ((k x : ℕ) → get m k ≡ Some x → x < count)
+margin-made : (count : ℕ) (m : MarkValues) (number : ℕ) (string : Option ℕ) → is_number_made count string ≡ true → ((k x : ℕ) → get m k ≡ Some x → x < count)
     → (k x : ℕ) → get (marked m number string) k ≡ Some x → x < count
 margin-made count m number None made old k x h =
     elim (cases_cond (eq_by_cmp nat_cmp k number) None (get m k) (Some x) (sym h ∙ get-remove nat_cmp_total m number k)) [ inl e ↦ absurd (none-some x (sym e)) | inr e ↦ old k x (sym e) ]
@@ -80,7 +80,7 @@ margin-made count m number (Some n) made old k x h =
 pub margin-keeps : (o : ObjectLists) (number : ℕ) (string : Option ℕ) → Keeps o (λ p. p) (margin_putting o number string)
 margin-keeps o number string c d v h =
     let new : ContentValue = record c { marks = marked c.marks number string } in
-    let m = both-ok (is_some (overlay_at c.overlays number)) (is_made (length o.strings) string) new NoObject NoOverlay d h in
+    let m = both-ok (is_some (overlay_at c.overlays number)) (is_number_made (length o.strings) string) new NoObject NoOverlay d h in
     text-kept o c new d m.2 refl
     (still-valid o new (v.least_tab, v.most_tab) v.text v.characters v.within v.names (margin-made (length o.strings) c.marks number string m.1 v.marks))
 

@@ -26,7 +26,7 @@ use Rattle.rd_state.specs.declared.refused.Refused.{Refused}
 use Rattle.rd_state.specs.declared.window.WindowState.{WindowState}
 use Rattle.rd_state.specs.States.{BufferValue, ContentValue, StateValue, opening_window, new_buffer, number_of}
 use Rattle.rd_state.specs.Valid.{IsContent, IsValid}
-use Rattle.rd_state.specs.Windows.{window_of, with_entry, selected_window, NumberedWindow}
+use Rattle.rd_state.specs.Windows.{window_of, changed_under, selected_window, NumberedWindow}
 use Rattle.rd_state.specs.Changes.{Stays, StaysWhole, Leaves, LeavesTheRest}
 use Rattle.rd_state.specs.Edits.{insertion, deletion, narrowing, widening, property_putting, overlay_making, overlay_moving, overlay_dropping, overlay_putting, margin_putting, setting_putting}
 use Rattle.rd_state.specs.Effects.{overlay_in, inserted_effect, covered_effect, moved_effect, effect_of}
@@ -60,12 +60,12 @@ show-each s t effect i how is =
     show-by s t effect (map (moved_in i how) s.windows) is
     (each-moved (Shows effect) (moved_by i how) s.windows (λ number w ne. moved-buffer i how w))
 
-show-with : (effect : Effect) (n : ℕ) (f : WindowState → WindowState) (ws : List NumberedWindow) → ((w : WindowState) → (f w).buffer ≡ w.buffer) → Each (Shows effect) ws (with_entry n f ws)
+show-with : (effect : Effect) (n : ℕ) (f : WindowState → WindowState) (ws : List NumberedWindow) → ((w : WindowState) → (f w).buffer ≡ w.buffer) → Each (Shows effect) ws (changed_under n f ws)
 show-with effect n f ws keep = each-with (Shows effect) (λ number w ne. refl) n f ws (λ w ne. keep w)
 
 -- the windows of a buffer, and one of all once more
 show-typed : (effect : Effect) (i : ℕ) (how : Move) (n : ℕ) (f : WindowState → WindowState) (ws : List NumberedWindow) → ((w : WindowState) → (f w).buffer ≡ w.buffer)
-    → Each (Shows effect) ws (with_entry n f (map (moved_in i how) ws))
+    → Each (Shows effect) ws (changed_under n f (map (moved_in i how) ws))
 show-typed effect i how n f ws keep number w v hw hv ne =
     show-with effect n f (map (moved_in i how) ws) keep number (moved_by i how w) v (window-each number (moved_by i how) ws ∙ ap (option_map (moved_by i how)) hw) hv ne
     ∙ moved-buffer i how w
@@ -243,7 +243,7 @@ typing-outcome s new v =
     (λ w b c lives at is.
     let i = w.buffer in
     let f : WindowState → WindowState = λ old. record old { point = w.point + length new } in
-    let ws = with_entry s.selected f (map (moved_in i (Inserted w.point (length new))) s.windows) in
+    let ws = changed_under s.selected f (map (moved_in i (Inserted w.point (length new))) s.windows) in
     let edit = insertion w.point new in
     let t : StateValue = record (with_content s i b c) { windows = ws } in
     subst (λ (o : Option WindowState). LeavesTheRest s t (inserted_effect (unwrap_or o opening_window).buffer (unwrap_or o opening_window).point new)) (sym lives)

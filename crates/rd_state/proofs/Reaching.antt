@@ -17,7 +17,7 @@ use Rattle.rd_state.specs.declared.refused.Refused.TheVariants.{NoBuffer, OutOfR
 use Rattle.rd_state.specs.Answers.{Applies}
 use Rattle.rd_state.specs.Edits.{is_accessible, is_accessible_range, is_range_of_all, deletion, insertion, narrowing}
 use Rattle.rd_state.specs.States.{BufferValue, ContentValue, StateValue, new_buffer, number_of}
-use Rattle.rd_state.specs.Steps.{edited_moving, moving, replaced, step, with_found}
+use Rattle.rd_state.specs.Steps.{edited_moving, moving, content_replaced, step, with_found}
 use Rattle.rd_state.specs.Valid.{IsValid}
 use Rattle.rd_state.proofs.Sharing.{refuses}
 
@@ -60,8 +60,8 @@ refused-there s name how edit valid less refuses =
     let i = number_of name s.buffers in
     let b = get_or s.buffers i (new_buffer name) in
     let at : slice_get s.buffers i ≡ Some b = slice_get-get_or s.buffers i (new_buffer name) less in
-    let done : BufferValue → Result StateValue Refused = λ x. moving i how (replaced s i x (edit x.content)) in
-    ap (λ o. with_found NoBuffer o done) at ∙ ap (λ r. moving i how (replaced s i b r)) (refuses b.content (valid.buffers.contents i b at).text)
+    let done : BufferValue → Result StateValue Refused = λ x. moving i how (content_replaced s i x (edit x.content)) in
+    ap (λ o. with_found NoBuffer o done) at ∙ ap (λ r. moving i how (content_replaced s i b r)) (refuses b.content (valid.buffers.contents i b at).text)
 
 -- and so is an op that asks for it of the buffer that was found
 pub refuses-behind : (r : Result Effect Refused) (op : Op) (s t : StateValue) (e : Refused) (name : List ℕ) (i : ℕ) (how : Move) (edit : ContentValue → Result ContentValue Refused)
@@ -84,5 +84,5 @@ pub range-unnamed : (s : StateValue) (name : List ℕ) (from to : ℕ) (deletes 
 range-unnamed s name from to deletes none =
     range-asks s name from to deletes
     ∙ ap (λ o. with_found NoBuffer o (λ b. moving (number_of name s.buffers) (if deletes then Deleted from to else Narrowed from to)
-    (replaced s (number_of name s.buffers) b ((if deletes then deletion from to else narrowing from to) b.content))))
+    (content_replaced s (number_of name s.buffers) b ((if deletes then deletion from to else narrowing from to) b.content))))
     (slice_get_past s.buffers (number_of name s.buffers) (omega (arith, none)))

@@ -22,10 +22,10 @@ use Rattle.rd_tree.specs.declared.fault.TreeFault.{TreeFault}
 use Rattle.rd_tree.specs.declared.side.Side.{Side}
 use Rattle.rd_state.specs.declared.window.WindowState.{WindowState}
 use Rattle.rd_state.specs.States.{BufferValue, ContentValue, StateValue, number_of}
-use Rattle.rd_state.specs.Windows.{AreApart, content_in, shown_content, window_of, with_entry, without_entry, leaf_at, leaf_of, NumberedWindow}
+use Rattle.rd_state.specs.Windows.{AreApart, content_in, shown_content, window_of, changed_under, removed_under, leaf_at, leaf_of, NumberedWindow}
 use Rattle.rd_state.specs.Valid.{IsWindow, AreWindows, IsGoodFormat, IsValid}
 use Rattle.rd_state.specs.Steps.{in_window, changing, on_tree, splitting, removing, showing, placing, held, format_fault, mode_lining, margining}
-use Rattle.rd_state.proofs.ByNumber.{Hands, each-entry, each-without, window-end, apart-end, window-gone, entry-past, none-past, apart-becoming, get-window}
+use Rattle.rd_state.proofs.ByNumber.{Hands, each-under, each-without, window-end, apart-end, window-gone, under-past, none-past, apart-becoming, get-window}
 use Rattle.rd_state.proofs.Keeping.{window-still, window-placed, windows-over, windows-changed}
 use Rattle.rd_state.proofs.Leaves.{Leaf, leaf-resized, leaf-replaced, leaf-other, split-same, split-other, split-new, removed-same, removed-other, heir-held, is_some-leaf, unmade}
 use Rattle.rd_state.proofs.StepParts.{found, unless, tree-if, treed-if, placing-if}
@@ -52,14 +52,14 @@ option-same f g (Some x) h = ap (λ y. Some y) (h x)
 
 -- one window becomes another, and the tree stays
 windows-set : (bs : List BufferValue) (c : Configuration) (ws : List NumberedWindow) (n number : ℕ) (f : WindowState → WindowState) → ((w : WindowState) → leaf_of (f w) ≡ leaf_of w)
-    → ((w : WindowState) → window_of number ws ≡ Some w → IsWindow bs w → IsWindow bs (f w)) → AreWindows bs c ws n → AreWindows bs c (with_entry number f ws) n
+    → ((w : WindowState) → window_of number ws ≡ Some w → IsWindow bs w → IsWindow bs (f w)) → AreWindows bs c ws n → AreWindows bs c (changed_under number f ws) n
 windows-set bs c ws n number f same keep v =
     windows-changed bs c c ws n number f v.tree (v.leaves number ∙ option-same leaf_of (λ w. leaf_of (f w)) (window_of number ws) (λ w. sym (same w))) (λ k q. refl) keep v
 
 pub set-valid : (s : StateValue) (number : ℕ) (f : WindowState → WindowState) → IsValid s → ((w : WindowState) → leaf_of (f w) ≡ leaf_of w)
-    → ((w : WindowState) → window_of number s.windows ≡ Some w → IsWindow s.buffers w → IsWindow s.buffers (f w)) → IsValid (record s { windows = with_entry number f s.windows })
+    → ((w : WindowState) → window_of number s.windows ≡ Some w → IsWindow s.buffers w → IsWindow s.buffers (f w)) → IsValid (record s { windows = changed_under number f s.windows })
 set-valid s number f v same keep =
-    with_windows s s.tree (with_entry number f s.windows) s.selected v (windows-set s.buffers s.tree s.windows s.selected number f same keep v.windows) refl refl
+    with_windows s s.tree (changed_under number f s.windows) s.selected v (windows-set s.buffers s.tree s.windows s.selected number f same keep v.windows) refl refl
 
 -- ---- points and views
 
@@ -155,8 +155,8 @@ retold-valid s number f g r v means gives keep =
     (λ mode margins. cond-true (number == number) _ None (eq-eqb number number refl) ∙ ap (λ (x : Leaf). Some x) (both-parts (g (mode, margins)))) (λ ne. absurd (ne refl)) in
     let others : (k : ℕ) → k ≢ number → leaf_at k new.windows ≡ leaf_at k s.tree.windows
     = λ k q. leaf-other number k (retold number g) s.tree.windows q (λ mode margins. cond-false (number == k) _ None (ne_eqb number k (λ p. q (sym p)))) in
-    subst IsValid (ap (λ (x : Configuration). record s { tree = x; windows = with_entry number f s.windows }) is.1)
-    (with_windows s new (with_entry number f s.windows) s.selected v
+    subst IsValid (ap (λ (x : Configuration). record s { tree = x; windows = changed_under number f s.windows }) is.1)
+    (with_windows s new (changed_under number f s.windows) s.selected v
     (windows-changed s.buffers s.tree new s.windows s.selected number f (subst tree.IsValid (sym is.1) is.0)
     (here ∙ (ap (option_map g) (v.windows.leaves number) ∙ map-map leaf_of g (λ w. leaf_of (f w)) (window_of number s.windows) gives)) others (λ w lives old. keep w old) v.windows)
     refl refl))
@@ -242,10 +242,10 @@ some-window (Some w) h = refl
 
 removed-windows : (s : StateValue) (d : Configuration) (number : ℕ) (w : WindowState) → IsValid s → tree.IsValid d → holds number s.tree.windows ≡ true → is_single s.tree.windows ≡ false
     → d.windows ≡ removed number s.tree.windows (frame_of s.tree) → window_of number s.windows ≡ Some w
-    → AreWindows s.buffers d (without_entry number s.windows) (if s.selected == number then first_leaf (sibling number s.tree.windows) else s.selected)
+    → AreWindows s.buffers d (removed_under number s.windows) (if s.selected == number then first_leaf (sibling number s.tree.windows) else s.selected)
 removed-windows s d number w v valid there many is found =
     let heir = first_leaf (sibling number s.tree.windows) in
-    let left = without_entry number s.windows in
+    let left = removed_under number s.windows in
     let apart : AreApart left = apart-becoming number (λ x. None) s.windows v.windows.apart in
     let leaves : (k : ℕ) → leaf_at k d.windows ≡ option_map leaf_of (window_of k left) = λ k. elim (cases_eq k number) [
       | inl p ↦
@@ -254,18 +254,18 @@ removed-windows s d number w v valid there many is found =
           ∙ sym (ap (option_map leaf_of) (ap (λ (x : ℕ). window_of x left) p ∙ window-gone number s.windows v.windows.apart))))
       | inr q ↦
           ap (leaf_at k) is ∙ (removed-other number k s.tree.windows (frame_of s.tree) q
-          ∙ (v.windows.leaves k ∙ sym (ap (option_map leaf_of) (entry-past number k (λ x. None) s.windows (λ e. absurd (q e))))))
+          ∙ (v.windows.leaves k ∙ sym (ap (option_map leaf_of) (under-past number k (λ x. None) s.windows (λ e. absurd (q e))))))
     ] in
     record {
       tree = valid;
       leaves = leaves;
       apart = apart;
-      each = each-entry (IsWindow s.buffers) (IsWindow s.buffers) s.windows left apart (λ k. none-past number k (λ x. None) s.windows)
+      each = each-under (IsWindow s.buffers) (IsWindow s.buffers) s.windows left apart (λ k. none-past number k (λ x. None) s.windows)
           (each-without (Hands (IsWindow s.buffers) (IsWindow s.buffers) s.windows) (λ k x lives old. old) number s.windows v.windows.apart) v.windows.each;
       selected = cond_both (s.selected == number) heir s.selected (λ n. IsSome (window_of n left))
           (λ h. some-window (window_of heir left) (sym (ap (λ (o : Option Leaf). is_some o) (leaves heir))
           ∙ (is_some-leaf heir d.windows ∙ (ap (holds heir) is ∙ heir-held number s.tree.windows (frame_of s.tree)))))
-          (λ h. subst IsSome (sym (entry-past number s.selected (λ x. None) s.windows (λ e. absurd (eqb-false s.selected number h e)))) v.windows.selected);
+          (λ h. subst IsSome (sym (under-past number s.selected (λ x. None) s.windows (λ e. absurd (eqb-false s.selected number h e)))) v.windows.selected);
     }
 
 pub removing-valid : (s : StateValue) (number : ℕ) → IsValid s → IfOk (removing s number) IsValid
@@ -277,7 +277,7 @@ removing-valid s number v =
     let valid = remove_keeps s.tree d number v.windows.tree at in
     let chosen = if s.selected == number then first_leaf (sibling number s.tree.windows) else s.selected in
     let new = removed-windows s d number w v valid is.0 is.1 (sym (ap (λ (x : Configuration). x.windows) is.2)) lives in
-    with_windows s d (without_entry number s.windows) chosen v new (sym (ap (λ (x : Configuration). x.width) is.2)) (sym (ap (λ (x : Configuration). x.height) is.2))))
+    with_windows s d (removed_under number s.windows) chosen v new (sym (ap (λ (x : Configuration). x.width) is.2)) (sym (ap (λ (x : Configuration). x.height) is.2))))
 
 -- ---- the frame
 

@@ -8,8 +8,8 @@ use Rattle.rd_tree.specs.declared.fault.TreeFault.{TreeFault}
 use Rattle.rd_state.specs.Edits.{insertion, is_accessible}
 use Rattle.rd_state.specs.Moves.{moved_in}
 use Rattle.rd_state.specs.States.{BufferValue, ContentValue, StateValue, new_buffer, number_of}
-use Rattle.rd_state.specs.Steps.{with_found, replaced, moving, changing, with_objects, on_tree, making, edited, edited_moving, typing, placing, setting, unless_bad}
-use Rattle.rd_state.specs.Windows.{window_of, with_entry}
+use Rattle.rd_state.specs.Steps.{with_found, content_replaced, moving, changing, with_objects, on_tree, making, edited, edited_moving, typing, placing, setting, unless_bad}
+use Rattle.rd_state.specs.Windows.{window_of, changed_under}
 use Rattle.rd_state.specs.declared.moves.Move.{Move}
 use Rattle.rd_state.specs.declared.moves.Move.TheVariants.{Inserted}
 use Rattle.rd_state.specs.declared.refused.Refused.{Refused}
@@ -55,7 +55,7 @@ module _ (P : StateValue → Type 0) where
 
   -- a window changed beside the tree
   pub treed-if : (s : StateValue) (r : Result Configuration TreeFault) (n : ℕ) (f : WindowState → WindowState)
-      → ((d : Configuration) → r ≡ Ok d → P (record s { tree = d; windows = with_entry n f s.windows })) → IfOk (changing n f (on_tree r (λ tree. record s { tree = tree }))) P
+      → ((d : Configuration) → r ≡ Ok d → P (record s { tree = d; windows = changed_under n f s.windows })) → IfOk (changing n f (on_tree r (λ tree. record s { tree = tree }))) P
   treed-if s r n f h = goes-on (λ x. changing n f (on_tree x (λ tree. record s { tree = tree }))) r (λ e. tt) h
 
   pub making-if : (s : StateValue) (name : List ℕ)
@@ -66,7 +66,7 @@ module _ (P : StateValue → Type 0) where
       → ((b : BufferValue) (c : ContentValue) → slice_get s.buffers (number_of name s.buffers) ≡ Some b → edit b.content ≡ Ok c → P (with_content s (number_of name s.buffers) b c)) → IfOk (edited s name edit) P
   edited-if s name edit h =
       let i = number_of name s.buffers in
-      found _ (slice_get s.buffers i) _ (λ b at. goes-on (replaced s i b) (edit b.content) (λ e. tt) (λ c is. h b c at is))
+      found _ (slice_get s.buffers i) _ (λ b at. goes-on (content_replaced s i b) (edit b.content) (λ e. tt) (λ c is. h b c at is))
 
   pub edited_moving-if : (s : StateValue) (name : List ℕ) (how : Move) (edit : ContentValue → Result ContentValue Refused)
       → ((b : BufferValue) (c : ContentValue) → slice_get s.buffers (number_of name s.buffers) ≡ Some b → edit b.content ≡ Ok c
@@ -74,24 +74,24 @@ module _ (P : StateValue → Type 0) where
       → IfOk (edited_moving s name how edit) P
   edited_moving-if s name how edit h =
       let i = number_of name s.buffers in
-      found _ (slice_get s.buffers i) _ (λ b at. goes-on (λ r. moving i how (replaced s i b r)) (edit b.content) (λ e. tt) (λ c is. h b c at is))
+      found _ (slice_get s.buffers i) _ (λ b at. goes-on (λ r. moving i how (content_replaced s i b r)) (edit b.content) (λ e. tt) (λ c is. h b c at is))
 
   pub typing-if : (s : StateValue) (new : List ℕ)
       → ((w : WindowState) (b : BufferValue) (c : ContentValue) → window_of s.selected s.windows ≡ Some w → slice_get s.buffers w.buffer ≡ Some b → insertion w.point new b.content ≡ Ok c
-      → P (record (with_content s w.buffer b c) { windows = with_entry s.selected (λ old. record old { point = w.point + length new }) (map (moved_in w.buffer (Inserted w.point (length new))) s.windows) }))
+      → P (record (with_content s w.buffer b c) { windows = changed_under s.selected (λ old. record old { point = w.point + length new }) (map (moved_in w.buffer (Inserted w.point (length new))) s.windows) }))
       → IfOk (typing s new) P
   typing-if s new h =
       found _ (window_of s.selected s.windows) _
       (λ w lives. found _ (slice_get s.buffers w.buffer) _
-      (λ b at. goes-on (λ r. changing s.selected (λ old. record old { point = w.point + length new }) (moving w.buffer (Inserted w.point (length new)) (replaced s w.buffer b r)))
+      (λ b at. goes-on (λ r. changing s.selected (λ old. record old { point = w.point + length new }) (moving w.buffer (Inserted w.point (length new)) (content_replaced s w.buffer b r)))
       (insertion w.point new b.content) (λ e. tt) (λ c is. h w b c lives at is)))
 
-  pub setting-if : (s : StateValue) (n : ℕ) (f : WindowState → WindowState) → P (record s { windows = with_entry n f s.windows }) → IfOk (setting s n f) P
+  pub setting-if : (s : StateValue) (n : ℕ) (f : WindowState → WindowState) → P (record s { windows = changed_under n f s.windows }) → IfOk (setting s n f) P
   setting-if s n f h = found _ (window_of n s.windows) _ (λ w lives. h)
 
   pub placing-if : (s : StateValue) (n place : ℕ) (f : WindowState → WindowState)
       → ((w : WindowState) (b : BufferValue) → window_of n s.windows ≡ Some w → slice_get s.buffers w.buffer ≡ Some b → is_accessible b.content.text place ≡ true
-      → P (record s { windows = with_entry n f s.windows })) → IfOk (placing s n place f) P
+      → P (record s { windows = changed_under n f s.windows })) → IfOk (placing s n place f) P
   placing-if s n place f h =
       found _ (window_of n s.windows) _
       (λ w lives. found _ (slice_get s.buffers w.buffer) _ (λ b at. tested (is_accessible b.content.text place) _ _ P (λ yes. h w b lives at yes)))

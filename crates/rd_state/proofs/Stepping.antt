@@ -23,7 +23,7 @@ use Rattle.rd_state.specs.declared.refused.Refused.{Refused}
 use Rattle.rd_state.specs.declared.refused.Refused.TheVariants.{NoObject, NoOverlay, OutOfRange, TextTooLarge, TooManyOverlays}
 use Rattle.rd_state.specs.States.{BufferValue, ContentValue, StateValue, number_of}
 use Rattle.rd_state.specs.Valid.{AreWindows, IsContent, IsValid}
-use Rattle.rd_state.specs.Edits.{is_accessible, is_accessible_range, is_range_of_all, has_room, is_value_made, grown, shrunk, insertion, deletion, narrowing, widening, property_putting, overlay_making, overlay_moving, overlay_dropping, overlay_putting}
+use Rattle.rd_state.specs.Edits.{is_accessible, is_accessible_range, is_range_of_all, has_room, is_value_made, content_grown, content_shrunk, insertion, deletion, narrowing, widening, property_putting, overlay_making, overlay_moving, overlay_dropping, overlay_putting}
 use Rattle.rd_state.specs.Moves.{point_after_insertion, brought_into, place_after, moved_in}
 use Rattle.rd_state.specs.Steps.{edited, edited_moving, raw_text}
 use Rattle.rd_state.specs.Windows.{NumberedWindow}
@@ -89,9 +89,9 @@ edited_moving-valid s name how edit v k = edited_moving-if IsValid s name how ed
 -- ---- what each edit means
 
 pub insertion-means : (pos : ℕ) (new : List ℕ) (c d : ContentValue) → insertion pos new c ≡ Ok d
-    → IsAccessible c.text pos × (length c.text.text + length new ≤ TEXT_CHARACTERS) × (grown c pos new ≡ d)
+    → IsAccessible c.text pos × (length c.text.text + length new ≤ TEXT_CHARACTERS) × (content_grown c pos new ≡ d)
 insertion-means pos new c d h =
-    let m = both-ok (is_accessible c.text pos) (has_room c.text new) (grown c pos new) TextTooLarge OutOfRange d h in
+    let m = both-ok (is_accessible c.text pos) (has_room c.text new) (content_grown c pos new) TextTooLarge OutOfRange d h in
     (is_accessible-means c.text pos m.0, leb-true (length c.text.text + length new) TEXT_CHARACTERS m.1, m.2)
 
 -- what an edit makes is what it gives
@@ -102,19 +102,19 @@ made-keeps o f c made d same v at = subst (λ (x : ContentValue). IsContent o x 
 pub insertion-keeps : (o : ObjectLists) (pos : ℕ) (new : List ℕ) → AreCodes new → Keeps o (place_after (Inserted pos (length new))) (insertion pos new)
 insertion-keeps o pos new codes c d v h =
     let m = insertion-means pos new c d h in
-    made-keeps o (point_after_insertion pos (length new)) c (grown c pos new) d m.2 (grown-valid o c pos new v codes m.0 m.1)
+    made-keeps o (point_after_insertion pos (length new)) c (content_grown c pos new) d m.2 (grown-valid o c pos new v codes m.0 m.1)
     (λ p a. let moves = place-moves (nat_lt pos p) p (length new) in (omega (arith, moves.0, a.0), omega (arith, moves.1, a.1)))
 
-pub deletion-means : (from to : ℕ) (c d : ContentValue) → deletion from to c ≡ Ok d → IsAccessibleRange c.text from to × (shrunk c from to ≡ d)
+pub deletion-means : (from to : ℕ) (c d : ContentValue) → deletion from to c ≡ Ok d → IsAccessibleRange c.text from to × (content_shrunk c from to ≡ d)
 deletion-means from to c d h =
-    let m = made-ok (is_accessible_range c.text from to) (shrunk c from to) OutOfRange d h in
+    let m = made-ok (is_accessible_range c.text from to) (content_shrunk c from to) OutOfRange d h in
     (is_accessible_range-means c.text from to m.0, m.1)
 
 pub deletion-keeps : (o : ObjectLists) (from to : ℕ) → Keeps o (place_after (Deleted from to)) (deletion from to)
 deletion-keeps o from to c d v h =
     let m = deletion-means from to c d h in
     let at = m.0 in
-    made-keeps o (after_deletion from to) c (shrunk c from to) d m.1 (shrunk-valid o c from to v at)
+    made-keeps o (after_deletion from to) c (content_shrunk c from to) d m.1 (shrunk-valid o c from to v at)
     (λ p a. deletion-within c.text.begin c.text.end from to p at.first at.ordered at.last a.0 a.1)
 
 brought : (from to p : ℕ) → from ≤ to → (from ≤ max from (min p to)) × (max from (min p to) ≤ to)

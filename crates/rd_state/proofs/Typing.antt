@@ -12,11 +12,11 @@ use Rattle.rd_state.specs.Edits.{insertion}
 use Rattle.rd_state.specs.Movable.{CanMove}
 use Rattle.rd_state.specs.Moves.{moved_in}
 use Rattle.rd_state.specs.Effects.{inserted_effect}
-use Rattle.rd_state.specs.Steps.{with_found, in_shown, replaced, moving, changing, typing}
+use Rattle.rd_state.specs.Steps.{with_found, in_shown, content_replaced, moving, changing, typing}
 use Rattle.rd_state.specs.Valid.{IsValid}
-use Rattle.rd_state.specs.Windows.{place_in, with_entry, selected_window, NumberedWindow}
+use Rattle.rd_state.specs.Windows.{place_in, changed_under, selected_window, NumberedWindow}
 use Rattle.rd_state.proofs.ByName.{AnswersAt}
-use Rattle.rd_state.proofs.ByNumber.{IsFound, found-entry}
+use Rattle.rd_state.proofs.ByNumber.{IsFound, found-under}
 use Rattle.rd_state.proofs.Finding.{at-window}
 use Rattle.rd_state.proofs.Stepping.{insertion-means}
 
@@ -46,29 +46,29 @@ place-moved n i how (e ∷ ws) = ap (λ k. cond (not (e.0 == n)) (1 + k) 0) (pla
 -- the selected window among those that moved
 pub found-moved : (n i j : ℕ) (how : Move) (ws moved : List NumberedWindow) (e : NumberedWindow) → moved ≡ map (moved_in j how) ws → i ≡ place_in n ws → i < length ws → e ≡ get_or moved i e → IsFound n i moved e
 found-moved n i j how ws moved e is place less at =
-    found-entry n i moved e (place ∙ (sym (place-moved n j how ws) ∙ ap (place_in n) (sym is))) (omega (arith, less, ap length is, length-map ws (moved_in j how))) at
+    found-under n i moved e (place ∙ (sym (place-moved n j how ws) ∙ ap (place_in n) (sym is))) (omega (arith, less, ap length is, length-map ws (moved_in j how))) at
 
 -- what is typed in a window
 abbrev typed : StateValue → List ℕ → WindowState → Result StateValue Refused
 typed s new w = in_shown s w (λ b.
     changing s.selected (λ old. record old { point = w.point + length new })
-    (moving w.buffer (Inserted w.point (length new)) (replaced s w.buffer b (insertion w.point new b.content))))
+    (moving w.buffer (Inserted w.point (length new)) (content_replaced s w.buffer b (insertion w.point new b.content))))
 
 typed-ok : (s : StateValue) (new : List ℕ) (w : WindowState) (bs : List BufferValue) → AnswersAt (Ok tt) (insertion w.point new) w.buffer s.buffers bs
-    → typed s new w ≡ Ok (record s { buffers = bs; windows = with_entry s.selected (λ old. record old { point = w.point + length new }) (map (moved_in w.buffer (Inserted w.point (length new))) s.windows) })
+    → typed s new w ≡ Ok (record s { buffers = bs; windows = changed_under s.selected (λ old. record old { point = w.point + length new }) (map (moved_in w.buffer (Inserted w.point (length new))) s.windows) })
 typed-ok s new w bs (b, c, at, gives, is) =
     let f : WindowState → WindowState = λ old. record old { point = w.point + length new } in
-    let done : Result ContentValue Refused → Result StateValue Refused = λ r. changing s.selected f (moving w.buffer (Inserted w.point (length new)) (replaced s w.buffer b r)) in
-    ap (λ o. with_found NoBuffer o (λ x. changing s.selected f (moving w.buffer (Inserted w.point (length new)) (replaced s w.buffer x (insertion w.point new x.content))))) at
+    let done : Result ContentValue Refused → Result StateValue Refused = λ r. changing s.selected f (moving w.buffer (Inserted w.point (length new)) (content_replaced s w.buffer b r)) in
+    ap (λ o. with_found NoBuffer o (λ x. changing s.selected f (moving w.buffer (Inserted w.point (length new)) (content_replaced s w.buffer x (insertion w.point new x.content))))) at
     ∙ (ap done gives
-    ∙ ap (λ (xs : List BufferValue). Ok (record s { buffers = xs; windows = with_entry s.selected f (map (moved_in w.buffer (Inserted w.point (length new))) s.windows) })) (sym is))
+    ∙ ap (λ (xs : List BufferValue). Ok (record s { buffers = xs; windows = changed_under s.selected f (map (moved_in w.buffer (Inserted w.point (length new))) s.windows) })) (sym is))
 
 typed-err : (s : StateValue) (new : List ℕ) (w : WindowState) (refused : Refused) → (b : BufferValue) × (slice_get s.buffers w.buffer ≡ Some b) × (insertion w.point new b.content ≡ Err refused)
     → typed s new w ≡ Err refused
 typed-err s new w refused (b, at, gives) =
     let f : WindowState → WindowState = λ old. record old { point = w.point + length new } in
-    ap (λ o. with_found NoBuffer o (λ x. changing s.selected f (moving w.buffer (Inserted w.point (length new)) (replaced s w.buffer x (insertion w.point new x.content))))) at
-    ∙ ap (λ r. changing s.selected f (moving w.buffer (Inserted w.point (length new)) (replaced s w.buffer b r))) gives
+    ap (λ o. with_found NoBuffer o (λ x. changing s.selected f (moving w.buffer (Inserted w.point (length new)) (content_replaced s w.buffer x (insertion w.point new x.content))))) at
+    ∙ ap (λ r. changing s.selected f (moving w.buffer (Inserted w.point (length new)) (content_replaced s w.buffer b r))) gives
 
 -- the selected window as it was found, and as it stands among those that moved
 pub typing-ok : (s t : StateValue) (new : List ℕ) (i : ℕ) (e d : NumberedWindow) (bs : List BufferValue) (ws : List NumberedWindow) → t ≡ s → IsFound t.selected i t.windows e
@@ -79,7 +79,7 @@ typing-ok s t new i e d bs ws same there inserted moved there_2 =
     sym (ap (λ (x : StateValue). typing x new) same)
     ∙ (at-window t t t.selected i e (λ x w. typed t new w) refl there
     ∙ (typed-ok t new e.1 bs inserted
-    ∙ (ap (λ (xs : List NumberedWindow). Ok (record t { buffers = bs; windows = with_entry t.selected f xs })) (sym moved)
+    ∙ (ap (λ (xs : List NumberedWindow). Ok (record t { buffers = bs; windows = changed_under t.selected f xs })) (sym moved)
     ∙ ap (λ (xs : List NumberedWindow). Ok (record t { buffers = bs; windows = xs })) (sym (there_2.changed f)))))
 
 pub typing-err : (s t : StateValue) (new : List ℕ) (i : ℕ) (e : NumberedWindow) (refused : Refused) → t ≡ s → IsFound t.selected i t.windows e

@@ -36,19 +36,19 @@ abbrev pub has_room : TextValue → List ℕ → Bool
 has_room t new = nat_le (length t.text + length new) TEXT_CHARACTERS
 
 -- whether the object of a number was made, of which there are so many, or none is named
-abbrev pub is_made : ℕ → Option ℕ → Bool
-is_made count None = true
-is_made count (Some number) = nat_lt number count
+abbrev pub is_number_made : ℕ → Option ℕ → Bool
+is_number_made count None = true
+is_number_made count (Some number) = nat_lt number count
 
 -- the same of the object that a value of a kind names, where it names one
 abbrev pub is_value_made : ObjectLists → Kind → Option ℕ → Bool
-is_value_made objects kind value = unwrap_or (option_map (λ count. is_made count value) (object_count objects kind)) true
+is_value_made objects kind value = unwrap_or (option_map (λ count. is_number_made count value) (object_count objects kind)) true
 
 -- the same of the object that a setting names
 abbrev pub is_setting_made : ObjectLists → Setting → Bool
-is_setting_made objects (setting.Table number) = is_made (length objects.tables) number
-is_setting_made objects (setting.LinePrefix number) = is_made (length objects.strings) number
-is_setting_made objects (setting.WrapPrefix number) = is_made (length objects.strings) number
+is_setting_made objects (setting.Table number) = is_number_made (length objects.tables) number
+is_setting_made objects (setting.LinePrefix number) = is_number_made (length objects.strings) number
+is_setting_made objects (setting.WrapPrefix number) = is_number_made (length objects.strings) number
 is_setting_made objects setting = true
 
 -- ---- the text
@@ -65,21 +65,21 @@ with_seen c b = record c { text = b.text; properties = values_on b.text b.proper
 abbrev pub seen_grown : ContentValue → ℕ → List ℕ → props.BufferValue
 seen_grown c pos new = record (with_more (seen c) pos new) { settings = marked_modified (nat_lt 0 (length new)) c.settings }
 
-abbrev pub grown : ContentValue → ℕ → List ℕ → ContentValue
-grown c pos new = with_seen c (seen_grown c pos new)
+abbrev pub content_grown : ContentValue → ℕ → List ℕ → ContentValue
+content_grown c pos new = with_seen c (seen_grown c pos new)
 
 abbrev pub insertion : ℕ → List ℕ → ContentValue → Result ContentValue Refused
-insertion pos new c = if is_accessible c.text pos then (if has_room c.text new then Ok (grown c pos new) else Err TextTooLarge) else Err OutOfRange
+insertion pos new c = if is_accessible c.text pos then (if has_room c.text new then Ok (content_grown c pos new) else Err TextTooLarge) else Err OutOfRange
 
 -- a buffer with a range taken away
 abbrev pub seen_shrunk : ContentValue → ℕ → ℕ → props.BufferValue
 seen_shrunk c from to = record (with_less (seen c) from to) { settings = marked_modified (nat_lt from to) c.settings }
 
-abbrev pub shrunk : ContentValue → ℕ → ℕ → ContentValue
-shrunk c from to = with_seen c (seen_shrunk c from to)
+abbrev pub content_shrunk : ContentValue → ℕ → ℕ → ContentValue
+content_shrunk c from to = with_seen c (seen_shrunk c from to)
 
 abbrev pub deletion : ℕ → ℕ → ContentValue → Result ContentValue Refused
-deletion from to c = if is_accessible_range c.text from to then Ok (shrunk c from to) else Err OutOfRange
+deletion from to c = if is_accessible_range c.text from to then Ok (content_shrunk c from to) else Err OutOfRange
 
 abbrev pub narrowing : ℕ → ℕ → ContentValue → Result ContentValue Refused
 narrowing from to c = if is_range_of_all c.text from to then Ok (record c { text = narrowed c.text from to }) else Err OutOfRange
@@ -130,7 +130,7 @@ overlay_putting objects number kind value c =
 abbrev pub margin_putting : ObjectLists → ℕ → Option ℕ → ContentValue → Result ContentValue Refused
 margin_putting objects number string c =
     if is_some (overlay_at c.overlays number)
-    then (if is_made (length objects.strings) string then Ok (record c { marks = marks.marked c.marks number string }) else Err NoObject)
+    then (if is_number_made (length objects.strings) string then Ok (record c { marks = marks.marked c.marks number string }) else Err NoObject)
     else Err NoOverlay
 
 -- ---- the settings

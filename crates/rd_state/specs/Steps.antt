@@ -20,7 +20,7 @@ use Rattle.rd_state.specs.declared.refused.Refused.{Refused}
 use Rattle.rd_state.specs.declared.refused.Refused.TheVariants.{NoBuffer, NoWindow, OutOfRange, NameTaken, TooManyBuffers, TooManyWindows, TooSmall, LastWindow, BadFormat, Memory}
 use Rattle.rd_state.specs.declared.window.WindowState.{WindowState}
 use Rattle.rd_state.specs.States.{BufferValue, ContentValue, StateValue, new_buffer, number_of}
-use Rattle.rd_state.specs.Windows.{window_of, with_entry, without_entry}
+use Rattle.rd_state.specs.Windows.{window_of, changed_under, removed_under}
 use Rattle.rd_state.specs.Making.{string_making, spec_making, face_making, table_making, table_of}
 use Rattle.rd_state.specs.Edits.{is_accessible, insertion, deletion, narrowing, widening, property_putting, overlay_making, overlay_moving, overlay_dropping, overlay_putting, margin_putting, setting_putting}
 use Rattle.rd_state.specs.Moves.{moved_in}
@@ -47,9 +47,9 @@ in_shown s w f = with_found NoBuffer (slice_get s.buffers w.buffer) f
 -- ---- parts of the next state
 
 -- a state in which a buffer holds what an edit made of it
-abbrev pub replaced : StateValue → ℕ → BufferValue → Result ContentValue Refused → Result StateValue Refused
-replaced s i b (Err refusal) = Err refusal
-replaced s i b (Ok content) = Ok (record s { buffers = slice_set s.buffers i (record b { content = content }) })
+abbrev pub content_replaced : StateValue → ℕ → BufferValue → Result ContentValue Refused → Result StateValue Refused
+content_replaced s i b (Err refusal) = Err refusal
+content_replaced s i b (Ok content) = Ok (record s { buffers = slice_set s.buffers i (record b { content = content }) })
 
 -- a state in which the positions of all windows that show a buffer moved
 abbrev pub moving : ℕ → Move → Result StateValue Refused → Result StateValue Refused
@@ -59,7 +59,7 @@ moving i how (Ok s) = Ok (record s { windows = map (moved_in i how) s.windows })
 -- a state in which a window became another
 abbrev pub changing : ℕ → (WindowState → WindowState) → Result StateValue Refused → Result StateValue Refused
 changing number f (Err refusal) = Err refusal
-changing number f (Ok s) = Ok (record s { windows = with_entry number f s.windows })
+changing number f (Ok s) = Ok (record s { windows = changed_under number f s.windows })
 
 -- a state with other objects
 abbrev pub with_objects : StateValue → Result ObjectLists Refused → Result StateValue Refused
@@ -89,11 +89,11 @@ making s name = if nat_lt (number_of name s.buffers) (length s.buffers)
 
 -- an edit that moves no position
 abbrev pub edited : StateValue → List ℕ → (ContentValue → Result ContentValue Refused) → Result StateValue Refused
-edited s name edit = in_buffer s name (λ i b. replaced s i b (edit b.content))
+edited s name edit = in_buffer s name (λ i b. content_replaced s i b (edit b.content))
 
 -- an edit that moves positions
 abbrev pub edited_moving : StateValue → List ℕ → Move → (ContentValue → Result ContentValue Refused) → Result StateValue Refused
-edited_moving s name how edit = in_buffer s name (λ i b. moving i how (replaced s i b (edit b.content)))
+edited_moving s name how edit = in_buffer s name (λ i b. moving i how (content_replaced s i b (edit b.content)))
 
 -- a text put in before a position
 abbrev pub inserting : StateValue → List ℕ → ℕ → List ℕ → Result StateValue Refused
@@ -107,7 +107,7 @@ raw_text bytes = map raw_code bytes
 abbrev pub typing : StateValue → List ℕ → Result StateValue Refused
 typing s new = in_window s s.selected (λ w. in_shown s w (λ b.
     changing s.selected (λ old. record old { point = w.point + length new })
-    (moving w.buffer (Inserted w.point (length new)) (replaced s w.buffer b (insertion w.point new b.content)))))
+    (moving w.buffer (Inserted w.point (length new)) (content_replaced s w.buffer b (insertion w.point new b.content)))))
 
 -- ---- windows
 
@@ -121,7 +121,7 @@ splitting s window side size = in_window s window (λ w.
 abbrev pub without_window : ℕ → StateValue → Configuration → StateValue
 without_window window s tree = record s {
   tree = tree;
-  windows = without_entry window s.windows;
+  windows = removed_under window s.windows;
   selected = if s.selected == window then first_leaf (sibling window s.tree.windows) else s.selected;
 }
 
@@ -219,4 +219,4 @@ settled_window anchor point w = record w { anchor = anchor; point = point; force
 
 -- a window's view and its point as a layout settles them
 abbrev pub settled : StateValue → ℕ → Anchor → ℕ → StateValue
-settled s window anchor point = record s { windows = with_entry window (settled_window anchor point) s.windows }
+settled s window anchor point = record s { windows = changed_under window (settled_window anchor point) s.windows }

@@ -1,4 +1,4 @@
--- Entries by their numbers, the windows of a state among them, and what the tree says of each window.
+-- Things by their numbers, the windows of a state among them, and what the tree says of each window.
 use Rattle.std.specs.Prelude.{◌≡◌, ℕ, ◌+◌, ◌==◌, Bool, is_some, if◌then◌else◌, Option, None, Some, List, [], ◌∷◌, slice_get, unwrap_or}
 use Rattle.std.specs.List.{position_or_len}
 use Rattle.std.specs.Map.{lookup}
@@ -19,7 +19,7 @@ under number es = lookup (λ k. k == number) es
 abbrev pub window_of : ℕ → List NumberedWindow → Option WindowState
 window_of number windows = under number windows
 
--- the place of what stands under a number, and the count of entries where nothing does
+-- the place of what stands under a number, and the length of the list where nothing does
 abbrev pub place_in : {X : Type 0} → ℕ → List (ℕ × X) → ℕ
 place_in number es = position_or_len (λ e. e.0 == number) es
 
@@ -28,18 +28,18 @@ abbrev pub kept_as : {X : Type 0} → ℕ → Option X → List (ℕ × X) → L
 kept_as number None rest = rest
 kept_as number (Some x) rest = (number, x) ∷ rest
 
--- the entries where what stands under a number became something else, or went
+-- the list where what stands under a number became something else, or went
 abbrev pub becoming : {X : Type 0} → ℕ → (X → Option X) → List (ℕ × X) → List (ℕ × X)
 becoming number f [] = []
 becoming number f (e ∷ rest) = if e.0 == number then kept_as e.0 (f e.1) rest else e ∷ becoming number f rest
 
 -- where it became something else
-abbrev pub with_entry : {X : Type 0} → ℕ → (X → X) → List (ℕ × X) → List (ℕ × X)
-with_entry number f es = becoming number (λ x. Some (f x)) es
+abbrev pub changed_under : {X : Type 0} → ℕ → (X → X) → List (ℕ × X) → List (ℕ × X)
+changed_under number f es = becoming number (λ x. Some (f x)) es
 
 -- where it went
-abbrev pub without_entry : {X : Type 0} → ℕ → List (ℕ × X) → List (ℕ × X)
-without_entry number es = becoming number (λ x. None) es
+abbrev pub removed_under : {X : Type 0} → ℕ → List (ℕ × X) → List (ℕ × X)
+removed_under number es = becoming number (λ x. None) es
 
 -- no number stands twice
 abbrev pub AreApart : List NumberedWindow → Type 0

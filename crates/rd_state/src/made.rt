@@ -4,7 +4,7 @@ ghost use Rattle.rd_base.specs.declared.limits.TheConstants.{STRINGS};
 ghost use Rattle.rd_objects.specs.Sound.{AreObjects};
 ghost use Rattle.rd_script.specs.Forms.{IsPropertyValue};
 ghost use Rattle.rd_state.specs.declared.refused.Refused.TheVariants.{NoObject};
-ghost use Rattle.rd_state.specs.Edits.{is_made, is_value_made, is_setting_made};
+ghost use Rattle.rd_state.specs.Edits.{is_number_made, is_value_made, is_setting_made};
 ghost use Rattle.rd_state.specs.Held.{IsFitting};
 
 use crate::refused::Refused;
@@ -84,7 +84,7 @@ pub(crate) fn names_made(objects: &Objects, setting: &Setting) -> bool
 /// Whether a string was made.
 fn is_made_string(objects: &Objects, number: u64) -> bool
     requires { AreObjects objects.now }
-    ensures value { result ≡ is_made (length objects.now.strings) (Some number) }
+    ensures value { result ≡ is_number_made (length objects.now.strings) (Some number) }
     ensures small { result ≡ true → number < 4294967296 }
 {
     objects.string(capped(number)).is_some()

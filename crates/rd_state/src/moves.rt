@@ -23,17 +23,17 @@ pub(crate) fn move_windows(windows: &mut Vec<(u32, WindowState)>, buffer: u32, h
     ensures { windows.new.items ≡ map (moved_in buffer how) windows.old.items }
 {
     for i in 0..windows.len() {
-        move_entry(&mut windows[i], buffer, how);
+        move_in(&mut windows[i], buffer, how);
     }
 }
 
 /// Moves a window, where it shows the buffer with this number.
-fn move_entry(entry: &mut (u32, WindowState), buffer: u32, how: Move)
-    requires { CanMove buffer how entry.old }
-    ensures { entry.new ≡ moved_in buffer how entry.old }
+fn move_in(window: &mut (u32, WindowState), buffer: u32, how: Move)
+    requires { CanMove buffer how window.old }
+    ensures { window.new ≡ moved_in buffer how window.old }
 {
-    if entry.1.buffer == buffer {
-        move_window(&mut entry.1, how);
+    if window.1.buffer == buffer {
+        move_window(&mut window.1, how);
     }
 }
 

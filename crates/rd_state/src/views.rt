@@ -46,13 +46,13 @@ impl StateParts {
         let i = find(self.windows.as_slice(), window)?;
         let buffer = buffers::find(&self.buffers, name)?;
         let begin = text_at(&self.buffers, buffer).begin();
-        let entry = &mut self.windows[i];
-        entry.1.buffer = buffer as u32;
-        entry.1.point = begin;
-        entry.1.anchor = Anchor { pos: begin, row: 0 };
-        entry.1.forced = false;
-        entry.1.pending = 0;
-        Ok(Effect::Window(entry.0))
+        let shown = &mut self.windows[i];
+        shown.1.buffer = buffer as u32;
+        shown.1.point = begin;
+        shown.1.anchor = Anchor { pos: begin, row: 0 };
+        shown.1.forced = false;
+        shown.1.pending = 0;
+        Ok(Effect::Window(shown.0))
     }
 
     /// Moves a window's point.

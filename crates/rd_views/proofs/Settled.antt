@@ -13,7 +13,7 @@ use Rattle.rd_state.specs.Shown.{IsShownAt}
 use Rattle.rd_state.specs.States.{ContentValue, StateValue}
 use Rattle.rd_state.specs.Steps.{settled, settled_window}
 use Rattle.rd_state.specs.Valid.{IsValid}
-use Rattle.rd_state.specs.Windows.{AreApart, content_in, shown_content, under, window_of, with_entry, NumberedWindow}
+use Rattle.rd_state.specs.Windows.{AreApart, content_in, shown_content, under, window_of, changed_under, NumberedWindow}
 use Rattle.rd_state.specs.declared.window.WindowState.{WindowState}
 use Rattle.rd_text.specs.Texts.{IsAccessible}
 use Rattle.rd_tree.proofs.Listing.{placed-here, placed-there}
@@ -24,7 +24,7 @@ use Rattle.rd_layout.specs.Laws.{ChosenLaw}
 use Rattle.rd_layout.specs.Screens.{settled_at, settled_by, settled_state}
 use Rattle.rd_layout.specs.Sessions.{SessionValue, layout_of}
 use Rattle.rd_layout.specs.Windows.{place_of, places, wanted_of, window_shape, window_source}
-use Rattle.rd_state.proofs.ByNumber.{apart-became, under-became, under-here, under-there, some-with, entry-other, window-same, window-with}
+use Rattle.rd_state.proofs.ByNumber.{apart-became, under-became, under-here, under-there, some-with, under-other, window-same, window-with}
 use Rattle.rd_layout.proofs.Known.{Last}
 use Rattle.rd_views.specs.Layings.{AreDesired, AreOnce, CanSettle, IsDesiredBy, all_settled}
 use Rattle.rd_views.specs.declared.desired.LaidWindow.{LaidWindow}
@@ -33,7 +33,7 @@ use Rattle.rd_views.proofs.Desiring.{each-desired}
 -- ---- the windows alone
 
 abbrev pub windows_settled : List LaidWindow → List Last → List NumberedWindow → List NumberedWindow
-windows_settled (x ∷ xs) (e ∷ es) ws = windows_settled xs es (with_entry e.0 (settled_window x.chosen.anchor x.chosen.point) ws)
+windows_settled (x ∷ xs) (e ∷ es) ws = windows_settled xs es (changed_under e.0 (settled_window x.chosen.anchor x.chosen.point) ws)
 windows_settled _ _ ws = ws
 
 state-is : (xs : List LaidWindow) (es : List Last) (s : StateValue) → all_settled xs es s ≡ record s { windows = windows_settled xs es s.windows }
@@ -70,11 +70,11 @@ same-windows (u ∷ us) (w ∷ ws) same apart found =
     ]) in
     λ i. (parts.0 i, value i) ∷ rest i
 
-with-numbers : (n : ℕ) (f : WindowState → WindowState) (ws : List NumberedWindow) → map (λ (e : NumberedWindow). e.0) (with_entry n f ws) ≡ map (λ (e : NumberedWindow). e.0) ws
+with-numbers : (n : ℕ) (f : WindowState → WindowState) (ws : List NumberedWindow) → map (λ (e : NumberedWindow). e.0) (changed_under n f ws) ≡ map (λ (e : NumberedWindow). e.0) ws
 with-numbers n f [] = refl
 with-numbers n f (w ∷ ws) = by (w.0 == n) (with-numbers n f ws) where
-  by : (t : Bool) → map (λ (e : NumberedWindow). e.0) (with_entry n f ws) ≡ map (λ (e : NumberedWindow). e.0) ws
-      → map (λ (e : NumberedWindow). e.0) (if t then (w.0, f w.1) ∷ ws else w ∷ with_entry n f ws) ≡ w.0 ∷ map (λ (e : NumberedWindow). e.0) ws
+  by : (t : Bool) → map (λ (e : NumberedWindow). e.0) (changed_under n f ws) ≡ map (λ (e : NumberedWindow). e.0) ws
+      → map (λ (e : NumberedWindow). e.0) (if t then (w.0, f w.1) ∷ ws else w ∷ changed_under n f ws) ≡ w.0 ∷ map (λ (e : NumberedWindow). e.0) ws
   by true rest = refl
   by false rest = ap (λ (ns : List ℕ). w.0 ∷ ns) rest
 
@@ -83,7 +83,7 @@ settled-numbers [] es ws = refl
 settled-numbers (x ∷ xs) [] ws = refl
 settled-numbers (x ∷ xs) (e ∷ es) ws =
     let f = settled_window x.chosen.anchor x.chosen.point in
-    settled-numbers xs es (with_entry e.0 f ws) ∙ with-numbers e.0 f ws
+    settled-numbers xs es (changed_under e.0 f ws) ∙ with-numbers e.0 f ws
 
 -- ---- what is found behind
 
@@ -109,13 +109,13 @@ found-settled n [] es ws once = refl
 found-settled n (x ∷ xs) [] ws once = refl
 found-settled n (x ∷ xs) (e ∷ es) ws once =
     let f = settled_window x.chosen.anchor x.chosen.point in
-    found-settled n xs es (with_entry e.0 f ws) once.1 ∙ elim (cases_eq e.0 n) [
+    found-settled n xs es (changed_under e.0 f ws) once.1 ∙ elim (cases_eq e.0 n) [
       | inl p ↦
-          ap (λ (c : Option Chosen). settle_found c (window_of n (with_entry e.0 f ws))) (chosen-none n xs es (ap (λ (k : ℕ). layout_of k es) (sym p) ∙ once.0))
-          ∙ (ap (λ (k : ℕ). window_of n (with_entry k f ws)) p
+          ap (λ (c : Option Chosen). settle_found c (window_of n (changed_under e.0 f ws))) (chosen-none n xs es (ap (λ (k : ℕ). layout_of k es) (sym p) ∙ once.0))
+          ∙ (ap (λ (k : ℕ). window_of n (changed_under k f ws)) p
           ∙ (window-same n f ws ∙ ap (λ (c : Option Chosen). settle_found c (window_of n ws)) (sym (under-here n (e.0, x.chosen) (choices xs es) p))))
       | inr q ↦
-          ap (settle_found (under n (choices xs es))) (entry-other e.0 n f ws (λ r. q (sym r)))
+          ap (settle_found (under n (choices xs es))) (under-other e.0 n f ws (λ r. q (sym r)))
           ∙ ap (λ (c : Option Chosen). settle_found c (window_of n ws)) (sym (under-there n (e.0, x.chosen) (choices xs es) q))
     ]
 
@@ -173,7 +173,7 @@ module _ (v : SessionValue) where
 -- ---- windows can be settled
 
 -- a window that is found behind another's settling was there before it, and shows the same buffer
-pub shown-before : (n m : ℕ) (c : Chosen) (ws : List NumberedWindow) (w : WindowState) → window_of n (with_entry m (settled_window c.anchor c.point) ws) ≡ Some w → (u : WindowState) × (window_of n ws ≡ Some u) × (u.buffer ≡ w.buffer)
+pub shown-before : (n m : ℕ) (c : Chosen) (ws : List NumberedWindow) (w : WindowState) → window_of n (changed_under m (settled_window c.anchor c.point) ws) ≡ Some w → (u : WindowState) × (window_of n ws ≡ Some u) × (u.buffer ≡ w.buffer)
 shown-before n m c ws w at = elim (window-with m n (settled_window c.anchor c.point) ws) [
   | inl p ↦ (w, sym p ∙ at, refl)
   | inr p ↦

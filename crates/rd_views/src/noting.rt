@@ -17,11 +17,11 @@ pub(crate) fn note(layouts: &mut Vec<(u32, Layout)>, effect: Effect, state: &Sta
 }
 
 /// Notes in the last layout of one window what an effect changed of what it shows.
-fn note_in(entry: &mut (u32, Layout), effect: Effect, state: &State)
-    ensures { entry.new ≡ later effect state.now entry.old }
+fn note_in(layout: &mut (u32, Layout), effect: Effect, state: &State)
+    ensures { layout.new ≡ later effect state.now layout.old }
 {
-    let change = change_in(effect, entry.0, state.window(entry.0));
-    entry.1.change = entry.1.change.join(change);
+    let change = change_in(effect, layout.0, state.window(layout.0));
+    layout.1.change = layout.1.change.join(change);
 }
 
 /// The change that an effect is for the window with a number: none where it does not live.

@@ -6,8 +6,8 @@ use Rattle.rd_state.specs.Moves.{moved_in}
 use Rattle.rd_state.specs.Windows.{NumberedWindow}
 use Rattle.rd_state.proofs.moves.move_windows.Goals as goal
 
-pub move_entry-requires : goal.move_entry-requires
-move_entry-requires c =
+pub move_in-requires : goal.move_in-requires
+move_in-requires c =
     let i = c.loop-i.i in
     let e = c.index_mut.result.now in
     let whole = c.args.windows.now.items in
@@ -21,5 +21,5 @@ move_entry-requires c =
 pub loop-i-preserved : goal.loop-i-preserved
 loop-i-preserved c =
     let less : c.loop-i.i < length c.args.windows.now.items = omega arith in
-    ap (set c.loop-i.windows.items c.loop-i.i) c.move_entry.ensures
+    ap (set c.loop-i.windows.items c.loop-i.i) c.move_in.ensures
     ∙ map_over_more (moved_in c.args.buffer c.args.how) c.args.windows.now.items c.loop-i.windows.items c.loop-i.i c.index_mut.result.now less c.loop-i.invariant c.index_mut.ensures.value

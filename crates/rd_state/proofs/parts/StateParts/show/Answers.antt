@@ -24,9 +24,9 @@ unfolding step effect_of
 returns-clause-applies c =
     let t = the_view c.self.inside in
     let n = c.args.window in
-    let there = found-in t c.as_slice.result.now n c.in_ok-i.i c.index_mut-entry.result.now c.as_slice.ensures.value c.in_ok-i.ensures.0 c.in_ok-i.ensures.1 c.index_mut-entry.ensures.value in
+    let there = found-in t c.as_slice.result.now n c.in_ok-i.i c.index_mut-shown.result.now c.as_slice.ensures.value c.in_ok-i.ensures.0 c.in_ok-i.ensures.1 c.index_mut-shown.ensures.value in
     let b = c.text_at.ensures in (
-      shows-buffer c.args.self.now t n c.in_ok-i.i c.index_mut-entry.result.now c.args.name.now c.in_ok-buffer.buffer c.begin-begin.result b.0 c.self.view_is there c.in_ok-buffer.ensures.0 b.1
+      shows-buffer c.args.self.now t n c.in_ok-i.i c.index_mut-shown.result.now c.args.name.now c.in_ok-buffer.buffer c.begin-begin.result b.0 c.self.view_is there c.in_ok-buffer.ensures.0 b.1
           (c.begin-begin.ensures.value ∙ ap (λ (x : TextValue). x.begin) b.2),
       ap (λ k. Window k) there.number,
     )
