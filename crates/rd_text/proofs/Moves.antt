@@ -9,17 +9,18 @@ use Rattle.std.proofs.lemmas.Simd.{put_chunk_is, length-put_chunk, get_or-put_ch
 use Rattle.std.proofs.lemmas.Slice.{take-put_mid, drop-put_mid}
 use Rattle.rd_base.specs.Chars.{is_code}
 use Rattle.rd_base.proofs.Choices.{by-range}
+use Rattle.rd_text.specs.declared.gap.TheConstants.{STRETCH}
 use Rattle.rd_text.specs.Stretches.{summary}
 use Rattle.rd_text.specs.Gaps.{IsGapped, IsCopied, IsRecounted}
 use Rattle.rd_text.specs.declared.stretch.Stretch.{Stretch}
 use Rattle.rd_text.proofs.Ranges.{range_same, length-gap, gap_front, gap_back}
 
 -- a stretch whose codes stay
-stays : (old new : List ℕ) (k : ℕ) → length new ≡ length old → k * 1024 + 1024 ≤ length old → ((i : ℕ) → k * 1024 ≤ i → i < k * 1024 + 1024 → get_or new i 0 ≡ get_or old i 0)
-    → summary (slice_range old (k * 1024) (k * 1024 + 1024)) ≡ summary (slice_range new (k * 1024) (k * 1024 + 1024))
+stays : (old new : List ℕ) (k : ℕ) → length new ≡ length old → k * STRETCH + STRETCH ≤ length old → ((i : ℕ) → k * STRETCH ≤ i → i < k * STRETCH + STRETCH → get_or new i 0 ≡ get_or old i 0)
+    → summary (slice_range old (k * STRETCH) (k * STRETCH + STRETCH)) ≡ summary (slice_range new (k * STRETCH) (k * STRETCH + STRETCH))
 stays old new k size within same =
-    ap summary (sym (range_same new old (k * 1024) (k * 1024 + 1024) (k * 1024) (k * 1024 + 1024) (omega arith) (omega arith) (omega arith) (omega arith) within
-    (λ i less. same (k * 1024 + i) (omega arith) (omega arith))))
+    ap summary (sym (range_same new old (k * STRETCH) (k * STRETCH + STRETCH) (k * STRETCH) (k * STRETCH + STRETCH) (omega arith) (omega arith) (omega arith) (omega arith) within
+    (λ i less. same (k * STRETCH + i) (omega arith) (omega arith))))
 
 -- codes that were copied are codes
 copied_codes : (old new : List ℕ) (src dest n : ℕ) → IsCopied old new src dest n
@@ -61,8 +62,8 @@ module _ (old new : List ℕ) (olds news : List Stretch) (front back at first la
       (λ k far inside. is.copied (dest + (k - at)) 0 (omega arith) (omega arith) ∙ (let e : at + (dest + (k - at) - dest) ≡ k = omega arith in ap (λ (n : ℕ). get_or old n 0) e))
       (λ k past. is.from k 0 (omega arith))
 
-  pub left_right : IsRecounted new olds news first last → back - (front - at) ≤ first * 1024 → first * 1024 < back - (front - at) + 1024
-      → ((k : ℕ) → k * 1024 < back → k * 1024 + 1024 ≤ length old → k < last) → ((k : ℕ) → back ≤ k * 1024 → last ≤ k)
+  pub left_right : IsRecounted new olds news first last → back - (front - at) ≤ first * STRETCH → first * STRETCH < back - (front - at) + STRETCH
+      → ((k : ℕ) → k * STRETCH < back → k * STRETCH + STRETCH ≤ length old → k < last) → ((k : ℕ) → back ≤ k * STRETCH → last ≤ k)
       → IsGapped new news at (back - (front - at))
   left_right again low high reach past =
       let order = right.order in
@@ -79,7 +80,7 @@ module _ (old new : List ℕ) (olds news : List Stretch) (front back at first la
         are_codes = copied_codes old new at (back - (front - at)) (front - at) is right.are_codes;
         before = λ k d l h. again.below k d (omega arith) ∙ right.before k d l (omega arith)
             ∙ stays old new k size (omega arith) (λ i low' high'. is.below i 0 (omega arith));
-        behind = λ k d l h. elim (cases_lt (k * 1024) back) [
+        behind = λ k d l h. elim (cases_lt (k * STRETCH) back) [
           | inl near ↦ again.counted k d (omega arith) (reach k near (omega arith))
           | inr far ↦ again.above k d (past k far) ∙ right.behind k d far (omega arith)
               ∙ stays old new k size (omega arith) (λ i low' high'. is.from i 0 (omega arith))
@@ -90,7 +91,7 @@ module _ (old new : List ℕ) (olds news : List Stretch) (front back at first la
 gapped-on : (old new : List ℕ) (olds news : List Stretch) (front back at behind first last : ℕ) → IsGapped old olds front back → front ≤ at → back ≤ behind → at ≤ behind → behind ≤ length old
     → length new ≡ length old → ((k : ℕ) → IsTrue (is_code (get_or new k 0)))
     → ((k : ℕ) → k < front → get_or new k 0 ≡ get_or old k 0) → ((k : ℕ) → at ≤ k → get_or new k 0 ≡ get_or old k 0) → IsRecounted new olds news first last
-    → first * 1024 ≤ front → front < first * 1024 + 1024 → last * 1024 ≤ at → at < last * 1024 + 1024 → IsGapped new news at behind
+    → first * STRETCH ≤ front → front < first * STRETCH + STRETCH → last * STRETCH ≤ at → at < last * STRETCH + STRETCH → IsGapped new news at behind
 gapped-on old new olds news front back at behind first last right on off order within size codes below from again fl fh ll lh =
     let short = right.short in
     let covered = right.covered in
@@ -120,7 +121,7 @@ module _ (old new : List ℕ) (olds news : List Stretch) (front back at first la
       sym (gap_moved old new front back at (back + (at - front)) order place refl (omega arith) (sym size) (λ k less. sym (is.below k 0 less))
       (λ k low less. sym (is.copied k 0 low (omega arith))) (λ k past. sym (is.from k 0 (omega arith))))
 
-  pub right_right : IsRecounted new olds news first last → first * 1024 ≤ front → front < first * 1024 + 1024 → last * 1024 ≤ at → at < last * 1024 + 1024
+  pub right_right : IsRecounted new olds news first last → first * STRETCH ≤ front → front < first * STRETCH + STRETCH → last * STRETCH ≤ at → at < last * STRETCH + STRETCH
       → IsGapped new news at (back + (at - front))
   right_right again fl fh ll lh =
       let order = right.order in
@@ -147,8 +148,8 @@ module _ (old new : List ℕ) (olds news : List Stretch) (at back first last : �
   written_from : (k : ℕ) → at + length text ≤ k → get_or new k 0 ≡ get_or old k 0
   written_from k more = ap (λ (xs : List ℕ). get_or xs k 0) stored ∙ get_or-put_chunk_above at old text k 0 more
 
-  pub put_right : ((k : ℕ) → IsTrue (is_code (get_or new k 0))) → IsRecounted new olds news first last → first * 1024 ≤ at → at < first * 1024 + 1024
-      → last * 1024 ≤ at + length text → at + length text < last * 1024 + 1024 → IsGapped new news (at + length text) back
+  pub put_right : ((k : ℕ) → IsTrue (is_code (get_or new k 0))) → IsRecounted new olds news first last → first * STRETCH ≤ at → at < first * STRETCH + STRETCH
+      → last * STRETCH ≤ at + length text → at + length text < last * STRETCH + STRETCH → IsGapped new news (at + length text) back
   put_right codes again fl fh ll lh =
       gapped-on old new olds news at back (at + length text) back first last right (omega arith) (omega arith) room right.within written_size codes
       (λ k less. written_below k less) (λ k more. written_from k more) again fl fh ll lh

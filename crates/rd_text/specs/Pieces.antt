@@ -1,5 +1,6 @@
 -- Parts of a text that lie together in memory, and what searches by them find.
 use Rattle.std.specs.Prelude.{◌≡◌, ℕ, ◌+◌, ◌-◌, ◌<◌, ◌≤◌, Bool, true, false, Option, IfSome, List, length, slice_index, slice_range}
+use Rattle.rd_text.specs.declared.gap.TheConstants.{STRETCH}
 use Rattle.rd_text.specs.Texts.{is_newline, is_ink}
 use Rattle.rd_text.specs.Stretches.{summary, opens, separated}
 use Rattle.rd_text.specs.declared.stretch.Stretch.{Stretch}
@@ -9,7 +10,7 @@ use Rattle.rd_text.specs.declared.lines.Sought.TheVariants.{Newline, Ink}
 -- a part of a stretch at most, and what is kept of it, where it is a whole stretch
 pub record IsPiece (codes : List ℕ) (known : Option Stretch) : Type 0 where
   pub known_right : IfSome known (λ s. s ≡ summary codes)
-  pub short : length codes ≤ 1024
+  pub short : length codes ≤ STRETCH
 
 -- a part of the text around a place, within a range
 pub record IsPart (text : List ℕ) (at from to : ℕ) (piece : List ℕ) : Type 0 where

@@ -2,6 +2,7 @@
 ghost use Rattle.std.specs.Prelude.{◌≡◌, ℕ, ◌+◌, ◌-◌, ◌*◌, ◌<◌, ◌≤◌, ◌++◌, IsTrue, OnOk, OnErr, [], length, take, drop, slice_index};
 ghost use Rattle.rd_base.specs.Chars.{is_code};
 ghost use Rattle.rd_base.specs.declared.limits.TheConstants.{TEXT_CHARACTERS};
+ghost use Rattle.rd_text.specs.declared.gap.TheConstants.{STRETCH};
 ghost use Rattle.rd_text.specs.Gaps.{text_of, IsGapText, IsGapMoved, IsCopied, IsRecounted};
 
 use crate::stretch::Stretch;
@@ -135,7 +136,7 @@ impl GapText {
         requires order { from ≤ to }
         requires within { to ≤ length self.old.codes.items }
         requires room { place + (to - from) ≤ length self.old.codes.items }
-        requires places { last * 1024 ≤ length self.old.codes.items }
+        requires places { last * STRETCH ≤ length self.old.codes.items }
         requires covered { last ≤ length self.old.stretches.items }
         ensures copied { IsCopied self.old.codes.items self.new.codes.items from place (to - from) }
         ensures recounted { IsRecounted self.new.codes.items self.old.stretches.items self.new.stretches.items first last }
@@ -198,7 +199,7 @@ fn write(codes: &mut [u32], at: usize, text: &[Ch])
 
 /// Counts the stretches from one number to another, that one not included, anew.
 fn recount(codes: &[u32], stretches: &mut [Stretch], first: usize, last: usize)
-    requires places { last * 1024 ≤ length codes.now }
+    requires places { last * STRETCH ≤ length codes.now }
     requires covered { last ≤ length stretches.old }
     ensures { IsRecounted codes.now stretches.old stretches.new first last }
 {

@@ -8,7 +8,7 @@ ghost use Rattle.rd_text.specs.Pieces.{IsPiece, is_sought};
 use crate::lines::{Sought, after_last, before_first};
 use crate::stretch::{NEWLINE, Stretch};
 
-/// A part of a text that lies together in memory, of at most 1,024 characters.
+/// A part of a text that lies together in memory, no longer than a stretch.
 #[derive(Drop)]
 pub(crate) struct Piece<'a> {
     /// Its codes.

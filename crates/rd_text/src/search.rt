@@ -1,6 +1,7 @@
 //! Searches in a text that pass over its stretches.
 ghost use Rattle.std.specs.Prelude.{◌≡◌, ◌+◌, ◌*◌, ◌/◌, ◌<◌, ◌≤◌, not, length, slice_range};
 ghost use Rattle.std.specs.List.{count_by, position_or_len, suffix_len};
+ghost use Rattle.rd_text.specs.declared.gap.TheConstants.{STRETCH};
 ghost use Rattle.rd_text.specs.Texts.{is_newline};
 ghost use Rattle.rd_text.specs.Gaps.{text_of, IsGapText, AreStretches};
 ghost use Rattle.rd_text.specs.Pieces.{IsPiece, IsPart, IsOpening, is_sought};
@@ -140,7 +141,7 @@ fn around<'a>(
 /// The codes at places of one stretch.
 fn piece_between<'a>(codes: &'a [u32], stretches: &[Stretch], from: usize, to: usize) -> Piece<'a>
     requires order { from ≤ to }
-    requires stretch { to ≤ (from / 1024 + 1) * 1024 }
+    requires stretch { to ≤ (from / STRETCH + 1) * STRETCH }
     requires right { AreStretches codes.now stretches.now from to }
     ensures right { IsPiece result.codes.now result.known }
     ensures value { result.codes.now ≡ slice_range codes.now from to }

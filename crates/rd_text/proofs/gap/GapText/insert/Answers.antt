@@ -1,6 +1,7 @@
 use Rattle.std.proofs.Common.{◌≡◌, ◌≤◌, ◌+◌, ◌/◌, ◌++◌, List, ℕ, length, take, drop, sym, ap, subst, ◌∙◌, arith}
 use Rattle.std.specs.Vec.{with_items}
 use Rattle.std.proofs.lemmas.List.{with_items_is}
+use Rattle.rd_text.specs.declared.gap.TheConstants.{STRETCH}
 use Rattle.rd_text.specs.Gaps.{text_of, IsGapped, IsRecounted}
 use Rattle.rd_text.specs.declared.gap.GapText.{GapText}
 use Rattle.rd_text.specs.declared.stretch.Stretch.{Stretch}
@@ -53,8 +54,8 @@ returns-clause-right c =
     let news = c.recount.new.stretches in
     let w = written (goal.at.returns-clause-right c).After-write in
     let ss = with_items_is m.stretches news (c.recount.ensures.size ∙ c.as_mut_slice-stretches.ensures.len) in
-    let first : ℕ = at / 1024 in
-    let last : ℕ = (at + length text) / 1024 in
+    let first : ℕ = at / STRETCH in
+    let last : ℕ = (at + length text) / STRETCH in
     let again = subst (λ (xs : List ℕ). IsRecounted xs m.stretches.items news first last) (c.as_slice-codes.ensures.value ∙ w.held)
     (subst (λ (xs : List Stretch). IsRecounted c.as_slice-codes.result.now xs news first last) c.as_mut_slice-stretches.ensures.value c.recount.ensures) in
     subst (λ (xs : List ℕ). IsGapped xs (with_items m.stretches news).items (at + length text) m.back) (sym w.held)
