@@ -10,7 +10,7 @@ use Rattle.rd_items.specs.Blocks.{blocks_of}
 use Rattle.rd_matrix.specs.declared.block.Block.{Block}
 
 -- a paragraph that is known, with a position in it
-pub record HoldsPosition (classes : List Span) (t : TextValue) (pos : ℕ) (p : Paragraph) : Type 0 where
+pub record IsParagraphAt (classes : List Span) (t : TextValue) (pos : ℕ) (p : Paragraph) : Type 0 where
   pub known : IsKnown classes t p
   pub from : p.from ≤ pos
   pub to : pos ≤ p.to

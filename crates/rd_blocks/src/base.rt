@@ -3,7 +3,7 @@ ghost use Rattle.std.specs.Prelude.{◌≡◌, ◌≤◌, IfSome};
 ghost use Rattle.rd_text.specs.Texts.{IsAccessible};
 ghost use Rattle.rd_para.specs.Known.{IsKnown};
 ghost use Rattle.rd_props.specs.Buffers.{meaning};
-ghost use Rattle.rd_blocks.specs.Bases.{HoldsPosition, block_base};
+ghost use Rattle.rd_blocks.specs.Bases.{IsParagraphAt, block_base};
 
 use rd_base::{Direction, Pos};
 use rd_para::{Paragraph, next_line, paragraph_at};
@@ -38,7 +38,7 @@ pub(crate) fn base_of(view: View, known: &mut Option<Paragraph>, near: Pos, star
 fn paragraph_of(view: View, known: Option<Paragraph>, near: Pos, pos: Pos) -> Paragraph
     requires known { IfSome known (λ p. IsKnown view.classes.now view.state.now.text p) }
     requires place { IsAccessible view.state.now.text pos }
-    ensures { HoldsPosition view.entry.classes.now view.entry.state.now.text pos result }
+    ensures { IsParagraphAt view.entry.classes.now view.entry.state.now.text pos result }
 {
     let state = view.state;
     match known {
@@ -54,7 +54,7 @@ fn further(view: View, known: Paragraph, pos: Pos) -> Paragraph
     requires known { IsKnown view.classes.now view.state.now.text known }
     requires from { known.from ≤ pos }
     requires place { IsAccessible view.state.now.text pos }
-    ensures { HoldsPosition view.entry.classes.now view.entry.state.now.text pos result }
+    ensures { IsParagraphAt view.entry.classes.now view.entry.state.now.text pos result }
 {
     let state = view.state;
     let mut paragraph = known;

@@ -55,8 +55,8 @@ looks-count escape control Space = (omega arith, omega arith)
 looks-count escape control (Mark code) = (omega arith, omega arith)
 looks-count escape control (Itself code width) = (omega arith, omega arith)
 
-own-columns : (parts : PartValues) (ch : ℕ) (odd : Bool) → AreSoundParts parts → AllByRecursion TakesColumns (own_looks parts ch odd)
-own-columns parts ch odd is =
+own-takes_columns : (parts : PartValues) (ch : ℕ) (odd : Bool) → AreSoundParts parts → AllByRecursion TakesColumns (own_looks parts ch odd)
+own-takes_columns parts ch odd is =
     looks-columns _ _ _ (slot_or-is Escape parts.table 92 is.table (omega arith) (omega arith)).width
     (slot_or-is Control parts.table 94 is.table (omega arith) (omega arith)).width
     (mirrored-keeps ShowsColumns (λ code width other s. s) parts.mirrors odd _ (shown_as-columns parts.settings.ctl_arrow (class_of parts.classes ch) ch))
@@ -137,7 +137,7 @@ of-character parts ch odd face origin is code = by-entry (entry_of parts.table c
       }
   by-tab false =
       let few : length (own_looks parts ch odd) ≤ 4 = (looks-count _ _ _).1 in
-      of-each face origin (λ (l : Look). l) (own_looks parts ch odd) (All-from_recursion TakesColumns (own_looks parts ch odd) (own-columns parts ch odd is)) (own-measured parts ch odd is code) (omega (arith, few))
+      of-each face origin (λ (l : Look). l) (own_looks parts ch odd) (All-from_recursion TakesColumns (own_looks parts ch odd) (own-takes_columns parts ch odd is)) (own-measured parts ch odd is code) (omega (arith, few))
 
   by-entry : (entry : Option (List Glyph)) → IfSome entry (λ text. IsTrue (is_glyph_text text)) → AreOfCharacter face origin (elements_by entry parts ch odd face origin)
   by-entry (Some text) own = of-glyphs face origin text own

@@ -10,7 +10,7 @@ use Rattle.std.specs.Prelude.{slice_get}
 use Rattle.rd_base.proofs.Choices.{one-at-most}
 use Rattle.rd_base.proofs.Lists.{between-apart, between-empty, count-append, total-append}
 use Rattle.rd_base.specs.Lists.{is_between, total}
-use Rattle.rd_matrix.proofs.Passing.{none-counted}
+use Rattle.rd_matrix.proofs.Passing.{counted-none}
 use Rattle.rd_matrix.specs.Blocks.{IsAmong, StandFrom, end_from, first_start}
 use Rattle.rd_matrix.specs.Columns.{covers}
 use Rattle.rd_matrix.specs.Cursors.{column_shown, cursor_in, or_below}
@@ -39,7 +39,7 @@ count-block point start end rows own =
     count-numbered point start 0 rows
     ∙ elim (cases_Bool (is_between start end point)) [
       | inl here ↦ rw here (own.once point (grind (arith, nat_tests)) (grind (arith, nat_tests)))
-      | inr out ↦ rw out (none-counted (covers start point) (begins_of rows) (list_any_none (covers start point) (begins_of rows) (λ k d below.
+      | inr out ↦ rw out (counted-none (covers start point) (begins_of rows) (list_any_none (covers start point) (begins_of rows) (λ k d below.
           let inside = own.inside k d below in
           grind (arith, nat_tests, inside.0, inside.1))))
     ]

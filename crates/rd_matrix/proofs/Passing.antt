@@ -23,8 +23,8 @@ some-counted p xs some = let none = eqb-false (count_by p xs) 0 (none_counted p 
 pub place-counted : {X : Type 0} (p : X → Bool) (xs : List X) (k : ℕ) (x : X) → slice_get xs k ≡ Some x → p x ≡ true → 1 ≤ count_by p xs
 place-counted p xs k x there passes = some-counted p xs (list_any_at p xs k x (slice_get_within xs k x there) (ap p (get_or_from_slice_get xs k x x there) ∙ passes))
 
-pub none-counted : {X : Type 0} (p : X → Bool) (xs : List X) → list_any p xs ≡ false → count_by p xs ≡ 0
-none-counted p xs none = eqb-true (count_by p xs) 0 (none_counted p xs ∙ ap not none)
+pub counted-none : {X : Type 0} (p : X → Bool) (xs : List X) → list_any p xs ≡ false → count_by p xs ≡ 0
+counted-none p xs none = eqb-true (count_by p xs) 0 (none_counted p xs ∙ ap not none)
 
 -- behind the first element no more pass than with it
 pub fewer : {X : Type 0} (p : X → Bool) (x : X) (xs : List X) (most : ℕ) → count_by p (x ∷ xs) ≤ most → count_by p xs ≤ most

@@ -19,11 +19,11 @@ use Rattle.rd_rows.specs.Shapes.{ShapeValues, room, is_word, truncates}
 use Rattle.rd_rows.proofs.Fill.{reached-append, break-more, break-here, break-before}
 
 -- the elements of a row behind its last break are no more than its columns that are taken, and than those before the last one
-pub record IsFew (shape : ShapeValues) (spot : Spot) (xs : List Element) : Type 0 where
+pub record AreFewBehind (shape : ShapeValues) (spot : Spot) (xs : List Element) : Type 0 where
   pub taken : has_break xs ≡ true → length xs - length (up_to_break xs) ≤ spot.used
   pub fit : has_break xs ≡ true → truncates shape ≡ false → length xs - length (up_to_break xs) ≤ room shape
 
-pub few-none : (shape : ShapeValues) (spot : Spot) → IsFew shape spot []
+pub few-none : (shape : ShapeValues) (spot : Spot) → AreFewBehind shape spot []
 few-none shape spot = record { taken = λ h. omega arith; fit = λ h k. omega arith }
 
 -- what is no break and ends no row is a glyph, of a column or more
@@ -47,7 +47,7 @@ fits-columns shape spot e fit on whole seen =
     grind (arith, nat_tests)
 
 few-by : (b : Bool) (shape : ShapeValues) (start : Spot) (xs : List Element) (e : Element) → is_break e.look ≡ b → IsSound e → has_room shape xs (reached shape start xs) e ≡ true → ends_row e.look ≡ false
-    → IsFew shape (reached shape start xs) xs → IsFew shape (reached shape start (xs ++ e ∷ [])) (xs ++ e ∷ [])
+    → AreFewBehind shape (reached shape start xs) xs → AreFewBehind shape (reached shape start (xs ++ e ∷ [])) (xs ++ e ∷ [])
 few-by true shape start xs e break sound fit on few =
     let none = ap length (break-here xs e break) in
     record { taken = λ h. omega (arith, none); fit = λ h k. omega (arith, none) }
@@ -73,10 +73,10 @@ few-by false shape start xs e break sound fit on few =
 
 -- one more element
 pub few-more : (shape : ShapeValues) (start : Spot) (xs : List Element) (e : Element) → IsSound e → has_room shape xs (reached shape start xs) e ≡ true → ends_row e.look ≡ false
-    → IsFew shape (reached shape start xs) xs → IsFew shape (reached shape start (xs ++ e ∷ [])) (xs ++ e ∷ [])
+    → AreFewBehind shape (reached shape start xs) xs → AreFewBehind shape (reached shape start (xs ++ e ∷ [])) (xs ++ e ∷ [])
 few-more shape start xs e sound fit on few = few-by (is_break e.look) shape start xs e refl sound fit on few
 
-noted-few : (shape : ShapeValues) (lead : List Placed) (start spot : Spot) (xs : List Element) (b : Option Break) (waiting : List Element) → IsNoted shape lead start xs b waiting → IsFew shape spot xs
+noted-few : (shape : ShapeValues) (lead : List Placed) (start spot : Spot) (xs : List Element) (b : Option Break) (waiting : List Element) → IsNoted shape lead start xs b waiting → AreFewBehind shape spot xs
     → truncates shape ≡ false → length waiting ≤ room shape
 noted-few shape lead start spot xs None waiting noted few whole = let none = ap length noted.1 in omega (arith, none)
 noted-few shape lead start spot xs (Some b) waiting noted few whole =
@@ -86,7 +86,7 @@ noted-few shape lead start spot xs (Some b) waiting noted few whole =
 
 -- where an element has no room, those that wait before it are fewer than the row's columns
 pub few-wait : (shape : ShapeValues) (lead : List Placed) (start spot : Spot) (xs : List Element) (b : Option Break) (waiting : List Element) (e : Element) → IsNoted shape lead start xs b waiting
-    → IsFew shape spot xs → has_room shape xs spot e ≡ false → length waiting ≤ room shape
+    → AreFewBehind shape spot xs → has_room shape xs spot e ≡ false → length waiting ≤ room shape
 few-wait shape lead start spot xs b waiting e noted few unfit =
     let tests = (or_parts _ _ (or_parts _ _ (or_parts (is_empty xs) _ unfit).1).0).0 in
     noted-few shape lead start spot xs b waiting noted few (or_parts (ends_row e.look) (truncates shape) tests).1

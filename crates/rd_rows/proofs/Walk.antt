@@ -27,7 +27,7 @@ use Rattle.rd_rows.specs.Prefixes.{IsLead}
 use Rattle.rd_rows.specs.Rows.{RowMeaning, LaidRow, laid, rows_within, first_seen}
 use Rattle.rd_rows.specs.Shapes.{ShapeValues, room, is_word}
 use Rattle.rd_rows.proofs.Ends.{any-more, line_ends, on-parts, on-append, on-line_ends, ends-append, standing-ends, ends_once-parts}
-use Rattle.rd_rows.proofs.Few.{IsFew, few-none, few-more, few-wait}
+use Rattle.rd_rows.proofs.Few.{AreFewBehind, few-none, few-more, few-wait}
 use Rattle.rd_rows.proofs.Fill.{standing-length, reached-column, reached-used, line-behind, once-behind, once-some, room-on, room-ended, room-full, unfit-ends, cells-room}
 use Rattle.rd_rows.proofs.Splits.{IsFront, break-front, break-some, lead_behind, none-left, rows-same}
 
@@ -46,7 +46,7 @@ pub record Walks (m : MakerValues) (es : List Element) (n : MakerValues) (fs : L
   pub line : IsLine m.spot.column (m.held ++ es)
   pub making : IsMaking m
   pub held : length n.held ≡ length m.held - length xs
-  pub few : IsFew m.cutting.shape (reached m.cutting.shape (start_of m) xs) xs
+  pub few : AreFewBehind m.cutting.shape (reached m.cutting.shape (start_of m) xs) xs
   pub going_on : m.finished ≡ false
 
 pub walk-start : (m : MakerValues) (es : List Element) (f : Filling) → IsFilling m.cutting.shape (lead_of m) (start_of m) [] f → IsLine m.spot.column (m.held ++ es) → IsMaking m → m.finished ≡ false

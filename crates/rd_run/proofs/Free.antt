@@ -59,8 +59,8 @@ run-free w (t ∷ ts) h =
 
 -- ---- statuses
 
-bad-free : (given : Given) (file : DataFile) (number : ℕ) (kind : DataKind) → IsBadData given file number kind → kind ≢ kinds.Bad ucd.Memory
-bad-free given file number kind bad e =
+bad_data-free : (given : Given) (file : DataFile) (number : ℕ) (kind : DataKind) → IsBadData given file number kind → kind ≢ kinds.Bad ucd.Memory
+bad_data-free given file number kind bad e =
     let fault : BadFile = record { file = file; line = number; kind = kind } in
     data-free bad.files.0 bad.files.1 bad.files.2 fault bad.files.6 e
 
@@ -78,7 +78,7 @@ in-free mode (BadScript number fault) inputs bytes source (inr past) = over-free
 in-free mode status inputs bytes source c = tt
 
 pub comes-free : (given : Given) (mode : Option Mode) (status : Status) (inputs : List Input) (bytes : List ℕ) (source : Drawn) → Comes given mode status inputs bytes source → TellsNoMemory status
-comes-free given None (BadData file number kind) inputs bytes source c = bad-free given file number kind c.0
+comes-free given None (BadData file number kind) inputs bytes source c = bad_data-free given file number kind c.0
 comes-free given None (BadScript number fault) inputs bytes source c = absurd c
 comes-free given None status inputs bytes source c = tt
 comes-free given (Some mode) status inputs bytes source c = in-free mode status inputs bytes source c.1

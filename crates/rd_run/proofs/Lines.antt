@@ -110,7 +110,7 @@ updated-shows width height u target t reached done h = record {
 -- ---- one line
 
 -- what holds where a line leads from one place to another, by the terminal there and the end of its redisplay
-record GoesOn (from to : Standing) (t : Tty) (o : Option Outcome) : Type 0 where
+record LineLeads (from to : Standing) (t : Tty) (o : Option Outcome) : Type 0 where
   pub at : IsAt to.session t
   pub under : to.mode ≡ from.mode
   pub knows : is_sent o ≡ true → IsOn to.session.current t
@@ -119,14 +119,14 @@ record GoesOn (from to : Standing) (t : Tty) (o : Option Outcome) : Type 0 where
 
 -- what holds behind a line with this effect
 record Goes (place : Standing) (t : Tty) (e : Effect) : Type 0 where
-  pub on : GoesOn place e.now (terminal_after t e) e.outcome
+  pub on : LineLeads place e.now (terminal_after t e) e.outcome
   pub size : e.fresh ≡ false → AreOfOneSize place.session.state e.now.session.state
 
 never : {P : Type 0} {b : Bool} → b ≡ false → b ≡ true → P
 never p q = absurd (true≢false (sym q ∙ p))
 
 -- a line that sends nothing
-silent-on : (from to : Standing) (t : Tty) (o : Option Outcome) → is_sent o ≡ false → is_shown o ≡ false → IsAt to.session t → to.mode ≡ from.mode → GoesOn from to t o
+silent-on : (from to : Standing) (t : Tty) (o : Option Outcome) → is_sent o ≡ false → is_shown o ≡ false → IsAt to.session t → to.mode ≡ from.mode → LineLeads from to t o
 silent-on from to t o unsent unshown at under = record { at = at; under = under; knows = λ s. never unsent s; reaches = λ s. never unshown s; shows = λ s. never unshown s }
 
 silent-goes : (place : Standing) (t : Tty) (e : Effect) → is_sent e.outcome ≡ false → is_shown e.outcome ≡ false → IsAt e.now.session (terminal_after t e) → e.now.mode ≡ place.mode
@@ -186,7 +186,7 @@ line-goes laws place t line h = effect-is place line (Goes place t) (record {
 
 -- where one more line leads; a run that has ended stays as it is
 abbrev Next : World → World → Option Outcome → Type 0
-Next w next o = GoesOn w.now next.now next.terminal o
+Next w next o = LineLeads w.now next.now next.terminal o
 
 goes-if : (stays : Bool) (w : World) (e : Effect) → IsAt w.now.session w.terminal → Goes w.now w.terminal e → Next w (if stays then w else after w e) (if stays then None else e.outcome)
 goes-if true w e h g = silent-on w.now w.now w.terminal None refl refl h refl

@@ -9,7 +9,7 @@ use Rattle.rd_spans.specs.declared.run.ValueRun.{ValueRun}
 use Rattle.rd_spans.specs.Values.{value_at, values_put, values_opened, values_closed, CanMove, IsTrimmed}
 use Rattle.rd_spans.specs.Sides.{values_of, Rises, size_of, top, meet, needs, values_of_both, AtGap, IsCut, AreRuns, HaveRoom}
 use Rattle.rd_spans.proofs.Beside.{opened-before, opened-behind, closed-before, closed-behind}
-use Rattle.rd_spans.proofs.Sides.{size-values, few-runs, values_of_both-front, values_of_both-back, values_of_both-past, length-values_of_both, nothing-more, one-at-most}
+use Rattle.rd_spans.proofs.Sides.{size-values, few-runs, values_of_both-front, values_of_both-back, values_of_both-past, length-values_of_both, nothing-more, none-or-one}
 
 -- where a position stands to an edit
 put-low : (values : List (Option ℕ)) (from to : ℕ) (value : Option ℕ) (p : ℕ) → p < from → values_put (value_at values) from to value p ≡ value_at values p
@@ -176,8 +176,8 @@ open-few a b n ha hb more t m =
 pub still-room : (front back a b c d : List ValueRun) (front_room back_room : ℕ) → AreRuns c d → needs a b ≤ needs front back → length c + length d ≤ length a + length b + 2
     → length front + length back + 4 ≤ front_room → length front + length back + 4 ≤ back_room → HaveRoom c d front_room back_room
 still-room front back a b c d front_room back_room runs lighter two front_more back_more =
-    let before = one-at-most (meet (top front) (top back)) in
-    let after = one-at-most (meet (top c) (top d)) in
+    let before = none-or-one (meet (top front) (top back)) in
+    let after = none-or-one (meet (top c) (top d)) in
     record { runs = runs; front_holds = omega (arith, before, after); back_holds = omega (arith, before, after) }
 
 -- whether a side is empty

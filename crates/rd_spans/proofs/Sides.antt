@@ -204,9 +204,9 @@ meet-value : (a b : Option ValueRun) (value : Option ℕ) → has_value b value 
 meet-value a None value h = absurd (cc)
 meet-value a (Some r) value h = ap (has_value a) ((value-decides r.value value).0 h)
 
-pub one-at-most : (b : Bool) → (if b then 0 else 1) ≤ 1
-one-at-most true = omega arith
-one-at-most false = omega arith
+pub none-or-one : (b : Bool) → (if b then 0 else 1) ≤ 1
+none-or-one true = omega arith
+none-or-one false = omega arith
 
 pub needs-swap : (a b : List ValueRun) → needs a b ≡ needs b a
 needs-swap a b = rw (meet-swap (top a) (top b)) (omega arith)
@@ -221,10 +221,10 @@ cut-needs old rs new r n e none count has other =
       | inl some ↦
           let after : needs other new ≡ length other + length new + (if has_value (top other) r.value then 0 else 1) =
           rw (meet-value (top other) (top new) r.value (has some)) refl in
-          omega (arith, before, after, count, one-at-most (has_value (top rs) r.value))
+          omega (arith, before, after, count, none-or-one (has_value (top rs) r.value))
       | inr all ↦
           let long : length new ≡ length rs = ap length (none (omega arith)) in
-          omega (arith, before, long, one-at-most (meet (top other) (top new)))
+          omega (arith, before, long, none-or-one (meet (top other) (top new)))
     ]
 
 -- the gap moves by a part of a run
@@ -272,7 +272,7 @@ pub cut-lighter : (old rs new : List ValueRun) (r : ValueRun) (n : ℕ) → old 
     → (0 < n → has_value (top new) r.value ≡ true) → IsLighter old new
 cut-lighter old rs new r n e none count has = record {
   needs = cut-needs old rs new r n e none count has;
-  count = omega (arith, ap length e, length_push rs r, count, one-at-most (has_value (top rs) r.value));
+  count = omega (arith, ap length e, length_push rs r, count, none-or-one (has_value (top rs) r.value));
 }
 
 pub cut-values : (old rs new : List ValueRun) (r : ValueRun) (end : ℕ) → old ≡ rs ++ r ∷ [] → Rises 0 old → end < size_of old → values_of new ≡ values_of rs ++ replicate (end - size_of rs) r.value
@@ -303,7 +303,7 @@ trim-values old rs r p e none =
     sym (ap (λ (vs : List (Option ℕ)). value_at vs p) (popped-values old rs r e) ∙ nothing-more (values_of rs) (r.end - size_of rs) r.value p none)
 
 pub trim-lighter : (old rs : List ValueRun) (r : ValueRun) (other : List ValueRun) → old ≡ rs ++ r ∷ [] → needs rs other ≤ needs old other
-trim-lighter old rs r other e = omega (arith, popped-length old rs r e, one-at-most (meet (top rs) (top other)))
+trim-lighter old rs r other e = omega (arith, popped-length old rs r e, none-or-one (meet (top rs) (top other)))
 
 pub trimmed-last : (rs : List ValueRun) (r : ValueRun) → Rises 0 (rs ++ r ∷ []) → (r.value ≡ None → ⊥) → IsTrimmed (values_of (rs ++ r ∷ []))
 trimmed-last rs r h some p is none =

@@ -174,12 +174,12 @@ front-is current target (Some limit) = front-chosen (nat_lt limit (length (plann
 -- ---- the new current screen
 
 -- the new rows before a row and the old ones from it on, where the first row given is that of a number
-pub record IsCut (first cut : ℕ) (olds news after : List (List Cell)) : Type 0 where
+pub record AreNewBefore (first cut : ℕ) (olds news after : List (List Cell)) : Type 0 where
   pub low : first ≤ cut
   pub high : cut - first ≤ length news
   pub is : after ≡ take (cut - first) news ++ drop (cut - first) olds
 
-cut-next : (row cut : ℕ) (o n : List Cell) (os ns after : List (List Cell)) → IsCut (row + 1) cut os ns after → IsCut row cut (o ∷ os) (n ∷ ns) (n ∷ after)
+cut-next : (row cut : ℕ) (o n : List Cell) (os ns after : List (List Cell)) → AreNewBefore (row + 1) cut os ns after → AreNewBefore row cut (o ∷ os) (n ∷ ns) (n ∷ after)
 cut-next row cut o n os ns after h =
     let one : cut - row ≡ suc (cut - (row + 1)) = omega (arith, h.low) in
     record {
@@ -189,9 +189,9 @@ cut-next row cut o n os ns after h =
     }
 
 cut-step : (d : Bool) (row at k : ℕ) (o n : List Cell) (os ns : List (List Cell))
-    → ((at k : ℕ) → k < length (parts_from (row + 1) at os ns) → IsCut (row + 1) (get_or (parts_from (row + 1) at os ns) k no_part).row os ns (rows_after (Some k) os ns))
+    → ((at k : ℕ) → k < length (parts_from (row + 1) at os ns) → AreNewBefore (row + 1) (get_or (parts_from (row + 1) at os ns) k no_part).row os ns (rows_after (Some k) os ns))
     → k < length (if d then (record { row = row; start = at }) ∷ parts_from (row + 1) (at + length (row_bytes row o n)) os ns else parts_from (row + 1) at os ns)
-    → IsCut row (get_or (if d then (record { row = row; start = at }) ∷ parts_from (row + 1) (at + length (row_bytes row o n)) os ns else parts_from (row + 1) at os ns) k no_part).row (o ∷ os) (n ∷ ns)
+    → AreNewBefore row (get_or (if d then (record { row = row; start = at }) ∷ parts_from (row + 1) (at + length (row_bytes row o n)) os ns else parts_from (row + 1) at os ns) k no_part).row (o ∷ os) (n ∷ ns)
     (if not d then n ∷ rows_after (Some k) os ns else if allows (Some k) then n ∷ rows_after (less_one (Some k)) os ns else o ∷ os)
 cut-step false row at k o n os ns ih p = cut-next row (get_or (parts_from (row + 1) at os ns) k no_part).row o n os ns (rows_after (Some k) os ns) (ih at k p)
 cut-step true row at zero o n os ns ih p =
@@ -204,7 +204,7 @@ cut-step true row at (suc k) o n os ns ih p =
     record { low = cut.low; high = cut.high; is = sym (ap (λ j. n ∷ rows_after (Some j) os ns) back) ∙ cut.is }
 
 pub cut-is : (row at k : ℕ) (olds news : List (List Cell)) → k < length (parts_from row at olds news)
-    → IsCut row (get_or (parts_from row at olds news) k no_part).row olds news (rows_after (Some k) olds news)
+    → AreNewBefore row (get_or (parts_from row at olds news) k no_part).row olds news (rows_after (Some k) olds news)
 cut-is row at k [] [] p = absurd (omega arith)
 cut-is row at k [] (n ∷ ns) p = absurd (omega arith)
 cut-is row at k (o ∷ os) [] p = absurd (omega arith)

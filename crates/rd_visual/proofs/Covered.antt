@@ -17,7 +17,7 @@ use Rattle.rd_matrix.specs.declared.matrix.Entry.{Entry}
 use Rattle.rd_rows.specs.Rows.{RowMeaning}
 use Rattle.rd_rows.specs.Shapes.{ShapeValues, IsShape}
 use Rattle.rd_rows.specs.declared.begin.Begin.{Begin}
-use Rattle.rd_visual.specs.Hits.{AreInPositions, AreInRow, AreRowsAt, Fits, begins_at, covers_some, hit_in, item_at, item_of_cell, least_at, reading_column}
+use Rattle.rd_visual.specs.Hits.{AreInPositions, AreInRow, AreAdjacentRows, Fits, begins_at, covers_some, hit_in, item_at, item_of_cell, least_at, reading_column}
 use Rattle.rd_visual.proofs.Items.{found-none, item-again, item-alone, item-column, item-member}
 
 covers-parts : (start point : ℕ) (b : Begin) → covers start point b ≡ true → (start + b.from ≤ point) × (point < start + b.to)
@@ -28,7 +28,7 @@ covers-parts start point b h =
     (grind (arith, nat_tests), grind (arith, nat_tests))
 
 -- at most one item of rows in view covers a position
-pub few-at : (m : SourceValues) (shape : ShapeValues) (es : List EntryMeaning) (point : ℕ) → IsSource m → IsShape shape → AreRowsAt m shape es → count_at point es ≤ 1
+pub few-at : (m : SourceValues) (shape : ShapeValues) (es : List EntryMeaning) (point : ℕ) → IsSource m → IsShape shape → AreAdjacentRows m shape es → count_at point es ≤ 1
 few-at m shape es point source is rows =
     let all = few-whole m shape point source is in
     let whole : count_at point (rows_at m shape) ≡ count_at point (rows.above ++ (es ++ rows.below)) = ap (count_at point) rows.rows in
@@ -140,7 +140,7 @@ covers-least start b some =
 covers-some : (start point : ℕ) (b : Begin) → covers start point b ≡ true → covers_some b ≡ true
 covers-some start point b covered = let parts = covers-parts start point b covered in let low = parts.0 in let high = parts.1 in grind (arith, nat_tests)
 
-pub comes-back : (m : SourceValues) (shape : ShapeValues) (es : List EntryMeaning) (row column point : ℕ) → IsSource m → IsShape shape → AreRowsAt m shape es → hit_in es row column ≡ Some point
+pub comes-back : (m : SourceValues) (shape : ShapeValues) (es : List EntryMeaning) (row column point : ℕ) → IsSource m → IsShape shape → AreAdjacentRows m shape es → hit_in es row column ≡ Some point
     → (there : ℕ) × (cursor_in point es ≡ Some (row, there)) × (hit_in es row there ≡ Some point)
 comes-back m shape es row column point source is rows hit =
     let h = hit-parts es row column point hit in
@@ -163,7 +163,7 @@ abbrev second-of : Option (ℕ × ℕ) → ℕ
 second-of None = 0
 second-of (Some place) = place.1
 
-pub shows-item : (m : SourceValues) (shape : ShapeValues) (es : List EntryMeaning) (row column point : ℕ) (e : EntryMeaning) (k : ℕ) (b : Begin) → IsSource m → IsShape shape → AreRowsAt m shape es
+pub shows-item : (m : SourceValues) (shape : ShapeValues) (es : List EntryMeaning) (row column point : ℕ) (e : EntryMeaning) (k : ℕ) (b : Begin) → IsSource m → IsShape shape → AreAdjacentRows m shape es
     → cursor_in point es ≡ Some (row, column) → slice_get es row ≡ Some e → slice_get e.row.begins k ≡ Some b → covers e.start point b ≡ true → b.column < length e.row.cells
     → count_by (begins_at (reading_column e.row column)) e.row.begins ≤ 1 → hit_in es row column ≡ Some (e.start + b.from)
 shows-item m shape es row column point e k b source is rows cursor there place covered low alone =

@@ -27,7 +27,7 @@ use Rattle.rd_matrix.specs.Entries.{EntryMeaning}
 use Rattle.rd_matrix.specs.declared.block.Block.{Block}
 use Rattle.rd_blocks.specs.Rows.{block_cutting}
 use Rattle.rd_blocks.specs.Sources.{text_source}
-use Rattle.rd_visual.specs.Hits.{AreRowsAt}
+use Rattle.rd_visual.specs.Hits.{AreAdjacentRows}
 use Rattle.rd_rows.specs.Mirrors.{leading_rests}
 use Rattle.rd_rows.specs.Rows.{LaidRow, RowMeaning, begin_of, filled, first_seen, from_edge, front_mark, laid, last_cell, mark, row_of, rows_of, seen, seen_in}
 use Rattle.rd_rows.specs.Shapes.{IsShape, ShapeValues, room}
@@ -105,38 +105,38 @@ row-wide c used continued ps =
 
 -- so each item begins in a column of its row
 
-abbrev pub Fits : RowMeaning → Type 0
-Fits row = All (λ b. b.column < length row.cells) row.begins
+abbrev pub HoldsBegins : RowMeaning → Type 0
+HoldsBegins row = All (λ b. b.column < length row.cells) row.begins
 
-row-fits : (c : Cutting) (used : ℕ) (continued : Bool) (ps : List Placed) → 1 ≤ c.shape.width → Fits (row_of c used continued ps)
-row-fits c used continued ps some =
+row-holds : (c : Cutting) (used : ℕ) (continued : Bool) (ps : List Placed) → 1 ≤ c.shape.width → HoldsBegins (row_of c used continued ps)
+row-holds c used continued ps some =
     let wide = row-wide c used continued ps in
     λ k b inside. let low = begins-low c.shape ps some k b inside in omega (arith, wide, low)
 
-block-fits : (s : BufferValue) (objects : ObjectLists) (files : Data) (shape : ShapeValues) (b : Block) → 1 ≤ shape.width → All Fits ((text_source s objects files).rows_of b shape)
-block-fits s objects files shape b some =
+block-holds : (s : BufferValue) (objects : ObjectLists) (files : Data) (shape : ShapeValues) (b : Block) → 1 ≤ shape.width → All HoldsBegins ((text_source s objects files).rows_of b shape)
+block-holds s objects files shape b some =
     let es = reading s objects b.start in
     let scene = scene_in s.settings objects files in
     let cutting = block_cutting scene b.base shape es in
     let line = line_elements scene b.base es in
-    All-map Fits (λ (r : LaidRow). r.row) (rows_of cutting line)
-    (each-row (λ r. Fits r.row) cutting line (λ used marked ps. row-fits cutting used marked ps some))
+    All-map HoldsBegins (λ (r : LaidRow). r.row) (rows_of cutting line)
+    (each-row (λ r. HoldsBegins r.row) cutting line (λ used marked ps. row-holds cutting used marked ps some))
 
 -- the rows of a buffer, each with its place
 
-abbrev FitsIn : EntryMeaning → Type 0
-FitsIn e = Fits e.row
+abbrev HoldsBeginsIn : EntryMeaning → Type 0
+HoldsBeginsIn e = HoldsBegins e.row
 
-pub entry-fits : (s : BufferValue) (objects : ObjectLists) (files : Data) (shape : ShapeValues) (es : List EntryMeaning) (k : ℕ) (e : EntryMeaning) → IsShape shape
-    → AreRowsAt (text_source s objects files) shape es → slice_get es k ≡ Some e → Fits e.row
-entry-fits s objects files shape es k e is rows there =
+pub entry-holds : (s : BufferValue) (objects : ObjectLists) (files : Data) (shape : ShapeValues) (es : List EntryMeaning) (k : ℕ) (e : EntryMeaning) → IsShape shape
+    → AreAdjacentRows (text_source s objects files) shape es → slice_get es k ≡ Some e → HoldsBegins e.row
+entry-holds s objects files shape es k e is rows there =
     let least = is.least in
     let source = text_source s objects files in
-    let all = rows-each Fits (λ b. source.rows_of b shape) source.blocks (λ b. block-fits s objects files shape b (omega (arith, least))) in
-    let mine = subst (All FitsIn) rows.rows all in
-    all-at FitsIn es k e (all-front FitsIn es rows.below (all-back FitsIn rows.above (es ++ rows.below) mine)) there
+    let all = rows-each HoldsBegins (λ b. source.rows_of b shape) source.blocks (λ b. block-holds s objects files shape b (omega (arith, least))) in
+    let mine = subst (All HoldsBeginsIn) rows.rows all in
+    all-at HoldsBeginsIn es k e (all-front HoldsBeginsIn es rows.below (all-back HoldsBeginsIn rows.above (es ++ rows.below) mine)) there
 
-pub item-fits : (s : BufferValue) (objects : ObjectLists) (files : Data) (shape : ShapeValues) (es : List EntryMeaning) (row : ℕ) (e : EntryMeaning) (k : ℕ) (b : Begin) → IsShape shape
-    → AreRowsAt (text_source s objects files) shape es → slice_get es row ≡ Some e → slice_get e.row.begins k ≡ Some b → b.column < length e.row.cells
-item-fits s objects files shape es row e k b is rows there place =
-    all-at (λ (x : Begin). x.column < length e.row.cells) e.row.begins k b (entry-fits s objects files shape es row e is rows there) place
+pub item-held : (s : BufferValue) (objects : ObjectLists) (files : Data) (shape : ShapeValues) (es : List EntryMeaning) (row : ℕ) (e : EntryMeaning) (k : ℕ) (b : Begin) → IsShape shape
+    → AreAdjacentRows (text_source s objects files) shape es → slice_get es row ≡ Some e → slice_get e.row.begins k ≡ Some b → b.column < length e.row.cells
+item-held s objects files shape es row e k b is rows there place =
+    all-at (λ (x : Begin). x.column < length e.row.cells) e.row.begins k b (entry-holds s objects files shape es row e is rows there) place

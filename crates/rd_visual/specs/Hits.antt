@@ -56,7 +56,7 @@ abbrev pub AreInPositions : List EntryMeaning → Type 0
 AreInPositions es = All AreInRow es
 
 -- rows of a source at a shape, one behind the other
-pub record AreRowsAt (m : SourceValues) (shape : ShapeValues) (es : List EntryMeaning) : Type 0 where
+pub record AreAdjacentRows (m : SourceValues) (shape : ShapeValues) (es : List EntryMeaning) : Type 0 where
   pub above : List EntryMeaning
   pub below : List EntryMeaning
   pub rows : rows_at m shape ≡ above ++ (es ++ below)

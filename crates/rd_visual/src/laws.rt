@@ -21,7 +21,7 @@ ghost use Rattle.rd_visual.specs.Motion.{all_ranges, backward, base_in, block_ra
 ghost use Rattle.rd_visual.specs.Tiles.{AreTiled, CoverOnce};
 ghost use Rattle.rd_visual.specs.Order.{EndsWithEnder, StandBetween, block_items, ordered_ranges};
 ghost use Rattle.rd_visual.specs.declared.range.Range.{Range};
-ghost use Rattle.rd_visual.specs.Hits.{AreRowsAt, begins_at, hit_in, reading_column};
+ghost use Rattle.rd_visual.specs.Hits.{AreAdjacentRows, begins_at, hit_in, reading_column};
 
 use rd_blocks::buffers_are_sources;
 use rd_items::{blocks_are_listed, blocks_are_read_whole, items_cover_their_block};
@@ -29,7 +29,7 @@ use rd_levels::enders_come_last;
 
 /// Where a cell shows a position, the item of that position begins in a cell of the same row, which shows that position too.
 pub fn a_hit_comes_back()
-    ensures { (m : SourceValues) (shape : ShapeValues) (es : List EntryMeaning) (row column point : ℕ) → IsSource m → IsShape shape → AreRowsAt m shape es
+    ensures { (m : SourceValues) (shape : ShapeValues) (es : List EntryMeaning) (row column point : ℕ) → IsSource m → IsShape shape → AreAdjacentRows m shape es
         → hit_in es row column ≡ Some point
         → (there : ℕ) × (cursor_in point es ≡ Some (row, there)) × (hit_in es row there ≡ Some point) }
 {}
@@ -38,7 +38,7 @@ pub fn a_hit_comes_back()
 /// item, in rows of each buffer.
 pub fn a_cell_shows_its_item()
     ensures { (s : BufferValue) (objects : ObjectLists) (files : Data) (shape : ShapeValues) (es : List EntryMeaning) (row column point : ℕ) (e : EntryMeaning) (k : ℕ) (b : Begin)
-        → IsText s.text → IsShape shape → AreRowsAt (text_source s objects files) shape es
+        → IsText s.text → IsShape shape → AreAdjacentRows (text_source s objects files) shape es
         → cursor_in point es ≡ Some (row, column)
         → slice_get es row ≡ Some e → slice_get e.row.begins k ≡ Some b → covers e.start point b ≡ true
         → count_by (begins_at (reading_column e.row column)) e.row.begins ≤ 1

@@ -2,7 +2,7 @@ use Rattle.std.proofs.Common.{None, List, ℕ, Option, arith, ap, subst, sym, �
 use Rattle.std.specs.Vec.{vec_capacity}
 use Rattle.rd_spans.specs.Values.{value_at, values_opened, CanMove, IsTrimmed}
 use Rattle.rd_spans.specs.Sides.{top, has_value}
-use Rattle.rd_spans.proofs.Sides.{one-at-most}
+use Rattle.rd_spans.proofs.Sides.{none-or-one}
 use Rattle.rd_spans.proofs.Edits.{not-empty, is-empty, size-none, open-values, open-nothing, open-trimmed, open-few, still-room}
 use Rattle.rd_spans.proofs.gap.open.Goals as goal
 
@@ -25,7 +25,7 @@ returns-then-not-is_empty c =
     let t = subst IsTrimmed (sym m.same) c.requires.sides.trimmed in
     let can = subst (λ (xs : List (Option ℕ)). CanMove xs c.args.n) (sym m.same) c.requires.bound in
     let values = open-values a.items b.items new.items c.args.pos c.args.n m.at more c.push.ensures.order c.push.ensures.size c.push.ensures.values in
-    let one = one-at-most (has_value (top a.items) None) in
+    let one = none-or-one (has_value (top a.items) None) in
     record {
       sides = record {
         rooms = still-room c.args.front.now.items c.args.back.now.items a.items b.items new.items b.items (vec_capacity new) (vec_capacity b)
