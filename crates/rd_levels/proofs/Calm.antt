@@ -8,7 +8,7 @@ use Rattle.rd_base.proofs.Lists.{each-take, each-drop}
 use Rattle.rd_base.specs.declared.class.Class.{Class}
 use Rattle.rd_base.specs.declared.class.Class.TheVariants.{L, R, AL, BN, EN, ES, ET, AN, CS, NSM, B, S, WS, ON, LRI, RLI, FSI, PDI}
 use Rattle.rd_ucd.specs.declared.spans.BracketEntry.{BracketEntry}
-use Rattle.rd_resolve.specs.Weak.{w1_nonspacing_marks, w1, strong_after, w2, w3_arabic_letters, w3, w4_separators, first_type, w4, is_en, w5_comes_en, w5_terminators, w5, w6_remaining_separators, w6, w7_latin_numbers, w7, weak_types}
+use Rattle.rd_resolve.specs.Weak.{w1_nonspacing_marks, w1, strong_after, w2, w3_arabic_letters, w3, w4_separators, first_type, w4, w5_is_en, w5_comes_en, w5_terminators, w5, w6_remaining_separators, w6, w7_latin_numbers, w7, weak_types}
 use Rattle.rd_resolve.specs.Neutral.{n1_following, n1_surrounding_direction, n1, n2, neutral_types}
 use Rattle.rd_brackets.specs.Pairs.{roles, bd16_pairs_of, closings}
 use Rattle.rd_brackets.specs.Sides as sides
@@ -103,7 +103,7 @@ w5_terminators-plain b c p = p
 w5-plain : (en : Bool) (cs : List Class) → Each IsPlain cs → Stay IsPlain cs (w5 en cs)
 w5-plain en [] ps = (refl, tt)
 w5-plain en (c ∷ cs) ps =
-    let rest = w5-plain (is_en (w5_terminators (en || w5_comes_en cs) c)) cs ps.1 in
+    let rest = w5-plain (w5_is_en (w5_terminators (en || w5_comes_en cs) c)) cs ps.1 in
     (ap (λ n. suc n) rest.0, (w5_terminators-plain (en || w5_comes_en cs) c ps.0, rest.1))
 
 w6_remaining_separators-few : (c : Class) → IsPlain c → IsFew (w6_remaining_separators c)
