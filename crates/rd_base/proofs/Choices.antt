@@ -1,9 +1,9 @@
 -- What follows from a test, from an option, from a result, of the one of two that is chosen, and from where a number stands to a range.
-use Rattle.std.proofs.Common.{◌≡◌, ◌≢◌, ℕ, ◌<◌, ◌≤◌, ◌⊎◌, inl, inr, Bool, true, false, not, ◌||◌, if◌then◌else◌, Option, None, Some, Result, Ok, Err, IfSome, is_some, refl, sym, ap, ◌∙◌, arith}
+use Rattle.std.proofs.Common.{◌≡◌, ◌≢◌, ℕ, ◌<◌, ◌≤◌, ◌⊎◌, inl, inr, Bool, true, false, not, ◌||◌, if◌then◌else◌, Option, None, Some, option_and_then, Result, Ok, Err, IfSome, is_some, refl, sym, subst, ap, ◌∙◌, arith}
 use Rattle.std.specs.Option.{option_map, option_or, unwrap_or}
 use Rattle.std.proofs.Math.Bool.{not-not}
 use Rattle.std.proofs.lemmas.Bool.{cases_lt}
-use Rattle.std.proofs.lemmas.Option.{none-some}
+use Rattle.std.proofs.lemmas.Option.{none-some, cond_some}
 
 -- ---- tests
 
@@ -92,6 +92,11 @@ some-mapped f (Some x) = refl
 pub map-or : {X Y : Type 0} (f : X → Y) (o p : Option X) → option_map f (option_or o p) ≡ option_or (option_map f o) (option_map f p)
 map-or f None p = refl
 map-or f (Some x) p = refl
+
+-- a value that is kept where it passes a test has passed it
+pub kept-some : {X : Type 0} (test : X → Bool) (o : Option X) (x : X) → option_and_then (λ y. if test y then Some y else None) o ≡ Some x → test x ≡ true
+kept-some test None x e = absurd (none-some x e)
+kept-some test (Some y) x e = let h = cond_some (test y) y x e in subst (λ z. test z ≡ true) h.1 h.0
 
 -- ---- results
 

@@ -4,6 +4,7 @@ use Rattle.std.proofs.lemmas.List.Elements.{All-cons, All-replicate}
 use Rattle.rd_base.proofs.Choices.{either}
 use Rattle.rd_base.specs.Cells.{HasColours, IsColoured}
 use Rattle.rd_base.specs.Faces.{Attributes, plain, over}
+use Rattle.rd_base.specs.declared.limits.TheConstants.{COLOURS}
 use Rattle.rd_base.specs.Glyphs.{is_space, blanks, look_cells}
 use Rattle.rd_base.specs.declared.cell.Cell.{Cell}
 use Rattle.rd_base.specs.declared.cell.Cell.TheVariants.{Blank, First, Rest}
@@ -16,8 +17,8 @@ plain-coloured = record { fg = omega arith; bg = omega arith }
 -- a face over another
 pub over-coloured : (top under : Attributes) → HasColours top → HasColours under → HasColours (over top under)
 over-coloured top under h k = record {
-  fg = either (λ n. n ≤ 8) (top.fg == 8) under.fg top.fg k.fg h.fg;
-  bg = either (λ n. n ≤ 8) (top.bg == 8) under.bg top.bg k.bg h.bg;
+  fg = either (λ n. n ≤ COLOURS) (top.fg == COLOURS) under.fg top.fg k.fg h.fg;
+  bg = either (λ n. n ≤ COLOURS) (top.bg == COLOURS) under.bg top.bg k.bg h.bg;
 }
 
 pub blanks-coloured : (n : ℕ) (face : Attributes) → HasColours face → All IsColoured (blanks n face)

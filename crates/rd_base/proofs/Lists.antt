@@ -14,6 +14,10 @@ use Rattle.std.proofs.lemmas.Option.{slice_get-map, slice_get_within, slice_get_
 use Rattle.rd_base.specs.Lists.{Follow, is_between, total}
 use Rattle.rd_base.proofs.Choices.{if-value, map-some, none-of}
 
+-- equal lists have equal heads and equal rests
+pub heads : {X : Type 0} {x y : X} {xs ys : List X} → x ∷ xs ≡ y ∷ ys → (x ≡ y) × (xs ≡ ys)
+heads h = (cc, cc)
+
 -- what is read at a place heads what is left there
 pub drop-read : {X : Type 0} (xs : List X) (i : ℕ) (x : X) → i < length xs → x ≡ get_or xs i x → drop i xs ≡ x ∷ drop (i + 1) xs
 drop-read xs i x inside here = drop_more xs i x inside ∙ ap (λ y. y ∷ drop (i + 1) xs) (sym here)

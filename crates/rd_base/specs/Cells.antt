@@ -6,7 +6,7 @@ use Rattle.rd_base.specs.declared.cell.TheConstants.{CODES}
 use Rattle.rd_base.specs.declared.cell.Glyph.{Glyph}
 use Rattle.rd_base.specs.declared.cell.Cell.{Cell}
 use Rattle.rd_base.specs.declared.cell.Cell.TheVariants.{Blank, First, Rest}
-use Rattle.rd_base.specs.declared.limits.TheConstants.{GLYPH_MARKS}
+use Rattle.rd_base.specs.declared.limits.TheConstants.{COLOURS, GLYPH_MARKS}
 
 -- a character without marks
 abbrev pub single : ℕ → ℕ → Glyph
@@ -57,8 +57,8 @@ row_at rows row = slice_index_or rows row []
 
 -- a face's colours are in their range
 pub record HasColours (f : Attributes) : Type 0 where
-  pub fg : f.fg ≤ 8
-  pub bg : f.bg ≤ 8
+  pub fg : f.fg ≤ COLOURS
+  pub bg : f.bg ≤ COLOURS
 
 -- a cell whose colours are in their range
 abbrev pub IsColoured : Cell → Type 0

@@ -1,7 +1,8 @@
 -- Faces, as contracts see them.
 use Rattle.std.specs.Prelude.{ℕ, Bool, false, if◌then◌else◌, ◌==◌, ◌||◌}
+use Rattle.rd_base.specs.declared.limits.TheConstants.{COLOURS}
 
--- a face: colours of 0 to 7, where 8 is none, and flags
+-- a face: colours, where COLOURS is none, and flags
 pub record Attributes : Type 0 where
   pub fg : ℕ
   pub bg : ℕ
@@ -11,11 +12,11 @@ pub record Attributes : Type 0 where
 
 -- no colour and no flag
 abbrev pub plain : Attributes
-plain = record { fg = 8; bg = 8; bold = false; underline = false; inverse = false }
+plain = record { fg = COLOURS; bg = COLOURS; bold = false; underline = false; inverse = false }
 
 -- a colour over another: itself unless it is none
 abbrev pub colour_over : ℕ → ℕ → ℕ
-colour_over top under = if top == 8 then under else top
+colour_over top under = if top == COLOURS then under else top
 
 -- a face laid over another
 abbrev pub over : Attributes → Attributes → Attributes

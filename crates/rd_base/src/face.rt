@@ -3,9 +3,10 @@ ghost use Rattle.std.specs.Prelude.{◌≡◌};
 ghost use Rattle.rd_base.specs.Faces.{over};
 ghost use Rattle.rd_base.specs.Equals.{same_face};
 
+use crate::limits::COLOURS;
 use std::marker::Model;
 
-/// Colours and flags of a cell. A colour is 0 to 7, and 8 is none.
+/// Colours and flags of a cell. A colour is below `COLOURS`, and that number is none.
 #[derive(Clone, Copy, Debug, PartialEq, Eq)]
 pub struct Face {
     /// The colour of the character.
@@ -20,12 +21,13 @@ pub struct Face {
 impl Model for Face {
     ghost use Rattle.std.specs.Prelude.{◌≤◌};
     ghost use Rattle.rd_base.specs.Faces.{Attributes};
+    ghost use Rattle.rd_base.specs.declared.limits.TheConstants.{COLOURS};
 
     ghost Value = { Attributes };
 
     ghost view = { λ f. record { fg = f.fg; bg = f.bg; bold = f.bold; underline = f.underline; inverse = f.inverse } };
 
-    ghost invariant = { λ f. (f.fg ≤ 8) × (f.bg ≤ 8) };
+    ghost invariant = { λ f. (f.fg ≤ COLOURS) × (f.bg ≤ COLOURS) };
 
     ghost inverse = { λ s. record { fg = s.fg; bg = s.bg; bold = s.bold; underline = s.underline; inverse = s.inverse } };
 }
@@ -33,8 +35,8 @@ impl Model for Face {
 impl Face {
     /// No colour and no flag.
     pub const PLAIN: Face = Face {
-        fg: 8,
-        bg: 8,
+        fg: COLOURS,
+        bg: COLOURS,
         bold: false,
         underline: false,
         inverse: false,
@@ -45,8 +47,16 @@ impl Face {
         ensures { result ≡ over self under }
     {
         Face {
-            fg: if self.fg == 8 { under.fg } else { self.fg },
-            bg: if self.bg == 8 { under.bg } else { self.bg },
+            fg: if self.fg == COLOURS {
+                under.fg
+            } else {
+                self.fg
+            },
+            bg: if self.bg == COLOURS {
+                under.bg
+            } else {
+                self.bg
+            },
             bold: self.bold || under.bold,
             underline: self.underline || under.underline,
             inverse: self.inverse || under.inverse,

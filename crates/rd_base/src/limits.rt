@@ -33,6 +33,9 @@ pub const SPACE_COLUMNS: u32 = 400;
 /// Faces made in one run.
 pub const FACES: u32 = 1_024;
 
+/// Colours of a face: they are 0 up to one less, and this number is none.
+pub const COLOURS: u8 = 8;
+
 /// Display tables made in one run.
 pub const TABLES: u32 = 64;
 
