@@ -1,7 +1,7 @@
 -- Small cells with the same words are the same.
-use Rattle.std.proofs.Common.{◌≡◌, ℕ, zero, suc, ◌+◌, ◌*◌, ◌/◌, ◌%◌, ◌<◌, Bool, true, false, get_or, refl, ap, sym, ◌∙◌, arith}
+use Rattle.std.proofs.Common.{◌≡◌, ℕ, zero, suc, ◌+◌, ◌*◌, ◌%◌, ◌<◌, Bool, true, false, get_or, refl, ap, sym, ◌∙◌, arith}
 use Rattle.std.proofs.Math.Nat.{add_comm, mul_comm}
-use Rattle.std.proofs.lemmas.Nat.{div-mul-add, mod-mul-add}
+use Rattle.std.proofs.lemmas.Nat.{same_from_place}
 use Rattle.std.proofs.lemmas.List.{ext_get_or}
 use Rattle.std.specs.Prelude.{slice_index}
 use Rattle.std.specs.Int.{from_bool}
@@ -26,8 +26,8 @@ from_bool-told false false e = refl
 in_base : (n a b c d : ℕ) → a < n → c < n → a + n * b ≡ c + n * d → (a ≡ c) × (b ≡ d)
 in_base n a b c d p q e =
     let turned : (x y : ℕ) → y * n + x ≡ x + n * y = λ x y. add_comm (y * n) x ∙ ap (λ m. x + m) (mul_comm y n) in
-    let same : b * n + a ≡ d * n + c = turned a b ∙ e ∙ sym (turned c d) in
-    (sym (mod-mul-add b n a p) ∙ ap (λ m. m % n) same ∙ mod-mul-add d n c q, sym (div-mul-add b n a p) ∙ ap (λ m. m / n) same ∙ div-mul-add d n c q)
+    let same = same_from_place b a d c n p q (turned a b ∙ e ∙ sym (turned c d)) in
+    (same.1, same.0)
 
 -- three small codes are told by their packed number
 packed-told : (a b c d e f : ℕ) → packed a b c ≡ packed d e f
