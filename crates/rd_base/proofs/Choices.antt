@@ -26,6 +26,11 @@ pub either : {X : Type 0} (P : X → Type 0) (b : Bool) (x y : X) → P x → P 
 either P true x y h k = h
 either P false x y h k = k
 
+-- what a function makes of a choice
+pub of-choice : {X Y : Type 0} (f : X → Y) (b : Bool) (x y : X) → f (if b then x else y) ≡ (if b then f x else f y)
+of-choice f true x y = refl
+of-choice f false x y = refl
+
 -- where nothing was chosen, the test failed and nothing was left
 pub none-chosen : {X : Type 0} (b : Bool) (x : X) (rest : Option X) → (if b then Some x else rest) ≡ None → (b ≡ false) × (rest ≡ None)
 none-chosen true x rest none = absurd (none-some x (sym none))

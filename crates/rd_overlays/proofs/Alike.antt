@@ -1,5 +1,6 @@
 -- Two lists with one listing.
-use Rattle.std.proofs.Common.{◌≡◌, ℕ, ℤ, suc, Bool, true, false, if◌then◌else◌, List, [], ◌∷◌, map, Option, None, Some, refl, sym, ap, ◌∙◌}
+use Rattle.std.proofs.Common.{◌≡◌, ℕ, ℤ, suc, Bool, List, [], ◌∷◌, map, Option, None, Some, refl, sym, ap, ◌∙◌}
+use Rattle.rd_base.proofs.Choices.{of-choice}
 use Rattle.rd_overlays.specs.declared.overlay.Overlay.{Overlay}
 use Rattle.rd_overlays.specs.declared.listing.Rank.{Rank}
 use Rattle.rd_overlays.specs.Overlays.{overlay_at, placed, with_slot, ranked_from, number_of_rank, numbers_of}
@@ -10,16 +11,10 @@ with_priority : ℕ → Option ℤ → List Rank → List Rank
 with_priority n None ranks = ranks
 with_priority n (Some priority) ranks = placed (record { priority = priority; number = n }) ranks
 
-slot-by : (n : ℕ) (o : Overlay) (ranks : List Rank) (t : Bool)
-    → (if t then placed (record { priority = o.priority; number = n }) ranks else ranks) ≡ with_priority n (if t then Some o.priority else None) ranks
-unfolding with_priority
-slot-by n o ranks true = refl
-slot-by n o ranks false = refl
-
 slot-priority : (test : Overlay → Bool) (n : ℕ) (slot : Option Overlay) (ranks : List Rank) → with_slot test n slot ranks ≡ with_priority n (listed_priority test slot) ranks
 unfolding with_priority
 slot-priority test n None ranks = refl
-slot-priority test n (Some o) ranks = slot-by n o ranks (test o)
+slot-priority test n (Some o) ranks = sym (of-choice (λ (p : Option ℤ). with_priority n p ranks) (test o) (Some o.priority) None)
 
 slots-same : (f g : Overlay → Bool) (n : ℕ) (s t : Option Overlay) (ranks others : List Rank) → listed_priority f s ≡ listed_priority g t → ranks ≡ others
     → with_slot f n s ranks ≡ with_slot g n t others
