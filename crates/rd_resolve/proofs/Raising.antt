@@ -1,5 +1,6 @@
 -- One step of the walk that raises a line's levels (I1, I2).
-use Rattle.std.proofs.Common.{◌≡◌, ℕ, ◌+◌, ◌<◌, ◌≤◌, true, false, if◌then◌else◌, List, ◌∷◌, ◌++◌, length, take, drop, set, slice_get, Some, All, refl, ap, sym, ◌∙◌, arith}
+use Rattle.std.proofs.Common.{◌≡◌, ℕ, ◌+◌, ◌<◌, ◌≤◌, if◌then◌else◌, List, ◌∷◌, ◌++◌, length, take, drop, set, slice_get, Some, All, ap, sym, ◌∙◌, arith}
+use Rattle.rd_base.proofs.Choices.{of-choice}
 use Rattle.rd_base.proofs.Lists.{all-at, drop-at, get-drop, written}
 use Rattle.rd_base.specs.Classes.{x9_is_removed}
 use Rattle.rd_base.specs.declared.limits.TheConstants.{MAX_DEPTH}
@@ -13,10 +14,7 @@ bounded xs ys i r all same read =
 
 kept-step : (before own : ℕ) (c : Class) (cs : List Class) (ls : List ℕ) (v : ℕ) → v ≡ (if x9_is_removed c then before else own)
     → kept before (c ∷ cs) (own ∷ ls) ≡ v ∷ kept v cs ls
-kept-step before own c cs ls v e = rw e (elim (x9_is_removed c) as (λ b. (if b then before ∷ kept before cs ls else own ∷ kept own cs ls) ≡ (if b then before else own) ∷ kept (if b then before else own) cs ls) [
-  | true ↦ refl
-  | false ↦ refl
-])
+kept-step before own c cs ls v e = rw e (sym (of-choice (λ (v : ℕ). v ∷ kept v cs ls) (x9_is_removed c) before own))
 
 pub raise-step : (before v i : ℕ) (cs ts : List Class) (ls all : List ℕ) (c t : Class) (l : ℕ)
     → i < length cs → length ts ≡ length cs → length ls ≡ length cs
