@@ -8,6 +8,7 @@ use Rattle.std.proofs.lemmas.Bool.{lt-ltb, le-ltb, cases_lt}
 use Rattle.std.proofs.lemmas.List.{replicate-append-replicate, replicate_more, length-replicate, take_all, length-reverse, reverse-append, get_or_append_left, get_or-append_right, get_or-replicate, get_or_past, get_or-reverse, take-append-le, reverse-reverse, length_push, length-take, get_or-take}
 use Rattle.std.proofs.lemmas.Option.{same_Some}
 use Rattle.std.proofs.lemmas.List.Elements.{All-replicate}
+use Rattle.rd_base.proofs.Choices.{either}
 use Rattle.rd_base.proofs.Lists.{all-read, last-read}
 use Rattle.std.proofs.lemmas.List.Sums.{fold_push}
 use Rattle.rd_spans.specs.declared.run.ValueRun.{ValueRun}
@@ -149,15 +150,13 @@ longer-values old new end n value e less is =
     ∙ (in-parts (values_of new) (size_of old - size_of new) n (end - size_of new) value (omega arith) ∙ ap (λ (vs : List (Option ℕ)). vs ++ replicate n value) (sym e))
 
 -- the search for a place
-pub size-below : (k : ℕ) (es : List ValueRun) (p : ℕ) → ((j : ℕ) (d : ValueRun) → j < length es → (slice_index_or es j d).end ≤ p) → k ≤ p → reach k es ≤ p
-size-below k [] p below low = low
-size-below k (r ∷ rs) p below low = size-below r.end rs p (λ j d l. below (suc j) d (omega arith)) (below 0 r (omega arith))
-
 pub found-within : (es : List ValueRun) (i p : ℕ) → ((k : ℕ) (d : ValueRun) → k < i → (slice_index_or es k d).end < p + 1) → p < size_of es → i < length es
 found-within es i p below within =
     elim (cases_lt i (length es)) [
       | inl less ↦ less
-      | inr more ↦ absurd (omega (arith, size-below 0 es p (λ j d l. omega (arith, below j d (omega arith))) (omega arith)))
+      | inr more ↦
+          let whole = ap size_of (take_all (length es) es (omega arith)) in
+          absurd (omega (arith, whole, reach-before 0 es (length es) p (omega arith) (λ j d l. omega (arith, below j d (omega arith)))))
     ]
 
 pub size-last : (rs : List ValueRun) (r : ValueRun) → Some r ≡ slice_get rs (length rs - 1) → r.end ≡ size_of rs
@@ -205,8 +204,7 @@ meet-value a None value h = absurd (cc)
 meet-value a (Some r) value h = ap (has_value a) ((value-decides r.value value).0 h)
 
 pub none-or-one : (b : Bool) → (if b then 0 else 1) ≤ 1
-none-or-one true = omega arith
-none-or-one false = omega arith
+none-or-one b = either (λ n. n ≤ 1) b 0 1 (omega arith) (omega arith)
 
 pub needs-swap : (a b : List ValueRun) → needs a b ≡ needs b a
 needs-swap a b = rw (meet-swap (top a) (top b)) (omega arith)

@@ -1,5 +1,6 @@
 -- A value for each position: a list from position 0 on. A position that it does not reach has none.
-use Rattle.std.specs.Prelude.{◌≡◌, ℕ, ◌+◌, ◌-◌, ◌<◌, ◌≤◌, nat_lt, nat_le, ◌&&◌, if◌then◌else◌, List, length, slice_index_or, Option, None, Some}
+use Rattle.std.specs.Prelude.{◌≡◌, ℕ, ◌+◌, ◌-◌, ◌<◌, ◌≤◌, nat_lt, if◌then◌else◌, List, length, slice_index_or, Option, None, Some}
+use Rattle.rd_base.specs.Lists.{is_between}
 
 -- the value of a position
 abbrev pub value_at : List (Option ℕ) → ℕ → Option ℕ
@@ -7,7 +8,7 @@ value_at values p = slice_index_or values p None
 
 -- the values of positions after a value was put from one position up to another
 abbrev pub values_put : (ℕ → Option ℕ) → ℕ → ℕ → Option ℕ → ℕ → Option ℕ
-values_put values from to value p = if nat_le from p && nat_lt p to then value else values p
+values_put values from to value p = if is_between from to p then value else values p
 
 -- the values of positions after so many positions without a value were opened
 abbrev pub values_opened : (ℕ → Option ℕ) → ℕ → ℕ → ℕ → Option ℕ
