@@ -3,6 +3,7 @@ use Rattle.std.proofs.Common.{◌≡◌, ℕ, zero, suc, ◌+◌, ◌-◌, ◌<�
 use Rattle.std.proofs.lemmas.Bool.{cases_lt, cases_eq, le-leb, lt-leb}
 use lib.Dec.{leb}
 use Rattle.std.proofs.lemmas.List.{get_or_append_left, get_or-append-add, get_or-reverse, length-reverse, reverse-append}
+use Rattle.std.proofs.Math.Seq.{get_or-append_seam}
 use Rattle.std.proofs.lemmas.List.FromFn.{length-range_with_len, get_or-range_with_len}
 use Rattle.std.specs.List.{range_with_len}
 use mathlib.Core.List.{reverse}
@@ -19,9 +20,6 @@ level_in levels xs p = get_or levels (get_or xs p 0) 0
 -- an element behind the one at a seam
 behind : (front : List ℕ) (x : ℕ) (back : List ℕ) (i p : ℕ) → i ≡ length front + suc p → get_or (front ++ (x ∷ back)) i 0 ≡ get_or back p 0
 behind front x back i p e = ap (λ (j : ℕ). get_or (front ++ (x ∷ back)) j 0) e ∙ get_or-append-add front (x ∷ back) (suc p) 0
-
-at_seam : (front : List ℕ) (x : ℕ) (back : List ℕ) (i : ℕ) → i ≡ length front → get_or (front ++ (x ∷ back)) i 0 ≡ x
-at_seam front x back i e = ap (λ (j : ℕ). get_or (front ++ (x ∷ back)) j 0) (let e' : i ≡ length front + 0 = omega arith in e') ∙ get_or-append-add front (x ∷ back) 0 0
 
 -- an element of a run that is held turned round
 held : (run back : List ℕ) (q r : ℕ) → suc (q + r) ≡ length run → get_or run q 0 ≡ get_or (reverse run ++ back) r 0
@@ -68,7 +66,7 @@ at_low : (levels : List ℕ) (k : ℕ) (back run : List ℕ) (x : ℕ) (ys : Lis
     → level_in levels ys (length run) < k → Moves (level_in levels ys) (length ys) k q r → get_or (run ++ (x ∷ back)) q 0 ≡ get_or ys r 0
 at_low levels k back run x ys q r same here low (inl still) =
     let e : length run ≡ r = omega (arith, still.1) in
-    at_seam run x back q (sym same) ∙ sym here ∙ ap (λ (j : ℕ). get_or ys j 0) e
+    ap (λ (j : ℕ). get_or (run ++ (x ∷ back)) j 0) (sym same) ∙ get_or-append_seam run x back 0 ∙ sym here ∙ ap (λ (j : ℕ). get_or ys j 0) e
 at_low levels k back run x ys q r same here low (inr t) =
     let high = t.run.high q t.from t.to in
     let low_q = subst (λ (j : ℕ). level_in levels ys j < k) same low in
@@ -84,7 +82,8 @@ l2_reversed-moves levels k run [] ys e high q r within moves =
 l2_reversed-moves levels k run (x ∷ xs) ys e high q r within moves =
     let size : length ys ≡ suc (length run + length xs) = ap length e ∙ length-append (reverse run) (x ∷ xs) ∙ (let l = length-reverse run in omega arith) in
     let turn = length-reverse run in
-    let here : get_or ys (length run) 0 ≡ x = ap (λ (zs : List ℕ). get_or zs (length run) 0) e ∙ at_seam (reverse run) x xs (length run) (sym turn) in
+    let here : get_or ys (length run) 0 ≡ x =
+    ap (λ (zs : List ℕ). get_or zs (length run) 0) e ∙ ap (λ (j : ℕ). get_or (reverse run ++ (x ∷ xs)) j 0) (sym turn) ∙ get_or-append_seam (reverse run) x xs 0 in
     let after : (p : ℕ) → get_or ys (length run + suc p) 0 ≡ get_or xs p 0 = λ p. ap (λ (zs : List ℕ). get_or zs (length run + suc p) 0) e ∙ behind (reverse run) x xs (length run + suc p) p (omega arith) in
     let same_here : level_in levels ys (length run) ≡ get_or levels x 0 = ap (λ (i : ℕ). get_or levels i 0) here in
     let W : Bool → Type 0 = λ v. get_or (if v then l2_reversed levels k (x ∷ run) xs else run ++ (x ∷ l2_reversed levels k [] xs)) q 0 ≡ get_or ys r 0 in
