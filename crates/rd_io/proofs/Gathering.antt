@@ -1,6 +1,5 @@
 -- The reading of one line, step by step.
-use Rattle.std.proofs.Common.{◌≡◌, ℕ, ◌+◌, ◌<◌, ◌≤◌, ◌⊎◌, inl, inr, List, [], ◌∷◌, ◌++◌, length, take, Option, None, Result, Ok, Err, refl, sym, ap, ◌∙◌, subst, append_assoc, append-nil, arith, length-append, Bool, true, ◌==◌}
-use Rattle.std.proofs.lemmas.Bool.{eqb-true}
+use Rattle.std.proofs.Common.{◌≡◌, ℕ, ◌+◌, ◌<◌, ◌≤◌, ◌⊎◌, inl, inr, List, [], ◌++◌, length, take, Option, None, Result, Ok, Err, refl, sym, ap, ◌∙◌, subst, append_assoc, append-nil, arith, length-append}
 use Rattle.std.proofs.lemmas.List.{take-append-le}
 use Rattle.std.specs.Io.KnownBytes.{Consumes, IsAtEnd}
 use Rattle.std.proofs.KnownBytes.{Consumes-trans}
@@ -76,11 +75,6 @@ gathers-end held first left line rest given Last g none end is =
     let come : held ++ g.bytes ≡ line = g.split ∙ ap (λ l. line ++ l) none ∙ append-nil line in
     let few : given < LINES = elim g.few [ inl empty ↦ absurd (omega (arith, ap length empty)) | inr few ↦ few ] in
     (g.bytes, g.taken, record { fits = record { unbroken = g.unbroken; short = g.short; few = few }; split = come; some = is; none = none; end = end })
-
--- a list of no element
-pub emptied : (xs ys : List ℕ) (b : Bool) → xs ≡ ys → b ≡ (length xs == 0) → b ≡ true → ys ≡ []
-emptied [] ys b e is t = sym e
-emptied (x ∷ xs) ys b e is t = absurd (omega (arith, eqb-true (length (x ∷ xs)) 0 (sym is ∙ t)))
 
 -- nothing was read before the bytes held at first were seen to have no newline
 pub unbroken-first : (held rest : List ℕ) (P : Type 0) → (P × (rest ≡ held)) ⊎ IsUnbroken held → IsUnbroken rest → IsUnbroken held

@@ -1,6 +1,8 @@
-use Rattle.std.proofs.Common.{◌≡◌, ℕ, List, Option, [], subst, arith, rules, None, Ok, Err, inr}
+use Rattle.std.proofs.Common.{◌≡◌, ℕ, List, Option, [], sym, ◌∙◌, subst, arith, rules, None, Ok, Err, inr}
+use Rattle.std.proofs.lemmas.Bool.{eqb-true}
+use Rattle.std.proofs.lemmas.List.{nil_from_length}
 use Rattle.rd_io.specs.Pieces.{TakesPiece, IsLeft}
-use Rattle.rd_io.proofs.Gathering.{gathers-fault, gathering-goes_on, gathers-end, emptied, unbroken-first}
+use Rattle.rd_io.proofs.Gathering.{gathers-fault, gathering-goes_on, gathers-end, unbroken-first}
 use Rattle.rd_io.proofs.lines.gather.Goals as goal
 
 pub returns-in_err-n-clause-gathers : goal.returns-in_err-n-clause-gathers
@@ -16,7 +18,8 @@ returns-then-is_empty-clause-gathers g c =
     let took = subst (Took None) c.rest.ensures (subst (λ o. Took o c.rest.result.now) c.in_default.is c.in_ok-n.ensures) in
     let goes_on = gathering-goes_on c.args.chunk.now (g.S.Source.left c.args.source.now) (g.S.Source.left c.loop-n.source) (g.S.Source.left c.refill.new.source)
     c.loop-n.line.items c.loop-n.chunk c.take_piece.new.line.items c.refill.new.self c.args.given c.loop-n.invariant.come took c.in_default-refill.ensures.ok in
-    let none : c.refill.new.self ≡ [] = emptied c.rest-in-loop-n.result.now c.refill.new.self c.is_empty.result c.rest-in-loop-n.ensures c.is_empty.ensures c.if-is_empty.true in
+    let none : c.refill.new.self ≡ [] =
+    sym c.rest-in-loop-n.ensures ∙ nil_from_length c.rest-in-loop-n.result.now (eqb-true _ 0 (sym c.is_empty.ensures ∙ c.if-is_empty.true)) in
     let Left : List ℕ → Type 0 = λ line. IsLeft c.what_is_left.result line in
     gathers-end c.args.chunk.now (g.S.Source.left c.args.source.now) (g.S.Source.left c.refill.new.source) c.take_piece.new.line.items c.refill.new.self c.args.given c.what_is_left.result
     goes_on none (c.in_default-refill.ensures.end none) (subst Left c.deref.ensures.value c.what_is_left.ensures)
