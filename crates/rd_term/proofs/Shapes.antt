@@ -5,16 +5,12 @@ use Rattle.std.proofs.lemmas.List.Elements.{All-append, All-take, All-drop, All-
 use Rattle.rd_base.specs.declared.cell.Cell.{Cell}
 use Rattle.rd_term.specs.Pictures.{blank, width_of, IsGrid}
 use Rattle.rd_term.specs.Shifts.{cleared, moved, moved_down, moved_up, changed_between}
-use Rattle.rd_term.specs.Terminals.{IsTerminal, IsWithin, HasRegion, known}
+use Rattle.rd_term.specs.Terminals.{IsWithin, IsWhole, known}
 use Rattle.rd_term.specs.declared.shifting.RowMove.{RowMove}
 use Rattle.rd_term.specs.declared.shifting.RowMove.TheVariants.{Down, Up}
 
 abbrev pub Rows : Type 0
 Rows = List (List (Option Cell))
-
--- what a terminal may be, with the place of its latest character and its region
-abbrev pub IsWhole : Rows → Option (ℕ × ℕ) → Option (ℕ × ℕ) → Option (ℕ × ℕ) → Type 0
-IsWhole rows cursor latest region = IsTerminal rows cursor × IsWithin rows latest × HasRegion rows region
 
 -- some rows of one width are as wide
 pub grid-width : {A : Type 0} (width : ℕ) (rows : List (List A)) → 0 < length rows → IsGrid width rows → width_of rows ≡ width

@@ -1,15 +1,12 @@
 -- How far a test of places passes, one place after another.
 use Rattle.std.proofs.Common.{◌≡◌, if◌then◌else◌, ◌⊎◌, ℕ, zero, suc, ◌+◌, ◌-◌, ◌<◌, ◌≤◌, Bool, true, false, inl, inr, refl, sym, ap, ◌∙◌, arith}
 use Rattle.std.proofs.lemmas.Bool.{cases_eq}
+use Rattle.rd_base.proofs.Choices.{either}
 use Rattle.rd_term.specs.Walks.{back_while, passing}
-
-pub chosen-le : (b : Bool) (n place : ℕ) → n ≤ place → (if b then n else suc place) ≤ suc place
-chosen-le true n place le = omega arith
-chosen-le false n place le = omega arith
 
 pub back-le : (test : ℕ → Bool) (place : ℕ) → back_while test place ≤ place
 back-le test zero = omega arith
-back-le test (suc place) = chosen-le (test (suc place)) (back_while test place) place (back-le test place)
+back-le test (suc place) = either (λ n. n ≤ suc place) (test (suc place)) (back_while test place) (suc place) (omega (arith, back-le test place)) (omega arith)
 
 pub back-passes : (test : ℕ → Bool) (place : ℕ) → 0 < place → test place ≡ true → back_while test (place - 1) ≡ back_while test place
 back-passes test zero some e = absurd (omega arith)

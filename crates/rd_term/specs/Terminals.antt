@@ -202,18 +202,22 @@ pub record Shows (t : Tty) (picture : Picture) : Type 0 where
   pub cells : t.rows ≡ known picture.rows
   pub cursor : t.cursor ≡ Some (picture.row, picture.column)
 
+-- a known place is on the rows
+abbrev pub IsWithin : List (List (Option Cell)) → Option (ℕ × ℕ) → Type 0
+IsWithin rows place = IfSome place (λ place. (place.0 < length rows) × (place.1 < width_of rows))
+
 -- what a terminal may be: 1 to 400 columns and 1 to 200 rows, with a known cursor on them
 pub record IsTerminal (rows : List (List (Option Cell))) (cursor : Option (ℕ × ℕ)) : Type 0 where
   pub each : IsGrid (width_of rows) rows
   pub some : 0 < width_of rows
   pub wide : width_of rows ≤ FRAME_COLUMNS
   pub tall : length rows ≤ FRAME_ROWS
-  pub place : IfSome cursor (λ place. (place.0 < length rows) × (place.1 < width_of rows))
-
--- a known place is on the rows
-abbrev pub IsWithin : List (List (Option Cell)) → Option (ℕ × ℕ) → Type 0
-IsWithin rows place = IfSome place (λ place. (place.0 < length rows) × (place.1 < width_of rows))
+  pub place : IsWithin rows cursor
 
 -- a known region is two rows or more of them
 abbrev pub HasRegion : List (List (Option Cell)) → Option (ℕ × ℕ) → Type 0
 HasRegion rows region = IfSome region (λ r. (r.0 < r.1) × (r.1 < length rows))
+
+-- what a terminal may be, with the place of its latest character and its region
+abbrev pub IsWhole : List (List (Option Cell)) → Option (ℕ × ℕ) → Option (ℕ × ℕ) → Option (ℕ × ℕ) → Type 0
+IsWhole rows cursor latest region = IsTerminal rows cursor × IsWithin rows latest × HasRegion rows region

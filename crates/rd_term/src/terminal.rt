@@ -30,7 +30,7 @@ pub struct Terminal {
 }
 
 impl Model for Terminal {
-    ghost use Rattle.rd_term.specs.Terminals.{Tty, IsTerminal, IsWithin, HasRegion};
+    ghost use Rattle.rd_term.specs.Terminals.{Tty, IsWhole};
 
     ghost Value = { Tty };
 
@@ -45,7 +45,7 @@ impl Model for Terminal {
       confused = t.confused;
     } };
 
-    ghost invariant = { λ t. IsTerminal t.rows.items t.cursor × IsWithin t.rows.items t.latest × HasRegion t.rows.items t.region };
+    ghost invariant = { λ t. IsWhole t.rows.items t.cursor t.latest t.region };
 }
 
 impl Terminal {
