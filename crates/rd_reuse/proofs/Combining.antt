@@ -1,5 +1,5 @@
 -- Changes that are joined with none and with all.
-use Rattle.std.proofs.Common.{◌≡◌, ℕ, zero, suc, ◌+◌, ◌-◌, ◌^◌, ◌<◌, ◌≤◌, min, max, nat_le, Bool, true, false, cond, ltb, ◌&&◌, ◌||◌, if◌then◌else◌, List, ℤ, pos, negsuc, ◌+ℤ◌, ◌-ℤ◌, refl, sym, ap, ◌∙◌, arith}
+use Rattle.std.proofs.Common.{◌≡◌, ℕ, zero, suc, ◌+◌, ◌-◌, ◌^◌, ◌<◌, ◌≤◌, min, max, nat_le, Bool, true, false, ltb, ◌&&◌, ◌||◌, if◌then◌else◌, List, ℤ, pos, negsuc, ◌+ℤ◌, ◌-ℤ◌, refl, sym, ap, ◌∙◌, arith}
 use Rattle.std.proofs.Math.Bool.{or-false}
 use Rattle.std.proofs.Math.IntN.{+ℤ_idl, +ℤ_idr}
 use Rattle.std.proofs.lemmas.Bool.{and_from, and_left, le-leb, lt-leb, or_from, or_right, true≢false}
@@ -44,13 +44,9 @@ none-first c is low =
 
 -- an edit adds no more than what stands before its tail
 
-either-low : (t : Bool) (up down a : ℕ) → down ≤ a → moved (cond t (negsuc up) (pos down)) 0 ≤ a
-either-low true up down a low = omega arith
-either-low false up down a low = omega (arith, low)
-
 moved-minus : (a r : ℕ) → moved (pos a -ℤ pos r) 0 ≤ a
 moved-minus a zero = omega arith
-moved-minus a (suc r) = either-low (ltb a (suc r)) (suc r - suc a) (a - suc r) a (omega arith)
+moved-minus a (suc r) = either (λ (c : ℤ). moved c 0 ≤ a) (ltb a (suc r)) (negsuc (suc r - suc a)) (pos (a - suc r)) (omega arith) (omega arith)
 
 pub edit-low : (from removed added : ℕ) → moved (edit from removed added).added 0 ≤ (edit from removed added).tail
 edit-low from removed added =
