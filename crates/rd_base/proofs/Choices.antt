@@ -62,8 +62,8 @@ pub if-else : {X : Type 0} (P : X → Type 0) (o : Option X) (d : X) → IfSome 
 if-else P None d these that = that
 if-else P (Some x) d these that = these
 
-pub or-some : {X : Type 0} (o p : Option X) (x : X) → option_or o p ≡ Some x → (o ≡ Some x) ⊎ (p ≡ Some x)
-or-some None p x e = inr e
+pub or-some : {X : Type 0} (o p : Option X) (x : X) → option_or o p ≡ Some x → (o ≡ Some x) ⊎ ((o ≡ None) × (p ≡ Some x))
+or-some None p x e = inr (refl, e)
 or-some (Some y) p x e = inl e
 
 pub map-some : {X Y : Type 0} (f : X → Y) (o : Option X) (y : Y) → option_map f o ≡ Some y → (x : X) × (o ≡ Some x) × (f x ≡ y)

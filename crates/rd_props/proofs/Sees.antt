@@ -33,14 +33,14 @@ module _ (s : BufferValue) (objects : ObjectLists) (made : AreMade s objects) wh
   last-made kind (number ∷ numbers) v h =
       elim (or-some (last_given (overlay_value s.overlays kind) numbers) (value_of kind (overlay_at s.overlays number)) v h) [
         | inl later ↦ last-made kind numbers v later
-        | inr here ↦ slot-made number kind (overlay_at s.overlays number) v refl here
+        | inr here ↦ slot-made number kind (overlay_at s.overlays number) v refl here.1
       ]
 
   effective-by : (t : Bool) (kind : Kind) (p v : ℕ) → (if t then option_or (last_given (overlay_value s.overlays kind) (covering p s.overlays)) (property s kind p) else None) ≡ Some v → IsMade objects kind v
   effective-by true kind p v h =
       elim (or-some (last_given (overlay_value s.overlays kind) (covering p s.overlays)) (property s kind p) v h) [
         | inl over ↦ last-made kind (covering p s.overlays) v over
-        | inr under ↦ made.properties kind p v under
+        | inr under ↦ made.properties kind p v under.1
       ]
   effective-by false kind p v h = absurd (cc)
 

@@ -8,7 +8,7 @@ use Rattle.std.proofs.lemmas.Bool.Decides.{nat_tests, Decides-and}
 use Rattle.std.specs.Option.{option_or}
 use Rattle.std.specs.List.{list_any}
 use Rattle.std.proofs.lemmas.List.Folds.{list_any-append}
-use Rattle.rd_base.proofs.Choices.{second-holds}
+use Rattle.rd_base.proofs.Choices.{or-some, second-holds}
 use Rattle.rd_base.proofs.Lists.{is_some-found}
 use Rattle.std.proofs.lemmas.Option.{cond_some}
 use Rattle.rd_tree.specs.declared.rect.Rect.{Rect}
@@ -43,17 +43,13 @@ placed_among n (Split side size first second) rect =
 pub found_held : (w : ℕ) (windows : Windows) (rect : Rect) → is_some (window_at w windows rect) ≡ holds w windows
 found_held w windows rect = is_some-found (λ (window : Placed). window.number == w) (placed windows rect) ∙ sym (placed_among w windows rect)
 
-found_in : (a b : Option Placed) (window : Placed) → option_or a b ≡ Some window → (a ≡ Some window) ⊎ ((a ≡ None) × (b ≡ Some window))
-found_in None b window e = inr (refl, e)
-found_in (Some first) b window e = inl e
-
 -- the part in which a window is found
 found_where : (w : ℕ) (side : Side) (size : ℕ) (first second : Windows) (rect : Rect) (window : Placed) → window_at w (Split side size first second) rect ≡ Some window
     → ((holds w first ≡ true) × (window_at w first (first_part side size rect) ≡ Some window)) ⊎ ((holds w first ≡ false) × (window_at w second (second_part side size rect) ≡ Some window))
 found_where w side size first second rect window e =
     let a = first_part side size rect in
     let b = second_part side size rect in
-    elim (found_in (window_at w first a) (window_at w second b) window (sym (of_number-append w (placed first a) (placed second b)) ∙ e)) [
+    elim (or-some (window_at w first a) (window_at w second b) window (sym (of_number-append w (placed first a) (placed second b)) ∙ e)) [
       | inl p ↦ inl (sym (found_held w first a) ∙ ap is_some p, p)
       | inr q ↦ inr (sym (found_held w first a) ∙ ap is_some q.0, q.1)
     ]
