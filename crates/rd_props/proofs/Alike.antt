@@ -6,6 +6,7 @@ use Rattle.std.specs.Option.{option_or, option_to_list}
 use Rattle.std.proofs.lemmas.List.Elements.{Contains-append_right}
 use Rattle.std.proofs.lemmas.List.Sorted.{Contains-permutation, IsPermutation-reverse, IsPermutation-sym}
 use Rattle.std.proofs.lemmas.Option.{same_Some}
+use Rattle.rd_base.proofs.Choices.{of-choice}
 use Rattle.rd_base.specs.Faces.{Attributes, over}
 use Rattle.rd_overlays.proofs.Alike as listings
 use Rattle.rd_overlays.proofs.Exact.{exact}
@@ -47,13 +48,9 @@ abbrev priority_of : Option Mark → Option ℤ
 priority_of None = None
 priority_of (Some m) = Some m.priority
 
-priority-by : (o : Overlay) (t : Bool) → (if t then Some o.priority else None) ≡ priority_of (if t then Some (mark_of o) else None)
-priority-by o true = refl
-priority-by o false = refl
-
 priority-picked : (test : Overlay → Bool) (slot : Option Overlay) → listed_priority test slot ≡ priority_of (picked test slot)
 priority-picked test None = refl
-priority-picked test (Some o) = priority-by o (test o)
+priority-picked test (Some o) = sym (of-choice priority_of (test o) (Some (mark_of o)) None)
 
 listing-same : (f g : Overlay → Bool) (a b : List (Option Overlay)) → AreAlike f g a b → numbers_of f a ≡ numbers_of g b
 listing-same f g a b alike =
