@@ -1,8 +1,8 @@
 -- Where windows stand: what the laws of a window tree speak of.
-use Rattle.std.specs.Prelude.{ℕ, ◌+◌, ◌≤◌, Bool, if◌then◌else◌, nat_le, nat_lt, ◌==◌, ◌&&◌, List, [], ◌∷◌, ◌++◌, Option, None, Some}
+use Rattle.std.specs.Prelude.{ℕ, ◌+◌, ◌≤◌, Bool, if◌then◌else◌, ◌==◌, ◌&&◌, List, [], ◌∷◌, ◌++◌, Option, None, Some}
 use Rattle.std.specs.List.{AllByRecursion, list_any}
 use Rattle.std.specs.Int.{from_bool}
-use Rattle.rd_base.specs.Lists.{total}
+use Rattle.rd_base.specs.Lists.{is_between, total}
 use Rattle.rd_base.specs.declared.limits.TheConstants.{FRAME_COLUMNS, FRAME_ROWS, LEAST_WINDOW_COLUMNS}
 use Rattle.rd_tree.specs.declared.rect.Rect.{Rect}
 use Rattle.rd_tree.specs.declared.placed.Placed.{Placed}
@@ -10,7 +10,7 @@ use Rattle.rd_tree.specs.Windows.{Windows, Window, Split, columns_for, rows_for,
 
 -- whether a place is one of so many from the first on
 abbrev pub is_from : ℕ → ℕ → ℕ → Bool
-is_from first size place = nat_le first place && nat_lt place (first + size)
+is_from first size place = is_between first (first + size) place
 
 -- whether the cell at a column and a row lies in a rectangle
 abbrev pub lies_in : ℕ → ℕ → Rect → Bool
