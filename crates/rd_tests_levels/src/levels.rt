@@ -148,10 +148,18 @@ fn class_named(name: &str) -> Option<Class> {
 
 /// Asserts that a line of no class takes the place of another.
 fn assert_replaced(rt: &impl Abort, alloc: Global, cache: &mut LevelCache) {
-    assert!(rt; fill(alloc, cache, &[Class::R, Class::EN], 0).is_ok());
+    assert_of(
+        rt,
+        "a line of two classes",
+        fill(alloc, cache, &[Class::R, Class::EN], 0).is_ok(),
+    );
     assert!(rt; cache.len() == 2);
     assert!(rt; are_levels(cache.levels(), "1 2"));
-    assert!(rt; fill(alloc, cache, &[], 0).is_ok());
+    assert_of(
+        rt,
+        "a line of no class in its stead",
+        fill(alloc, cache, &[], 0).is_ok(),
+    );
     assert!(rt; cache.len() == 0);
     assert!(rt; is_order(cache.levels(), 0, ""));
 }
