@@ -1,6 +1,7 @@
 //! The shared words on plain cases.
 ghost use Rattle.std.specs.Prelude.{◌≡◌, ◌<◌, ◌≤◌, ◌^◌, length};
 
+use crate::claims::assert_of;
 use rd_base::{Cell, Class, Face, Glyph, Line, ListOf, Steps};
 use std::marker::Brand;
 use std::process::Abort;
@@ -57,8 +58,16 @@ fn is_refilled(line: &mut Line, classes: &[Class], base: u8, levels: &[u8]) -> b
 #[test]
 fn a_line_is_filled_again(rt: HostRuntime) {
     let mut line = Line::new(rt.alloc());
-    assert!(rt; is_refilled(&mut line, &[Class::R, Class::WS], 1, &[1, 1]));
-    assert!(rt; is_refilled(&mut line, &[Class::L], 0, &[0]));
+    assert_of(
+        &rt,
+        "two classes at base 1",
+        is_refilled(&mut line, &[Class::R, Class::WS], 1, &[1, 1]),
+    );
+    assert_of(
+        &rt,
+        "one class at base 0 in their stead",
+        is_refilled(&mut line, &[Class::L], 0, &[0]),
+    );
 }
 
 #[test]

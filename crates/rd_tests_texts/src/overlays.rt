@@ -1,4 +1,5 @@
 //! Overlays with ample memory.
+use crate::claims::assert_of;
 use rd_base::{ListOf, Memory};
 use rd_overlays::{Kind, OverlayFault, Overlays};
 use std::process::Abort;
@@ -35,9 +36,21 @@ fn assert_made(rt: &impl Abort, overlays: &mut Overlays) {
 fn assert_found(rt: &impl Abort, overlays: &Overlays) {
     assert!(rt; has_only_after(overlays, 0, 7));
     assert!(rt; overlays.get(5).is_none());
-    assert!(rt; lists(overlays.starting(2), &[4, 2, 3]));
-    assert!(rt; lists(overlays.ending(2), &[4, 0, 1]));
-    assert!(rt; lists(overlays.covering(2), &[2, 3]));
+    assert_of(
+        rt,
+        "the overlays that start at 2",
+        lists(overlays.starting(2), &[4, 2, 3]),
+    );
+    assert_of(
+        rt,
+        "the overlays that end at 2",
+        lists(overlays.ending(2), &[4, 0, 1]),
+    );
+    assert_of(
+        rt,
+        "the overlays that cover 2",
+        lists(overlays.covering(2), &[2, 3]),
+    );
     assert!(rt; overlays.next_edge(1) == Some(2));
     assert!(rt; overlays.next_edge(3) == None);
 }
