@@ -192,10 +192,19 @@ fn assert_given(rt: &impl Abort, alloc: Global, parts: &Parts) {
         assert_of(rt, name, gives(alloc, parts, Ch::scalar(*c), blank));
     }
     let tab = element(Extent::Tab(8), Look::Blank);
-    assert!(rt; gives(alloc, parts, Ch::scalar('\t'), tab));
+    assert_of(rt, "a tab", gives(alloc, parts, Ch::scalar('\t'), tab));
     let mark = element(Extent::Fixed(1), Look::Glyph(marked(0x301)));
-    assert!(rt; gives(alloc, parts, Ch::scalar('\u{301}'), mark));
-    assert!(rt; gives(alloc, parts, Ch::scalar('\u{4E2D}'), shown(0x4E2D, 2)));
+    assert_of(
+        rt,
+        "a mark, on a blank",
+        gives(alloc, parts, Ch::scalar('\u{301}'), mark),
+    );
+    let wide = shown(0x4E2D, 2);
+    assert_of(
+        rt,
+        "a character of two columns",
+        gives(alloc, parts, Ch::scalar('\u{4E2D}'), wide),
+    );
 }
 
 #[test]
@@ -203,7 +212,11 @@ fn characters_by_the_rules(rt: HostRuntime) -> Result<(), Fail> {
     let data = worked_data(rt.alloc(), true)?;
     let parts = data.parts(None);
     assert_spelled(&rt, rt.alloc(), &parts, false, &SPELLED);
-    assert!(rt; spells(rt.alloc(), &parts, raw(200), false, "\\310"));
+    assert_of(
+        &rt,
+        "a raw byte",
+        spells(rt.alloc(), &parts, raw(200), false, "\\310"),
+    );
     assert_given(&rt, rt.alloc(), &parts);
     Ok(())
 }
@@ -243,7 +256,11 @@ fn controls_without_arrows(rt: HostRuntime) -> Result<(), Fail> {
     let data = worked_data(rt.alloc(), false)?;
     let parts = data.parts(Some(&table));
     assert_spelled(&rt, rt.alloc(), &parts, false, &ESCAPED);
-    assert!(rt; spells(rt.alloc(), &parts, raw(128), false, "!200"));
+    assert_of(
+        &rt,
+        "the first raw byte without arrows",
+        spells(rt.alloc(), &parts, raw(128), false, "!200"),
+    );
     Ok(())
 }
 
@@ -434,6 +451,10 @@ fn marks_in_plain_lines(rt: HostRuntime) -> Result<(), Fail> {
     let classes = classes(rt.alloc())?;
     assert_lines(&rt, rt.alloc(), &classes, &MARKED_LINES);
     let byte = [raw(200), Ch::scalar('\u{301}')];
-    assert!(rt; lines_up(rt.alloc(), &byte, &classes, 6, "\\310' "));
+    assert_of(
+        &rt,
+        "a mark behind a raw byte",
+        lines_up(rt.alloc(), &byte, &classes, 6, "\\310' "),
+    );
     Ok(())
 }
