@@ -2,6 +2,7 @@
 ghost use Rattle.std.specs.Prelude.{◌≡◌, ◌<◌, IfOk};
 ghost use Rattle.rd_rows.specs.Lines.{columns_held};
 
+use crate::claims::assert_of;
 use rd_base::{Cell, Element, Elements, Extent, Face, Glyph, Look, Memory, Origin, Steps, Wrap};
 use rd_rows::{Row, RowMaker, Shape};
 use std::alloc::Global;
@@ -134,15 +135,35 @@ fn has_rows<L: Ledger>(alloc: Global, wrap: Wrap, count: usize, blank: Blank) ->
 
 #[test]
 fn a_row_is_made(rt: HostRuntime) {
-    assert!(rt; is_marked::<Brand>(rt.alloc(), Wrap::Continue, 92, Blank::new(1)));
-    assert!(rt; is_marked::<Brand>(rt.alloc(), Wrap::Truncate, 36, Blank::new(1)));
-    assert!(rt; is_marked::<Brand>(rt.alloc(), Wrap::Word, 0, Blank::new(1)));
+    assert_of(
+        &rt,
+        "a row that is continued",
+        is_marked::<Brand>(rt.alloc(), Wrap::Continue, 92, Blank::new(1)),
+    );
+    assert_of(
+        &rt,
+        "a row that is truncated",
+        is_marked::<Brand>(rt.alloc(), Wrap::Truncate, 36, Blank::new(1)),
+    );
+    assert_of(
+        &rt,
+        "a row that is continued by words",
+        is_marked::<Brand>(rt.alloc(), Wrap::Word, 0, Blank::new(1)),
+    );
 }
 
 #[test]
 fn all_rows_are_made(rt: HostRuntime) {
-    assert!(rt; has_rows::<Brand>(rt.alloc(), Wrap::Word, 2, Blank::new(1)));
-    assert!(rt; has_rows::<Brand>(rt.alloc(), Wrap::Truncate, 1, Blank::new(1)));
+    assert_of(
+        &rt,
+        "the rows of a line that is continued by words",
+        has_rows::<Brand>(rt.alloc(), Wrap::Word, 2, Blank::new(1)),
+    );
+    assert_of(
+        &rt,
+        "the row of a line that is truncated",
+        has_rows::<Brand>(rt.alloc(), Wrap::Truncate, 1, Blank::new(1)),
+    );
 }
 
 /// Asserts that a copy of a blank row is as it is, and counts as one.
