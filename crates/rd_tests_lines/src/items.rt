@@ -159,8 +159,16 @@ const PARTED: [(char, u32, u32); 4] = [('e', 0, 1), ('9', 1, 1), ('"', 1, 3), ('
 #[test]
 fn marks_join(rt: HostRuntime) -> Result<(), Fail> {
     let many = "e\u{301}\u{301}\u{301}\u{301}\u{301}\u{301}\u{301}\u{301}";
-    assert!(rt; shows(rt.alloc(), many, None, None, &MANY)?);
-    assert!(rt; shows(rt.alloc(), "e\u{301}\u{301}", None, Some(9), &PARTED)?);
+    assert_of(
+        &rt,
+        "eight marks behind a letter",
+        shows(rt.alloc(), many, None, None, &MANY)?,
+    );
+    assert_of(
+        &rt,
+        "two marks behind a string",
+        shows(rt.alloc(), "e\u{301}\u{301}", None, Some(9), &PARTED)?,
+    );
     Ok(())
 }
 
@@ -172,8 +180,16 @@ const ELLIPSIS: [(char, u32, u32); 4] = [('e', 0, 1), ('~', 1, 2), ('\'', 2, 3),
 
 #[test]
 fn hidden_newlines(rt: HostRuntime) -> Result<(), Fail> {
-    assert!(rt; shows(rt.alloc(), LINES, Some(8), None, &HIDDEN)?);
-    assert!(rt; shows(rt.alloc(), LINES, Some(7), None, &ELLIPSIS)?);
+    assert_of(
+        &rt,
+        "a newline that is hidden",
+        shows(rt.alloc(), LINES, Some(8), None, &HIDDEN)?,
+    );
+    assert_of(
+        &rt,
+        "a newline that is hidden with an ellipsis",
+        shows(rt.alloc(), LINES, Some(7), None, &ELLIPSIS)?,
+    );
     Ok(())
 }
 
