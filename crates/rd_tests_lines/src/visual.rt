@@ -90,7 +90,18 @@ fn steps_follow_what_is_seen(rt: HostRuntime) -> Result<(), Fail> {
 fn no_step_leaves_an_empty_text(rt: HostRuntime) -> Result<(), Fail> {
     let scenery = scenery(rt.alloc(), "")?;
     let view = scenery.view();
-    assert!(rt; leads(rt.alloc(), &view, 1, true, 0) && leads(rt.alloc(), &view, 1, false, 0));
+    assert_step(
+        &rt,
+        "right",
+        "an empty text",
+        leads(rt.alloc(), &view, 1, true, 0),
+    );
+    assert_step(
+        &rt,
+        "left",
+        "an empty text",
+        leads(rt.alloc(), &view, 1, false, 0),
+    );
     Ok(())
 }
 
@@ -196,9 +207,21 @@ const BY_WORDS: [&'static str; 2] = ["the quick   ", "brown       "];
 fn long_lines_are_cut(rt: HostRuntime) -> Result<(), Fail> {
     let scenery = scenery(rt.alloc(), "the quick brown\nfox")?;
     let view = scenery.view();
-    assert!(rt; shows::<Brand>(rt.alloc(), &view, Wrap::Truncate, &CUT, Blank::new(1)));
-    assert!(rt; shows::<Brand>(rt.alloc(), &view, Wrap::Continue, &CONTINUED, Blank::new(1)));
-    assert!(rt; shows::<Brand>(rt.alloc(), &view, Wrap::Word, &BY_WORDS, Blank::new(1)));
+    assert_of(
+        &rt,
+        "a line that is truncated",
+        shows::<Brand>(rt.alloc(), &view, Wrap::Truncate, &CUT, Blank::new(1)),
+    );
+    assert_of(
+        &rt,
+        "a line that is continued",
+        shows::<Brand>(rt.alloc(), &view, Wrap::Continue, &CONTINUED, Blank::new(1)),
+    );
+    assert_of(
+        &rt,
+        "a line that is continued by words",
+        shows::<Brand>(rt.alloc(), &view, Wrap::Word, &BY_WORDS, Blank::new(1)),
+    );
     Ok(())
 }
 
@@ -293,7 +316,7 @@ fn assert_hit(rt: &impl Abort, matrix: &Matrix)
     for (name, column, pos) in &COLUMNS {
         assert_of(rt, name, hits(matrix, 0, *column, *pos));
     }
-    assert!(rt; hits(matrix, 1, 11, 0));
+    assert_of(rt, "a cell below the row", hits(matrix, 1, 11, 0));
 }
 
 /// Asserts that each position of that row begins in the last of the cells from the left that show it.
@@ -304,6 +327,13 @@ fn assert_found(rt: &impl Abort, matrix: &Matrix) {
     assert!(rt; !matrix.shows(7));
 }
 
+/// Asserts that steps lead between the cells of that row that show the end and the digits.
+fn assert_steps_between(rt: &impl Abort, alloc: Global, view: &View) {
+    assert_step(rt, "right", "the end", leads(alloc, view, 6, true, 4));
+    assert_step(rt, "right", "the digit 1", leads(alloc, view, 4, true, 5));
+    assert_step(rt, "left", "the digit 2", leads(alloc, view, 5, false, 4));
+}
+
 #[test]
 fn cells_show_positions(rt: HostRuntime) -> Result<(), Fail> {
     let scenery = scenery(rt.alloc(), "\u{5d0}\u{5d1} 12")?;
@@ -311,7 +341,6 @@ fn cells_show_positions(rt: HostRuntime) -> Result<(), Fail> {
     let matrix = first_rows::<Brand>(rt.alloc(), &view, Wrap::Truncate, Blank::new(1))?;
     assert_hit(&rt, &matrix);
     assert_found(&rt, &matrix);
-    assert!(rt; leads(rt.alloc(), &view, 6, true, 4) && leads(rt.alloc(), &view, 4, true, 5));
-    assert!(rt; leads(rt.alloc(), &view, 5, false, 4));
+    assert_steps_between(&rt, rt.alloc(), &view);
     Ok(())
 }
