@@ -5,6 +5,7 @@ ghost use Rattle.rd_matrix.specs.Blocks.{end_from, first_start};
 ghost use Rattle.rd_matrix.specs.Held.{IsHeld, are_inside, blocks_held, covers_each};
 ghost use Rattle.rd_rows.specs.Laws.{ranges_of};
 
+use crate::claims::assert_of;
 use rd_base::{Element, Extent, Face, Glyph, ListOf, Look, Memory, Origin, Pos, Steps, Wrap};
 use rd_matrix::{Block, BlockSource, HeldBlock, MemBlocks};
 use rd_rows::Shape;
@@ -276,6 +277,14 @@ fn has_rows<L: Ledger>(alloc: Global, text: Text, rows: usize, next: Pos, blank:
 
 #[test]
 fn rows_come_from_blocks(rt: HostRuntime) {
-    assert!(rt; has_rows::<Brand>(rt.alloc(), Text::TwoLines, 1, 4, Blank::new(1)));
-    assert!(rt; has_rows::<Brand>(rt.alloc(), Text::OneLine, 5, 0, Blank::new(1)));
+    assert_of(
+        &rt,
+        "a line before another",
+        has_rows::<Brand>(rt.alloc(), Text::TwoLines, 1, 4, Blank::new(1)),
+    );
+    assert_of(
+        &rt,
+        "a line with a string of four lines",
+        has_rows::<Brand>(rt.alloc(), Text::OneLine, 5, 0, Blank::new(1)),
+    );
 }
