@@ -214,6 +214,7 @@ fn what_holds_in_a_narrowed_text(rt: HostRuntime) -> Result<(), Fail> {
     let example = narrowed(rt.alloc())?;
     let view = example.view();
     assert_prefixes(&rt, rt.alloc(), &view);
-    assert!(rt; stops_at(&view, 1, 2) && stops_at(&view, 2, 3));
+    assert_of(&rt, "the stop behind the first", stops_at(&view, 1, 2));
+    assert_of(&rt, "the stop behind the second", stops_at(&view, 2, 3));
     Ok(())
 }
