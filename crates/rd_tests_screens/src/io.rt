@@ -69,8 +69,16 @@ fn fails_after(reader: &mut Lines, source: &mut MemSource, lines: u32, fault: Li
 fn lines_of_sources(rt: HostRuntime) -> Result<(), Fail> {
     let alloc = rt.alloc();
     let lines: [&[u8]; 3] = [b"ab", b"", b"cd"];
-    assert!(rt; are_lines(alloc, b"ab\n\ncd", &[], &lines, Ok(false))?);
-    assert!(rt; are_lines(alloc, b"ab\ncd", &[2], &[b"ab"], Err(LineFault::Failed))?);
+    assert_of(
+        &rt,
+        "an empty line, and a last line without a newline",
+        are_lines(alloc, b"ab\n\ncd", &[], &lines, Ok(false))?,
+    );
+    assert_of(
+        &rt,
+        "a source whose second call fails",
+        are_lines(alloc, b"ab\ncd", &[2], &[b"ab"], Err(LineFault::Failed))?,
+    );
     Ok(())
 }
 
@@ -94,8 +102,16 @@ fn is_too_long(alloc: Global, count: usize) -> Result<bool, Fail> {
 
 #[test]
 fn the_longest_line(rt: HostRuntime) -> Result<(), Fail> {
-    assert!(rt; is_line(rt.alloc(), 1_048_576)?);
-    assert!(rt; is_too_long(rt.alloc(), 1_048_577)?);
+    assert_of(
+        &rt,
+        "a line of the largest length",
+        is_line(rt.alloc(), 1_048_576)?,
+    );
+    assert_of(
+        &rt,
+        "a line of one byte more",
+        is_too_long(rt.alloc(), 1_048_577)?,
+    );
     Ok(())
 }
 
@@ -133,7 +149,7 @@ fn takes(sink: &mut MemSink, writes: &[(&[u8], Result<(), Failed>)], held: &[u8]
 /// Asserts that a sink of five bytes takes what fits.
 fn assert_filled(rt: &impl Abort, small: &mut MemSink) {
     let writes: [(&[u8], Result<(), Failed>); 2] = [(b"abc", Ok(())), (b"defg", Err(Failed))];
-    assert!(rt; takes(small, &writes, b"abcde"));
+    assert_of(rt, "a sink of five bytes", takes(small, &writes, b"abcde"));
 }
 
 /// Asserts that a sink whose second call fails takes what comes before and after.
@@ -143,7 +159,11 @@ fn assert_broken(rt: &impl Abort, broken: &mut MemSink) {
         (b"b", Err(Failed)),
         (b"c", Ok(())),
     ];
-    assert!(rt; takes(broken, &writes, b"ac"));
+    assert_of(
+        rt,
+        "a sink whose second call fails",
+        takes(broken, &writes, b"ac"),
+    );
 }
 
 #[test]
