@@ -1,4 +1,5 @@
 //! The generated script.
+use crate::claims::assert_of;
 use rd_base::{ListOf, Memory};
 use rd_generate::generated;
 use rd_script::{Op, read_op};
@@ -39,7 +40,11 @@ fn is_whole(alloc: Global, number: u32) -> Result<bool, Memory> {
 
 #[test]
 fn the_script_of_seven_has_605_lines(rt: HostRuntime) -> Result<(), Fail> {
-    assert!(rt; is_whole(rt.alloc(), 7)?);
-    assert!(rt; is_whole(rt.alloc(), 2_147_483_647)?);
+    assert_of(&rt, "the script of 7", is_whole(rt.alloc(), 7)?);
+    assert_of(
+        &rt,
+        "the script of the greatest number",
+        is_whole(rt.alloc(), 2_147_483_647)?,
+    );
     Ok(())
 }
