@@ -1,5 +1,6 @@
 //! How deep a line nests, and how long its texts are.
 use super::faults;
+use crate::claims::assert_of;
 use rd_script::read_op;
 use std::alloc::{AllocError, Global};
 
@@ -26,8 +27,16 @@ fn nests_with(alloc: Global, arrays: usize, kind: &str, key: &str) -> bool {
 
 #[test]
 fn lines_nest_127_deep(rt: HostRuntime) {
-    assert!(rt; nests_with(rt.alloc(), 126, "Extra", "x"));
-    assert!(rt; nests_with(rt.alloc(), 127, "NotJson", ""));
+    assert_of(
+        &rt,
+        "126 arrays within an object",
+        nests_with(rt.alloc(), 126, "Extra", "x"),
+    );
+    assert_of(
+        &rt,
+        "127 arrays within an object",
+        nests_with(rt.alloc(), 127, "NotJson", ""),
+    );
 }
 
 /// A line that repeats a text so many times between its first part and its end.
@@ -59,12 +68,36 @@ fn is_too_long(alloc: Global, front: &str, part: &str, count: usize, key: &str) 
 #[test]
 fn texts_have_their_most_characters(rt: HostRuntime) {
     let name = r#"{"op":"buffer","name":""#;
-    assert!(rt; is_read(rt.alloc(), name, "é", 64));
-    assert!(rt; is_too_long(rt.alloc(), name, "é", 65, "name"));
+    assert_of(
+        &rt,
+        "a name of 64 characters",
+        is_read(rt.alloc(), name, "é", 64),
+    );
+    assert_of(
+        &rt,
+        "a name of 65 characters",
+        is_too_long(rt.alloc(), name, "é", 65, "name"),
+    );
     let echo = r#"{"op":"echo","text":""#;
-    assert!(rt; is_read(rt.alloc(), echo, "é", 4096));
-    assert!(rt; is_too_long(rt.alloc(), echo, "é", 4097, "text"));
+    assert_of(
+        &rt,
+        "an echo of 4,096 characters",
+        is_read(rt.alloc(), echo, "é", 4096),
+    );
+    assert_of(
+        &rt,
+        "an echo of 4,097 characters",
+        is_too_long(rt.alloc(), echo, "é", 4097, "text"),
+    );
     let format = r#"{"op":"mode_line","window":0,"format":""#;
-    assert!(rt; is_read(rt.alloc(), format, "a", 4096));
-    assert!(rt; is_too_long(rt.alloc(), format, "a", 4097, "format"));
+    assert_of(
+        &rt,
+        "a format of 4,096 characters",
+        is_read(rt.alloc(), format, "a", 4096),
+    );
+    assert_of(
+        &rt,
+        "a format of 4,097 characters",
+        is_too_long(rt.alloc(), format, "a", 4097, "format"),
+    );
 }
