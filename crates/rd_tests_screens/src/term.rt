@@ -43,11 +43,19 @@ fn assert_letters(rt: &impl Abort, terminal: &Terminal, letters: &[(&str, u32, u
 /// Asserts that an update that stopped in the middle of a control is gone on with, and that after a resize nothing is known.
 fn assert_gone_on_with(rt: &impl Abort, terminal: &mut Terminal) {
     terminal.feed(b"\x1b[0m\x1b[2J\x1b[1;1Ha\x1b[2;1Hb");
-    assert!(rt; points_at(terminal, Some((1, 1))));
+    assert_of(
+        rt,
+        "the cursor before the update",
+        points_at(terminal, Some((1, 1))),
+    );
     terminal.feed(b"\x1b[1;1HXa\x1b[3;1Hc\x1b[4");
     terminal.feed(b";1Hd\x1b[5;1He\x1b[1;1H");
     assert!(rt; !terminal.confused());
-    assert!(rt; points_at(terminal, Some((0, 0))));
+    assert_of(
+        rt,
+        "the cursor behind the update",
+        points_at(terminal, Some((0, 0))),
+    );
     let letters = [
         ("what stands over a", 0, 0, b'X'),
         ("a, a column on", 0, 1, b'a'),
@@ -56,10 +64,14 @@ fn assert_gone_on_with(rt: &impl Abort, terminal: &mut Terminal) {
         ("a row behind the stop", 4, 0, b'e'),
     ];
     assert_letters(rt, terminal, &letters);
-    assert!(rt; shows(terminal, 5, 0, Some(Cell::Blank(Face::PLAIN))));
+    assert_of(
+        rt,
+        "a row that stayed blank",
+        shows(terminal, 5, 0, Some(Cell::Blank(Face::PLAIN))),
+    );
     assert!(rt; terminal.resize(12, 6).is_ok());
-    assert!(rt; shows(terminal, 0, 0, None));
-    assert!(rt; points_at(terminal, None));
+    assert_of(rt, "a cell after the resize", shows(terminal, 0, 0, None));
+    assert_of(rt, "the cursor after the resize", points_at(terminal, None));
 }
 
 #[test]
@@ -153,10 +165,22 @@ fn is_blank(screen: &Screen, row: u32, column: u32, face: Face) -> bool {
 /// Asserts what stands in the screen above.
 fn assert_written(rt: &impl Abort, screen: &Screen) {
     assert!(rt; screen.cursor() == (1, 0));
-    assert!(rt; is_blank(screen, 0, 1, RED));
-    assert!(rt; is_blank(screen, 0, 2, Face::PLAIN));
-    assert!(rt; is_blank(screen, 1, 1, Face::PLAIN));
-    assert!(rt; is_blank(screen, 1, 2, RED));
+    assert_of(
+        rt,
+        "the first of two cells that were set at once",
+        is_blank(screen, 0, 1, RED),
+    );
+    assert_of(
+        rt,
+        "the second of two cells that were set at once",
+        is_blank(screen, 0, 2, Face::PLAIN),
+    );
+    assert_of(
+        rt,
+        "a cell that was not set",
+        is_blank(screen, 1, 1, Face::PLAIN),
+    );
+    assert_of(rt, "a cell that was set alone", is_blank(screen, 1, 2, RED));
     assert!(rt; (screen.width(), screen.height()) == (3, 2));
 }
 
