@@ -145,10 +145,14 @@ const IN_THE_LEAST_FRAME: [(&'static str, &'static str, Refused); 7] = [
 /// Asserts what the opening state refuses in the least frame, and that it has room for one column of margin strings.
 fn assert_unshared(rt: &impl Abort, state: &mut State, alloc: Global) {
     let frame = r#"{"op":"frame","width":12,"height":2}"#;
-    assert!(rt; is_accepted(state, alloc, frame));
+    assert_of(rt, "frame: the least", is_accepted(state, alloc, frame));
     assert_refused(rt, state, alloc, &IN_THE_LEAST_FRAME);
     let margin = r#"{"op":"margin","window":0,"numbers":0,"strings":1}"#;
-    assert!(rt; is_accepted(state, alloc, margin));
+    assert_of(
+        rt,
+        "margin: one column of strings",
+        is_accepted(state, alloc, margin),
+    );
 }
 
 #[test]
@@ -331,12 +335,28 @@ fn makes_objects(state: &mut State, alloc: Global) -> bool {
 fn assert_all_objects(rt: &impl Abort, state: &mut State, alloc: Global) {
     let plain = r#"{"op":"string","text":""#;
     let beyond = r#"{"op":"string","runs":[[0,4098,"face",1023]],"text":""#;
-    assert!(rt; refuses_string(state, alloc, plain, 4097, Refused::ObjectTooLong));
+    assert_of(
+        rt,
+        "string: too long, without objects",
+        refuses_string(state, alloc, plain, 4097, Refused::ObjectTooLong),
+    );
     assert!(rt; makes_objects(state, alloc));
     assert_refused(rt, state, alloc, &WITH_ALL_OBJECTS);
-    assert!(rt; refuses_string(state, alloc, beyond, 4097, Refused::OutOfRange));
-    assert!(rt; refuses_string(state, alloc, plain, 4097, Refused::ObjectTooLong));
-    assert!(rt; refuses_string(state, alloc, plain, 4096, Refused::TooManyObjects));
+    assert_of(
+        rt,
+        "string: too long, with a run beyond it",
+        refuses_string(state, alloc, beyond, 4097, Refused::OutOfRange),
+    );
+    assert_of(
+        rt,
+        "string: too long, with all objects",
+        refuses_string(state, alloc, plain, 4097, Refused::ObjectTooLong),
+    );
+    assert_of(
+        rt,
+        "string: one more, of the largest length",
+        refuses_string(state, alloc, plain, 4096, Refused::TooManyObjects),
+    );
 }
 
 #[test]
