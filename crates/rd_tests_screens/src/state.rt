@@ -196,11 +196,32 @@ fn assert_settled(rt: &impl Abort, state: &mut State, alloc: Global) {
     let second = r#"{"op":"scroll","window":1,"rows":-4}"#;
     let opening = Anchor { pos: 1, row: 0 };
     let settled = Anchor { pos: 2, row: 5 };
-    assert!(rt; runs(state, alloc, &TWINS) && runs(state, alloc, &[first, second]));
-    assert!(rt; views(state.window(0), opening, true, 3));
+    assert_of(
+        rt,
+        "the ops that make both windows",
+        runs(state, alloc, &TWINS),
+    );
+    assert_of(
+        rt,
+        "the ops that scroll them",
+        runs(state, alloc, &[first, second]),
+    );
+    assert_of(
+        rt,
+        "the first window, which waits",
+        views(state.window(0), opening, true, 3),
+    );
     assert!(rt; settles(state, 0, settled, 6));
-    assert!(rt; views(state.window(0), settled, false, 0));
-    assert!(rt; views(state.window(1), opening, true, -4));
+    assert_of(
+        rt,
+        "the first window, which is settled",
+        views(state.window(0), settled, false, 0),
+    );
+    assert_of(
+        rt,
+        "the second window, which still waits",
+        views(state.window(1), opening, true, -4),
+    );
     assert!(rt; points(state) == Some((6, 2)));
 }
 
