@@ -172,7 +172,7 @@ fn bounds_of(
     Ok(bounds)
 }
 
-/// The index of all these overlays. Costs their number times its logarithm.
+/// The index of all these overlays. It costs their number times its logarithm.
 pub(crate) fn indexed(alloc: Global, slots: &[Option<Overlay>]) -> Result<Index, Memory>
     requires { length slots.now ≤ OVERLAYS }
     ensures { IfOk result (λ index. IsIndex slots.now index.order index.bounds) }
@@ -201,7 +201,7 @@ fn lies_within(before: Option<Overlay>, after: Option<Overlay>) -> bool
     }
 }
 
-/// Widens the bounds of each batch in which a number stands, so that an overlay lies within them. Costs a pass over the order.
+/// Widens the bounds of each batch in which a number stands, so that an overlay lies within them. It costs a pass over the order.
 fn widen_all(order: &[u32], bounds: &mut ListOf<Bounds>, number: u32, slot: Option<Overlay>)
     requires { length order.now ≤ length bounds.old * BATCH }
     ensures { (slots : List (Option Overlay)) → IsBounded slots order.now bounds.old → IsBounded (slice_set slots number slot) order.now bounds.new }

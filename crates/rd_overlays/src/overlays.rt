@@ -91,10 +91,9 @@ impl Overlays {
         Ok(number)
     }
 
-    /// Moves an overlay to the range from `from` to `to - 1`. The first of these faults counts, and each changes nothing:
-    /// NoOverlay, where no such overlay lives; OutOfRange, where the start stands behind the end; Memory. Costs a pass over the
-    /// order of the overlays where its range changes, and now and then, after at least 17 such moves, the making of the batches
-    /// as in `make`.
+    /// Moves an overlay to the range from `from` to `to - 1`. The first of these faults counts, and each changes nothing: NoOverlay,
+    /// where no such overlay lives; OutOfRange, where the start stands behind the end; Memory. It costs a pass over the order of the
+    /// overlays where its range changes, and now and then, after at least 17 such moves, the making of the batches as in `make`.
     pub fn move_to(&mut self, number: u32, from: Pos, to: Pos) -> Result<(), OverlayFault>
         ensures { Moves result (move_fault self.old number from to) self.old self.new (moved self.old number from to) }
     {
@@ -176,54 +175,54 @@ impl Overlays {
         self.slots.as_slice().get(number as usize)?.as_ref()
     }
 
-    /// The numbers of the overlays that cover a position, `from <= pos < to`, in increasing order of priority and number.
-    /// Costs a pass over the bounds of all batches, over each batch whose bounds hold the position and over the overlays in no
-    /// batch, and for those listed their number times its logarithm, for which it takes memory.
+    /// The numbers of the overlays that cover a position, `from <= pos < to`, in increasing order of priority and number. It costs a
+    /// pass over the bounds of all batches, over each batch whose bounds hold the position and over the overlays in no batch, and for
+    /// those listed their number times its logarithm, for which it takes memory.
     pub fn covering(&self, pos: Pos) -> Result<ListOf<u32>, Memory>
         ensures { IfOk result (λ list. list ≡ covering pos self.now) }
     {
         listed(self.alloc, &self.slots, Meeting::Covers, pos)
     }
 
-    /// The numbers of the overlays that start at a position, empty ones too, in increasing order of priority and number.
-    /// Costs a pass over the bounds of all batches, over each batch whose bounds hold the position and over the overlays in no
-    /// batch, and for those listed their number times its logarithm, for which it takes memory.
+    /// The numbers of the overlays that start at a position, empty ones too, in increasing order of priority and number. It costs a
+    /// pass over the bounds of all batches, over each batch whose bounds hold the position and over the overlays in no batch, and for
+    /// those listed their number times its logarithm, for which it takes memory.
     pub fn starting(&self, pos: Pos) -> Result<ListOf<u32>, Memory>
         ensures { IfOk result (λ list. list ≡ starting pos self.now) }
     {
         listed(self.alloc, &self.slots, Meeting::Starts, pos)
     }
 
-    /// The numbers of the overlays whose `to` is a position, empty ones too, in increasing order of priority and number.
-    /// Costs a pass over the bounds of all batches, over each batch whose bounds hold the position and over the overlays in no
-    /// batch, and for those listed their number times its logarithm, for which it takes memory.
+    /// The numbers of the overlays whose `to` is a position, empty ones too, in increasing order of priority and number. It costs a
+    /// pass over the bounds of all batches, over each batch whose bounds hold the position and over the overlays in no batch, and for
+    /// those listed their number times its logarithm, for which it takes memory.
     pub fn ending(&self, pos: Pos) -> Result<ListOf<u32>, Memory>
         ensures { IfOk result (λ list. list ≡ ending pos self.now) }
     {
         listed(self.alloc, &self.slots, Meeting::Ends, pos)
     }
 
-    /// The least start or end after a position, and None where there is none. Costs a pass over the bounds of all batches, over
-    /// each batch in which a start or an end may stand behind the position and before the least of the batches so far, and over the
-    /// overlays in no batch.
+    /// The least start or end after a position, and None where there is none. It costs a pass over the bounds of all batches, over each
+    /// batch in which a start or an end may stand behind the position and before the least of the batches so far, and over the overlays
+    /// in no batch.
     pub fn next_edge(&self, pos: Pos) -> Option<Pos>
         ensures { result ≡ next_edge pos self.now }
     {
         nearest_edge(&self.slots, Way::Next, pos)
     }
 
-    /// The greatest start or end at a position or before it, and None where there is none. Costs a pass over the bounds of all
-    /// batches, over each batch in which a start or an end may stand there and behind the greatest of the batches so far, and over
-    /// the overlays in no batch.
+    /// The greatest start or end at a position or before it, and None where there is none. It costs a pass over the bounds of all
+    /// batches, over each batch in which a start or an end may stand there and behind the greatest of the batches so far, and over the
+    /// overlays in no batch.
     pub fn last_edge(&self, pos: Pos) -> Option<Pos>
         ensures { result ≡ last_edge pos self.now }
     {
         nearest_edge(&self.slots, Way::Last, pos)
     }
 
-    /// Moves the overlays with `n` characters that were inserted at a position. A start or an end behind the position moves; a
-    /// start at it moves where `front` is set, an end at it where `rear` is set; a start that would pass its end stands at
-    /// its end. Costs a pass over all overlays.
+    /// Moves the overlays with `n` characters that were inserted at a position. A start or an end behind the position moves; a start at
+    /// it moves where `front` is set, an end at it where `rear` is set; a start that would pass its end stands at its end. It costs a
+    /// pass over all overlays.
     pub fn inserted(&mut self, pos: Pos, n: u32)
         requires { AllFit pos n self.old }
         ensures { self.new ≡ map (slot_grown pos n) self.old }
@@ -231,8 +230,8 @@ impl Overlays {
         self.slots.follow(Edit::Insertion { pos, n });
     }
 
-    /// Moves the overlays with the deletion of the text from `from` to `to - 1`. What stands in the range goes to `from`, what
-    /// stands at `to` or later moves back. Costs a pass over all overlays.
+    /// Moves the overlays with the deletion of the text from `from` to `to - 1`. What stands in the range goes to `from`, what stands
+    /// at `to` or later moves back. It costs a pass over all overlays.
     pub fn deleted(&mut self, from: Pos, to: Pos)
         requires { from ≤ to }
         ensures { self.new ≡ map (slot_shrunk from to) self.old }

@@ -60,7 +60,7 @@ impl Store {
         &self.index
     }
 
-    /// Puts something else at a number. Costs a pass over the order where the range of an overlay changes.
+    /// Puts something else at a number. It costs a pass over the order where the range of an overlay changes.
     pub(crate) fn put(&mut self, number: u32, slot: Option<Overlay>)
         requires { number < length self.old }
         ensures { self.new ≡ slice_set self.old number slot }
@@ -79,7 +79,7 @@ impl Store {
         Ok(())
     }
 
-    /// Makes the index anew where it is stale. Costs the number of the overlays times its logarithm then, and takes memory.
+    /// Makes the index anew where it is stale. It costs the number of the overlays times its logarithm then, and takes memory.
     pub(crate) fn settle(&mut self) -> Result<(), Memory>
         requires { length self.old ≤ OVERLAYS }
         ensures { self.new ≡ self.old }

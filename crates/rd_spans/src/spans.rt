@@ -60,14 +60,14 @@ impl Spans {
         Ok(())
     }
 
-    /// The value of a position, and None where it has none. Costs a binary search.
+    /// The value of a position, and None where it has none. It costs a binary search.
     pub fn at(&self, pos: Pos) -> Option<u32>
         ensures { result ≡ value_at self.now pos }
     {
         gap::run_around(self.front.as_slice(), self.back.as_slice(), pos as u64).value
     }
 
-    /// The least later position whose value differs from that of `pos`, and None where there is none. Costs a binary search for each
+    /// The least later position whose value differs from that of `pos`, and None where there is none. It costs a binary search for each
     /// run up to there that has the same value, which is one but at the place of the last edit.
     pub fn next_change(&self, pos: Pos) -> Option<Pos>
         ensures { IsNextChange self.now pos result }
@@ -75,8 +75,8 @@ impl Spans {
         gap::next_other(self.front.as_slice(), self.back.as_slice(), pos as u64)
     }
 
-    /// The first of the positions up to `pos` that all have its value. Costs a binary search for each run back to there, which is one
-    /// but at the place of the last edit.
+    /// The first of the positions up to `pos` that all have its value. It costs a binary search for each run back to there, which is
+    /// one but at the place of the last edit.
     pub fn first_alike(&self, pos: Pos) -> Pos
         ensures { IsFirstAlike self.now pos result }
     {
