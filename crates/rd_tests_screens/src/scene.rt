@@ -1,6 +1,7 @@
 //! A state that each op had a part in, and what states answer to lines.
 ghost use Rattle.rd_script.specs.Forms.{IsInForm};
 
+use crate::script::is_spelled;
 use rd_base::{Ch, ListOf, Memory, Wrap};
 use rd_overlays::Overlay;
 use rd_script::{Op, read_op};
@@ -136,18 +137,6 @@ pub fn is_scene(state: &State) -> bool {
         && is_left(state.window(0))
         && is_right(state.window(1))
         && is_frame(state)
-}
-
-/// Whether a list has the characters of a text.
-fn is_spelled(list: &[Ch], text: &str) -> bool {
-    let mut i = 0;
-    for c in text.chars() {
-        if i >= list.len() || list[i] != Ch::scalar(c) {
-            return false;
-        }
-        i += 1;
-    }
-    i == list.len()
 }
 
 /// Whether the buffer of a number has this name.

@@ -8,16 +8,16 @@ mod other_keys;
 mod settings;
 
 use crate::claims::assert_of;
-use rd_base::{Ch, ListOf};
+use rd_base::Ch;
 use rd_script::{OpFault, read_op};
 use std::alloc::Global;
 use std::process::Abort;
 
 /// Whether a list has the characters of a text.
-pub fn is_spelled(list: &ListOf<Ch>, text: &str) -> bool {
+pub fn is_spelled(list: &[Ch], text: &str) -> bool {
     let mut i = 0;
     for c in text.chars() {
-        if i >= list.len() || list.at(i) != Ch::scalar(c) {
+        if i >= list.len() || list[i] != Ch::scalar(c) {
             return false;
         }
         i += 1;
@@ -41,9 +41,9 @@ fn kind_of(fault: &OpFault) -> &'static str {
 /// Whether a fault is at this key, where it is at one.
 fn is_at(fault: &OpFault, key: &str) -> bool {
     match fault {
-        OpFault::Missing(name) => is_spelled(name, key),
-        OpFault::BadField(name) => is_spelled(name, key),
-        OpFault::Extra(name) => is_spelled(name, key),
+        OpFault::Missing(name) => is_spelled(name.as_slice(), key),
+        OpFault::BadField(name) => is_spelled(name.as_slice(), key),
+        OpFault::Extra(name) => is_spelled(name.as_slice(), key),
         _ => true,
     }
 }

@@ -80,7 +80,7 @@ fn is_text_op(op: &Op, name: &str) -> bool {
             name == "insert"
                 && buffer.as_str() == "main"
                 && *pos == 3
-                && is_spelled(text, "x\ny\u{1f600}")
+                && is_spelled(text.as_slice(), "x\ny\u{1f600}")
         }
         Op::InsertRaw { buffer, pos, bytes } => {
             name == "insert_raw"
@@ -151,7 +151,9 @@ fn is_property_op(op: &Op, name: &str) -> bool {
 /// Whether an op that makes an object is the one that stands under its name.
 fn is_object_op(op: &Op, name: &str) -> bool {
     match op {
-        Op::AddString { text, runs } => name == "string" && is_spelled(text, "ab") && is_run(runs),
+        Op::AddString { text, runs } => name == "string"
+            && is_spelled(text.as_slice(), "ab")
+            && is_run(runs),
         Op::AddSpec { spec } => name == "spec" && *spec == OpSpec::Align(400),
         Op::AddFace { face } => {
             name == "face" && (face.fg, face.bg) == (7, 8) && !face.bold && face.underline
@@ -189,7 +191,7 @@ fn are_entries(entries: &ListOf<OpEntry>) -> bool {
     let (first, second) = (entries.get(0), entries.get(1));
     (first.code, second.code) == (97, 1_114_111)
         && first.text.is_empty()
-        && is_spelled(&second.text, "b中")
+        && is_spelled(second.text.as_slice(), "b中")
 }
 
 /// Whether an op that makes, takes away or places a window is the one that stands under its name.
@@ -243,7 +245,7 @@ fn is_screen_op(op: &Op, name: &str) -> bool {
             margin,
             conservatively,
         } => name == "scrolling" && (*margin, *conservatively) == (200, 0),
-        Op::Echo { text } => name == "echo" && is_spelled(text, "é\t"),
+        Op::Echo { text } => name == "echo" && is_spelled(text.as_slice(), "é\t"),
         Op::Redisplay { stop } => name == "redisplay" && *stop == Some(200),
         Op::Shift { on } => name == "shift" && !*on,
         _ => false,
