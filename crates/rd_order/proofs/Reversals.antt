@@ -110,8 +110,8 @@ l2_reversed-moves levels k run (x ∷ xs) ys e high q r within moves =
                   let found = shifted (level_in levels ys) (level_in levels xs) (length ys) (length xs) k (length run) p r
                   (λ j. ap (λ (i : ℕ). get_or levels i 0) (after j)) low size (subst M place moves) in
                   let s = found.0 in
-                  let inner = l2_reversed-moves levels k [] xs xs refl (λ j from to. absurd (omega arith)) p s (omega arith) found.2 in
-                  behind run x (l2_reversed levels k [] xs) q p place ∙ inner ∙ sym (after s) ∙ ap (λ (j : ℕ). get_or ys j 0) (sym found.1)
+                  let moved = l2_reversed-moves levels k [] xs xs refl (λ j from to. absurd (omega arith)) p s (omega arith) found.2 in
+                  behind run x (l2_reversed levels k [] xs) q p place ∙ moved ∙ sym (after s) ∙ ap (λ (j : ℕ). get_or ys j 0) (sym found.1)
             ]
           ] in
           subst W (sym (lt-leb k (get_or levels x 0) less)) goal

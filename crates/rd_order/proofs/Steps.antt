@@ -103,14 +103,14 @@ beside f n base (suc m) p q r next q_in r_in q_high r_high (s, c, inr t) =
     let r_from : t.a ≤ r = elim (cases_lt r t.a) [ inl less ↦ absurd (off.0 (omega arith)) | inr more ↦ more ] in
     let r_to : r < t.b = elim (cases_lt r t.b) [ inl less ↦ less | inr more ↦ absurd (off.1 (omega arith)) ] in
     let s' = t.a + t.b - suc r in
-    let turned_next : IsNextTo m s s' = record { forwards = λ even. omega arith; backwards = λ odd. omega arith } in
+    let reversed_next : IsNextTo m s s' = record { forwards = λ even. omega arith; backwards = λ odd. omega arith } in
     let s_high = t.run.high s from to in
     let s'_high = t.run.high s' (omega arith) (omega arith) in
-    let inner = beside f n base m p s s' turned_next (omega arith) (omega arith) (λ _. omega arith) (λ _. omega arith) c in
-    (s', inner, inr (record { a = t.a; b = t.b; run = t.run; from = omega arith; to = omega arith; image = omega arith }))
+    let before = beside f n base m p s s' reversed_next (omega arith) (omega arith) (λ _. omega arith) (λ _. omega arith) c in
+    (s', before, inr (record { a = t.a; b = t.b; run = t.run; from = omega arith; to = omega arith; image = omega arith }))
 
--- a run that is one at each level above base + m up to base + m + j, and a place in it and its image where it is turned j times
-pub record IsTurnedBy (j a b q r : ℕ) : Type 0 where
+-- a run that is one at each level above base + m up to base + m + j, and a place in it and its image where it is reversed j times
+pub record IsReversedBy (j a b q r : ℕ) : Type 0 where
   pub even : j % 2 ≡ 0 → r ≡ q
   pub odd : j % 2 ≡ 1 → suc (q + r) ≡ a + b
 
@@ -130,7 +130,7 @@ came f n k a b q run from to base m p e (r, c, inr t) =
     Comes-equal f n base p refl (omega arith) c
 
 -- into the runs or out of them
-across : (f : ℕ → ℕ) (n base m j p q r a b : ℕ) → AreRuns f n base m j a b → a ≤ q → q < b → IsTurnedBy j a b q r
+across : (f : ℕ → ℕ) (n base m j p q r a b : ℕ) → AreRuns f n base m j a b → a ≤ q → q < b → IsReversedBy j a b q r
     → (Comes f n base m p q → Comes f n base (j + m) p r) × (Comes f n base (j + m) p r → Comes f n base m p q)
 across f n base m zero p q r a b runs from to turn =
     let same = turn.even refl in
@@ -140,7 +140,7 @@ across f n base m (suc j) p q r a b runs from to turn =
     let s = a + b - suc r in
     let r_in : (a ≤ r) × (r < b) = elim (cases_eq (j % 2) 0) [ inl e ↦ (omega arith, omega arith) | inr o ↦ (omega arith, omega arith) ] in
     let r_from = r_in.0 in let r_to = r_in.1 in
-    let before : IsTurnedBy j a b q s = record { even = λ e. omega arith; odd = λ e. omega arith } in
+    let before : IsReversedBy j a b q s = record { even = λ e. omega arith; odd = λ e. omega arith } in
     let below = across f n base m j p q s a b (λ i more less. runs i more (omega arith)) from to before in
     let all : suc (j + m) ≡ suc j + m = omega arith in
     let run : IsLevelRun f n (base + suc (j + m)) a b = runs (suc (j + m)) (omega arith) (omega arith) in (
@@ -148,8 +148,8 @@ across f n base m (suc j) p q r a b runs from to turn =
       λ c. below.1 (came f n (base + suc (j + m)) a b r run r_from r_to base (j + m) p refl (Comes-equal f n base p (sym all) refl c)),
     )
 
-pub turned_by : (times a b q r : ℕ) → a ≤ q → q < b → r ≡ (if times % 2 == 0 then q else a + (b - 1 - q)) → IsTurnedBy times a b q r × (a ≤ r) × (r < b)
-turned_by times a b q r from to e = elim (cases_eq (times % 2) 0) [
+pub reversed_by : (times a b q r : ℕ) → a ≤ q → q < b → r ≡ (if times % 2 == 0 then q else a + (b - 1 - q)) → IsReversedBy times a b q r × (a ≤ r) × (r < b)
+reversed_by times a b q r from to e = elim (cases_eq (times % 2) 0) [
   | inl even ↦
       let at : r ≡ q = e ∙ grind (arith, nat_tests) in
       (record { even = λ _. at; odd = λ odd. absurd (omega arith) }, omega arith, omega arith)
@@ -169,7 +169,7 @@ runs-between f n base low high a b up rise order within tall low_before low_afte
 -- the runs that are entered or left at once: those from a lower level up to a higher one, where no level in them is below the higher
 -- one and none beside them above the lower one
 pub between : (f : ℕ → ℕ) (n base low high a b p q r : ℕ) → base ≤ low → low < high → a < b → b ≤ n → AreHigh f high a b → BeginsLow f (low + 1) a → (b < n → f b < low + 1)
-    → a ≤ q → q < b → IsTurnedBy (high - low) a b q r
+    → a ≤ q → q < b → IsReversedBy (high - low) a b q r
     → (Comes f n base (low - base) p q → Comes f n base (high - base) p r) × (Comes f n base (high - base) p r → Comes f n base (low - base) p q)
 between f n base low high a b p q r up rise order within tall low_before low_after from to turn =
     let runs = runs-between f n base low high a b up rise order within tall low_before low_after in

@@ -11,8 +11,8 @@ pub struct ReversedRun {
 }
 
 impl ReversedRun {
-    /// For L2, the index at which an index of the run comes to stand when the run is turned round so many times.
-    pub fn turned(&self, place: usize, times: u8) -> usize
+    /// For L2, the index at which an index of the run comes to stand when the run is reversed so many times.
+    pub fn reversed_place(&self, place: usize, times: u8) -> usize
         requires from { self.now.start ≤ place }
         requires to { place < self.now.end }
         ensures { result ≡ (if times % 2 == 0 then place else self.now.start + (self.now.end - 1 - place)) }

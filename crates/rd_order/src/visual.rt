@@ -74,7 +74,7 @@ fn l2_following(levels: &[u8], base: u8, index: usize) -> Option<usize>
         }
         let run = l2_run_around(levels, level, place);
         let beside_run = highest_beside(levels, base, &run);
-        place = run.turned(place, level - beside_run);
+        place = run.reversed_place(place, level - beside_run);
         level = beside_run;
     }
 }
@@ -128,7 +128,7 @@ fn l2_settled(levels: &[u8], base: u8, level: u8, place: usize) -> usize
     let mut place = place;
     while levels[place] > level {
         let run = l2_run_around(levels, level + 1, place);
-        place = run.turned(place, run.lowest - level);
+        place = run.reversed_place(place, run.lowest - level);
         level = run.lowest;
     }
     place

@@ -1,6 +1,6 @@
 use Rattle.std.proofs.Common.{◌+◌, ◌-◌, ◌<◌, inl, inr, length, slice_index, sym, arith}
 use Rattle.rd_order.specs.Places.{BeginsLow}
-use Rattle.rd_order.proofs.Steps.{IsTurnedBy, beside, between, known, last, turned_by}
+use Rattle.rd_order.proofs.Steps.{IsReversedBy, beside, between, known, last, reversed_by}
 use Rattle.rd_order.proofs.visual.l2_following.Goals as goal
 
 pub loop-beside-init : goal.loop-beside-init
@@ -33,7 +33,7 @@ loop-beside-preserved c =
     let facts = c.l2_run_around-run.ensures in
     let beside_run = c.highest_beside-beside_run.result in
     let beside_it = c.highest_beside-beside_run.ensures in
-    let turn = turned_by (c.loop-beside.level - beside_run) run.start run.end c.loop-beside.place c.turned-place.result facts.from facts.to c.turned-place.ensures in
+    let turn = reversed_by (c.loop-beside.level - beside_run) run.start run.end c.loop-beside.place c.reversed_place-place.result facts.from facts.to c.reversed_place-place.ensures in
     let from = turn.1 in
     let to = turn.2 in
     let within = facts.run.within in
@@ -47,11 +47,11 @@ loop-beside-preserved c =
     ] in
     let before : BeginsLow (slice_index c.args.levels.now) (beside_run + 1) run.start = λ q e. let h = beside_it.before q e in omega arith in
     let up = beside_it.base in
-    let back : IsTurnedBy (c.loop-beside.level - beside_run) run.start run.end c.turned-place.result c.loop-beside.place = record { even = λ e. sym (turn.0.even e); odd = λ e. let h = turn.0.odd e in omega (arith, h) } in
+    let back : IsReversedBy (c.loop-beside.level - beside_run) run.start run.end c.reversed_place-place.result c.loop-beside.place = record { even = λ e. sym (turn.0.even e); odd = λ e. let h = turn.0.odd e in omega (arith, h) } in
     record {
       base = up;
       place = omega arith;
-      high = λ _. let h = facts.run.high c.turned-place.result from to in omega arith;
+      high = λ _. let h = facts.run.high c.reversed_place-place.result from to in omega arith;
       comes = λ p at. (between (slice_index c.args.levels.now) (length c.args.levels.now) c.args.base beside_run c.loop-beside.level run.start run.end p
-          c.turned-place.result c.loop-beside.place up fall facts.run.order facts.run.within facts.run.high before (λ less. let h = beside_it.after less in omega arith) from to back).1 (inv.comes p at);
+          c.reversed_place-place.result c.loop-beside.place up fall facts.run.order facts.run.within facts.run.high before (λ less. let h = beside_it.after less in omega arith) from to back).1 (inv.comes p at);
     }

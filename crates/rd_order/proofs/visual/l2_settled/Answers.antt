@@ -1,5 +1,5 @@
 use Rattle.std.proofs.Common.{◌-◌, length, slice_index, arith}
-use Rattle.rd_order.proofs.Steps.{between, shows, turned_by}
+use Rattle.rd_order.proofs.Steps.{between, shows, reversed_by}
 use Rattle.rd_order.proofs.visual.l2_settled.Goals as goal
 
 pub loop-level-preserved : goal.loop-level-preserved
@@ -7,7 +7,7 @@ loop-level-preserved c =
     let inv = c.loop-level.invariant in
     let run = c.l2_run_around-run.result in
     let facts = c.l2_run_around-run.ensures in
-    let turn = turned_by (run.lowest - c.loop-level.level) run.start run.end c.loop-level.place c.turned-place.result facts.from facts.to c.turned-place.ensures in
+    let turn = reversed_by (run.lowest - c.loop-level.level) run.start run.end c.loop-level.place c.reversed_place-place.result facts.from facts.to c.reversed_place-place.ensures in
     let from = turn.1 in
     let to = turn.2 in
     let within = facts.run.within in
@@ -16,9 +16,9 @@ loop-level-preserved c =
     record {
       base = omega arith;
       place = omega arith;
-      high = λ _. facts.lowest c.turned-place.result from to;
+      high = λ _. facts.lowest c.reversed_place-place.result from to;
       comes = λ p came. (between (slice_index c.args.levels.now) (length c.args.levels.now) c.args.base c.loop-level.level run.lowest run.start run.end p
-          c.loop-level.place c.turned-place.result base (omega arith) facts.run.order within facts.lowest facts.run.before facts.run.after facts.from facts.to turn.0).0 (inv.comes p came);
+          c.loop-level.place c.reversed_place-place.result base (omega arith) facts.run.order within facts.lowest facts.run.before facts.run.after facts.from facts.to turn.0).0 (inv.comes p came);
     }
 
 pub returns : goal.returns
