@@ -1,11 +1,7 @@
 -- A character is a newline, blank, or neither.
 use Rattle.std.proofs.Common.{◌≡◌, ℕ, Bool, true, false, not, ◌||◌, inl, inr, refl, sym, ap, ◌∙◌}
-use Rattle.std.proofs.lemmas.Bool.{cases_eq, not-false, ne_eqb, or_right}
+use Rattle.std.proofs.lemmas.Bool.{both_ways, cases_eq, not-false, ne_eqb, or_right}
 use Rattle.rd_text.specs.Texts.{is_newline, is_blank, is_ink}
-
--- a test that holds and doesn't
-pub clash : {A : Type 0} (b : Bool) → b ≡ true → b ≡ false → A
-clash b t f = let no : true ≡ false = sym t ∙ f in absurd (cc)
 
 pub newline_not_blank : (c : ℕ) → is_blank c ≡ true → is_newline c ≡ false
 newline_not_blank c e = elim (cases_eq c 10) [
@@ -25,5 +21,5 @@ blank_else c n e = not-false (is_blank c) (sym (ap (λ (b : Bool). not (b || is_
 pub ink_not_blank : (c : ℕ) → is_ink c ≡ true → is_blank c ≡ false
 ink_not_blank c e = go (is_blank c) refl where
   go : (b : Bool) → is_blank c ≡ b → b ≡ false
-  go true h = clash (is_ink c) e (blank_not_ink c h)
+  go true h = absurd (both_ways (is_ink c) (blank_not_ink c h) e)
   go false h = refl

@@ -2,14 +2,14 @@
 use Rattle.std.proofs.Common.{◌≡◌, ℕ, ◌+◌, ◌-◌, ◌<◌, ◌≤◌, true, false, not, List, length, get_or, inl, inr, sym, ap, ◌∙◌, arith}
 use Rattle.std.specs.Prelude.{slice_range}
 use Rattle.std.specs.List.{position_or_len, suffix_len}
-use Rattle.std.proofs.lemmas.Bool.{cases_lt, not-true}
+use Rattle.std.proofs.lemmas.Bool.{both_ways, cases_lt, not-true}
 use Rattle.std.proofs.lemmas.List.Edits.{length-between, get_or-between}
 use Rattle.std.proofs.lemmas.List.Elements.{All-from_get_or}
 use Rattle.std.proofs.lemmas.List.Sums.{list_all-from_AllPass, passes_at_first, fails_before_first}
 use Rattle.rd_text.specs.Texts.{TextValue, IsText, is_newline, is_blank, is_ink, is_separator, EndsSeparator, IsParagraphStart}
 use Rattle.rd_text.specs.Pieces.{IsOpening}
 use Rattle.rd_text.proofs.Openings.{opened, separated_is}
-use Rattle.rd_text.proofs.Characters.{clash, newline_not_blank, blank_not_ink, blank_else}
+use Rattle.rd_text.proofs.Characters.{newline_not_blank, blank_not_ink, blank_else}
 use Rattle.rd_text.proofs.Searches.{suffix_passes_at, blank_at}
 use Rattle.rd_text.proofs.Summaries.{suffix_passes}
 
@@ -46,10 +46,10 @@ module _ (t : TextValue) (pos at : ℕ) (right : IsText t) (low : t.begin ≤ po
               let size = seen_size in
               let pi : at + i ≡ e.start - 1 - 1 = omega arith in
               let pj : at + j ≡ r - 1 - 1 = omega arith in
-              clash _ (separated_is seen i j (omega arith) (omega arith)
+              absurd (both_ways _ o.clear (separated_is seen i j (omega arith) (omega arith)
               (ap is_newline (seen_at i (omega arith) ∙ ap (λ (n : ℕ). get_or t.text n 0) pi) ∙ line.1)
               (ap is_newline (seen_at j (omega arith) ∙ ap (λ (n : ℕ). get_or t.text n 0) pj) ∙ e.newline)
-              (λ m lo hi. ap is_blank (seen_at m (omega arith)) ∙ in_line (at + m) (omega arith) (omega arith))) o.clear
+              (λ m lo hi. ap is_blank (seen_at m (omega arith)) ∙ in_line (at + m) (omega arith) (omega arith))))
         ]
       ]
 
@@ -70,9 +70,9 @@ module _ (t : TextValue) (pos at : ℕ) (right : IsText t) (low : t.begin ≤ po
   -- where the first line is blank, or a search stopped there, it ends with the first newline
   end_is : (m : ℕ) → at + m < pos - 1 → is_newline (get_or t.text (at + m) 0) ≡ true → ((k : ℕ) → at ≤ k → k < at + m → is_blank (get_or t.text k 0) ≡ true) → first_end ≡ m
   end_is m inside newline blank = elim (cases_lt first_end m) [
-    | inl less ↦ clash _ (at_end (omega arith)) (newline_not_blank _ (blank (at + first_end) (omega arith) (omega arith)))
+    | inl less ↦ absurd (both_ways _ (newline_not_blank _ (blank (at + first_end) (omega arith) (omega arith))) (at_end (omega arith)))
     | inr more ↦ elim (cases_lt m first_end) [
-      | inl past ↦ clash _ newline (before_end (at + m) (omega arith) (omega arith) inside)
+      | inl past ↦ absurd (both_ways _ (before_end (at + m) (omega arith) (omega arith) inside) newline)
       | inr same ↦ omega arith
     ]
   ]
@@ -124,7 +124,7 @@ module _ (t : TextValue) (pos at : ℕ) (right : IsText t) (low : t.begin ≤ po
   pub start_no_newline : at + first_end ≡ pos - 1 → IsParagraphStart t pos (at + 1)
   start_no_newline none =
       starts (λ less. let h = (found_blank less).0 in omega arith)
-      (λ r after before e. clash _ e.newline (before_end (r - 1 - 1) (omega arith) (omega arith) (omega arith)))
+      (λ r after before e. absurd (both_ways _ (before_end (r - 1 - 1) (omega arith) (omega arith) (omega arith)) e.newline))
 
   pub start_ink : at + first_end < pos - 1 → suffix_len (λ c. not (is_ink c)) line < first_end → IsParagraphStart t pos (at + 1)
   start_ink inside ink =
@@ -163,5 +163,5 @@ module _ (t : TextValue) (pos at : ℕ) (right : IsText t) (low : t.begin ≤ po
               ∙ list_all-from_AllPass is_blank line (All-from_get_or (λ c. is_blank c ≡ true) line 0 (λ k less. blank k (omega arith)));
         });
         last = λ r after before e.
-            clash _ (at_end inside) (newline_not_blank _ (from_opening r (omega arith) before e (at + first_end) (omega arith) (omega arith)));
+            absurd (both_ways _ (newline_not_blank _ (from_opening r (omega arith) before e (at + first_end) (omega arith) (omega arith))) (at_end inside));
       }
