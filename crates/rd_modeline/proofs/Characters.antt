@@ -52,17 +52,15 @@ signs true second a b c x y z = All-cons IsCharacter a [] x (All-nil IsCharacter
 signs false true a b c x y z = All-cons IsCharacter b [] y (All-nil IsCharacter)
 signs false false a b c x y z = All-cons IsCharacter c [] z (All-nil IsCharacter)
 
-narrow : (narrowed : Bool) → All IsCharacter (if narrowed then codes "Narrow" else [])
-narrow true = All-from_recursion IsCharacter (codes "Narrow") (refl, (refl, (refl, (refl, (refl, (refl, tt))))))
-narrow false = All-nil IsCharacter
-
 values : (f : FactValues) → AreFacts f → (field : Field) → All IsCharacter (value_text f field)
 values f is Name = is.name
 values f is Line = numbers f.line (omega (arith, is.line))
 values f is Place = places f
 values f is ReadOnly = signs f.read_only f.modified 37 42 45 refl refl refl
 values f is Modified = signs f.modified f.read_only 42 37 45 refl refl refl
-values f is Narrowing = narrow f.narrowed
+values f is Narrowing =
+    either (All IsCharacter) f.narrowed (codes "Narrow") []
+    (All-from_recursion IsCharacter (codes "Narrow") (refl, (refl, (refl, (refl, (refl, (refl, tt))))))) (All-nil IsCharacter)
 
 filled-characters : (field : Field) (blanks : ℕ) (text : List ℕ) → All IsCharacter text → All IsCharacter (filled field blanks text)
 filled-characters Line blanks text is = All-append IsCharacter (replicate blanks 32) text (All-replicate IsCharacter blanks 32 refl) is
