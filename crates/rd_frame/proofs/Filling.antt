@@ -4,7 +4,7 @@ use Rattle.std.specs.Prelude.{map, replicate, if◌then◌else◌, IfSome, is_so
 use Rattle.std.specs.List.{All, AllByRecursion}
 use Rattle.std.proofs.lemmas.List.{length-map, length-replicate}
 use Rattle.std.proofs.lemmas.List.Elements.{recursion_from_All, All-from_recursion, All-nil, All-cons, All-append, All-map, All-replicate, All-weaker}
-use Rattle.rd_base.proofs.Choices.{one-at-most}
+use Rattle.rd_base.proofs.Choices.{either, one-at-most}
 use Rattle.rd_base.specs.declared.cell.Cell.{Cell}
 use Rattle.rd_term.specs.Pictures.{blank, blank_row, width_of, IsOfSize}
 use Rattle.rd_term.proofs.Shapes.{grid-width}
@@ -58,10 +58,6 @@ line-each : (P : List Cell → Type 0) (mode : Bool) (cells : List Cell) → (mo
 line-each P true cells h = All-cons P cells [] (h refl) (All-nil P)
 line-each P false cells h = All-nil P
 
-bordered-each : (P : List Cell → Type 0) → ((left right : List Cell) → P left → P right → P (left ++ right)) → (test : Bool) (border : Cell) (row : List Cell) → P (border ∷ []) → P row → P (if test then row ++ border ∷ [] else row)
-bordered-each P both true border row b h = both row (border ∷ []) h b
-bordered-each P both false border row b h = h
-
 pub body-length : (columns height : ℕ) (rows : List GlyphRow) → length rows ≤ height → length (body_rows columns height rows) ≡ height
 body-length columns height rows few =
     length-append (map row_cells rows) (replicate (height - length rows) (blank_row columns))
@@ -104,7 +100,8 @@ pub window-each : (P : List Cell → Type 0) → ((left right : List Cell) → P
     → (width : ℕ) (pane : PaneValues) (window : Placed) → EachPart P pane window → All P (window_rows width pane window)
 window-each P both blanks width pane window each =
     rows-each P P width pane window (λ k d in'. both (get_or pane.rows k d).margin (get_or pane.rows k d).text (each.margins k d in') (each.texts k d in'))
-    (blanks (window.margins + body_width width window)) (λ row h. bordered-each P both (has_border width window) pane.border row each.border h) each.mode_line
+    (blanks (window.margins + body_width width window))
+    (λ row h. either P (has_border width window) (row ++ pane.border ∷ []) row (both row (pane.border ∷ []) h each.border) h) each.mode_line
 
 -- ---- a frame
 
