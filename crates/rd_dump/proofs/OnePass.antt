@@ -93,10 +93,6 @@ open-step_at : (first column : ℕ) (face next : Attributes) (cells : List Cell)
 open-step_at first column face next cells true e = ap (λ f. open_text first (column + 1) face (faces_of f cells)) (face-told next face e)
 open-step_at first column face next cells false e = refl
 
-pub run_text-shown : (first end : ℕ) (face : Attributes) → same_face face plain ≡ false
-    → concat (codes " " ∷ decimal first ∷ codes "-" ∷ decimal (end - 1) ∷ []) ++ numbers_text face ≡ run_text first end face
-run_text-shown first end face e = sym (cond-false (same_face face plain) [] _ e)
-
 -- what is left of a row, by its next cell
 pub runs-step : (first column first' i : ℕ) (face next face' : Attributes) (cell : Cell) (cells : List Cell) → i < length cells → cell ≡ get_or cells i cell → next ≡ face_after face cell
     → first' ≡ (if same_face next face then first else column) → face' ≡ (if same_face next face then face else next)
@@ -123,7 +119,7 @@ rows-step rows i less = ap (rows_text i) (drop_more rows i [] less)
 pub run_text-last : (first end last : ℕ) (face : Attributes) → same_face face plain ≡ false → last ≡ end - 1
     → concat (codes " " ∷ decimal first ∷ codes "-" ∷ decimal last ∷ []) ++ numbers_text face ≡ run_text first end face
 run_text-last first end last face shown is =
-    ap (λ n. concat (codes " " ∷ decimal first ∷ codes "-" ∷ decimal n ∷ []) ++ numbers_text face) is ∙ run_text-shown first end face shown
+    ap (λ n. concat (codes " " ∷ decimal first ∷ codes "-" ∷ decimal n ∷ []) ++ numbers_text face) is ∙ sym (cond-false (same_face face plain) [] _ shown)
 
 -- the next number failed
 pub numbers-failed : {U F : Type 0} (a b c : Option (List ℕ)) (f g h : ℕ) (all : List ℕ) (any : Bool) (i : ℕ) (number : Option ℕ) (numbers : List (Option ℕ)) (s : Result U F)
