@@ -4,21 +4,17 @@ use Rattle.std.specs.List.{flat_map}
 use Rattle.std.proofs.lemmas.Bool.Decides.{nat_tests}
 use Rattle.std.proofs.lemmas.List.{drop_more}
 use Rattle.std.specs.Prelude.{pos, neg_ℤ}
-use Rattle.rd_base.proofs.Choices.{either}
+use Rattle.rd_base.proofs.Choices.{either, of-choice}
 use Rattle.rd_lineshift.specs.Choices.{cheaper, cheapest, if_gains, shift_by, shifts_from, shifts_of}
 use Rattle.rd_lineshift.specs.Numbers.{gained, lesser, priced}
 use Rattle.rd_lineshift.specs.declared.band.Band.{Band}
 use Rattle.rd_lineshift.specs.declared.band.Shift.{Shift}
 use Rattle.rd_lineshift.specs.declared.choice.Priced.{Priced}
 
-lesser-if : (b : Bool) (f : Shift → ℕ) (s t : Shift) → (if b then Some (let p : Priced = record { shift = s; cost = f s } in p) else Some (record { shift = t; cost = f t })) ≡ priced f (if b then Some s else Some t)
-lesser-if true f s t = refl
-lesser-if false f s t = refl
-
 pub lesser-priced : (f : Shift → ℕ) (s t : Option Shift) → lesser (priced f s) (priced f t) ≡ priced f (cheaper f s t)
 lesser-priced f None t = refl
 lesser-priced f (Some s) None = refl
-lesser-priced f (Some s) (Some t) = lesser-if (nat_le (f s) (f t)) f s t
+lesser-priced f (Some s) (Some t) = sym (of-choice (priced f) (nat_le (f s) (f t)) (Some s) (Some t))
 
 pub lesser-none : (p : Option Priced) → lesser p None ≡ p
 lesser-none None = refl
