@@ -17,7 +17,7 @@ use Rattle.rd_script.specs.declared.setting.Setting.{Setting}
 use Rattle.rd_state.specs.Edits.{deletion, is_accessible, insertion, margin_putting, narrowing, overlay_dropping, overlay_making, overlay_moving, overlay_putting, property_putting, setting_putting, widening}
 use Rattle.rd_state.specs.Making.{refused_object, run_of, spec_of, unless_fault}
 use Rattle.rd_state.specs.States.{BufferValue, ContentValue, StateValue, number_of}
-use Rattle.rd_state.specs.Steps.{changing, edited, edited_moving, in_window, in_buffer, in_shown, making, moving, on_tree, placing, raw_text, refused_tree, content_replaced, setting, showing, step, typing, unless_bad, with_found, with_objects}
+use Rattle.rd_state.specs.Steps.{changing, edited, edited_moving, in_window, in_buffer, in_shown, making, moving, on_tree, placing, raw_text, refused_tree, content_replaced, setting, showing, step, typed, typing, unless_bad, with_found, with_objects}
 use Rattle.rd_state.proofs.Free.{refused-free}
 use Rattle.rd_state.specs.declared.moves.Move.{Move}
 use Rattle.rd_state.specs.declared.moves.Move.TheVariants.{Deleted, Inserted, Narrowed}
@@ -103,7 +103,7 @@ typing-free s new =
     let done : WindowState → BufferValue → Result ContentValue Refused → Result StateValue Refused = λ w b r.
     changing s.selected (λ old. record old { point = w.point + length new }) (moving w.buffer (Inserted w.point (length new)) (content_replaced s w.buffer b r)) in
     let put : WindowState → BufferValue → Result StateValue Refused = λ w b. done w b (insertion w.point new b.content) in
-    lives-free s s.selected (λ w. in_shown s w (put w))
+    lives-free s s.selected (typed s new)
     (λ w. shown-free s w (put w) (λ b. goes-on-free (done w b) (insertion w.point new b.content) (λ e. refl) (λ d. ok-free _) (insertion-free w.point new b.content)))
 
 -- ---- objects

@@ -12,7 +12,7 @@ use Rattle.rd_state.specs.Edits.{insertion}
 use Rattle.rd_state.specs.Movable.{CanMove}
 use Rattle.rd_state.specs.Moves.{moved_in}
 use Rattle.rd_state.specs.Effects.{inserted_effect}
-use Rattle.rd_state.specs.Steps.{with_found, in_shown, content_replaced, moving, changing, typing}
+use Rattle.rd_state.specs.Steps.{with_found, content_replaced, moving, changing, typed, typing}
 use Rattle.rd_state.specs.Valid.{IsValid}
 use Rattle.rd_state.specs.Windows.{place_in, changed_under, selected_window, NumberedWindow}
 use Rattle.rd_state.proofs.ByName.{AnswersAt}
@@ -47,12 +47,6 @@ place-moved n i how (e ∷ ws) = ap (λ k. cond (not (e.0 == n)) (1 + k) 0) (pla
 pub found-moved : (n i j : ℕ) (how : Move) (ws moved : List NumberedWindow) (e : NumberedWindow) → moved ≡ map (moved_in j how) ws → i ≡ place_in n ws → i < length ws → e ≡ get_or moved i e → IsFound n i moved e
 found-moved n i j how ws moved e is place less at =
     found-under n i moved e (place ∙ (sym (place-moved n j how ws) ∙ ap (place_in n) (sym is))) (omega (arith, less, ap length is, length-map ws (moved_in j how))) at
-
--- what is typed in a window
-abbrev typed : StateValue → List ℕ → WindowState → Result StateValue Refused
-typed s new w = in_shown s w (λ b.
-    changing s.selected (λ old. record old { point = w.point + length new })
-    (moving w.buffer (Inserted w.point (length new)) (content_replaced s w.buffer b (insertion w.point new b.content))))
 
 typed-ok : (s : StateValue) (new : List ℕ) (w : WindowState) (bs : List BufferValue) → AnswersAt (Ok tt) (insertion w.point new) w.buffer s.buffers bs
     → typed s new w ≡ Ok (record s { buffers = bs; windows = changed_under s.selected (λ old. record old { point = w.point + length new }) (map (moved_in w.buffer (Inserted w.point (length new))) s.windows) })

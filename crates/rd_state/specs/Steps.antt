@@ -103,11 +103,15 @@ inserting s name place new = edited_moving s name (Inserted place (length new)) 
 abbrev pub raw_text : List ℕ → List ℕ
 raw_text bytes = map raw_code bytes
 
--- a text put in at the selected window's point, which then stands behind it
-abbrev pub typing : StateValue → List ℕ → Result StateValue Refused
-typing s new = in_window s s.selected (λ w. in_shown s w (λ b.
+-- a text put in at the point of a window, which is the selected one; its point then stands behind the text
+abbrev pub typed : StateValue → List ℕ → WindowState → Result StateValue Refused
+typed s new w = in_shown s w (λ b.
     changing s.selected (λ old. record old { point = w.point + length new })
-    (moving w.buffer (Inserted w.point (length new)) (content_replaced s w.buffer b (insertion w.point new b.content)))))
+    (moving w.buffer (Inserted w.point (length new)) (content_replaced s w.buffer b (insertion w.point new b.content))))
+
+-- a text put in at the selected window's point
+abbrev pub typing : StateValue → List ℕ → Result StateValue Refused
+typing s new = in_window s s.selected (typed s new)
 
 -- ---- windows
 
