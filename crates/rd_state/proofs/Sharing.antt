@@ -172,10 +172,7 @@ unfolding step
 split-refused (Ok x) fault said s t u n i e side size d is and same there asks splits leaves = absurd (cc)
 split-refused (Err x) tree_faults.Memory said s t u n i e side size d is and same there asks splits leaves =
     (leaves ∙ (ap (λ c. record t { tree = c }) splits ∙ same), λ not. absurd (not and))
-split-refused (Err x) tree_faults.NoWindow said s t u n i e side size d is and same there asks splits leaves = split-said x tree_faults.NoWindow said s t u n i e side size d and same there asks splits leaves
-split-refused (Err x) tree_faults.TooSmall said s t u n i e side size d is and same there asks splits leaves = split-said x tree_faults.TooSmall said s t u n i e side size d and same there asks splits leaves
-split-refused (Err x) tree_faults.TooMany said s t u n i e side size d is and same there asks splits leaves = split-said x tree_faults.TooMany said s t u n i e side size d and same there asks splits leaves
-split-refused (Err x) tree_faults.LastWindow said s t u n i e side size d is and same there asks splits leaves = split-said x tree_faults.LastWindow said s t u n i e side size d and same there asks splits leaves
+split-refused (Err x) fault said s t u n i e side size d is and same there asks splits leaves = split-said x fault said s t u n i e side size d and same there asks splits leaves
 
 -- ---- mode lines
 
