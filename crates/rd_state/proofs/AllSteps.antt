@@ -1,5 +1,5 @@
 -- A step leads from a valid state to a valid one, op by op.
-use Rattle.std.proofs.Common.{◌≡◌, ℕ, zero, suc, ◌+◌, ◌≤◌, inl, inr, ◌==◌, Bool, true, false, if◌then◌else◌, pos, ◌+ℤ◌, map, IsTrue, None, Some, Result, Ok, Err, List, [], ◌∷◌, length, subst, sym, ap, refl, ◌∙◌, arith}
+use Rattle.std.proofs.Common.{◌≡◌, ℕ, zero, suc, ◌+◌, ◌≤◌, inl, inr, ◌==◌, Bool, true, false, pos, ◌+ℤ◌, map, IsTrue, Some, Result, Ok, Err, List, [], ◌∷◌, length, subst, sym, ap, refl, ◌∙◌, arith}
 use Rattle.std.specs.Prelude.{slice_get, IfOk, option_map}
 use Rattle.std.specs.Str.{chars}
 use Rattle.rd_base.proofs.Choices.{either}
@@ -187,10 +187,6 @@ opening-windows zero e h =
     subst (λ (x : ℕ × WindowState). IsWindow (new_buffer main_name ∷ []) x.1) same opening-looks
 opening-windows (suc k) e h = absurd (cc)
 
-opening-leaf : (t : Bool) → (if t then Some (leaf_of opening_window) else None) ≡ option_map leaf_of (if t then Some opening_window else None)
-opening-leaf true = refl
-opening-leaf false = refl
-
 pub opening-valid : IsValid opening
 opening-valid = record {
   buffers = record {
@@ -203,7 +199,7 @@ opening-valid = record {
   closed = nothing_closed;
   windows = record {
     tree = opening_valid 80 23 (omega arith) (omega arith) (omega arith) (omega arith);
-    leaves = λ number. opening-leaf (0 == number);
+    leaves = λ number. sym (map-if leaf_of (0 == number) opening_window);
     apart = (refl, tt);
     each = opening-windows;
     selected = refl;

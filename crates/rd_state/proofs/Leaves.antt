@@ -17,7 +17,7 @@ use Rattle.rd_state.specs.States.{StateValue}
 use Rattle.rd_state.specs.Valid.{IsValid}
 use Rattle.rd_state.specs.Windows.{leaf_at, leaf_of, window_of}
 use Rattle.rd_state.specs.declared.window.WindowState.{WindowState}
-use Rattle.rd_state.proofs.Options.{or-none}
+use Rattle.rd_state.proofs.Options.{map-if, or-none}
 
 abbrev pub Leaf : Type 0
 Leaf = Bool × ℕ
@@ -50,12 +50,8 @@ leaf-first n first second h = or-first (leaf_at n first) (leaf_at n second) (lea
 abbrev pub facts : Placed → Leaf
 facts p = (p.mode, p.margins)
 
-map-if : (t : Bool) (x : Placed) → option_map facts (if t then Some x else None) ≡ (if t then Some (facts x) else None)
-map-if true x = refl
-map-if false x = refl
-
 pub leaf-placed : (n : ℕ) (ws : Windows) (rect : Rect) → option_map facts (of_number n (placed ws rect)) ≡ leaf_at n ws
-leaf-placed n (Window m mode margins) rect = map-if (m == n) (record { number = m; mode = mode; margins = margins; rect = rect })
+leaf-placed n (Window m mode margins) rect = map-if facts (m == n) (record { number = m; mode = mode; margins = margins; rect = rect })
 leaf-placed n (Split side size first second) rect =
     let a = placed first (first_part side size rect) in
     let b = placed second (second_part side size rect) in

@@ -1,5 +1,5 @@
 -- What an option holds, and choices of options.
-use Rattle.std.proofs.Common.{◌≡◌, ℕ, ◌<◌, Bool, Option, None, Some, ap, refl, sym, List, length, nat_lt, arith}
+use Rattle.std.proofs.Common.{◌≡◌, ℕ, ◌<◌, Bool, true, false, if◌then◌else◌, Option, None, Some, ap, refl, sym, List, length, nat_lt, arith}
 use Rattle.std.proofs.lemmas.Bool.{ltb-true}
 use Rattle.std.proofs.lemmas.Option.{cond_some}
 use Rattle.std.specs.List.{position_or_len}
@@ -14,6 +14,10 @@ one-value o x y h k = cc
 pub or-none : {X : Type 0} (o : Option X) → option_or o None ≡ o
 or-none None = refl
 or-none (Some x) = refl
+
+pub map-if : {X Y : Type 0} (f : X → Y) (t : Bool) (x : X) → option_map f (if t then Some x else None) ≡ (if t then Some (f x) else None)
+map-if f true x = refl
+map-if f false x = refl
 
 pub map-map : {X Y Z : Type 0} (f : X → Y) (g : Y → Z) (h : X → Z) (o : Option X) → ((x : X) → g (f x) ≡ h x) → option_map g (option_map f o) ≡ option_map h o
 map-map f g h None e = refl
