@@ -170,9 +170,12 @@ pub put-is : (c : ContentValue) (from to : ℕ) (kind : Kind) (value : Option �
     → IsPut (seen c) (seen (with_property c from to kind value)) kind from to value
 put-is c from to kind value text within is at = seen-parts c (put_values c from to kind value) c.settings (put_on-within (seen c) from to kind value text within is at)
 
+pub number-made : (count : ℕ) (number : Option ℕ) → is_number_made count number ≡ true → IfSome number (λ n. n < count)
+number-made count None h = tt
+number-made count (Some n) h = ltb-true n count h
+
 made-number : (count : ℕ) (value : Option ℕ) (v : ℕ) → is_number_made count value ≡ true → value ≡ Some v → v < count
-made-number count None v h e = absurd (cc)
-made-number count (Some n) v h e = let same : n ≡ v = cc in subst (λ (x : ℕ). x < count) same (ltb-true n count h)
+made-number count value v h e = subst (λ o. IfSome o (λ n. n < count)) e (number-made count value h)
 
 pub value-made : (o : ObjectLists) (kind : Kind) (value : Option ℕ) → is_value_made o kind value ≡ true → (v : ℕ) → value ≡ Some v → IsMade o kind v
 value-made o kinds.Face value h v e = made-number (length o.faces) value v h e

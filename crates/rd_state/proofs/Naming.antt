@@ -7,7 +7,7 @@ use Rattle.std.specs.Cmp.{nat_cmp_total}
 use Rattle.std.specs.FinMap as finite
 use Rattle.std.specs.FinMap.{get, get-insert, get-remove, get-empty}
 use Rattle.std.specs.Ordering.{nat_cmp, eq_by_cmp}
-use Rattle.std.specs.Prelude.{IfOk, IfSome}
+use Rattle.std.specs.Prelude.{IfOk}
 use Rattle.rd_base.specs.Chars.{is_code}
 use Rattle.rd_base.specs.Settings.{SettingValues}
 use Rattle.rd_base.specs.declared.limits.TheConstants.{BUFFERS}
@@ -32,7 +32,7 @@ use Rattle.rd_state.specs.Valid.{IsContent, IsValid}
 use Rattle.rd_state.specs.Edits.{is_number_made, is_setting_made, margin_putting, setting_putting, with_setting}
 use Rattle.rd_state.specs.Making.{unless_fault, spec_of}
 use Rattle.rd_state.specs.Steps.{with_objects, making}
-use Rattle.rd_state.proofs.Contents.{IsTab, still-valid}
+use Rattle.rd_state.proofs.Contents.{IsTab, number-made, still-valid}
 use Rattle.rd_state.proofs.Keeping.{buffers-appended, windows-appended}
 use Rattle.rd_state.proofs.StepParts.{making-if}
 use Rattle.rd_state.proofs.Stepping.{Keeps, text-kept}
@@ -41,10 +41,6 @@ use Rattle.rd_base.proofs.Choices.{both-ok, made-ok}
 use Rattle.rd_state.proofs.WithParts.{with_parts}
 
 -- ---- settings
-
-number-made : (count : ℕ) (number : Option ℕ) → is_number_made count number ≡ true → IfSome number (λ n. n < count)
-number-made count None h = tt
-number-made count (Some n) h = ltb-true n count h
 
 with_settings-made : (o : ObjectLists) (value : Setting) (s : SettingValues) → is_setting_made o value ≡ true → SettingsMade o s → SettingsMade o (with_setting value s)
 with_settings-made o (setting.Table number) s h v = record { table = number-made (length o.tables) number h; line_prefix = v.line_prefix; wrap_prefix = v.wrap_prefix }
