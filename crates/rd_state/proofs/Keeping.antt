@@ -10,7 +10,7 @@ use Rattle.rd_base.proofs.Choices.{either, some-mapped}
 use Rattle.std.specs.Prelude.{slice_get, slice_set, option_map, IsTrue, IsSome, IfSome}
 use Rattle.std.specs.Str.{bytes_eq}
 use Rattle.rd_base.specs.declared.settings.Anchor.{Anchor}
-use Rattle.rd_base.specs.declared.limits.TheConstants.{BUFFERS, PENDING_ROWS}
+use Rattle.rd_base.specs.declared.limits.TheConstants.{BUFFERS, HSCROLL_COLUMNS, NUMBER_COLUMNS, PENDING_ROWS, STRING_COLUMNS}
 use Rattle.rd_text.specs.Texts.{IsAccessible}
 use Rattle.rd_objects.specs.Things.{ObjectLists}
 use Rattle.rd_script.specs.Forms.{is_buffer_name}
@@ -84,7 +84,7 @@ buffers-appended o bs name v new form room free =
 pub window-still : (bs : List BufferValue) (x : WindowState) → x.buffer < length bs
     → ((b : BufferValue) → slice_get bs x.buffer ≡ Some b → IsAccessible b.content.text x.point)
     → ((b : BufferValue) → slice_get bs x.buffer ≡ Some b → IsAccessible b.content.text x.anchor.pos) → IsTrue (is_near_zero (pos PENDING_ROWS) x.pending)
-    → x.hscroll ≤ 1000000 → IfSome x.format IsGoodFormat → x.numbers ≤ 10 → x.strings ≤ 20 → IsWindow bs x
+    → x.hscroll ≤ HSCROLL_COLUMNS → IfSome x.format IsGoodFormat → x.numbers ≤ NUMBER_COLUMNS → x.strings ≤ STRING_COLUMNS → IsWindow bs x
 window-still bs x made point anchor pending hscroll format numbers strings = record {
   made = made;
   point = point;

@@ -9,7 +9,7 @@ use Rattle.std.specs.Option.{option_or}
 use Rattle.std.specs.Prelude.{slice_get, option_map, IsSome, IfOk, IfSome}
 use Rattle.rd_base.proofs.Lists.{element-at, get-end}
 use Rattle.rd_base.specs.declared.settings.Anchor.{Anchor}
-use Rattle.rd_base.specs.declared.limits.TheConstants.{PENDING_ROWS}
+use Rattle.rd_base.specs.declared.limits.TheConstants.{FRAME_COLUMNS, FRAME_ROWS, LEAST_FRAME_COLUMNS, LEAST_FRAME_ROWS, NUMBER_COLUMNS, PENDING_ROWS, STRING_COLUMNS}
 use Rattle.rd_text.specs.Texts.{IsAccessible}
 use Rattle.rd_script.specs.Forms.{IsFormat}
 use Rattle.rd_script.specs.Numbers.{is_near_zero}
@@ -170,7 +170,7 @@ mode_lining-valid s number format v form =
     (λ d at. (mode_keeps s.tree d number shown v.windows.tree at, (mode-means s.tree d number shown at).2)) (λ x. refl)
     (λ x old. window-still s.buffers (record x { format = format }) old.made old.point old.anchor old.pending old.hscroll (format-in-form format form good) old.numbers old.strings)))
 
-pub margining-valid : (s : StateValue) (number numbers strings : ℕ) → IsValid s → numbers ≤ 10 → strings ≤ 20 → IfOk (margining s number numbers strings) IsValid
+pub margining-valid : (s : StateValue) (number numbers strings : ℕ) → IsValid s → numbers ≤ NUMBER_COLUMNS → strings ≤ STRING_COLUMNS → IfOk (margining s number numbers strings) IsValid
 margining-valid s number numbers strings v few some =
     let columns = numbers + strings in
     found IsValid _ (window_of number s.windows) _
@@ -281,7 +281,7 @@ removing-valid s number v =
 
 -- ---- the frame
 
-pub resizing-valid : (s : StateValue) (width height : ℕ) → IsValid s → 12 ≤ width → width ≤ 400 → 2 ≤ height → height ≤ 200
+pub resizing-valid : (s : StateValue) (width height : ℕ) → IsValid s → LEAST_FRAME_COLUMNS ≤ width → width ≤ FRAME_COLUMNS → LEAST_FRAME_ROWS ≤ height → height ≤ FRAME_ROWS
     → IfOk (on_tree (resize_tree s.tree width (height - 1)) (λ c. record s { tree = c; width = width; height = height })) IsValid
 resizing-valid s width height v wide narrow high low =
     tree-if IsValid (resize_tree s.tree width (height - 1)) _
