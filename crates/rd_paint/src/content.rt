@@ -40,9 +40,7 @@ impl<'a> Model for Content<'a> {
 pub(crate) fn content_of(state: &State, i: u32) -> Option<Content<'_>>
     ensures { result ≡ option_map painted_of (slice_get state.now.buffers i) }
 {
-    let name = state.name(i)?;
-    let buffer = state.buffer(i)?;
-    let marks = state.marks(i)?;
+    let (name, buffer, marks) = state.whole_buffer(i)?;
     Some(Content {
         name,
         buffer,

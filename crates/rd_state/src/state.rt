@@ -132,12 +132,14 @@ impl State {
         }
     }
 
-    /// The margin strings of the overlays of the buffer with a number; None exactly where none was made.
-    pub fn marks(&self, i: u32) -> Option<&Marks>
-        ensures { option_map (λ m. m.now) result ≡ option_map (λ b. b.content.marks) (slice_get self.now.buffers i) }
+    /// The buffer with a number under its name, with the margin strings of its overlays; None exactly where none was made.
+    pub fn whole_buffer(&self, i: u32) -> Option<(&str, &BufferState, &Marks)>
+        ensures name { option_map (λ b. b.0.now) result ≡ option_map (λ b. b.name) (slice_get self.now.buffers i) }
+        ensures buffer { option_map (λ b. meaning b.1.now) result ≡ option_map (λ b. seen b.content) (slice_get self.now.buffers i) }
+        ensures marks { option_map (λ b. b.2.now) result ≡ option_map (λ b. b.content.marks) (slice_get self.now.buffers i) }
     {
-        let (_name, content) = self.parts.buffers.get_index(i as usize)?;
-        Some(content.marks())
+        let (name, content) = self.parts.buffers.get_index(i as usize)?;
+        Some((name.as_str(), content.state(), content.marks()))
     }
 
     /// The window with a number; None exactly where no such window lives.
