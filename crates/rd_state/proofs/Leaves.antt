@@ -1,5 +1,5 @@
 -- What a window tree says of its windows, and how it changes.
-use Rattle.std.proofs.Common.{◌≡◌, ◌≢◌, ℕ, ◌≤◌, ◌==◌, ◌||◌, Bool, true, false, is_some, if◌then◌else◌, Option, None, Some, sym, ap, refl, ◌∙◌, inl, inr, arith}
+use Rattle.std.proofs.Common.{◌≡◌, ◌≢◌, ℕ, ◌≤◌, ◌==◌, ◌||◌, Bool, true, false, is_some, Option, None, Some, sym, ap, refl, ◌∙◌, inl, inr, arith}
 use Rattle.std.proofs.lemmas.Bool.{cases_eq, eqb-true, false_from_ne_true, cond-false, cond_both, cond-true, eq-eqb, ne_eqb, or_left}
 use Rattle.std.proofs.lemmas.Iterator.Adapters.{option_map_id}
 use Rattle.rd_base.proofs.Choices.{none-both, or-first, map-or, map-some, none-of, some-mapped}
