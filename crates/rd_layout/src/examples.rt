@@ -1,4 +1,6 @@
 //! The definitions on worked examples. They have no body: what they promise is computed from the definitions.
+#![tactic(auto, unfolding(crate::specs::Screens::laid_out, rd_state::specs::Steps::step, rd_state::specs::Effects::effect_of, rd_tree::specs::Calls::split_tree, rd_tree::specs::Calls::resize_tree, rd_tree::specs::Calls::mode_tree, rd_tree::specs::Calls::margins_tree))]
+
 ghost use Rattle.std.specs.Prelude.{◌≡◌, ◌∷◌, ◌++◌, [], true, false, None, Some, Ok, Err, pos, codes};
 ghost use Rattle.rd_script.specs.declared.op.Op.TheVariants.{Frame, Insert, TypeText, Split, Point, Start, Scroll, ModeLine, Echo, Redisplay, Shift, Go, Hit, Margin};
 ghost use Rattle.rd_frame.specs.Examples.{inverted};
@@ -11,7 +13,6 @@ ghost use Rattle.rd_layout.specs.Examples.{after, bytes_of, each_in_a_line, poin
 ghost use Rattle.rd_layout.specs.Redisplays.{allowed, update_of};
 
 /// Three lines: all of them are new at the first redisplay, nothing is laid out at the second, and at the third only the changed line.
-#[tactic(auto, unfolding(crate::specs::Screens::laid_out, rd_state::specs::Steps::step, rd_state::specs::Effects::effect_of, rd_tree::specs::Calls::split_tree, rd_tree::specs::Calls::resize_tree, rd_tree::specs::Calls::mode_tree, rd_tree::specs::Calls::margins_tree))]
 fn what_is_kept_costs_nothing()
     ensures first { told allowed (after (Frame 12 4 ∷ Insert main_name 1 (each_in_a_line (codes "abc")) ∷ [])) ≡ Ok 18 }
     ensures second { told allowed (after (Frame 12 4 ∷ Insert main_name 1 (each_in_a_line (codes "abc")) ∷ Redisplay None ∷ [])) ≡ Ok 0 }
@@ -21,14 +22,12 @@ fn what_is_kept_costs_nothing()
 /// Seven lines: with a letter before the first that is read from the right its paragraph turns, so that none of the first six lines keeps
 /// its rows, though only one of them was edited; the last line, behind an empty one, keeps its own. Three times twelve elements may be
 /// placed: three of the first line, two of each of the next four and one of the empty line.
-#[tactic(auto, unfolding(crate::specs::Screens::laid_out, rd_state::specs::Steps::step, rd_state::specs::Effects::effect_of, rd_tree::specs::Calls::split_tree, rd_tree::specs::Calls::resize_tree, rd_tree::specs::Calls::mode_tree, rd_tree::specs::Calls::margins_tree))]
 fn a_paragraph_that_turns_is_laid_out_anew()
     ensures session { told unscreened (after turning) ≡ Ok turned }
     ensures cost { told allowed (after turning) ≡ Ok 36 }
 {}
 
 /// A redisplay that may send no row clears the screen, and the next one sends what is missing.
-#[tactic(auto, unfolding(crate::specs::Screens::laid_out, rd_state::specs::Steps::step, rd_state::specs::Effects::effect_of, rd_tree::specs::Calls::split_tree, rd_tree::specs::Calls::resize_tree, rd_tree::specs::Calls::mode_tree, rd_tree::specs::Calls::margins_tree))]
 fn a_stopped_redisplay_is_made_good()
     ensures stopped { told (bytes_of (Some 0)) (after (Frame 12 2 ∷ Insert main_name 1 (codes "abc") ∷ [])) ≡ Ok (27 ∷ codes "[0m" ++ 27 ∷ codes "[2J") }
     ensures rows { told (λ v. (update_of v (Some 0)).rows) (after (Frame 12 2 ∷ Insert main_name 1 (codes "abc") ∷ [])) ≡ Ok 0 }
@@ -36,19 +35,16 @@ fn a_stopped_redisplay_is_made_good()
 {}
 
 /// The echo area is the frame's last row.
-#[tactic(auto, unfolding(crate::specs::Screens::laid_out, rd_state::specs::Steps::step, rd_state::specs::Effects::effect_of, rd_tree::specs::Calls::split_tree, rd_tree::specs::Calls::resize_tree, rd_tree::specs::Calls::mode_tree, rd_tree::specs::Calls::margins_tree))]
 fn the_echo_area_is_shown()
     ensures { told (bytes_of None) (after (Frame 12 2 ∷ Echo (codes "hi") ∷ [])) ≡ Ok (27 ∷ codes "[0m" ++ 27 ∷ codes "[2J" ++ 27 ∷ codes "[2;1Hhi" ++ 27 ∷ codes "[1;1H") }
 {}
 
 /// Ten lines in five rows, scrolled by one: where the terminal may shift rows it moves four of them, and the fifth is sent.
-#[tactic(auto, unfolding(crate::specs::Screens::laid_out, rd_state::specs::Steps::step, rd_state::specs::Effects::effect_of, rd_tree::specs::Calls::split_tree, rd_tree::specs::Calls::resize_tree, rd_tree::specs::Calls::mode_tree, rd_tree::specs::Calls::margins_tree))]
 fn rows_are_shifted()
     ensures { told (bytes_of None) (after (Frame 12 6 ∷ Insert main_name 1 (each_in_a_line (codes "abcdefghij")) ∷ Shift true ∷ Redisplay None ∷ Scroll 0 (pos 1) ∷ [])) ≡ Ok (27 ∷ codes "[1;5r" ++ 27 ∷ codes "[1;1H" ++ 27 ∷ codes "[1M" ++ 27 ∷ codes "[1;6r" ++ 27 ∷ codes "[5;1Hf" ++ 27 ∷ codes "[1;1H") }
 {}
 
 /// Numbers stand beside two lines. A line that is put before them moves their numbers, which costs nothing, and the last line is kept.
-#[tactic(auto, unfolding(crate::specs::Screens::laid_out, rd_state::specs::Steps::step, rd_state::specs::Effects::effect_of, rd_tree::specs::Calls::split_tree, rd_tree::specs::Calls::resize_tree, rd_tree::specs::Calls::mode_tree, rd_tree::specs::Calls::margins_tree))]
 fn numbers_stand_beside_lines()
     ensures first { told (bytes_of None) (after (Frame 16 4 ∷ Insert main_name 1 (each_in_a_line (codes "ab")) ∷ Margin 0 4 0 ∷ [])) ≡ Ok (27 ∷ codes "[0m" ++ 27 ∷ codes "[2J" ++ 27 ∷ codes "[1;3H1 a" ++ 27 ∷ codes "[2;3H2 b" ++ 27 ∷ codes "[1;5H") }
     ensures second { told (bytes_of None) (after (Frame 16 4 ∷ Insert main_name 1 (each_in_a_line (codes "ab")) ∷ Margin 0 4 0 ∷ Redisplay None ∷ Insert main_name 1 (10 ∷ []) ∷ [])) ≡ Ok (27 ∷ codes "[1;5H" ++ 27 ∷ codes "[K" ++ 27 ∷ codes "[2;5Ha" ++ 27 ∷ codes "[3;3H3 b" ++ 27 ∷ codes "[1;5H") }
@@ -57,7 +53,6 @@ fn numbers_stand_beside_lines()
 
 /// Hits and steps in a line that is read from the right edge: its letters r and t stand in the last two columns, a blank before them,
 /// and 12 before that.
-#[tactic(auto, unfolding(crate::specs::Screens::laid_out, rd_state::specs::Steps::step, rd_state::specs::Effects::effect_of, rd_tree::specs::Calls::split_tree, rd_tree::specs::Calls::resize_tree, rd_tree::specs::Calls::mode_tree, rd_tree::specs::Calls::margins_tree))]
 fn point_moves_by_what_is_seen()
     ensures letter { told point_and_cursor (after (Frame 12 2 ∷ TypeText (codes "rt 12") ∷ Redisplay None ∷ Hit 0 0 10 ∷ [])) ≡ Ok (2, Some (0, 10)) }
     ensures end { told point_and_cursor (after (Frame 12 2 ∷ TypeText (codes "rt 12") ∷ Redisplay None ∷ Hit 0 0 3 ∷ [])) ≡ Ok (6, Some (0, 6)) }
@@ -68,7 +63,6 @@ fn point_moves_by_what_is_seen()
 {}
 
 /// What was not shown, or changed since, is not hit: an edit of nothing is a change too.
-#[tactic(auto, unfolding(crate::specs::Screens::laid_out, rd_state::specs::Steps::step, rd_state::specs::Effects::effect_of, rd_tree::specs::Calls::split_tree, rd_tree::specs::Calls::resize_tree, rd_tree::specs::Calls::mode_tree, rd_tree::specs::Calls::margins_tree))]
 fn what_is_not_shown_is_not_hit()
     ensures never { after (Hit 0 0 0 ∷ []) ≡ Err NotShown }
     ensures changed { after (Frame 12 2 ∷ Redisplay None ∷ Insert main_name 1 [] ∷ Hit 0 0 0 ∷ []) ≡ Err NotShown }
@@ -79,7 +73,6 @@ fn what_is_not_shown_is_not_hit()
 
 /// Two windows side by side on eight lines, the left one with a border, both with mode lines: a line that is put before what they show
 /// moves their starts, so that they show what they showed, at no cost, and the mode lines tell another line and another share.
-#[tactic(auto, unfolding(crate::specs::Screens::laid_out, rd_state::specs::Steps::step, rd_state::specs::Effects::effect_of, rd_tree::specs::Calls::split_tree, rd_tree::specs::Calls::resize_tree, rd_tree::specs::Calls::mode_tree, rd_tree::specs::Calls::margins_tree))]
 fn mode_lines_follow_the_text()
     ensures text { told (row_of 0) (after (Frame 24 5 ∷ Insert main_name 1 (each_in_a_line (codes "12345678")) ∷ ModeLine 0 (Some (codes "%b %l %p")) ∷ Split 0 Right 12 ∷ Start 0 5 0 ∷ Start 1 5 0 ∷ Point 0 5 ∷ Point 1 5 ∷ Redisplay None ∷ Insert main_name 1 (48 ∷ 10 ∷ []) ∷ [])) ≡ Ok (Some (plain_row (codes "3          |3           "))) }
     ensures modes { told (row_of 3) (after (Frame 24 5 ∷ Insert main_name 1 (each_in_a_line (codes "12345678")) ∷ ModeLine 0 (Some (codes "%b %l %p")) ∷ Split 0 Right 12 ∷ Start 0 5 0 ∷ Start 1 5 0 ∷ Point 0 5 ∷ Point 1 5 ∷ Redisplay None ∷ Insert main_name 1 (48 ∷ 10 ∷ []) ∷ [])) ≡ Ok (Some (inverted (codes "main 4 36%  main 4 36%  "))) }

@@ -1,4 +1,6 @@
 //! The definitions on worked examples.
+#![tactic(auto, unfolding(crate::specs::Steps::step, crate::specs::Effects::effect_of, rd_tree::specs::Calls::split_tree, rd_tree::specs::Calls::remove_tree, rd_tree::specs::Calls::resize_tree, rd_tree::specs::Calls::mode_tree, rd_tree::specs::Calls::margins_tree))]
+
 ghost use Rattle.std.specs.Prelude.{◌≡◌, true, false, ◌∷◌, [], None, Some, Ok, Err, pos, negsuc, codes, map};
 ghost use Rattle.rd_overlays.specs.declared.overlay.Kind.TheVariants.{Face};
 ghost use Rattle.rd_script.specs.declared.op.Op.TheVariants.{Frame, Buffer, Insert, InsertRaw, TypeText, Delete, Narrow, Widen, Put, Overlay as MakeOverlay, OverlayMove, OverlayDrop, OverlayPut, Split, Remove, Select, Show, Start, Scroll, ModeLine, Echo, Margin, MarginPut};
@@ -13,7 +15,6 @@ ghost use Rattle.rd_state.specs.Effects.{effect_of};
 ghost use Rattle.rd_state.specs.Examples.{after, told, shown_text};
 
 /// A text is put in and narrowed: the point is brought into the range, and stays there when the whole text is accessible again.
-#[tactic(auto, unfolding(crate::specs::Steps::step, rd_tree::specs::Calls::split_tree, rd_tree::specs::Calls::remove_tree, rd_tree::specs::Calls::resize_tree, rd_tree::specs::Calls::mode_tree, rd_tree::specs::Calls::margins_tree))]
 fn narrowing_brings_points_in()
     ensures text { told shown_text (after (Insert main_name 1 (codes "abcde") ∷ Narrow main_name 2 5 ∷ [])) ≡ Ok (record { text = codes "abcde"; begin = 2; end = 5 }) }
     ensures point { told (λ s. (selected_window s).point) (after (Insert main_name 1 (codes "abcde") ∷ Narrow main_name 2 5 ∷ Widen main_name ∷ [])) ≡ Ok 2 }
@@ -21,7 +22,6 @@ fn narrowing_brings_points_in()
 {}
 
 /// What typing moves, and that what stands at the place of an insertion stays.
-#[tactic(auto, unfolding(crate::specs::Steps::step, rd_tree::specs::Calls::split_tree, rd_tree::specs::Calls::remove_tree, rd_tree::specs::Calls::resize_tree, rd_tree::specs::Calls::mode_tree, rd_tree::specs::Calls::margins_tree))]
 fn points_move_with_the_text()
     ensures typed { told (λ s. (selected_window s).point) (after (TypeText (codes "abc") ∷ [])) ≡ Ok 4 }
     ensures stays { told (λ s. (selected_window s).point) (after (TypeText (codes "abc") ∷ Insert main_name 4 (codes "d") ∷ [])) ≡ Ok 4 }
@@ -34,7 +34,6 @@ fn points_move_with_the_text()
 {}
 
 /// Refusals, each the first of its op's.
-#[tactic(auto, unfolding(crate::specs::Steps::step, rd_tree::specs::Calls::split_tree, rd_tree::specs::Calls::remove_tree, rd_tree::specs::Calls::resize_tree, rd_tree::specs::Calls::mode_tree, rd_tree::specs::Calls::margins_tree))]
 fn refusals_come_in_order()
     ensures name { after (Buffer main_name ∷ []) ≡ Err NameTaken }
     ensures buffer { after (Show 0 (codes "x") ∷ []) ≡ Err NoBuffer }
@@ -54,7 +53,6 @@ fn refusals_come_in_order()
 {}
 
 /// A window is split, and its part removed.
-#[tactic(auto, unfolding(crate::specs::Steps::step, rd_tree::specs::Calls::split_tree, rd_tree::specs::Calls::remove_tree, rd_tree::specs::Calls::resize_tree, rd_tree::specs::Calls::mode_tree, rd_tree::specs::Calls::margins_tree))]
 fn windows_are_split_and_removed()
     ensures heir { told (λ s. s.selected) (after (Frame 24 6 ∷ Split 0 Right 11 ∷ Remove 0 ∷ [])) ≡ Ok 1 }
     ensures left { told (λ s. leaves s.tree.windows) (after (Frame 24 6 ∷ Split 0 Right 11 ∷ Remove 0 ∷ [])) ≡ Ok (1 ∷ []) }
@@ -65,7 +63,6 @@ fn windows_are_split_and_removed()
 {}
 
 /// The effects of ops.
-#[tactic(auto, unfolding(crate::specs::Steps::step, crate::specs::Effects::effect_of))]
 fn effects_tell_changes()
     ensures typed { told (λ s. effect_of s (TypeText (codes "de"))) (after (TypeText (codes "abc") ∷ [])) ≡ Ok (Edit 0 4 0 2) }
     ensures deleted { told (λ s. effect_of s (Delete main_name 2 4)) (after (TypeText (codes "abc") ∷ [])) ≡ Ok (Edit 0 2 2 0) }
