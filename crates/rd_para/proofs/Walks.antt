@@ -2,10 +2,10 @@
 use Rattle.std.proofs.Common.{◌≡◌, ℕ, zero, suc, ◌+◌, ◌-◌, ◌<◌, ◌≤◌, ◌⊎◌, Bool, true, false, ◌||◌, not, if◌then◌else◌, List, ◌∷◌, length, get_or, inl, inr, None, refl, sym, ap, subst, ◌∙◌, arith}
 use Rattle.std.specs.Prelude.{unwrap_or, max}
 use Rattle.std.specs.List.{slice_split}
-use Rattle.std.proofs.lemmas.Bool.{cases_lt, cases_Bool, or_right}
+use Rattle.std.proofs.lemmas.Bool.{both_ways, cases_lt, cases_Bool, or_right}
 use Rattle.std.specs.Option.{option_or}
 use Rattle.rd_text.specs.Texts.{TextValue, IsText, between, is_newline, is_ink, is_separator, next_newline, prev_newline, prev_ink, IsLineStart, EndsSeparator, IsParagraphStart}
-use Rattle.rd_text.proofs.Characters.{clash, blank_else, blank_not_ink, newline_not_ink}
+use Rattle.rd_text.proofs.Characters.{blank_else, blank_not_ink, newline_not_ink}
 use Rattle.rd_text.proofs.Searches.{next_bound, next_before, next_at, ink_after, ink_at, prev_after, prev_at, prev_bound, prev_ink_bound, between_size, all_blank, some_ink, blank_at}
 use Rattle.rd_ucd.specs.declared.spans.Span.{Span}
 use Rattle.rd_para.specs.Known.{IsKnown}
@@ -48,7 +48,7 @@ ends_within t right pos from low high at upto = elim (cases_lt (next_newline t p
       let (order, last) = next_bound t right pos low high in
       let (from_order, from_last) = next_bound t right from at (omega arith) in
       let here = next_at t right pos low high (omega arith) in
-      clash _ here (next_before t right from (next_newline t pos) at (omega arith) (omega arith) past (omega arith))
+      absurd (both_ways _ (next_before t right from (next_newline t pos) at (omega arith) (omega arith) past (omega arith)) here)
 ]
 
 module _ (classes : List Span) (t : TextValue) (right : IsText t) where
@@ -105,7 +105,7 @@ module _ (classes : List Span) (t : TextValue) (right : IsText t) where
       → ReachedBehind classes t to
   reach zero from to room r begins low less high newline = absurd (omega arith)
   reach (suc n) from to room r begins low less high newline = elim (cases_lt (to - 1) (next_newline t from)) [
-    | inl past ↦ clash _ newline (next_before t right from (to - 1) low (omega arith) (omega arith) past (omega arith))
+    | inl past ↦ absurd (both_ways _ (next_before t right from (to - 1) low (omega arith) (omega arith) past (omega arith)) newline)
     | inr found ↦
         let (order, inside) = next_bound t right from low (omega arith) in
         elim (cases_lt (next_newline t from + 1) to) [
@@ -138,7 +138,7 @@ module _ (classes : List Span) (t : TextValue) (right : IsText t) where
         | inr not_past ↦ not_past
         | inl past ↦ elim e.begins [
           | inl is ↦ absurd (omega arith)
-          | inr line ↦ clash _ line.1 (b.clear (e.start - 1) (omega arith) (omega arith))
+          | inr line ↦ absurd (both_ways _ (b.clear (e.start - 1) (omega arith) (omega arith)) line.1)
         ]
       ] in
       let blank : is_separator (between t b.start (start - 1)) ≡ true
@@ -247,13 +247,13 @@ module _ (classes : List Span) (t : TextValue) (right : IsText t) where
           | inr some ↦
               let some_at = some.0 in
               elim (cases_lt place to) [
-                | inl inner ↦ clash _ some.1 (blank_not_ink (get_or t.text (place - 1) 0) (blank_at t right start to place first reaches inner inside blank))
+                | inl inner ↦ absurd (both_ways _ (blank_not_ink (get_or t.text (place - 1) 0) (blank_at t right start to place first reaches inner inside blank)) some.1)
                 | inr outer ↦ elim (cases_lt to t.end) [
                   | inr last ↦ absurd (omega arith)
                   | inl more ↦
                       let past = past_place start (omega arith) begins_line (omega arith) more blank in
                       let same : place ≡ to = omega arith in
-                      clash _ some.1 (newline_not_ink (get_or t.text (place - 1) 0) (ap (λ (n : ℕ). is_newline (get_or t.text (n - 1) 0)) same ∙ next_at t right start first (omega arith) more))
+                      absurd (both_ways _ (newline_not_ink (get_or t.text (place - 1) 0) (ap (λ (n : ℕ). is_newline (get_or t.text (n - 1) 0)) same ∙ next_at t right start first (omega arith) more)) some.1)
                 ]
               ]
         ]
@@ -311,7 +311,7 @@ start_before t right pos ink place start low high ink_is place_is begins = elim 
       let b_order = begins.order in
       elim begins.begins [
         | inl is ↦ absurd (omega arith)
-        | inr e ↦ clash _ e.newline (next_before t right pos (start - 1) low high (omega arith) (omega arith) (omega arith))
+        | inr e ↦ absurd (both_ways _ (next_before t right pos (start - 1) low high (omega arith) (omega arith) (omega arith)) e.newline)
       ]
 ]
 
@@ -346,11 +346,11 @@ prev_is t right start pos low order high begins clear =
     let (least, most) = prev_bound t right pos (omega arith) high in
     elim (cases_lt start (prev_newline t pos)) [
       | inl past ↦
-          clash _ (prev_at t right pos (omega arith) high (omega arith)) (clear (prev_newline t pos - 1) (omega arith) (omega arith))
+          absurd (both_ways _ (clear (prev_newline t pos - 1) (omega arith) (omega arith)) (prev_at t right pos (omega arith) high (omega arith)))
       | inr fine ↦ elim begins [
         | inl is ↦ omega arith
         | inr line ↦ elim (cases_lt (prev_newline t pos) start) [
-          | inl short ↦ clash _ line.1 (prev_after t right pos (start - 1) (omega arith) high (omega arith) (omega arith))
+          | inl short ↦ absurd (both_ways _ (prev_after t right pos (start - 1) (omega arith) high (omega arith) (omega arith)) line.1)
           | inr long ↦ omega arith
         ]
       ]
