@@ -5,7 +5,7 @@ use Rattle.std.proofs.lemmas.Bool.{both_ways, cases_lt}
 use Rattle.std.proofs.lemmas.Option.{same_Some}
 use Rattle.rd_props.specs.Buffers.{BufferValue}
 use Rattle.rd_items.specs.Readings.{ends_block}
-use Rattle.rd_items.specs.Blocks.{blocks_from, blocks_of, Adjoin, is_shown_newline, StartsBlock, EndsBlock, IsBlock, ListedLaw}
+use Rattle.rd_items.specs.Blocks.{blocks_from, blocks_of, Adjoin, is_shown_newline, StartsBlock, EndsBlock, IsBlock, AreBlocksOf, ListedLaw}
 use Rattle.rd_items.proofs.Newlines.{AreInside, both-inside, one-inside}
 use Rattle.rd_items.proofs.Readings.{newline-ends}
 
@@ -105,24 +105,20 @@ open-more s start p n is none = record {
   inside = both-inside s start p (suc p) is.inside (one-inside s p (newline-ends s p (omega (arith, is.far)) ∙ none));
 }
 
--- what holds of each block of a list
-abbrev AreBlocks : BufferValue → List (ℕ × ℕ) → Type 0
-AreBlocks s bs = (k : ℕ) (b : ℕ × ℕ) → slice_get bs k ≡ Some b → IsBlock s b.0 b.1
-
-blocks-cons : (s : BufferValue) (a : ℕ × ℕ) (bs : List (ℕ × ℕ)) → IsBlock s a.0 a.1 → AreBlocks s bs → AreBlocks s (a ∷ bs)
+blocks-cons : (s : BufferValue) (a : ℕ × ℕ) (bs : List (ℕ × ℕ)) → IsBlock s a.0 a.1 → AreBlocksOf s bs → AreBlocksOf s (a ∷ bs)
 blocks-cons s a bs first rest = by-place where
   by-place : (k : ℕ) (b : ℕ × ℕ) → slice_get (a ∷ bs) k ≡ Some b → IsBlock s b.0 b.1
   by-place zero b found = subst (λ (x : ℕ × ℕ). IsBlock s x.0 x.1) (same_Some a b found) first
   by-place (suc k) b found = rest k b found
 
-blocks-nil : (s : BufferValue) → AreBlocks s []
+blocks-nil : (s : BufferValue) → AreBlocksOf s []
 blocks-nil s = λ k b found. cc
 
-are-blocks : (s : BufferValue) (n start p : ℕ) → IsOpen s start p n → AreBlocks s (blocks_from s start n p)
+are-blocks : (s : BufferValue) (n start p : ℕ) → IsOpen s start p n → AreBlocksOf s (blocks_from s start n p)
 are-blocks s zero start p is = blocks-cons s (start, suc p) [] (last-block s start p is) (blocks-nil s)
 are-blocks s (suc n) start p is =
     by-end (ends_block s p) refl (λ next. are-blocks s n (suc p) (suc p) next) (λ more. are-blocks s n start (suc p) more) where
-      by-end : (ends : Bool) → ends_block s p ≡ ends → (IsOpen s (suc p) (suc p) n → AreBlocks s (blocks_from s (suc p) n (suc p))) → (IsOpen s start (suc p) n → AreBlocks s (blocks_from s start n (suc p))) → AreBlocks s (if ends then (start, suc p) ∷ blocks_from s (suc p) n (suc p) else blocks_from s start n (suc p))
+      by-end : (ends : Bool) → ends_block s p ≡ ends → (IsOpen s (suc p) (suc p) n → AreBlocksOf s (blocks_from s (suc p) n (suc p))) → (IsOpen s start (suc p) n → AreBlocksOf s (blocks_from s start n (suc p))) → AreBlocksOf s (if ends then (start, suc p) ∷ blocks_from s (suc p) n (suc p) else blocks_from s start n (suc p))
       by-end true e next more = blocks-cons s (start, suc p) (blocks_from s (suc p) n (suc p)) (first-block s start p n is e) (next (open-next s start p n is e))
       by-end false e next more = more (open-more s start p n is e)
 
@@ -137,7 +133,7 @@ adjoining s (suc n) start p low far =
 -- each of the list is a block, and each block is listed
 pub blocks-listed : ListedLaw
 blocks-listed s ordered = record { blocks = blocks; every = every; adjoin = adjoin } where
-  blocks : AreBlocks s (blocks_of s)
+  blocks : AreBlocksOf s (blocks_of s)
   blocks = are-blocks s (s.text.end - s.text.begin) s.text.begin s.text.begin
       (record { low = omega arith; order = omega arith; far = omega arith; begins = inl refl; inside = λ q a b. absurd (omega arith) })
 

@@ -61,10 +61,14 @@ pub record IsFirstEnd (s : BufferValue) (p to : ℕ) : Type 0 where
   pub inside : (q : ℕ) → p ≤ q → suc q < to → is_shown_newline s q ≡ false
   pub ends : EndsBlock s to
 
+-- each of these is a block
+abbrev pub AreBlocksOf : BufferValue → List (ℕ × ℕ) → Type 0
+AreBlocksOf s bs = (k : ℕ) (b : ℕ × ℕ) → slice_get bs k ≡ Some b → IsBlock s b.0 b.1
+
 -- the blocks of a text are those of its list, which stand one behind the other from the beginning of the accessible text to its end,
 -- which counts as a position
 pub record AreListed (s : BufferValue) : Type 0 where
-  pub blocks : (k : ℕ) (b : ℕ × ℕ) → slice_get (blocks_of s) k ≡ Some b → IsBlock s b.0 b.1
+  pub blocks : AreBlocksOf s (blocks_of s)
   pub every : (from to : ℕ) → IsBlock s from to → (k : ℕ) × (slice_get (blocks_of s) k ≡ Some (from, to))
   pub adjoin : Adjoin s.text.begin (s.text.end + 1) (blocks_of s)
 

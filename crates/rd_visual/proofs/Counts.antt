@@ -10,7 +10,7 @@ use Rattle.rd_ucd.specs.Data.{Data}
 use Rattle.rd_objects.specs.Things.{ObjectLists}
 use Rattle.rd_text.specs.Texts.{IsText, IsAccessible}
 use Rattle.rd_props.specs.Buffers.{BufferValue}
-use Rattle.rd_items.specs.Blocks.{Adjoin, IsBlock, blocks_of}
+use Rattle.rd_items.specs.Blocks.{Adjoin, AreBlocksOf, blocks_of}
 use Rattle.rd_items.specs.Items.{items_of}
 use Rattle.rd_items.specs.Pieces.{scene_in}
 use Rattle.rd_items.specs.Readings.{reading}
@@ -85,10 +85,7 @@ module _ (s : BufferValue) (objects : ObjectLists) (files : Data) (are : AreTile
   abbrev pub ranges-in : List (ℕ × ℕ) → List Range
   ranges-in bs = flat_map (block_ranges s objects files) (map (block_in files.classes s) bs)
 
-  abbrev pub AreBlocksOf : List (ℕ × ℕ) → Type 0
-  AreBlocksOf bs = (k : ℕ) (b : ℕ × ℕ) → slice_get bs k ≡ Some b → IsBlock s b.0 b.1
-
-  blocks-count : (pos : ℕ) (bs : List (ℕ × ℕ)) → AreBlocksOf bs → count_by (holds pos) (ranges-in bs) ≡ count_by (holds pos) (covered bs)
+  blocks-count : (pos : ℕ) (bs : List (ℕ × ℕ)) → AreBlocksOf s bs → count_by (holds pos) (ranges-in bs) ≡ count_by (holds pos) (covered bs)
   blocks-count pos [] blocks = refl
   blocks-count pos (b ∷ bs) blocks =
       let at = block_in files.classes s b in
