@@ -1,7 +1,6 @@
 -- Where the same is seen at the positions of a block, the same is read of it.
-use Rattle.std.proofs.Common.{◌≡◌, inr, ℕ, zero, suc, ◌+◌, ◌-◌, ◌<◌, ◌≤◌, true, false, List, [], ◌∷◌, refl, sym, ap, subst, ◌∙◌, arith}
+use Rattle.std.proofs.Common.{◌≡◌, inr, ℕ, zero, suc, ◌+◌, ◌-◌, ◌<◌, ◌≤◌, true, false, List, [], ◌∷◌, sym, ap, subst, ◌∙◌, arith}
 use Rattle.std.specs.Prelude.{pos, ◌-ℤ◌}
-use Rattle.std.proofs.lemmas.Bool.{cond-true}
 use Rattle.std.proofs.lemmas.Int.{ints}
 use Rattle.rd_base.specs.declared.settings.Invisible.{Invisible}
 use Rattle.rd_objects.specs.Things.{ObjectLists}
@@ -9,15 +8,9 @@ use Rattle.rd_props.specs.Agreement.{IsSame, Unchanged}
 use Rattle.rd_props.specs.Buffers.{BufferValue}
 use Rattle.rd_props.specs.Seen.{Seen, seen_at}
 use Rattle.rd_items.specs.Blocks.{IsBlock}
-use Rattle.rd_items.specs.Readings.{is_ender, ends_block, reading_from, reading}
-use Rattle.rd_items.proofs.Readings.{newline-ends, block-ends, reading-more}
+use Rattle.rd_items.specs.Readings.{is_ender, ends_block, reading}
+use Rattle.rd_items.proofs.Readings.{newline-ends, block-ends, reads-one, reading-more}
 use Rattle.rd_reuse.specs.declared.change.Change.{Change}
-
--- ---- what is read from a position on
-
-reads-one : (s : BufferValue) (o : ObjectLists) (n p : ℕ) → ends_block s p ≡ true → reading_from s o n p ≡ seen_at s o p ∷ []
-reads-one s o zero p e = refl
-reads-one s o (suc n) p e = ap (λ (es : List Seen). seen_at s o p ∷ es) (cond-true (ends_block s p) [] (reading_from s o n (suc p)) e)
 
 -- ---- two readings
 

@@ -8,10 +8,7 @@ use Rattle.rd_objects.specs.Things.{ObjectLists}
 use Rattle.rd_props.specs.Seen.{Seen, seen_at}
 use Rattle.rd_items.specs.Readings.{is_ender, ends_block, reading_from, reading, IsReading}
 use Rattle.rd_items.specs.Blocks.{IsBlock, IsFirstEnd}
-use Rattle.rd_items.proofs.Readings.{end-ends, newline-ends, block-ends}
-
-read-one : (s : BufferValue) (o : ObjectLists) (n p : ℕ) → ends_block s p ≡ true → length (reading_from s o (suc n) p) ≡ 1
-read-one s o n p ender = ap (λ (es : List Seen). suc (length es)) (cond-true (ends_block s p) [] (reading_from s o n (suc p)) ender)
+use Rattle.rd_items.proofs.Readings.{end-ends, newline-ends, block-ends, reads-one}
 
 read-more : (s : BufferValue) (o : ObjectLists) (n p : ℕ) → ends_block s p ≡ false → length (reading_from s o (suc n) p) ≡ suc (length (reading_from s o n (suc p)))
 read-more s o n p ender = ap (λ (es : List Seen). suc (length es)) (cond-false (ends_block s p) [] (reading_from s o n (suc p)) ender)
@@ -28,7 +25,7 @@ reach s o (suc n) p to far rest = elim (cases_lt (suc p) to) [
       omega arith
   | inr least ↦
       let some = rest.first in
-      let one = read-one s o n p (block-ends s o p to (omega arith) rest.ends) in
+      let one = ap length (reads-one s o (suc n) p (block-ends s o p to (omega arith) rest.ends)) in
       omega arith
 ]
 

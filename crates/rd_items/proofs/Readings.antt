@@ -1,7 +1,7 @@
 -- What is read of a buffer, by what is seen at its positions.
-use Rattle.std.proofs.Common.{◌≡◌, inl, inr, ℕ, ◌-◌, ◌<◌, ◌≤◌, true, false, if◌then◌else◌, List, [], ◌∷◌, None, sym, ap, ◌∙◌, arith, All}
+use Rattle.std.proofs.Common.{◌≡◌, inl, inr, ℕ, ◌-◌, ◌<◌, ◌≤◌, true, false, if◌then◌else◌, List, [], ◌∷◌, None, refl, sym, ap, ◌∙◌, arith, All}
 use Rattle.std.specs.Prelude.{zero, suc, nat_lt}
-use Rattle.std.proofs.lemmas.Bool.{and_from, and_parts, both_ways, cond-false}
+use Rattle.std.proofs.lemmas.Bool.{and_from, and_parts, both_ways, cond-true, cond-false}
 use Rattle.std.proofs.lemmas.Bool.Decides.{nat_tests}
 use Rattle.std.proofs.lemmas.List.Elements.{All-nil, All-cons}
 use Rattle.rd_base.proofs.Choices.{either}
@@ -49,6 +49,11 @@ block-ends s o p to here (inl end) = let place : p ≡ s.text.end = omega (arith
 block-ends s o p to here (inr newline) =
     let place : to - 1 ≡ p = omega (arith, here) in
     (and_parts (nat_lt p s.text.end) (ends_block s p) (ap (is_shown_newline s) (sym place) ∙ newline)).1
+
+-- at an ender what is seen there is read, and nothing else
+pub reads-one : (s : BufferValue) (o : ObjectLists) (n p : ℕ) → ends_block s p ≡ true → reading_from s o n p ≡ seen_at s o p ∷ []
+reads-one s o zero p e = refl
+reads-one s o (suc n) p e = ap (λ (es : List Seen). seen_at s o p ∷ es) (cond-true (ends_block s p) [] (reading_from s o n (suc p)) e)
 
 -- a position that is no ender stands before the end
 pub before-end : (s : BufferValue) (o : ObjectLists) (p : ℕ) → p ≤ s.text.end → ends_block s p ≡ false → p < s.text.end

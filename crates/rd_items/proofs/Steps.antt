@@ -14,7 +14,7 @@ use Rattle.rd_items.specs.declared.item.Item.{Item}
 use Rattle.rd_items.specs.Readings.{showing_of, showing_at, is_open, ends_line, ends_block, reading_from, reading}
 use Rattle.rd_items.specs.Pieces.{Scene, scene_in, string_pieces, piece_at, goes_on, run_length, pieces_from}
 use Rattle.rd_items.specs.Walks.{pieces_left}
-use Rattle.rd_items.proofs.Readings.{before-end, end-open, reading-more}
+use Rattle.rd_items.proofs.Readings.{before-end, end-open, reads-one, reading-more}
 use Rattle.rd_items.proofs.Runs.{open-stops, ender-open}
 
 -- the scene of a buffer, and the pieces of a position at an offset and of those after it
@@ -81,13 +81,6 @@ reading-behind s o p within = by-place (s.text.end - p) where
   by-place zero = refl
   by-place (suc n) = refl
 
--- nothing is read behind an ender
-pub behind-ender : (s : BufferValue) (o : ObjectLists) (p : ℕ) → p ≤ s.text.end → ends_block s p ≡ true → drop 1 (reading s o p) ≡ []
-behind-ender s o p within ender = by-place (s.text.end - p) where
-  by-place : (n : ℕ) → drop 1 (reading_from s o n p) ≡ []
-  by-place zero = refl
-  by-place (suc n) = rw ender
-
 -- how far the run of a position goes behind it
 abbrev run_behind : BufferValue → ObjectLists → ℕ → ℕ
 run_behind s o p = run_length s.settings.invisible (showing_at s o p) (drop 1 (reading s o p))
@@ -130,7 +123,7 @@ is-ender s o p showing ch ends shown here e = rw (shown, here) at e
 
 pub step-ends : (s : BufferValue) (o : ObjectLists) (d : Data) (start p to : ℕ) (showing : Showing) (x : Piece) (before mid after : List Piece → List Item) → IsStep s o d start p to showing x before mid after → ends_block s p ≡ true → after [] ≡ before (pieces_left s (scene s o d) start p)
 step-ends s o d start p to showing x before mid after is ender =
-    let none = behind-ender s o p is.last ender in
+    let none = ap (drop 1) (reads-one s o (s.text.end - p) p ender) in
     let parts = left-parts s o d (p - start) p is.last in
     let rest : pieces_from (scene s o d) (run_behind s o p) (suc (p - start)) (drop 1 (reading s o p)) ≡ [] = rw none in
     made s o d start p to showing x before mid after [] is ∙ ap before (sym (rw rest at parts))
