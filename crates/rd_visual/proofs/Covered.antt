@@ -17,7 +17,7 @@ use Rattle.rd_matrix.specs.declared.matrix.Entry.{Entry}
 use Rattle.rd_rows.specs.Rows.{RowMeaning}
 use Rattle.rd_rows.specs.Shapes.{ShapeValues, IsShape}
 use Rattle.rd_rows.specs.declared.begin.Begin.{Begin}
-use Rattle.rd_visual.specs.Hits.{AreInPositions, AreInRow, AreAdjacentRows, Fits, begins_at, covers_some, hit_in, item_at, item_of_cell, least_at, reading_column}
+use Rattle.rd_visual.specs.Hits.{AreInPositions, AreInRow, AreAdjacentRows, Fits, begins_at, covers_some, hit_in, item_at, item_of_cell, least_at}
 use Rattle.rd_visual.proofs.Items.{found-none, item-again, item-alone, item-column, item-member}
 
 covers-parts : (start point : ℕ) (b : Begin) → covers start point b ≡ true → (start + b.from ≤ point) × (point < start + b.to)
@@ -71,11 +71,11 @@ pub record IsHit (es : List EntryMeaning) (row column point : ℕ) : Type 0 wher
   pub item : Begin
   pub there : slice_get es row ≡ Some entry
   pub cell : column < length entry.row.cells
-  pub found : item_at (reading_column entry.row column) entry.row.begins ≡ Some item
+  pub found : item_at (shown_column entry.row column) entry.row.begins ≡ Some item
   pub least : entry.start + item.from ≡ point
 
 hit-column : (es : List EntryMeaning) (row column point : ℕ) (e : EntryMeaning) (q : Bool) (o : Option Begin) → slice_get es row ≡ Some e → nat_lt column (length e.row.cells) ≡ q
-    → item_at (reading_column e.row column) e.row.begins ≡ o → option_map (λ b. e.start + b.from) (cond q o None) ≡ Some point → IsHit es row column point
+    → item_at (shown_column e.row column) e.row.begins ≡ o → option_map (λ b. e.start + b.from) (cond q o None) ≡ Some point → IsHit es row column point
 hit-column es row column point e false o there cell found hit = absurd cc
 hit-column es row column point e true None there cell found hit = absurd cc
 hit-column es row column point e true (Some b) there cell found hit =
@@ -91,7 +91,7 @@ hit-parts es row column point hit = by (slice_get es row) refl hit where
 hit-of : (es : List EntryMeaning) (row column : ℕ) (o : Option EntryMeaning) → slice_get es row ≡ o → hit_in es row column ≡ option_and_then (λ e. least_at e column) o
 hit-of es row column o there = ap (option_and_then (λ (e : EntryMeaning). least_at e column)) there
 
-hit-made : (es : List EntryMeaning) (row column : ℕ) (e : EntryMeaning) (b : Begin) → slice_get es row ≡ Some e → column < length e.row.cells → item_at (reading_column e.row column) e.row.begins ≡ Some b
+hit-made : (es : List EntryMeaning) (row column : ℕ) (e : EntryMeaning) (b : Begin) → slice_get es row ≡ Some e → column < length e.row.cells → item_at (shown_column e.row column) e.row.begins ≡ Some b
     → hit_in es row column ≡ Some (e.start + b.from)
 hit-made es row column e b there cell found =
     let lt : nat_lt column (length e.row.cells) ≡ true = grind (arith, nat_tests) in
@@ -108,22 +108,22 @@ hit-entry es row column e there = hit-of (shown_entries es) row column (Some (sh
 pub fits-entry : (es : List Entry) (row : ℕ) (e : Entry) → AreInPositions (shown_entries es) → slice_get es row ≡ Some e → AreInRow (shown_entry e)
 fits-entry es row e fits there = all-at AreInRow (shown_entries es) row (shown_entry e) fits (entry-at es row e there)
 
-some-cell : (row : RowMeaning) (column : ℕ) (b : Begin) (q : Bool) → nat_lt column (length row.cells) ≡ q → item_of_cell row column ≡ Some b → item_at (reading_column row column) row.begins ≡ Some b
-some-cell row column b true cell found = subst (λ (t : Bool). cond t (item_at (reading_column row column) row.begins) None ≡ Some b) cell found
-some-cell row column b false cell found = let e : None ≡ Some b = subst (λ (t : Bool). cond t (item_at (reading_column row column) row.begins) None ≡ Some b) cell found in absurd cc
+some-cell : (row : RowMeaning) (column : ℕ) (b : Begin) (q : Bool) → nat_lt column (length row.cells) ≡ q → item_of_cell row column ≡ Some b → item_at (shown_column row column) row.begins ≡ Some b
+some-cell row column b true cell found = subst (λ (t : Bool). cond t (item_at (shown_column row column) row.begins) None ≡ Some b) cell found
+some-cell row column b false cell found = let e : None ≡ Some b = subst (λ (t : Bool). cond t (item_at (shown_column row column) row.begins) None ≡ Some b) cell found in absurd cc
 
 pub item-fits : (start : ℕ) (row : RowMeaning) (column : ℕ) (b : Begin) → All (Fits start) row.begins → item_of_cell row column ≡ Some b → start + b.from < 4294967296
 item-fits start row column b fits found =
     let at = some-cell row column b _ refl found in
-    let one = item-member (reading_column row column) row.begins b at in
-    let some = (item-column (reading_column row column) row.begins b at).0 in
+    let one = item-member (shown_column row column) row.begins b at in
+    let some = (item-column (shown_column row column) row.begins b at).0 in
     let order : b.from < b.to = grind (arith, nat_tests) in
     let end : start + b.to < 4294967296 = all-at (Fits start) row.begins one.place b fits one.there in
     omega (arith, order, end)
 
 -- a reading column and the cell in which it is shown
 
-shown-read : (row : RowMeaning) (column : ℕ) (q : Bool) → row.reversed ≡ q → column < length row.cells → reading_column row (shown_column row column) ≡ column
+shown-read : (row : RowMeaning) (column : ℕ) (q : Bool) → row.reversed ≡ q → column < length row.cells → shown_column row (shown_column row column) ≡ column
 shown-read row column false q low = rw q refl
 shown-read row column true q low = rw q (omega (arith, low))
 
@@ -146,14 +146,14 @@ comes-back m shape es row column point source is rows hit =
     let h = hit-parts es row column point hit in
     let e : EntryMeaning = h.entry in
     let b : Begin = h.item in
-    let one = item-member (reading_column e.row column) e.row.begins b h.found in
-    let parts = item-column (reading_column e.row column) e.row.begins b h.found in
+    let one = item-member (shown_column e.row column) e.row.begins b h.found in
+    let parts = item-column (shown_column e.row column) e.row.begins b h.found in
     let before = parts.1 in
     let inner = shown-in e.row column _ refl h.cell in
     let low : b.column < length e.row.cells = omega (arith, before, inner) in
     let covered : covers e.start point b ≡ true = subst (λ (p : ℕ). covers e.start p b ≡ true) h.least (covers-least e.start b parts.0) in
     let read = shown-read e.row b.column _ refl low in
-    let again : item_at (reading_column e.row (shown_column e.row b.column)) e.row.begins ≡ Some b = ap (λ c. item_at c e.row.begins) read ∙ item-again (reading_column e.row column) e.row.begins b h.found in (
+    let again : item_at (shown_column e.row (shown_column e.row b.column)) e.row.begins ≡ Some b = ap (λ c. item_at c e.row.begins) read ∙ item-again (shown_column e.row column) e.row.begins b h.found in (
       shown_column e.row b.column,
       cursor-there point row es e one.place b (few-at m shape es point source is rows) h.there one.there covered,
       hit-made es row (shown_column e.row b.column) e b h.there (shown-in e.row b.column _ refl low) again ∙ ap Some h.least,
@@ -165,10 +165,10 @@ second-of (Some place) = place.1
 
 pub shows-item : (m : SourceValues) (shape : ShapeValues) (es : List EntryMeaning) (row column point : ℕ) (e : EntryMeaning) (k : ℕ) (b : Begin) → IsSource m → IsShape shape → AreAdjacentRows m shape es
     → cursor_in point es ≡ Some (row, column) → slice_get es row ≡ Some e → slice_get e.row.begins k ≡ Some b → covers e.start point b ≡ true → b.column < length e.row.cells
-    → count_by (begins_at (reading_column e.row column)) e.row.begins ≤ 1 → hit_in es row column ≡ Some (e.start + b.from)
+    → count_by (begins_at (shown_column e.row column)) e.row.begins ≤ 1 → hit_in es row column ≡ Some (e.start + b.from)
 shows-item m shape es row column point e k b source is rows cursor there place covered low alone =
     let at = cursor-there point row es e k b (few-at m shape es point source is rows) there place covered in
     let column-at : column ≡ shown_column e.row b.column = ap second-of (sym cursor ∙ at) in
-    let read : b.column ≡ reading_column e.row column = sym (shown-read e.row b.column _ refl low) ∙ ap (reading_column e.row) (sym column-at) in
+    let read : b.column ≡ shown_column e.row column = sym (shown-read e.row b.column _ refl low) ∙ ap (shown_column e.row) (sym column-at) in
     let cell : column < length e.row.cells = subst (λ (c : ℕ). c < length e.row.cells) (sym column-at) (shown-in e.row b.column _ refl low) in
-    hit-made es row column e b there cell (item-alone (reading_column e.row column) e.row.begins k b place (covers-some e.start point b covered) read alone)
+    hit-made es row column e b there cell (item-alone (shown_column e.row column) e.row.begins k b place (covers-some e.start point b covered) read alone)

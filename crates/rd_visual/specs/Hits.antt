@@ -28,13 +28,10 @@ abbrev pub item_at : ℕ → List Begin → Option Begin
 item_at column [] = None
 item_at column (b ∷ bs) = nearer (if reaches column b then Some b else None) (item_at column bs)
 
--- the reading column of a cell: the same column, and that as far from the right edge in a row that is read from there
-abbrev pub reading_column : RowMeaning → ℕ → ℕ
-reading_column row column = shown_column row column
-
--- the item of a cell of a row, and None where the row has no such cell
+-- the item of a cell of a row, and None where the row has no such cell; the reading column of a cell is its own column, and in a row
+-- that is read from the right edge it lies as far from there
 abbrev pub item_of_cell : RowMeaning → ℕ → Option Begin
-item_of_cell row column = if nat_lt column (length row.cells) then item_at (reading_column row column) row.begins else None
+item_of_cell row column = if nat_lt column (length row.cells) then item_at (shown_column row column) row.begins else None
 
 -- the least position that the item of a cell covers
 abbrev pub least_at : EntryMeaning → ℕ → Option ℕ

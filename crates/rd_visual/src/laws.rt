@@ -1,7 +1,7 @@
 //! Laws of hits, over rows of every source, and of motion. The calls do nothing.
 ghost use Rattle.std.specs.Prelude.{◌≡◌, ℕ, ◌+◌, ◌<◌, ◌≤◌, Bool, true, List, All, count_by, slice_get, Some};
 ghost use Rattle.rd_base.specs.declared.element.Element.{Element};
-ghost use Rattle.rd_matrix.specs.Columns.{covers};
+ghost use Rattle.rd_matrix.specs.Columns.{covers, shown_column};
 ghost use Rattle.rd_matrix.specs.Cursors.{cursor_in};
 ghost use Rattle.rd_matrix.specs.Entries.{EntryMeaning};
 ghost use Rattle.rd_matrix.specs.Sources.{SourceValues, IsSource};
@@ -21,7 +21,7 @@ ghost use Rattle.rd_visual.specs.Motion.{all_ranges, backward, base_in, block_ra
 ghost use Rattle.rd_visual.specs.Tiles.{AreTiled, CoverOnce};
 ghost use Rattle.rd_visual.specs.Order.{EndsWithEnder, StandBetween, block_items, ordered_ranges};
 ghost use Rattle.rd_visual.specs.declared.range.Range.{Range};
-ghost use Rattle.rd_visual.specs.Hits.{AreAdjacentRows, begins_at, hit_in, reading_column};
+ghost use Rattle.rd_visual.specs.Hits.{AreAdjacentRows, begins_at, hit_in};
 
 use rd_blocks::buffers_are_sources;
 use rd_items::{blocks_are_listed, blocks_are_read_whole, items_cover_their_block};
@@ -41,7 +41,7 @@ pub fn a_cell_shows_its_item()
         → IsText s.text → IsShape shape → AreAdjacentRows (text_source s objects files) shape es
         → cursor_in point es ≡ Some (row, column)
         → slice_get es row ≡ Some e → slice_get e.row.begins k ≡ Some b → covers e.start point b ≡ true
-        → count_by (begins_at (reading_column e.row column)) e.row.begins ≤ 1
+        → count_by (begins_at (shown_column e.row column)) e.row.begins ≤ 1
         → hit_in es row column ≡ Some (e.start + b.from) }
 {
     buffers_are_sources();
