@@ -1,14 +1,15 @@
 -- An op that a line says is in form, and no field of one is refused for want of memory.
-use Rattle.std.proofs.Common.{◌≡◌, ◌≢◌, ℕ, suc, ◌≤◌, ◌<◌, ◌-◌, ◌&&◌, Bool, true, false, ℤ, pos, List, [], ◌∷◌, length, Option, None, Some, Result, Ok, Err, IsTrue, refl, sym, ap, subst, ◌∙◌, arith, unwrap_or, option_and_then, option_map, nat_le, chars, ok_or}
+use Rattle.std.proofs.Common.{◌≡◌, ◌≢◌, ℕ, suc, ◌≤◌, ◌<◌, ◌-◌, ◌&&◌, Bool, true, false, pos, List, [], ◌∷◌, length, Option, None, Some, Result, Ok, Err, IsTrue, refl, sym, ap, subst, ◌∙◌, arith, unwrap_or, option_and_then, option_map, nat_le, chars, ok_or}
 use Rattle.std.proofs.lemmas.Bool.Decides.{nat_tests}
 use Rattle.std.proofs.lemmas.List.Elements.{All-nil, All-cons}
-use Rattle.std.proofs.lemmas.Option.{none-some, cond_some}
+use Rattle.std.proofs.lemmas.Option.{none-some}
 use Rattle.std.specs.Option.{option_zip}
 use Rattle.std.specs.Prelude.{All}
 use Rattle.serde_json.specs.Data.{Data, Items, no_items, item, Members}
+use Rattle.serde_json.specs.Events.{items_len}
 use Rattle.serde_json.specs.Find.{get_member, as_number, as_u64, as_i64, as_bool, as_str, as_array}
-use Rattle.rd_base.proofs.Choices.{map-some, no-free, ok-free}
-use Rattle.rd_base.specs.declared.limits.TheConstants.{ATOMS, CODE_POINTS, HSCROLL_COLUMNS, INVISIBLE_ATOMS, NUMBER_COLUMNS, SCROLL_CONSERVATIVELY, SCROLL_MARGIN, SCROLL_ROWS, START_ROW, STRING_COLUMNS, FRAME_COLUMNS, FRAME_ROWS, LEAST_FRAME_COLUMNS, LEAST_FRAME_ROWS, PRIORITY, STRING_RUNS, TABLE_ENTRIES, SPACE_COLUMNS, TAB_COLUMNS}
+use Rattle.rd_base.proofs.Choices.{kept-some, map-some, no-free, ok-free}
+use Rattle.rd_base.specs.declared.limits.TheConstants.{ATOMS, CODE_POINTS, COLOURS, HSCROLL_COLUMNS, INVISIBLE_ATOMS, NUMBER_COLUMNS, SCROLL_CONSERVATIVELY, SCROLL_MARGIN, SCROLL_ROWS, START_ROW, STRING_COLUMNS, FRAME_COLUMNS, FRAME_ROWS, LEAST_FRAME_COLUMNS, LEAST_FRAME_ROWS, PRIORITY, STRING_RUNS, TABLE_ENTRIES, SPACE_COLUMNS, TAB_COLUMNS}
 use Rattle.rd_base.specs.declared.settings.Invisible.{Invisible}
 use Rattle.rd_base.specs.declared.settings.Invisible.TheVariants.{Every, Listed}
 use Rattle.rd_objects.specs.declared.run.RunKind.{RunKind}
@@ -34,7 +35,7 @@ use Rattle.rd_script.specs.declared.name.ScreenOp.TheVariants as screens
 use Rattle.rd_overlays.specs.declared.overlay.Kind.{Kind}
 use Rattle.rd_overlays.specs.declared.overlay.Kind.TheVariants as kinds
 use Rattle.rd_script.specs.Forms.{is_buffer_name, is_text, is_plain_text, is_text_kind, IsRawByte, IsFormat, IsPropertyValue, is_glyph_text, is_slot, IsWhole, IsStop, IsNumber, IsInvisible, IsSettingInForm, IsSpecInForm, IsRunInForm, IsEntryInForm, IsSlot, IsEllipsis, IsInForm}
-use Rattle.rd_script.specs.Fields.{Fields, kept_if, within, whole, signed, text, plain_text, items_of, buffer_name, word, items_count, consed, each_item, list_of, two_items_of, two_items, four_items_of, four_items, or_bad, required_of, present, optional_of, required, optional, defaulted, and_then, both, made, then_by, value_key}
+use Rattle.rd_script.specs.Fields.{Fields, kept_if, within, whole, signed, text, plain_text, items_of, buffer_name, word, consed, each_item, list_of, two_items_of, two_items, four_items_of, four_items, or_bad, required_of, present, optional_of, required, optional, defaulted, and_then, both, made, then_by, value_key}
 use Rattle.rd_script.specs.Numbers.{is_near_zero}
 use Rattle.rd_script.specs.Objects.{run_kinds, run_of, run, spec_names as spec_words, spec_value, face_of, glyph_text, only, slot, entry_of, entry, slot_field}
 use Rattle.rd_script.specs.Settings.{setting_names as setting_words, direction_names, invisible_by, invisible, value_of as value_of_setting}
@@ -81,25 +82,18 @@ optional_of-free key kind (Some d) = or_bad-free key _
 
 -- ---- kinds of values
 
-kept_if-found : {T : Type 0} (test : T → Bool) (o : Option T) (x : T) → option_and_then (kept_if test) o ≡ Some x → test x ≡ true
-kept_if-found test None x e = absurd (none-some x e)
-kept_if-found test (Some y) x e = let h = cond_some (test y) y x e in subst (λ z. test z ≡ true) h.1 h.0
+kept-finds : {T : Type 0} (test : T → Bool) (of : Data → Option T) → Finds (λ d. option_and_then (kept_if test) (of d)) (λ x. IsTrue (test x))
+kept-finds test of = record { found = λ d x e. kept-some test (of d) x e }
 
 within-finds : (least greatest : ℕ) → Finds (within least greatest) (λ n. (least ≤ n) × (n ≤ greatest))
 within-finds least greatest = record {
   found = λ d n e.
-      let h = kept_if-found (λ n. nat_le least n && nat_le n greatest) (option_and_then as_u64 (as_number d)) n e in
+      let h = kept-some (λ n. nat_le least n && nat_le n greatest) (option_and_then as_u64 (as_number d)) n e in
       (grind (arith, nat_tests), grind (arith, nat_tests));
 }
 
 whole-finds : Finds whole IsWhole
 whole-finds = record { found = λ d n e. ((within-finds 0 18446744073709551615).found d n e).1 }
-
-text-finds : Finds text (λ t. IsTrue (is_text t))
-text-finds = record { found = λ d t e. (kept_if-found is_text (option_map chars (as_str d)) t e) }
-
-buffer_name-finds : Finds buffer_name (λ t. IsTrue (is_buffer_name t))
-buffer_name-finds = record { found = λ d t e. (kept_if-found is_buffer_name (as_str d) t e) }
 
 -- ---- fields
 
@@ -172,10 +166,10 @@ any-finds : {T : Type 0} (kind : Data → Option T) → Finds kind (λ x. Unit {
 any-finds kind = record { found = λ d x e. tt }
 
 name_field : {key : List ℕ} → Gives (required key buffer_name) (λ t. IsTrue (is_buffer_name t))
-name_field = required-gives _ buffer_name _ buffer_name-finds
+name_field = required-gives _ buffer_name _ (kept-finds is_buffer_name as_str)
 
 text_field-gives : Gives text_field (λ t. IsTrue (is_text t))
-text_field-gives = required-gives _ text _ text-finds
+text_field-gives = required-gives _ text _ (kept-finds is_text (λ d. option_map chars (as_str d)))
 
 whole_field : {key : List ℕ} → Gives (required key whole) IsWhole
 whole_field = required-gives _ whole IsWhole whole-finds
@@ -234,37 +228,28 @@ consed-some P (Some x) (Some ys) n xs first rest e =
     (ap length (sym same) ∙ ap suc behind.0, subst (All P) same (All-cons P x ys (first x refl) behind.1))
 
 each-some : {T : Type 0} (kind : Data → Option T) (P : T → Type 0) → Finds kind P → (ds : Items) (xs : List T) → each_item kind ds ≡ Some xs
-    → (length xs ≡ items_count ds) × All P xs
+    → (length xs ≡ items_len ds) × All P xs
 each-some kind P finds no_items xs e = let same : [] ≡ xs = cc in (ap length (sym same), subst (All P) same (All-nil P))
-each-some kind P finds (item d ds) xs e = consed-some P (kind d) (each_item kind ds) (items_count ds) xs (λ x h. finds.found d x h) (λ ys h. each-some kind P finds ds ys h) e
+each-some kind P finds (item d ds) xs e = consed-some P (kind d) (each_item kind ds) (items_len ds) xs (λ x h. finds.found d x h) (λ ys h. each-some kind P finds ds ys h) e
 
 list-finds : {T : Type 0} (most : ℕ) (kind : Data → Option T) (P : T → Type 0) → Finds kind P → Finds (list_of most kind) (λ xs. (length xs ≤ most) × All P xs)
 list-finds most kind P finds = record {
   found = λ d xs e.
-      let ds = bound (each_item kind) (option_and_then (kept_if (λ ds. nat_le (items_count ds) most)) (as_array d)) xs e in
+      let ds = bound (each_item kind) (option_and_then (kept_if (λ ds. nat_le (items_len ds) most)) (as_array d)) xs e in
       let all = each-some kind P finds ds.0 xs ds.2 in
-      let few = kept_if-found (λ ds. nat_le (items_count ds) most) (as_array d) ds.0 ds.1 in
-      let small : items_count ds.0 ≤ most = grind (arith, nat_tests) in
+      let few = kept-some (λ ds. nat_le (items_len ds) most) (as_array d) ds.0 ds.1 in
+      let small : items_len ds.0 ≤ most = grind (arith, nat_tests) in
       (omega (arith, all.0, small), all.1);
 }
 
 -- ---- settings and objects
 
-near-finds : (most : ℤ) → Finds (signed most) (λ z. IsTrue (is_near_zero most z))
-near-finds most = record { found = λ d z e. kept_if-found (is_near_zero most) (option_and_then as_i64 (as_number d)) z e }
-
-glyph_text-finds : Finds glyph_text (λ t. IsTrue (is_glyph_text t))
-glyph_text-finds = record { found = λ d t e. kept_if-found is_glyph_text (option_map chars (as_str d)) t e }
-
-slot-finds : Finds slot (λ c. IsTrue (is_slot c))
-slot-finds = record { found = λ d c e. kept_if-found is_slot (option_and_then only (option_map chars (as_str d))) c e }
-
 entry-finds : Finds entry IsEntryInForm
 entry-finds = mapped-finds entry_of (two_items (within 0 (CODE_POINTS - 1)) glyph_text) (λ x. ((0 ≤ x.0) × (x.0 ≤ CODE_POINTS - 1)) × IsTrue (is_glyph_text x.1)) IsEntryInForm
-    (two-finds (within 0 (CODE_POINTS - 1)) glyph_text _ _ (within-finds 0 (CODE_POINTS - 1)) glyph_text-finds) (λ x h. record { code = let most = h.0.1 in omega arith; text = h.1 })
+    (two-finds (within 0 (CODE_POINTS - 1)) glyph_text _ _ (within-finds 0 (CODE_POINTS - 1)) (kept-finds is_glyph_text (λ d. option_map chars (as_str d)))) (λ x h. record { code = let most = h.0.1 in omega arith; text = h.1 })
 
 slot-gives : {key : List ℕ} → Gives (slot_field key) IsSlot
-slot-gives = optional-gives _ slot _ IsSlot slot-finds tt (λ c h. h)
+slot-gives = optional-gives _ slot _ IsSlot (kept-finds is_slot (λ d. option_and_then only (option_map chars (as_str d)))) tt (λ c h. h)
 
 number-gives : {key : List ℕ} → Gives (optional key whole) IsNumber
 number-gives = optional-gives _ whole IsWhole IsNumber whole-finds tt (λ n h. h)
@@ -302,17 +287,14 @@ spec-gives spec_names.Text key = made-as _ _ _ IsSpecInForm whole_field (λ n h.
 spec-gives spec_names.Width key = made-as _ _ _ IsSpecInForm (range_field 0 SPACE_COLUMNS) (λ n h. h.1)
 spec-gives spec_names.Align key = made-as _ _ _ IsSpecInForm (range_field 0 SPACE_COLUMNS) (λ n h. h.1)
 
-colour-gives : {key : List ℕ} → Gives (defaulted 8 key (within 0 7)) (λ n. n ≤ 8)
-colour-gives = defaulted-gives 8 _ (within 0 7) (λ n. n ≤ 8)
-    (record { found = λ d n e. let h = (within-finds 0 7).found d n e in let most = h.1 in omega arith }) (omega arith)
+colour-gives : {key : List ℕ} → Gives (defaulted COLOURS key (within 0 (COLOURS - 1))) (λ n. n ≤ COLOURS)
+colour-gives = defaulted-gives COLOURS _ (within 0 (COLOURS - 1)) (λ n. n ≤ COLOURS)
+    (record { found = λ d n e. let h = (within-finds 0 (COLOURS - 1)).found d n e in let most = h.1 in omega arith }) (omega arith)
 
 flag-gives : {key : List ℕ} → Gives (defaulted false key as_bool) (λ b. Unit {0})
 flag-gives = defaulted-gives false _ as_bool _ (any-finds as_bool) tt
 
 -- ---- rows
-
-plain_text-finds : Finds plain_text (λ t. IsTrue (is_plain_text t))
-plain_text-finds = record { found = λ d t e. kept_if-found is_plain_text (option_map chars (as_str d)) t e }
 
 raw_bytes-finds : Finds (items_of (within 128 255)) (λ bytes. All IsRawByte bytes)
 raw_bytes-finds = record {
@@ -345,14 +327,11 @@ property-gives : (of : Data → Option Kind) (P : Kind → Type 0) → Finds of 
 property-gives of P finds = then_by-gives _ _ (λ kind. property_value kind value_key) P (λ x. P x.0 × IsPropertyValue x.0 x.1) (required-gives _ of P finds)
     (λ kind h. made-as _ _ (AtMost (greatest_value kind)) _ (value-at_most value_key (greatest_value kind)) (λ value most. (h, property_value-form kind value most)))
 
-text_kind-finds : Finds text_kind (λ kind. IsTrue (is_text_kind kind))
-text_kind-finds = record { found = λ d kind e. kept_if-found is_text_kind (overlay_kind d) kind e }
-
 stretch-gives : Gives stretch_fields (λ x. IsTrue (is_buffer_name x.0) × (IsWhole x.1.0 × IsWhole x.1.1))
 stretch-gives = both-gives _ _ _ (λ x. IsWhole x.0 × IsWhole x.1) name_field (both-gives _ _ _ _ whole_field whole_field)
 
 manner-gives : Gives overlay_manner (λ x. IsTrue (is_near_zero PRIORITY x.0) × (Unit {0} × Unit {0}))
-manner-gives = both-gives _ _ _ (λ x. Unit {0} × Unit {0}) (defaulted-gives (pos 0) _ (signed PRIORITY) (λ z. IsTrue (is_near_zero PRIORITY z)) (near-finds PRIORITY) refl)
+manner-gives = both-gives _ _ _ (λ x. Unit {0} × Unit {0}) (defaulted-gives (pos 0) _ (signed PRIORITY) (λ z. IsTrue (is_near_zero PRIORITY z)) (kept-finds (is_near_zero PRIORITY) (λ d. option_and_then as_i64 (as_number d))) refl)
     (both-gives _ _ _ _ flag-gives flag-gives)
 
 text-gives : (op : TextOp) → Gives (text_row op) IsInForm
@@ -366,7 +345,7 @@ text-gives texts.Narrow = made-gives _ _ _ stretch-gives (λ x h. (h.0, h.1.0, h
 text-gives texts.Widen = made-gives _ _ _ name_field (λ x h. h)
 
 properties-give : (op : PropertyOp) → Gives (property_row op) IsInForm
-properties-give properties.Put = made-gives _ _ _ (both-gives _ _ _ _ stretch-gives (property-gives text_kind (λ kind. IsTrue (is_text_kind kind)) text_kind-finds))
+properties-give properties.Put = made-gives _ _ _ (both-gives _ _ _ _ stretch-gives (property-gives text_kind (λ kind. IsTrue (is_text_kind kind)) (kept-finds is_text_kind overlay_kind)))
     (λ x h. (h.0.0, h.0.1.0, h.0.1.1, h.1.0, h.1.1))
 properties-give properties.Overlay = made-gives _ _ _ (both-gives _ _ _ _ stretch-gives manner-gives) (λ x h. (h.0.0, h.0.1.0, h.0.1.1, h.1.0))
 properties-give properties.OverlayMove = made-gives _ _ _
@@ -388,13 +367,13 @@ object-gives objects.String = made-gives _ _ _
     (λ x h. (h.0, h.1.0, h.1.1))
 object-gives objects.Spec = made-gives _ _ _ (then_by-gives _ _ (λ n. spec_value n value_key) _ IsSpecInForm (any-gives (word spec_words)) (λ n any. spec-gives n value_key)) (λ x h. h)
 object-gives objects.Face = made-gives _ _ _
-    (made-as face_of _ _ (λ f. (f.fg ≤ 8) × (f.bg ≤ 8)) (both-gives _ _ _ _ colour-gives (both-gives _ _ _ _ colour-gives
+    (made-as face_of _ _ (λ f. (f.fg ≤ COLOURS) × (f.bg ≤ COLOURS)) (both-gives _ _ _ _ colour-gives (both-gives _ _ _ _ colour-gives
     (both-gives _ _ _ _ flag-gives (both-gives _ _ _ _ flag-gives flag-gives))))
     (λ x h. (h.0, h.1.0))) (λ x h. h)
 object-gives objects.Table = made-gives _ _ _
     (both-gives _ _ _ _ (defaulted-gives [] _ (list_of TABLE_ENTRIES entry) _ (list-finds TABLE_ENTRIES entry IsEntryInForm entry-finds) (omega arith, All-nil _))
     (both-gives _ _ _ _ slot-gives (both-gives _ _ _ _ slot-gives (both-gives _ _ _ _ slot-gives (both-gives _ _ _ _ slot-gives
-    (both-gives _ _ _ _ (optional-gives _ glyph_text _ IsEllipsis glyph_text-finds tt (λ t h. h)) slot-gives))))))
+    (both-gives _ _ _ _ (optional-gives _ glyph_text _ IsEllipsis (kept-finds is_glyph_text (λ d. option_map chars (as_str d))) tt (λ t h. h)) slot-gives))))))
     (λ x h. (h.0.0, h.0.1, h.1.0, h.1.1.0, h.1.1.1.0, h.1.1.1.1.0, h.1.1.1.1.1.0, h.1.1.1.1.1.1))
 
 window-gives : (op : WindowOp) → Gives (window_row op) IsInForm
@@ -405,11 +384,11 @@ window-gives windows.Show = made-gives _ _ _ (both-gives _ _ _ _ whole_field nam
 window-gives windows.Point = made-gives _ _ _ (both-gives _ _ _ _ whole_field whole_field) (λ x h. h)
 window-gives windows.Start = made-gives _ _ _ (both-gives _ _ _ _ whole_field (both-gives _ _ _ _ whole_field (to_field START_ROW))) (λ x h. (h.0, h.1.0, h.1.1))
 window-gives windows.Scroll = made-gives _ _ _ (both-gives _ _ _ _ whole_field
-    (required-gives _ (signed (pos SCROLL_ROWS)) _ (near-finds (pos SCROLL_ROWS)))) (λ x h. h)
+    (required-gives _ (signed (pos SCROLL_ROWS)) _ (kept-finds (is_near_zero (pos SCROLL_ROWS)) (λ d. option_and_then as_i64 (as_number d))))) (λ x h. h)
 window-gives windows.Hscroll = made-gives _ _ _ (both-gives _ _ _ _ whole_field (to_field HSCROLL_COLUMNS)) (λ x h. h)
 window-gives windows.Wrap = made-gives _ _ _ (both-gives _ _ _ _ whole_field (any-gives (word wrap_modes))) (λ x h. h.0)
 window-gives windows.ModeLine = made-gives _ _ _ (both-gives _ _ _ _ whole_field
-    (optional-gives _ plain_text _ IsFormat plain_text-finds tt (λ t h. h))) (λ x h. h)
+    (optional-gives _ plain_text _ IsFormat (kept-finds is_plain_text (λ d. option_map chars (as_str d))) tt (λ t h. h))) (λ x h. h)
 window-gives windows.Go = made-gives _ _ _ (both-gives _ _ _ _ whole_field (any-gives (word ways))) (λ x h. h.0)
 window-gives windows.Hit = made-gives _ _ _ (both-gives _ _ _ _ whole_field
     (both-gives _ _ _ _ (required-gives _ (within 0 (FRAME_ROWS - 1)) _ (below-finds (FRAME_ROWS - 1) FRAME_ROWS (omega arith)))
@@ -420,7 +399,7 @@ window-gives windows.Margin = made-gives _ _ _ (both-gives _ _ _ _ whole_field
 screen-gives : (op : ScreenOp) → Gives (screen_row op) IsInForm
 screen-gives screens.Frame = made-gives _ _ _ (both-gives _ _ _ _ (range_field LEAST_FRAME_COLUMNS FRAME_COLUMNS) (range_field LEAST_FRAME_ROWS FRAME_ROWS)) (λ x h. (h.0.0, h.0.1, h.1.0, h.1.1))
 screen-gives screens.Scrolling = made-gives _ _ _ (both-gives _ _ _ _ (to_field SCROLL_MARGIN) (to_field SCROLL_CONSERVATIVELY)) (λ x h. h)
-screen-gives screens.Echo = made-gives _ _ _ (required-gives _ plain_text _ plain_text-finds) (λ x h. h)
+screen-gives screens.Echo = made-gives _ _ _ (required-gives _ plain_text _ (kept-finds is_plain_text (λ d. option_map chars (as_str d)))) (λ x h. h)
 screen-gives screens.Redisplay = made-gives _ _ IsStop (optional-gives _ (within 0 FRAME_ROWS) _ IsStop (within-finds 0 FRAME_ROWS) tt (λ y h. h.1)) (λ x h. h)
 screen-gives screens.Shift = made-gives _ _ _ (any-gives as_bool) (λ x h. h)
 

@@ -1,12 +1,14 @@
 -- The items of an array, one after the other.
-use Rattle.std.proofs.Common.{◌≡◌, ◌≢◌, ℕ, suc, ◌+◌, ◌<◌, ◌≤◌, Bool, true, false, nat_le, if◌then◌else◌, option_and_then, Option, None, Some, List, [], ◌∷◌, ◌++◌, length, drop, get_or, refl, sym, ap, ◌∙◌, append_assoc}
+use Rattle.std.proofs.Common.{◌≡◌, ◌≢◌, ℕ, ◌+◌, ◌<◌, ◌≤◌, Bool, true, false, nat_le, if◌then◌else◌, option_and_then, Option, None, Some, List, [], ◌∷◌, ◌++◌, length, drop, get_or, refl, sym, ap, ◌∙◌, append_assoc}
 use Rattle.std.proofs.lemmas.Bool.{le-leb, lt-leb}
 use Rattle.serde_json.specs.Data.{Data}
+use Rattle.serde_json.specs.Events.{items_len}
 use Rattle.serde_json.specs.Find.{as_array}
 use Rattle.serde_json.specs.View.{view, items_view}
 use Rattle.serde_json.specs.declared.value.Value.{Value}
+use Rattle.serde_json.proofs.Views.{items_len-items_view}
 use Rattle.rd_base.proofs.Lists.{drop-read}
-use Rattle.rd_script.specs.Fields.{kept_if, items_count, consed, each_item, list_of, two_items_of, four_items_of}
+use Rattle.rd_script.specs.Fields.{kept_if, consed, each_item, list_of, two_items_of, four_items_of}
 
 -- the items that were found, and behind them the rest, where it is of the kind too
 abbrev pub behind_found : {T : Type 0} → List T → Option (List T) → Option (List T)
@@ -36,12 +38,8 @@ each-fails kind vs i v list whole less is found h =
 
 -- ---- an array of at most so many items
 
-counted : (vs : List Value) → items_count (items_view vs) ≡ length vs
-counted [] = refl
-counted (v ∷ vs) = ap suc (counted vs)
-
 pub list-none : {T : Type 0} (most : ℕ) (kind : Data → Option T) (d : Data) → None ≡ as_array d → None ≡ list_of most kind d
-list-none most kind d e = ap (λ o. option_and_then (each_item kind) (option_and_then (kept_if (λ ds. nat_le (items_count ds) most)) o)) e
+list-none most kind d e = ap (λ o. option_and_then (each_item kind) (option_and_then (kept_if (λ ds. nat_le (items_len ds) most)) o)) e
 
 kept-then : {A B : Type 0} (f : A → Option B) (x : A) (b : Bool) → (if b then f x else None) ≡ option_and_then f (if b then Some x else None)
 kept-then f x true = refl
@@ -52,9 +50,9 @@ list-by : {T : Type 0} (most : ℕ) (kind : Data → Option T) (d : Data) (vs : 
     → (if few then each_item kind (items_view vs) else None) ≡ list_of most kind d
 list-by most kind d vs few e is =
     let items = items_view vs in
-    let same : nat_le (items_count items) most ≡ few = ap (λ n. nat_le n most) (counted vs) ∙ is in
+    let same : nat_le (items_len items) most ≡ few = ap (λ n. nat_le n most) (items_len-items_view vs) ∙ is in
     kept-then (each_item kind) items few ∙ ap (λ b. option_and_then (each_item kind) (if b then Some items else None)) (sym same)
-    ∙ ap (λ o. option_and_then (each_item kind) (option_and_then (kept_if (λ ds. nat_le (items_count ds) most)) o)) e
+    ∙ ap (λ o. option_and_then (each_item kind) (option_and_then (kept_if (λ ds. nat_le (items_len ds) most)) o)) e
 
 pub list-long : {T : Type 0} (most : ℕ) (kind : Data → Option T) (d : Data) (vs : List Value) → Some (items_view vs) ≡ as_array d → most < length vs → None ≡ list_of most kind d
 list-long most kind d vs e h = list-by most kind d vs false e (lt-leb (length vs) most h)

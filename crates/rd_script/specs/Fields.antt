@@ -1,9 +1,10 @@
 -- Fields of an object: which keys are asked for, and what is read of their values.
-use Rattle.std.specs.Prelude.{ℕ, zero, suc, ◌≡◌, ◌&&◌, Bool, ℤ, nat_le, bytes_eq, if◌then◌else◌, List, [], ◌∷◌, ◌++◌, Option, None, Some, option_and_then, option_map, is_some, unwrap_or, ok_or, Result, Ok, Err, OnOk, String, codes}
+use Rattle.std.specs.Prelude.{ℕ, ◌≡◌, ◌&&◌, Bool, ℤ, nat_le, bytes_eq, if◌then◌else◌, List, [], ◌∷◌, ◌++◌, Option, None, Some, option_and_then, option_map, is_some, unwrap_or, ok_or, Result, Ok, Err, OnOk, String, codes}
 use Rattle.std.specs.Option.{option_zip}
 use Rattle.std.specs.Str.{chars}
 use Rattle.std.specs.declared.alloc.Global.{Global}
 use Rattle.serde_json.specs.Data.{Data, Items, no_items, item, Members}
+use Rattle.serde_json.specs.Events.{items_len}
 use Rattle.serde_json.specs.Find.{get_member, as_null, as_number, as_u64, as_i64, as_str, as_array}
 use Rattle.serde_json.specs.View.{members_view}
 use Rattle.serde_json.specs.declared.value.Value.{Value}
@@ -50,11 +51,6 @@ beside (entry ∷ entries) name = if bytes_eq name entry.0 then Some entry.1 els
 abbrev pub word : {T : Type 0} → List (List ℕ × T) → Data → Option T
 word words d = option_and_then (beside words) (as_str d)
 
--- how many items an array has
-abbrev pub items_count : Items → ℕ
-items_count no_items = zero
-items_count (item d ds) = suc (items_count ds)
-
 -- an item and those behind it, where there are both
 abbrev pub consed : {T : Type 0} → Option T → Option (List T) → Option (List T)
 consed (Some x) (Some xs) = Some (x ∷ xs)
@@ -68,7 +64,7 @@ each_item kind (item d ds) = consed (kind d) (each_item kind ds)
 
 -- an array of at most so many items of a kind
 abbrev pub list_of : {T : Type 0} → ℕ → (Data → Option T) → Data → Option (List T)
-list_of most kind d = option_and_then (each_item kind) (option_and_then (kept_if (λ ds. nat_le (items_count ds) most)) (as_array d))
+list_of most kind d = option_and_then (each_item kind) (option_and_then (kept_if (λ ds. nat_le (items_len ds) most)) (as_array d))
 
 -- an array of items of a kind
 abbrev pub items_of : {T : Type 0} → (Data → Option T) → Data → Option (List T)

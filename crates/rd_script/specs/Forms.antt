@@ -3,7 +3,7 @@ use Rattle.std.specs.Prelude.{ℕ, ◌≤◌, ◌<◌, ◌&&◌, ◌||◌, ◌==
 use Rattle.std.specs.List.{list_all}
 use Rattle.std.specs.Str.{chars}
 use Rattle.rd_base.specs.Chars.{is_scalar}
-use Rattle.rd_base.specs.declared.limits.TheConstants.{ATOMS, CODE_POINTS, ENTRY_GLYPHS, FRAME_COLUMNS, FRAME_ROWS, HSCROLL_COLUMNS, INVISIBLE_ATOMS, LEAST_FRAME_COLUMNS, LEAST_FRAME_ROWS, NAME_CHARACTERS, NUMBER_COLUMNS, PLAIN_CHARACTERS, PRIORITY, SCROLL_CONSERVATIVELY, SCROLL_MARGIN, SCROLL_ROWS, SPACE_COLUMNS, START_ROW, STRING_COLUMNS, STRING_RUNS, TAB_COLUMNS, TABLE_ENTRIES}
+use Rattle.rd_base.specs.declared.limits.TheConstants.{ATOMS, CODE_POINTS, COLOURS, ENTRY_GLYPHS, FRAME_COLUMNS, FRAME_ROWS, HSCROLL_COLUMNS, INVISIBLE_ATOMS, LEAST_FRAME_COLUMNS, LEAST_FRAME_ROWS, NAME_CHARACTERS, NUMBER_COLUMNS, PLAIN_CHARACTERS, PRIORITY, SCROLL_CONSERVATIVELY, SCROLL_MARGIN, SCROLL_ROWS, SPACE_COLUMNS, START_ROW, STRING_COLUMNS, STRING_RUNS, TAB_COLUMNS, TABLE_ENTRIES}
 use Rattle.rd_base.specs.declared.settings.Invisible.{Invisible}
 use Rattle.rd_base.specs.declared.settings.Invisible.TheVariants.{Every, Listed}
 use Rattle.rd_objects.specs.Tables.{has_no_glyph}
@@ -140,7 +140,7 @@ IsInForm (OverlayPut buffer overlay kind value) = IsTrue (is_buffer_name buffer)
 IsInForm (SetSetting buffer setting) = IsTrue (is_buffer_name buffer) × IsSettingInForm setting
 IsInForm (AddString text runs) = IsTrue (is_text text) × (length runs ≤ STRING_RUNS) × All IsRunInForm runs
 IsInForm (AddSpec spec) = IsSpecInForm spec
-IsInForm (AddFace face) = (face.fg ≤ 8) × (face.bg ≤ 8)
+IsInForm (AddFace face) = (face.fg ≤ COLOURS) × (face.bg ≤ COLOURS)
 IsInForm (AddTable entries truncation continuation escape control ellipsis border) =
     (length entries ≤ TABLE_ENTRIES) × All IsEntryInForm entries × IsSlot truncation × IsSlot continuation × IsSlot escape × IsSlot control × IsEllipsis ellipsis × IsSlot border
 IsInForm (Split window side size) = IsWhole window × IsWhole size

@@ -4,7 +4,7 @@ use Rattle.std.specs.Str.{chars}
 use Rattle.serde_json.specs.Data.{Data}
 use Rattle.serde_json.specs.Find.{as_bool, as_str}
 use Rattle.rd_base.specs.Faces.{Attributes}
-use Rattle.rd_base.specs.declared.limits.TheConstants.{CODE_POINTS, SPACE_COLUMNS}
+use Rattle.rd_base.specs.declared.limits.TheConstants.{CODE_POINTS, COLOURS, SPACE_COLUMNS}
 use Rattle.rd_objects.specs.declared.run.RunKind.{RunKind}
 use Rattle.rd_objects.specs.declared.run.RunKind.TheVariants as kinds
 use Rattle.rd_script.specs.declared.object.OpEntry.{OpEntry}
@@ -50,7 +50,7 @@ face_of f = record { fg = f.0; bg = f.1.0; bold = f.1.1.0; underline = f.1.1.1.0
 
 -- colours, which are none where they are not said, and flags
 abbrev pub face : Fields Attributes
-face = made face_of (both (defaulted 8 (codes "fg") (within 0 7)) (both (defaulted 8 (codes "bg") (within 0 7))
+face = made face_of (both (defaulted COLOURS (codes "fg") (within 0 (COLOURS - 1))) (both (defaulted COLOURS (codes "bg") (within 0 (COLOURS - 1)))
     (both (defaulted false (codes "bold") as_bool) (both (defaulted false (codes "underline") as_bool) (defaulted false (codes "inverse") as_bool)))))
 
 -- ---- display tables

@@ -1,7 +1,8 @@
 //! The ops that make objects: their fields.
-ghost use Rattle.std.specs.Prelude.{◌≡◌, ◌≤◌, ◌∷◌, [], IfOk, OnOk, false};
+ghost use Rattle.std.specs.Prelude.{◌≡◌, ◌≤◌, ◌-◌, ◌∷◌, [], IfOk, OnOk, false};
 ghost use Rattle.serde_json.specs.Find.{as_bool};
 ghost use Rattle.serde_json.specs.View.{members_view};
+ghost use Rattle.rd_base.specs.declared.limits.TheConstants.{COLOURS};
 ghost use Rattle.rd_script.specs.Fields.{list_of, within, defaulted, asked_too, IsRead, IsTaken};
 ghost use Rattle.rd_script.specs.Objects.{spec, spec_value, face, slot_field};
 ghost use Rattle.rd_script.specs.Table.{object_row};
@@ -18,7 +19,7 @@ use crate::object_form::{EntryForm, RunForm};
 use crate::op::Op;
 use crate::place_field::{text, within};
 use crate::text_form::{GlyphText, Slot};
-use rd_base::limits::{SPACE_COLUMNS, STRING_RUNS, TABLE_ENTRIES};
+use rd_base::limits::{COLOURS, SPACE_COLUMNS, STRING_RUNS, TABLE_ENTRIES};
 use rd_base::{Ch, Face, ListOf};
 use std::alloc::Global;
 
@@ -121,14 +122,14 @@ fn flag(alloc: Global, asked: &mut Asked, key: &'static str) -> Result<bool, OpF
     defaulted(alloc, asked, key, &Flag, false)
 }
 
-/// A colour, and none, which is 8, where the member is absent or null.
+/// A colour, and none, which is `COLOURS`, where the member is absent or null.
 fn colour(alloc: Global, asked: &mut Asked, key: &'static str) -> Result<u8, OpFault>
-    ensures value { IsTaken result (defaulted 8 key.now (within 0 7)) asked.old asked.new }
-    ensures bound { IfOk result (λ c. c ≤ 8) }
+    ensures value { IsTaken result (defaulted COLOURS key.now (within 0 (COLOURS - 1))) asked.old asked.new }
+    ensures bound { IfOk result (λ c. c ≤ COLOURS) }
 {
     let colours = Within {
         least: 0,
-        greatest: 7,
+        greatest: COLOURS as u32 - 1,
     };
-    Ok(defaulted(alloc, asked, key, &colours, 8)? as u8)
+    Ok(defaulted(alloc, asked, key, &colours, COLOURS as u32)? as u8)
 }
