@@ -1,8 +1,9 @@
 -- A start is a row.
-use Rattle.std.proofs.Common.{◌≡◌, ℕ, ◌<◌, Bool, true, false, cond, ltb, length, Option, None, Some, refl, arith}
+use Rattle.std.proofs.Common.{◌≡◌, ℕ, ◌<◌, ltb, length, Option, None, Some, refl, arith}
 use Rattle.std.proofs.lemmas.Bool.{and_parts, ltb-true}
 use Rattle.std.specs.List.{find}
 use Rattle.std.specs.Option.{unwrap_or}
+use Rattle.rd_base.proofs.Choices.{either}
 use Rattle.rd_base.proofs.Lists.{found-passes}
 use Rattle.rd_matrix.proofs.Passing.{first-inside}
 use Rattle.rd_matrix.specs.Blocks.{IsWithin}
@@ -23,9 +24,9 @@ following-inside w at (Some j) e low =
     let fits = (found-passes (suits w at) (around at.old w.conservatively) j e).0 in
     ltb-true j at.count (and_parts (ltb j at.count) (is_inside w.height (wanted_above w j) (wanted_below w at.count j) j at.point) fits).0
 
-start-held : (w : Wanted) (at : Places) (b : Bool) → at.point < at.count → cond b (scrolled w at) (following w at) < at.count
-start-held w at true low = omega arith
-start-held w at false low = following-inside w at (find (suits w at) (around at.old w.conservatively)) refl low
-
 pub start-inside : (m : SourceValues) (shape : ShapeValues) (w : Wanted) → IsSource m → IsShape shape → IsWithin w.point m.blocks → start_of w (places_of m shape w) < length (rows_at m shape)
-start-inside m shape w source is within = start-held w (places_of m shape w) w.forced (point-inside m shape w source is within)
+start-inside m shape w source is within =
+    let at = places_of m shape w in
+    let low : at.point < at.count = point-inside m shape w source is within in
+    either (λ n. n < at.count) w.forced (scrolled w at) (following w at) (omega arith)
+    (following-inside w at (find (suits w at) (around at.old w.conservatively)) refl low)
