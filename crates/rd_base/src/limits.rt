@@ -9,6 +9,9 @@ pub const GLYPH_MARKS: usize = 6;
 /// Characters in the text of a buffer.
 pub const TEXT_CHARACTERS: u32 = 4_194_304;
 
+/// The greatest position that there is.
+pub const LAST_POSITION: u32 = 4_294_967_295;
+
 /// Buffers made in one run.
 pub const BUFFERS: u32 = 64;
 
@@ -71,6 +74,9 @@ pub const OPEN_BRACKETS: usize = 63;
 
 /// Windows that live at one time.
 pub const WINDOWS: u32 = 64;
+
+/// Windows made in one run.
+pub const WINDOWS_MADE: u32 = 4_294_967_295;
 
 /// The least columns of a frame.
 pub const LEAST_FRAME_COLUMNS: u32 = 12;

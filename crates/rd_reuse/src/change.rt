@@ -1,6 +1,7 @@
 //! What of a text stands where it stood.
 
 use rd_base::Pos;
+use rd_base::limits::LAST_POSITION;
 use rd_matrix::Block;
 
 /// What stands as it did at an earlier time: what ends before `head`, and, moved by `added` positions, what starts at `tail` or
@@ -22,7 +23,7 @@ impl Change {
         ensures { result ≡ none }
     {
         Change {
-            head: Pos::MAX,
+            head: LAST_POSITION,
             tail: 0,
             added: 0,
         }
@@ -34,7 +35,7 @@ impl Change {
     {
         Change {
             head: 0,
-            tail: Pos::MAX,
+            tail: LAST_POSITION,
             added: 0,
         }
     }
@@ -67,7 +68,7 @@ impl Change {
     fn of(head: Pos, tail: u64, added: i64) -> Change
         ensures { result ≡ change_of head tail added }
     {
-        if tail > u64::from(Pos::MAX) {
+        if tail > u64::from(LAST_POSITION) {
             return Change::all();
         }
         Change {
@@ -81,14 +82,14 @@ impl Change {
     pub fn is_none(self) -> bool
         ensures { result ≡ is_none self }
     {
-        self.head == Pos::MAX && self.tail == 0 && self.added == 0
+        self.head == LAST_POSITION && self.tail == 0 && self.added == 0
     }
 
     /// Whether anything may have changed.
     fn is_all(self) -> bool
         ensures { result ≡ is_all self }
     {
-        self.head == 0 && self.tail == Pos::MAX && self.added == 0
+        self.head == 0 && self.tail == LAST_POSITION && self.added == 0
     }
 
     /// Whether what a block covers stands as it did.

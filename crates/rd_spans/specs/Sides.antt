@@ -4,6 +4,7 @@ use Rattle.std.specs.Prelude.{◌≡◌, ℕ, ◌+◌, ◌-◌, ◌<◌, ◌≤�
 use Rattle.std.specs.List.{last_or}
 use Rattle.std.specs.Option.{option_eq}
 use Rattle.rd_spans.specs.declared.run.ValueRun.{ValueRun}
+use Rattle.rd_spans.specs.declared.side.TheConstants.{LIMIT}
 use Rattle.rd_spans.specs.Values.{IsTrimmed}
 
 -- the values that runs give the places from one on
@@ -88,7 +89,7 @@ pub record IsLighter (runs new : List ValueRun) : Type 0 where
 pub record AreRuns (front back : List ValueRun) : Type 0 where
   pub front_rises : Rises 0 front
   pub back_rises : Rises 0 back
-  pub few : size_of front + size_of back ≤ 4294967296
+  pub few : size_of front + size_of back ≤ LIMIT
 
 -- the runs of both sides, and room for them on each
 pub record HaveRoom (front back : List ValueRun) (front_room back_room : ℕ) : Type 0 where

@@ -1,6 +1,7 @@
 -- A value for each position: a list from position 0 on. A position that it does not reach has none.
 use Rattle.std.specs.Prelude.{◌≡◌, ℕ, ◌+◌, ◌-◌, ◌<◌, ◌≤◌, nat_lt, if◌then◌else◌, List, length, slice_index_or, Option, None, Some}
 use Rattle.rd_base.specs.Lists.{is_between}
+use Rattle.rd_spans.specs.declared.side.TheConstants.{LIMIT}
 
 -- the value of a position
 abbrev pub value_at : List (Option ℕ) → ℕ → Option ℕ
@@ -20,13 +21,13 @@ values_closed values from to p = if nat_lt p from then values p else values (p +
 
 -- each position with a value can move on by so many
 abbrev pub CanMove : List (Option ℕ) → ℕ → Type 0
-CanMove values n = (p v : ℕ) → value_at values p ≡ Some v → p + n < 4294967296
+CanMove values n = (p v : ℕ) → value_at values p ≡ Some v → p + n < LIMIT
 
 -- the least later position whose value differs from that of a position, where that is a position
 abbrev pub IsNextChange : List (Option ℕ) → ℕ → Option ℕ → Type 0
-IsNextChange values p None = (q : ℕ) → p < q → q < 4294967296 → value_at values q ≡ value_at values p
+IsNextChange values p None = (q : ℕ) → p < q → q < LIMIT → value_at values q ≡ value_at values p
 IsNextChange values p (Some q) =
-    (p < q) × (q < 4294967296) × (value_at values q ≡ value_at values p → ⊥)
+    (p < q) × (q < LIMIT) × (value_at values q ≡ value_at values p → ⊥)
     × ((r : ℕ) → p < r → r < q → value_at values r ≡ value_at values p)
 
 -- the first of the positions up to one that all have its value

@@ -1,6 +1,7 @@
 //! Both sides of the gap, and the edits at it.
 ghost use Rattle.std.specs.Prelude.{◌≡◌, ℕ, ◌+◌, ◌-◌, ◌<◌, ◌≤◌, ◌++◌, true, false, length, replicate, None, OnOk};
 ghost use Rattle.std.specs.Vec.{vec_capacity};
+ghost use Rattle.rd_spans.specs.declared.side.TheConstants.{LIMIT};
 ghost use Rattle.rd_spans.specs.Values.{value_at, values_put, values_opened, values_closed, CanMove, IsNextChange, IsFirstAlike};
 ghost use Rattle.rd_spans.specs.Sides.{values_of, Rises, size_of, values_of_both, GapMoved, AreRuns, HaveRoom, AreSides};
 
@@ -11,10 +12,10 @@ use rd_base::Memory;
 /// The run around a position, or the positions behind the last run, none of which has a value.
 pub(crate) fn run_around(front: &[ValueRun], back: &[ValueRun], pos: u64) -> ValueRange
     requires runs { AreRuns front.now back.now }
-    requires bound { pos < 4294967296 }
+    requires bound { pos < LIMIT }
     ensures first { result.from ≤ pos }
     ensures later { pos < result.to }
-    ensures few { result.to ≤ 4294967296 }
+    ensures few { result.to ≤ LIMIT }
     ensures value { result.value ≡ value_at (values_of_both front.now back.now) pos }
     ensures same { (p : ℕ) → result.from ≤ p → p < result.to → value_at (values_of_both front.now back.now) p ≡ result.value }
 {
@@ -41,7 +42,7 @@ pub(crate) fn run_around(front: &[ValueRun], back: &[ValueRun], pos: u64) -> Val
 /// The first position behind one whose value differs from that of the one.
 pub(crate) fn next_other(front: &[ValueRun], back: &[ValueRun], pos: u64) -> Option<u32>
     requires runs { AreRuns front.now back.now }
-    requires bound { pos < 4294967296 }
+    requires bound { pos < LIMIT }
     ensures { IsNextChange (values_of_both front.now back.now) pos result }
 {
     let here = run_around(front, back, pos);
@@ -59,7 +60,7 @@ pub(crate) fn next_other(front: &[ValueRun], back: &[ValueRun], pos: u64) -> Opt
 /// The first of the positions up to one that all have its value.
 pub(crate) fn first_alike(front: &[ValueRun], back: &[ValueRun], pos: u64) -> u32
     requires runs { AreRuns front.now back.now }
-    requires bound { pos < 4294967296 }
+    requires bound { pos < LIMIT }
     ensures { IsFirstAlike (values_of_both front.now back.now) pos result }
 {
     let here = run_around(front, back, pos);
@@ -108,7 +109,7 @@ fn fill(front: &mut Vec<ValueRun>, from: u64, to: u64, value: Option<u32>)
     requires order { Rises 0 front.old.items }
     requires reached { size_of front.old.items ≤ from }
     requires ordered { from ≤ to }
-    requires bound { to ≤ 4294967296 }
+    requires bound { to ≤ LIMIT }
     requires room { length front.old.items + 1 < vec_capacity front.old }
     ensures values { values_of front.new.items ≡ (values_of front.old.items ++ replicate (from - size_of front.old.items) None) ++ replicate (to - from) value }
     ensures order { Rises 0 front.new.items }
@@ -141,7 +142,7 @@ pub(crate) fn put(
     requires front_more { length front.old.items + length back.old.items + 4 ≤ vec_capacity front.old }
     requires back_more { length front.old.items + length back.old.items + 4 ≤ vec_capacity back.old }
     requires some { from < to }
-    requires bound { to ≤ 4294967296 }
+    requires bound { to ≤ LIMIT }
     ensures sides { AreSides front.new.items back.new.items (vec_capacity front.new) (vec_capacity back.new) }
     ensures values { (p : ℕ) → value_at (values_of_both front.new.items back.new.items) p ≡ values_put (value_at (values_of_both front.old.items back.old.items)) from to value p }
 {

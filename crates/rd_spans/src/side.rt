@@ -6,9 +6,10 @@ ghost use Rattle.rd_spans.specs.Values.{value_at, IsTrimmed};
 ghost use Rattle.rd_spans.specs.Sides.{values_of, Rises, size_of, top, has_value, needs, AreMoved, HaveRoom, IsCut, IsLighter};
 
 use crate::run::{ValueRange, ValueRun};
+use rd_base::limits::LAST_POSITION;
 
 /// One past the greatest place.
-pub(crate) const LIMIT: u64 = 4_294_967_296;
+pub(crate) const LIMIT: u64 = LAST_POSITION as u64 + 1;
 
 /// How many places runs cover.
 pub(crate) fn size(runs: &[ValueRun]) -> u64
@@ -78,7 +79,7 @@ fn open_end(runs: &mut Vec<ValueRun>, value: Option<u32>)
 pub(crate) fn push(runs: &mut Vec<ValueRun>, n: u64, value: Option<u32>)
     requires order { Rises 0 runs.old.items }
     requires room { length runs.old.items < vec_capacity runs.old }
-    requires bound { size_of runs.old.items + n ≤ 4294967296 }
+    requires bound { size_of runs.old.items + n ≤ LIMIT }
     ensures values { values_of runs.new.items ≡ values_of runs.old.items ++ replicate n value }
     ensures order { Rises 0 runs.new.items }
     ensures size { size_of runs.new.items ≡ size_of runs.old.items + n }
@@ -140,7 +141,7 @@ pub(crate) fn shift(from: &mut Vec<ValueRun>, to: &mut Vec<ValueRun>, count: u64
 fn cut_run(runs: &mut Vec<ValueRun>, end: u64)
     requires order { Rises 0 runs.old.items }
     requires bound { end < size_of runs.old.items }
-    requires few { size_of runs.old.items ≤ 4294967296 }
+    requires few { size_of runs.old.items ≤ LIMIT }
     requires room { length runs.old.items ≤ vec_capacity runs.old }
     ensures values { take end (values_of runs.new.items) ≡ take end (values_of runs.old.items) }
     ensures order { Rises 0 runs.new.items }
@@ -159,7 +160,7 @@ fn cut_run(runs: &mut Vec<ValueRun>, end: u64)
 /// Takes the last `n` places away.
 pub(crate) fn cut(runs: &mut Vec<ValueRun>, n: u64)
     requires order { Rises 0 runs.old.items }
-    requires few { size_of runs.old.items ≤ 4294967296 }
+    requires few { size_of runs.old.items ≤ LIMIT }
     requires room { length runs.old.items ≤ vec_capacity runs.old }
     ensures cut { IsCut runs.old.items runs.new.items n }
     ensures lighter { IsLighter runs.old.items runs.new.items }

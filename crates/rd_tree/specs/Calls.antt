@@ -1,6 +1,6 @@
 -- What the calls of a window tree answer, and what they leave.
 use Rattle.std.specs.Prelude.{◌≡◌, ℕ, suc, ◌≤◌, Bool, false, if◌then◌else◌, nat_le, ◌&&◌, ◌||◌, length, Option, option_map, Result, Ok, Err, ⊤}
-use Rattle.rd_base.specs.declared.limits.TheConstants.{FRAME_COLUMNS, FRAME_ROWS, LEAST_WINDOW_COLUMNS, WINDOWS}
+use Rattle.rd_base.specs.declared.limits.TheConstants.{FRAME_COLUMNS, FRAME_ROWS, LEAST_WINDOW_COLUMNS, WINDOWS, WINDOWS_MADE}
 use Rattle.rd_tree.specs.declared.rect.Rect.{Rect}
 use Rattle.rd_tree.specs.declared.side.Side.{Side}
 use Rattle.rd_tree.specs.declared.fault.TreeFault.{TreeFault}
@@ -27,7 +27,7 @@ opening width height = record { windows = Window 0 false 0; width = width; heigh
 
 -- no more windows can be made
 abbrev pub is_full : Configuration → Bool
-is_full c = nat_le WINDOWS (length (leaves c.windows)) || nat_le 4294967295 c.made
+is_full c = nat_le WINDOWS (length (leaves c.windows)) || nat_le WINDOWS_MADE c.made
 
 abbrev pub split_to : Configuration → Windows → Result Configuration TreeFault
 split_to c windows =
@@ -84,7 +84,7 @@ pub record IsValid (c : Configuration) : Type 0 where
   pub wide : c.width ≤ FRAME_COLUMNS
   pub high : c.height ≤ FRAME_ROWS
   pub few : length (leaves c.windows) ≤ WINDOWS
-  pub made : c.made ≤ 4294967295
+  pub made : c.made ≤ WINDOWS_MADE
   pub once : (number : ℕ) → times number c.windows ≤ 1
   pub known : (number : ℕ) → c.made ≤ number → times number c.windows ≡ 0
 

@@ -6,7 +6,7 @@ use crate::placed::Placed;
 use crate::rect::Rect;
 use crate::side::Side;
 use rd_base::Memory;
-use rd_base::limits::{FRAME_COLUMNS, FRAME_ROWS, LEAST_WINDOW_COLUMNS, WINDOWS};
+use rd_base::limits::{FRAME_COLUMNS, FRAME_ROWS, LEAST_WINDOW_COLUMNS, WINDOWS, WINDOWS_MADE};
 use std::alloc::Global;
 use std::marker::Model;
 
@@ -73,7 +73,7 @@ impl Tree {
         if !old.takes_split(side, size) {
             return Err(TreeFault::TooSmall);
         }
-        if self.root.count() >= WINDOWS || self.made == u32::MAX {
+        if self.root.count() >= WINDOWS || self.made == WINDOWS_MADE {
             return Err(TreeFault::TooMany);
         }
         let number = self.made;
