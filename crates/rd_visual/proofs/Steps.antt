@@ -20,6 +20,7 @@ use Rattle.rd_visual.specs.Ways.{along, beside, block_beside, entered, opposite,
 use Rattle.rd_visual.specs.declared.range.Range.{Range}
 use Rattle.rd_visual.specs.declared.way.Way.{Way}
 use Rattle.rd_visual.specs.declared.way.Way.TheVariants.{Forward, Backward}
+use Rattle.rd_base.proofs.Choices.{of-choice}
 use Rattle.rd_base.proofs.Lists.{drop-at, none-left, count-append, element-at, take-at}
 use Rattle.rd_visual.proofs.Neighbours.{behind-front, behind-none, behind-some, count-reverse, first-append}
 
@@ -42,26 +43,17 @@ base-holds bs pos b stand h = base-is (first_start bs) h.among.0 pos bs b stand 
 
 -- a step to a side, by the base of the block that holds a position
 
-step-by : (way : Way) (b : Bool) (s : BufferValue) (objects : ObjectLists) (files : Data) (pos : ℕ)
-    → stepped (if b then way else opposite way) s objects files pos ≡ (if b then stepped way s objects files pos else stepped (opposite way) s objects files pos)
-step-by way true s objects files pos = refl
-step-by way false s objects files pos = refl
-
 pub sideways-is : (way : Way) (s : BufferValue) (objects : ObjectLists) (files : Data) (pos : ℕ) → sideways way s objects files pos ≡ stepped (way_in way (base_in s files pos)) s objects files pos
-sideways-is Forward s objects files pos = sym (step-by Forward (base_in s files pos == 0) s objects files pos)
-sideways-is Backward s objects files pos = sym (step-by Backward (base_in s files pos == 0) s objects files pos)
+sideways-is Forward s objects files pos = sym (of-choice (λ (w : Way). stepped w s objects files pos) (base_in s files pos == 0) Forward Backward)
+sideways-is Backward s objects files pos = sym (of-choice (λ (w : Way). stepped w s objects files pos) (base_in s files pos == 0) Backward Forward)
 
 pub side-step : (way there : Way) (s : BufferValue) (objects : ObjectLists) (files : Data) (pos base : ℕ) → there ≡ way_in way base → base_in s files pos ≡ base
     → stepped there s objects files pos ≡ sideways way s objects files pos
 side-step way there s objects files pos base is at =
     ap (λ (w : Way). stepped w s objects files pos) (is ∙ ap (way_in way) (sym at)) ∙ sym (sideways-is way s objects files pos)
 
-opposite-by : (way : Way) (b : Bool) → opposite (if b then way else opposite way) ≡ (if b then opposite way else opposite (opposite way))
-opposite-by way true = refl
-opposite-by way false = refl
-
 pub opposite-in : (way : Way) (base : ℕ) → opposite (way_in way base) ≡ way_in (opposite way) base
-opposite-in way base = opposite-by way (base == 0)
+opposite-in way base = of-choice opposite (base == 0) way (opposite way)
 
 among-beside : (way : Way) (k : ℕ) (bs : List Block) (x : Block) → block_beside way bs k ≡ Some x → IsAmong bs x
 among-beside Forward k bs x at = (k + 1, at)

@@ -1,6 +1,7 @@
 -- Motion in visual order: the item behind or before the one that covers a position.
-use Rattle.std.specs.Prelude.{ℕ, ◌+◌, nat_lt, nat_le, Bool, ◌==◌, ◌&&◌, if◌then◌else◌, List, [], ◌∷◌, reverse, slice_get, Option, None, Some}
+use Rattle.std.specs.Prelude.{ℕ, ◌+◌, nat_lt, Bool, ◌==◌, if◌then◌else◌, List, [], ◌∷◌, reverse, slice_get, Option, None, Some}
 use Rattle.std.specs.List.{flat_map}
+use Rattle.rd_base.specs.Lists.{is_between}
 use Rattle.rd_ucd.specs.Data.{Data}
 use Rattle.rd_objects.specs.Things.{ObjectLists}
 use Rattle.rd_props.specs.Buffers.{BufferValue, files_of, meaning}
@@ -36,7 +37,7 @@ abbrev pub all_ranges : BufferValue → ObjectLists → Data → List Range
 all_ranges s objects files = flat_map (block_ranges s objects files) (blocks_in files.classes s)
 
 abbrev pub holds : ℕ → Range → Bool
-holds pos r = nat_le r.from pos && nat_lt pos r.to
+holds pos r = is_between r.from r.to pos
 
 -- the least position of the item that covers a position
 abbrev pub least : ℕ → List Range → Option ℕ
