@@ -5,6 +5,7 @@ use Rattle.std.proofs.lemmas.Bool.{and_parts, cases_eq}
 use Rattle.std.proofs.lemmas.Bool.Decides.{nat_tests}
 use Rattle.rd_base.specs.Cells.{HasColours}
 use Rattle.rd_base.specs.Faces.{Attributes, plain}
+use Rattle.rd_base.specs.declared.limits.TheConstants.{COLOURS}
 use Rattle.rd_term.specs.Pens.{is_rendition, are_renditions, dressed, flag_number, colour_number, numbers_of_face, pen_by}
 use Rattle.rd_term.specs.Terminals.{Tty, feed_bytes}
 use Rattle.rd_term.proofs.Encoded.{Rows, standing}
@@ -41,11 +42,11 @@ back-worn : (n : ℕ) (rest : List (Option ℕ)) (f : Attributes) → n < 8 → 
 back-worn n rest f lt = number-worn (40 + n) rest f (record f { bg = n }) (grind (arith, nat_tests)) (grind (arith, nat_tests))
 
 -- what holds of no number where a colour is the terminal's own, and of its number where it is not, holds of the colour's number
-pub by-colour : (n base : ℕ) (P : Option ℕ → Type 0) → n ≤ 8 → (n ≡ 8 → P None) → (n < 8 → P (Some (base + n))) → P (colour_number n base)
-by-colour n base P le own other = elim (cases_eq n 8) [
+pub by-colour : (n base : ℕ) (P : Option ℕ → Type 0) → n ≤ COLOURS → (n ≡ COLOURS → P None) → (n < COLOURS → P (Some (base + n))) → P (colour_number n base)
+by-colour n base P le own other = elim (cases_eq n COLOURS) [
   | inl same ↦ subst (λ k. P (colour_number k base)) (sym same) (own same)
   | inr apart ↦
-      let differ : (n == 8) ≡ false = grind (arith, nat_tests) in
+      let differ : (n == COLOURS) ≡ false = grind (arith, nat_tests) in
       subst (λ t. P (if t then None else Some (base + n))) (sym differ) (other (omega (arith, le, apart)))
 ]
 
