@@ -7,6 +7,7 @@ use Rattle.std.proofs.lemmas.Option.{none-some, same_Some}
 use Rattle.std.proofs.lemmas.Iterator.Adapters.{option_map_id}
 use Rattle.std.specs.Prelude.{IsSome, option_map, slice_get}
 use Rattle.rd_base.proofs.Choices.{map-some}
+use Rattle.rd_base.proofs.Lists.{heads}
 use Rattle.rd_start.specs.Chosen.{chosen_of}
 use Rattle.rd_start.specs.declared.wanted.Chosen.{Chosen}
 use Rattle.rd_state.specs.Shown.{IsShownAt}
@@ -42,9 +43,6 @@ state-is (x ∷ xs) [] s = refl
 state-is (x ∷ xs) (e ∷ es) s = state-is xs es (settled s e.0 x.chosen.anchor x.chosen.point)
 
 -- ---- lists of windows that are told apart by their numbers
-
-heads : {m n : ℕ} {ms ns : List ℕ} → m ∷ ms ≡ n ∷ ns → (m ≡ n) × (ms ≡ ns)
-heads h = (cc, cc)
 
 none-by-numbers : (n : ℕ) (us ws : List NumberedWindow) → map (λ (e : NumberedWindow). e.0) us ≡ map (λ (e : NumberedWindow). e.0) ws → window_of n us ≡ None → window_of n ws ≡ None
 none-by-numbers n us [] same none = refl
