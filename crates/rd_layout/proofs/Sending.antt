@@ -7,6 +7,7 @@ use Rattle.std.specs.Prelude.{IfSome, slice_get, option_map}
 use Rattle.rd_base.proofs.Choices.{map-some}
 use Rattle.rd_base.specs.Faces.{plain}
 use Rattle.rd_base.specs.declared.cell.Cell.{Cell}
+use Rattle.rd_base.specs.declared.limits.TheConstants.{FRAME_COLUMNS, FRAME_ROWS}
 use Rattle.rd_blocks.specs.Kept.{AreRowsAt}
 use Rattle.rd_blocks.specs.Leads.{LeadsTo}
 use Rattle.rd_blocks.specs.Sources.{text_source}
@@ -88,12 +89,12 @@ unknown-at width height =
     }
 
 -- a current screen, where one is known, and a target of the frame's size; the current one is a screen, and sound
-pub sized : (s : StateValue) (current : Option Picture) (target : Picture) → s.width ≤ 400 → s.height ≤ 200 → KnownScreenFits current s → IsOfSize s.width s.height target
+pub sized : (s : StateValue) (current : Option Picture) (target : Picture) → s.width ≤ FRAME_COLUMNS → s.height ≤ FRAME_ROWS → KnownScreenFits current s → IsOfSize s.width s.height target
     → HaveOneSize current target × IfSome current (λ screen. IsScreen screen × IsSound screen)
 sized s None target wide tall fits size = (tt, tt)
 sized s (Some screen) target wide tall fits size = (one-size s.width s.height screen target fits.0 size, (is-screen s.width s.height screen wide tall fits.0, fits.1))
 
-module _ (laws : SendLaws) (s : StateValue) (target : Picture) (bands : List Band) (limit : Option ℕ) (wide : s.width ≤ 400) (tall : s.height ≤ 200)
+module _ (laws : SendLaws) (s : StateValue) (target : Picture) (bands : List Band) (limit : Option ℕ) (wide : s.width ≤ FRAME_COLUMNS) (tall : s.height ≤ FRAME_ROWS)
     (size : IsOfSize s.width s.height target) (sound : IsSound target) (within : AreWithin s.height bands) where
   ready : (current : Option Picture) → KnownScreenFits current s → IsReady s.width s.height current target (shows s.width s.height current)
   ready None fits = record { there = unknown-at s.width s.height; wide = wide; tall = tall; size = size; sound = sound }

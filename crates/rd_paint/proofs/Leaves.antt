@@ -5,6 +5,7 @@ use Rattle.std.specs.Option.{MatchOption}
 use Rattle.std.specs.Prelude.{option_map, slice_get}
 use Rattle.rd_base.proofs.Choices.{map-some}
 use Rattle.rd_base.proofs.Lists.{element-at}
+use Rattle.rd_base.specs.declared.limits.TheConstants.{WINDOWS}
 use Rattle.rd_state.specs.States.{BufferValue, StateValue}
 use Rattle.rd_state.specs.Valid.{IsValid}
 use Rattle.rd_state.specs.Windows.{window_of}
@@ -34,7 +35,7 @@ pub found-of-tree : (s : StateValue) (t : Configuration) (p : Placed) → t ≡ 
 found-of-tree s t p is h = sym (ap (λ (c : Configuration). window_at p.number c.windows (frame_of c)) is) ∙ h
 
 module _ (s : StateValue) (valid : IsValid s) where
-  pub few : length (places s) ≤ 64
+  pub few : length (places s) ≤ WINDOWS
   few = let most = valid.windows.tree.few in omega (arith, placed-count s.tree.windows (frame_of s.tree), most)
 
   -- a window of the frame lives, and shows a buffer that was made
