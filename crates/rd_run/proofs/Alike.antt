@@ -4,6 +4,8 @@ use Rattle.std.specs.List.{AllByRecursion}
 use Rattle.std.proofs.KnownBytes.{Consumes-whole}
 use Rattle.std.proofs.lemmas.List.{take-append-drop, length_push}
 use Rattle.std.proofs.lemmas.Option.{same_Some, none-some}
+use Rattle.rd_base.proofs.Lists.{heads}
+use Rattle.rd_base.specs.declared.limits.TheConstants.{LINE_BYTES, LINES}
 use Rattle.rd_generate.specs.Generated.{script as generated}
 use Rattle.rd_io.specs.Devices.{Rose}
 use Rattle.rd_io.specs.Lines.{lines_of}
@@ -28,12 +30,12 @@ use Rattle.rd_run.proofs.Whole.{whole-of}
 -- behind n lines this one is too long, or one too many; a generated script has none such
 abbrev pub IsBarred : Option ℕ → ℕ → List ℕ → Status → Type 0
 IsBarred None n line status =
-    ((n < 1000000) × (1048576 < length line) × (status ≡ BadScript (n + 1) TooLong)) ⊎ ((1000000 ≤ n) × (status ≡ BadScript (n + 1) TooMany))
+    ((n < LINES) × (LINE_BYTES < length line) × (status ≡ BadScript (n + 1) TooLong)) ⊎ ((LINES ≤ n) × (status ≡ BadScript (n + 1) TooMany))
 IsBarred (Some number) n line status = ⊥
 
 -- a line behind n others passes no limit
 abbrev pub IsLet : Option ℕ → ℕ → List ℕ → Type 0
-IsLet None n line = (n < 1000000) × (length line ≤ 1048576)
+IsLet None n line = (n < LINES) × (length line ≤ LINE_BYTES)
 IsLet (Some number) n line = Unit {0}
 
 -- a run stops behind its last line, or at one that is barred
@@ -54,13 +56,6 @@ Stops o w n (t ∷ ts) lines status =
 
 -- ---- it stops at one place
 
--- lists that are equal have equal heads and equal rests
-head-of : (x y : List ℕ) (xs ys : List (List ℕ)) → x ∷ xs ≡ y ∷ ys → x ≡ y
-head-of x y xs ys e = cc
-
-rest-of : (x y : List ℕ) (xs ys : List (List ℕ)) → x ∷ xs ≡ y ∷ ys → xs ≡ ys
-rest-of x y xs ys e = cc
-
 no-line : (lines : List (List ℕ)) (y : List ℕ) (ys : List (List ℕ)) → lines ≡ [] → lines ≡ y ∷ ys → ⊥
 no-line lines y ys p q = let e : [] ≡ y ∷ ys = sym p ∙ q in cc
 
@@ -75,7 +70,7 @@ before-alike : (o : Option ℕ) (n : ℕ) (lines : List (List ℕ)) (s r : Statu
 before-alike o n lines s r (inl a) (inl b) = a.1 ∙ sym b.1
 before-alike o n lines s r (inl a) (inr b) = absurd (no-line lines b.0 b.1 a.0 b.2)
 before-alike o n lines s r (inr a) (inl b) = absurd (no-line lines a.0 a.1 b.0 a.2)
-before-alike o n lines s r (inr a) (inr b) = barred-alike o n a.0 b.0 s r (head-of a.0 b.0 a.1 b.1 (sym a.2 ∙ b.2)) a.3 b.3
+before-alike o n lines s r (inr a) (inr b) = barred-alike o n a.0 b.0 s r (heads (sym a.2 ∙ b.2)).0 a.3 b.3
 
 -- a line that is barred is not run
 not-run : (o : Option ℕ) (n : ℕ) (line other : List ℕ) (s : Status) → line ≡ other → IsBarred o n line s → IsLet o n other → ⊥
@@ -86,7 +81,7 @@ not-run (Some number) n line other s e a passes = a
 -- a run that stops before a line does not run it
 not-further : (o : Option ℕ) (n : ℕ) (line : List ℕ) (more lines : List (List ℕ)) (s : Status) → StopsBefore o n lines s → lines ≡ line ∷ more → IsLet o n line → ⊥
 not-further o n line more lines s (inl a) e passes = no-line lines line more a.0 e
-not-further o n line more lines s (inr a) e passes = not-run o n a.0 line s (head-of a.0 line a.1 more (sym a.2 ∙ e)) a.3 passes
+not-further o n line more lines s (inr a) e passes = not-run o n a.0 line s (heads (sym a.2 ∙ e)).0 a.3 passes
 
 -- as many lines were run, and the run stands at the same
 pub record AreRunAlike (w : World) (ts us : List Input) : Type 0 where
@@ -110,9 +105,9 @@ stops-alike o w n [] (u ∷ us) lines s r h p q = absurd (not-further o n u.line
 stops-alike o w n (t ∷ ts) [] lines s r h p q = absurd (not-further o n t.line p.0 lines r q p.1 p.2)
 stops-alike o w n (t ∷ ts) (u ∷ us) lines s r h p q =
     let both : t.line ∷ p.0 ≡ u.line ∷ q.0 = sym p.1 ∙ q.1 in
-    let same : run_line w t ≡ run_line w u = run_line-alike w t u (head-of t.line u.line p.0 q.0 both) h.0 in
+    let same : run_line w t ≡ run_line w u = run_line-alike w t u (heads both).0 h.0 in
     let Behind : World → List (List ℕ) → Type 0 = λ v more. StopsAt v n us r ⊎ ((v.fault ≡ None) × Stops o v (n + 1) us more r) in
-    let other : Behind (run_line w t) p.0 = subst (λ v. Behind v p.0) (sym same) (subst (Behind (run_line w u)) (sym (rest-of t.line u.line p.0 q.0 both)) q.3) in
+    let other : Behind (run_line w t) p.0 = subst (λ v. Behind v p.0) (sym same) (subst (Behind (run_line w u)) (sym (heads both).1) q.3) in
     let on = behind-alike o (run_line w t) n ts us p.0 s r (λ a b. stops-alike o (run_line w t) (n + 1) ts us p.0 s r h.1 a b) p.3 other in
     (record { same = on.0.same ∙ ap (λ v. run v us) same; count = ap (λ k. suc k) on.0.count }, on.1)
 

@@ -65,19 +65,20 @@ moved-free s name how edit h =
     named-free s name (λ i b. moving i how (content_replaced s i b (edit b.content)))
     (λ i b. goes-on-free (λ r. moving i how (content_replaced s i b r)) (edit b.content) (λ e. refl) (λ d. ok-free _) (h b.content))
 
+-- an edit behind one test, and behind two
+one-free : {A : Type 0} (t : Bool) (made : A) (e : Refused) → e ≢ Memory → AnswersFree (if t then Ok made else Err e)
+one-free t made e p = either AnswersFree t _ _ (ok-free made) (no-free e p)
+
+both-free : {A : Type 0} (t u : Bool) (made : A) (e f : Refused) → e ≢ Memory → f ≢ Memory → AnswersFree (if t then (if u then Ok made else Err e) else Err f)
+both-free t u made e f p q = either AnswersFree t _ _ (one-free u made e p) (no-free f q)
+
 insertion-free : (place : ℕ) (new : List ℕ) (c : ContentValue) → AnswersFree (insertion place new c)
-insertion-free place new c = either AnswersFree _ _ _ (either AnswersFree _ _ _ (ok-free _) (no-free TextTooLarge (λ e. cc))) (no-free OutOfRange (λ e. cc))
-
-deletion-free : (from to : ℕ) (c : ContentValue) → AnswersFree (deletion from to c)
-deletion-free from to c = either AnswersFree _ _ _ (ok-free _) (no-free OutOfRange (λ e. cc))
-
-narrowing-free : (from to : ℕ) (c : ContentValue) → AnswersFree (narrowing from to c)
-narrowing-free from to c = either AnswersFree _ _ _ (ok-free _) (no-free OutOfRange (λ e. cc))
-
-property_putting-free : (objects : ObjectLists) (from to : ℕ) (kind : _) (value : Option ℕ) (c : ContentValue) → AnswersFree (property_putting objects from to kind value c)
-property_putting-free objects from to kind value c = either AnswersFree _ _ _ (either AnswersFree _ _ _ (ok-free _) (no-free NoObject (λ e. cc))) (no-free OutOfRange (λ e. cc))
+insertion-free place new c = both-free _ _ _ TextTooLarge OutOfRange (λ e. cc) (λ e. cc)
 
 overlay_making-free : (from to : ℕ) (priority : ℤ) (front rear : Bool) (c : ContentValue) → AnswersFree (overlay_making from to priority front rear c)
+overlay_making-free from to priority front rear c = either AnswersFree _ _ _ (either AnswersFree _ _ _ (no-free TooManyOverlays (λ e. cc)) (ok-free _)) (no-free OutOfRange (λ e. cc))
+
+making-free : (from to : ℕ) (priority : ℤ) (front rear : Bool) (c : ContentValue) → AnswersFree (overlay_making from to priority front rear c)
 overlay_making-free from to priority front rear c = either AnswersFree _ _ _ (either AnswersFree _ _ _ (no-free TooManyOverlays (λ e. cc)) (ok-free _)) (no-free OutOfRange (λ e. cc))
 
 overlay_moving-free : (number from to : ℕ) (c : ContentValue) → AnswersFree (overlay_moving number from to c)
@@ -175,15 +176,15 @@ session-free v (ops.Buffer name) = making-free v.state name
 session-free v (ops.Insert name place text) = moved-free v.state name (Inserted place (length text)) (insertion place text) (insertion-free place text)
 session-free v (ops.InsertRaw name place bytes) = moved-free v.state name (Inserted place (length (raw_text bytes))) (insertion place (raw_text bytes)) (insertion-free place (raw_text bytes))
 session-free v (ops.TypeText text) = typing-free v.state text
-session-free v (ops.Delete name from to) = moved-free v.state name (Deleted from to) (deletion from to) (deletion-free from to)
-session-free v (ops.Narrow name from to) = moved-free v.state name (Narrowed from to) (narrowing from to) (narrowing-free from to)
+session-free v (ops.Delete name from to) = moved-free v.state name (Deleted from to) (deletion from to) (λ c. one-free _ _ OutOfRange (λ e. cc))
+session-free v (ops.Narrow name from to) = moved-free v.state name (Narrowed from to) (narrowing from to) (λ c. one-free _ _ OutOfRange (λ e. cc))
 session-free v (ops.Widen name) = edited-free v.state name widening (λ c. ok-free _)
-session-free v (ops.Put name from to kind value) = edited-free v.state name (property_putting v.state.objects from to kind value) (property_putting-free v.state.objects from to kind value)
+session-free v (ops.Put name from to kind value) = edited-free v.state name (property_putting v.state.objects from to kind value) (λ c. both-free _ _ _ NoObject OutOfRange (λ e. cc) (λ e. cc))
 session-free v (ops.Overlay name from to priority front rear) = edited-free v.state name (overlay_making from to priority front rear) (overlay_making-free from to priority front rear)
-session-free v (ops.OverlayMove name overlay from to) = edited-free v.state name (overlay_moving overlay from to) (overlay_moving-free overlay from to)
-session-free v (ops.OverlayDrop name overlay) = edited-free v.state name (overlay_dropping overlay) (overlay_dropping-free overlay)
-session-free v (ops.OverlayPut name overlay kind value) = edited-free v.state name (overlay_putting v.state.objects overlay kind value) (overlay_putting-free v.state.objects overlay kind value)
-session-free v (ops.Setting name value) = edited-free v.state name (setting_putting v.state.objects value) (setting_putting-free v.state.objects value)
+session-free v (ops.OverlayMove name overlay from to) = edited-free v.state name (overlay_moving overlay from to) (λ c. both-free _ _ _ OutOfRange NoOverlay (λ e. cc) (λ e. cc))
+session-free v (ops.OverlayDrop name overlay) = edited-free v.state name (overlay_dropping overlay) (λ c. one-free _ _ NoOverlay (λ e. cc))
+session-free v (ops.OverlayPut name overlay kind value) = edited-free v.state name (overlay_putting v.state.objects overlay kind value) (λ c. both-free _ _ _ NoObject NoOverlay (λ e. cc) (λ e. cc))
+session-free v (ops.Setting name value) = edited-free v.state name (setting_putting v.state.objects value) (λ c. one-free _ _ NoObject (λ e. cc))
 session-free v (ops.AddString text runs) = made-free v.state _ _ (string-free v.state.objects text (map run_of runs))
 session-free v (ops.AddSpec spec) = made-free v.state _ _ (spec-free v.state.objects (spec_of spec))
 session-free v (ops.AddFace face) = made-free v.state _ _ (full-free FACES (length v.state.objects.faces))
@@ -201,5 +202,5 @@ session-free v (ops.ModeLine window format) = lives-free v.state window _ (λ w.
 session-free v (ops.Go window right) = lives-free v.state window _ (λ w. point-free v.state window (stepped_to v.files v.state w right))
 session-free v (ops.Hit window row column) = lives-free v.state window _ (λ w. hit-free v.state window w (layout_of window v.layouts) (place_of window v.state) row column)
 session-free v (ops.Margin window numbers strings) = lives-free v.state window _ (λ w. goes-on-free (changing window _) _ (λ e. refl) (λ t. ok-free _) (tree-free _ _ (margins-free v.state.tree window (numbers + strings))))
-session-free v (ops.MarginPut name overlay string) = edited-free v.state name (margin_putting v.state.objects overlay string) (margin_putting-free v.state.objects overlay string)
+session-free v (ops.MarginPut name overlay string) = edited-free v.state name (margin_putting v.state.objects overlay string) (λ c. both-free _ _ _ NoObject NoOverlay (λ e. cc) (λ e. cc))
 session-free v op = λ e. cc

@@ -1,5 +1,6 @@
 -- A session stands behind each line of a run, and the terminal shows its screen where that is known.
-use Rattle.std.proofs.Common.{◌≡◌, ℕ, Bool, true, false, List, [], ◌∷◌, length, map, Option, None, Some, Ok, is_some, if◌then◌else◌, refl, sym, ap, ◌∙◌, subst, subst₂, true≢false}
+use Rattle.std.proofs.Common.{◌≡◌, ℕ, Bool, true, false, List, [], ◌∷◌, length, map, Option, None, Some, Ok, is_some, if◌then◌else◌, refl, sym, ap, ◌∙◌, subst, subst₂}
+use Rattle.std.proofs.lemmas.Bool.{both_ways}
 use Rattle.std.proofs.lemmas.List.{length-map}
 use Rattle.std.proofs.lemmas.Option.{IfSome_then}
 use Rattle.std.specs.Prelude.{IfSome}
@@ -122,12 +123,9 @@ record Goes (place : Standing) (t : Tty) (e : Effect) : Type 0 where
   pub on : LineLeads place e.now (terminal_after t e) e.outcome
   pub size : e.fresh ≡ false → AreOfOneSize place.session.state e.now.session.state
 
-never : {P : Type 0} {b : Bool} → b ≡ false → b ≡ true → P
-never p q = absurd (true≢false (sym q ∙ p))
-
 -- a line that sends nothing
 silent-on : (from to : Standing) (t : Tty) (o : Option Outcome) → is_sent o ≡ false → is_shown o ≡ false → IsAt to.session t → to.mode ≡ from.mode → LineLeads from to t o
-silent-on from to t o unsent unshown at under = record { at = at; under = under; knows = λ s. never unsent s; reaches = λ s. never unshown s; shows = λ s. never unshown s }
+silent-on from to t o unsent unshown at under = record { at = at; under = under; knows = λ s. absurd (both_ways _ unsent s); reaches = λ s. absurd (both_ways _ unshown s); shows = λ s. absurd (both_ways _ unshown s) }
 
 silent-goes : (place : Standing) (t : Tty) (e : Effect) → is_sent e.outcome ≡ false → is_shown e.outcome ≡ false → IsAt e.now.session (terminal_after t e) → e.now.mode ≡ place.mode
     → (e.fresh ≡ false → AreOfOneSize place.session.state e.now.session.state) → Goes place t e
