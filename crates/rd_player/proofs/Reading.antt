@@ -6,6 +6,7 @@ use Rattle.std.proofs.KnownBytes.{Consumes-nil, Consumes-trans}
 use Rattle.std.proofs.lemmas.Bool.{both_ways, false_from_ne_true}
 use Rattle.std.proofs.lemmas.List.{length_push}
 use Rattle.rd_base.proofs.Lists.{each-append}
+use Rattle.rd_base.specs.declared.limits.TheConstants.{LINE_BYTES, LINES}
 use Rattle.rd_io.specs.Lines.{Reading, Answers, IsLine, Gives, IsUnbroken, lines_of, text_of_lines, unread}
 use Rattle.rd_io.specs.declared.lines.LineFault.{LineFault}
 use Rattle.rd_io.proofs.Cuts.{last-some, lines-text_of_lines}
@@ -14,11 +15,11 @@ use Rattle.rd_run.specs.Ends.{AreFirst, AreInLimits}
 pub record HasRead (lines : List (List ℕ)) (bytes : List ℕ) (l0 l1 : Option (List ℕ)) (r : Reading) : Type 0 where
   pub taken : Consumes l0 l1 bytes
   pub unbroken : AllByRecursion IsUnbroken lines
-  pub short : AllByRecursion (λ line. length line ≤ 1048576) lines
+  pub short : AllByRecursion (λ line. length line ≤ LINE_BYTES) lines
   pub split : r.ended ≡ false → bytes ≡ text_of_lines lines ++ r.held
   pub over : r.ended ≡ true → (lines_of bytes ≡ lines) × IsAtEnd l1
   pub count : r.given ≡ length lines
-  pub few : r.given ≤ 1000000
+  pub few : r.given ≤ LINES
   pub clear : r.fault ≡ None
 
 -- a reader that has read nothing

@@ -2,6 +2,7 @@
 use Rattle.std.proofs.Common.{◌≡◌, ℕ, ◌+◌, ◌<◌, ◌≤◌, ◌⊎◌, inl, inr, Bool, true, false, List, [], ◌∷◌, ◌++◌, length, Option, None, Some, Result, Ok, Err, refl, sym, ap, ◌∙◌, subst, arith}
 use Rattle.std.specs.Io.KnownBytes.{Consumes}
 use Rattle.std.proofs.KnownBytes.{Appends-nil, Consumes-nil, Consumes-trans}
+use Rattle.rd_base.specs.declared.limits.TheConstants.{LINES}
 use Rattle.rd_io.specs.Devices.{Rose}
 use Rattle.rd_io.specs.Lines.{Reading, Answers, Cause}
 use Rattle.rd_io.proofs.Bytes.{rose-after}
@@ -31,7 +32,7 @@ pub record IsHanded (mode : Mode) (inputs : List Input) (bytes : List ℕ) (l0 l
   pub read : HasRead (lines_in inputs ++ r.line ∷ []) bytes l0 l1 r
   pub before : (rest : List ℕ) × GoesOn inputs bytes rest
   pub ran : HasRun mode inputs place screen report c0 c1
-  pub few : place.lines < 1000000
+  pub few : place.lines < LINES
 
 abbrev pub Handed : Mode → Option (List ℕ) → Option (List ℕ) → Reading → Standing → Sunk → Sunk → ℕ → ℕ → Type 0
 Handed mode l0 l1 r place screen report c0 c1 = (inputs : List Input) × (bytes : List ℕ) × IsHanded mode inputs bytes l0 l1 r place screen report c0 c1

@@ -1,4 +1,5 @@
 use Rattle.std.proofs.Common.{◌≤◌, ◌-◌}
+use Rattle.rd_base.specs.declared.limits.TheConstants.{LINES}
 use Rattle.rd_player.specs.Devices.{sunk_by}
 use Rattle.rd_player.specs.Acts.{mode_of, standing}
 use Rattle.rd_player.proofs.Taking.{Running}
@@ -16,4 +17,4 @@ invariant-each_line g l = record {
 }
 
 abbrev pub decreases-each_line : goal.decreases-each_line
-decreases-each_line g l = 1000000 - l.lines.given
+decreases-each_line g l = LINES - l.lines.given
