@@ -1,10 +1,11 @@
 -- When verdicts come, put together from what was read.
-use Rattle.std.proofs.Common.{◌≡◌, ◌≢◌, ℕ, ◌+◌, ◌<◌, ◌≤◌, ◌⊎◌, inl, inr, if◌then◌else◌, List, [], ◌∷◌, length, map, get_or, Option, None, Some, IfSome, is_some, is_ok, Result, Ok, Err, refl, sym, ap, subst, ◌∙◌, arith, length-append, true≢false}
+use Rattle.std.proofs.Common.{◌≡◌, ◌≢◌, ℕ, ◌+◌, ◌<◌, ◌≤◌, ◌⊎◌, inl, inr, if◌then◌else◌, List, [], ◌∷◌, length, map, Option, None, Some, is_some, is_ok, Result, Ok, Err, refl, sym, ap, subst, ◌∙◌, arith, length-append, true≢false}
 use Rattle.std.specs.Prelude.{⊤}
 use Rattle.std.specs.Io.KnownBytes.{Consumes}
 use Rattle.std.proofs.KnownBytes.{Consumes-whole}
 use Rattle.std.proofs.lemmas.Option.{MatchOption-at_some, same_Some}
 use Rattle.rd_base.proofs.Equals.{cell-itself}
+use Rattle.rd_base.proofs.Lists.{heads}
 use Rattle.rd_base.specs.declared.cell.Cell.{Cell}
 use Rattle.rd_base.specs.declared.limits.TheConstants.{FILE_BYTES}
 use Rattle.rd_term.specs.Pictures.{Picture}
@@ -18,15 +19,12 @@ use Rattle.rd_audit.specs.declared.verdict.Verdict.TheVariants.{Yes, No, Usage, 
 
 -- ---- what comes of a sound call
 
-same-word : (a b : List ℕ) → a ∷ [] ≡ b ∷ [] → a ≡ b
-same-word a b e = ap (λ l. get_or l 0 a) e
-
 ok≢err : (dump : Picture) (n : ℕ) → Ok dump ≡ Err n → ⊥
 ok≢err dump n e = true≢false (ap is_ok e)
 
 -- the contents of the file that the word names are those that are told
 told-is : (words : List (List ℕ)) (told : List ℕ → Option (List ℕ)) (left : Option (List ℕ)) (name : List ℕ) → (s : IsSound words told left) → words ≡ name ∷ [] → told name ≡ Some s.file
-told-is words told left name s e = ap told (same-word name s.name (sym e ∙ s.word)) ∙ s.contents
+told-is words told left name s e = ap told (heads (sym e ∙ s.word)).0 ∙ s.contents
 
 -- a file that is told to have a dump is not bad
 not-bad : (told : Option (List ℕ)) (file : List ℕ) (dump : Picture) (n : ℕ) → told ≡ Some file → length file ≤ FILE_BYTES → dump_in file ≡ Ok dump → IsBadFile told n → ⊥

@@ -1,7 +1,8 @@
 -- What a run of a script leaves for the auditor: its stream is the terminal's, and its report has the dump of what that shows.
-use Rattle.std.proofs.Common.{◌≡◌, ℕ, ◌+◌, ◌<◌, ◌≤◌, Bool, true, false, if◌then◌else◌, is_some, inl, inr, Option, None, Some, unwrap_or, Ok, decimal, codes, List, [], ◌∷◌, ◌++◌, length, refl, sym, ap, ◌∙◌, subst, arith, append_assoc, true≢false}
+use Rattle.std.proofs.Common.{◌≡◌, ℕ, ◌+◌, ◌<◌, ◌≤◌, Bool, true, false, if◌then◌else◌, is_some, inl, inr, Option, None, Some, unwrap_or, Ok, decimal, codes, List, [], ◌∷◌, ◌++◌, length, refl, sym, ap, ◌∙◌, subst, arith, append_assoc}
 use Rattle.std.specs.Prelude.{IsSome}
 use Rattle.std.specs.Io.KnownBytes.{Appends}
+use Rattle.std.proofs.lemmas.Bool.{false≢true}
 use Rattle.std.proofs.lemmas.List.Elements.{All-nil}
 use Rattle.std.proofs.lemmas.List.Sums.{fold-append}
 use Rattle.rd_dump.specs.Dumps.{dump_text}
@@ -73,9 +74,6 @@ told-shown mode number u next screen read dumps done current =
     ∙ ap (λ b. shown_line number u.rows ++ dump_lines b next.current (facts_of next)) dumps
     ∙ ap (λ o. shown_line number u.rows ++ dump_lines true o (facts_of next)) current
 
-never : {P : Type 0} → false ≡ true → P
-never h = absurd (true≢false (sym h))
-
 -- its line, and the dump of the screen that is reached
 abbrev Tells : Standing → Picture → Effect → Type 0
 Tells place screen e = is_shown e.outcome ≡ true → place.mode.generated ≡ None → place.mode.dumps ≡ true → e.now.session.current ≡ Some screen
@@ -83,11 +81,11 @@ Tells place screen e = is_shown e.outcome ≡ true → place.mode.generated ≡ 
 
 effect-tells : (place : Standing) (t : Input) (screen : Picture) → Tells place screen (effect place t)
 effect-tells place t screen = effect-is place t (Tells place screen) (record {
-  blank = λ s. never s;
-  unread = λ fault is s. never s;
-  refusal = λ op cause is s. never s;
-  accepted = λ op state form step is s. never s;
-  starved = λ s. never s;
+  blank = λ s. absurd (false≢true s);
+  unread = λ fault is s. absurd (false≢true s);
+  refusal = λ op cause is s. absurd (false≢true s);
+  accepted = λ op state form step is s. absurd (false≢true s);
+  starved = λ s. absurd (false≢true s);
   fed = λ stop s read dumps current.
       let u = update_of place.session stop in
       (u.rows, told-shown place.mode (place.lines + 1) u (redisplayed_session place.session stop) screen read dumps (shown-done u.done u.rows s) current);
@@ -96,7 +94,7 @@ effect-tells place t screen = effect-is place t (Tells place screen) (record {
 tells-if : (stays : Bool) (w : World) (e : Effect) (screen : Picture) → Tells w.now screen e → is_shown (if stays then None else e.outcome) ≡ true → w.now.mode.generated ≡ None
     → w.now.mode.dumps ≡ true → (if stays then w else after w e).now.session.current ≡ Some screen
     → (rows : ℕ) × ((if stays then w else after w e).told ≡ w.told ++ (shown_line (w.now.lines + 1) rows ++ dump_text screen (facts_of (if stays then w else after w e).now.session)))
-tells-if true w e screen tells s read dumps current = never s
+tells-if true w e screen tells s read dumps current = absurd (false≢true s)
 tells-if false w e screen tells s read dumps current = let told = tells s read dumps current in (told.0, ap (λ l. w.told ++ l) told.1)
 
 run_line-tells : (w : World) (t : Input) (screen : Picture) → is_shown (outcome_at w t) ≡ true → w.now.mode.generated ≡ None → w.now.mode.dumps ≡ true → (run_line w t).now.session.current ≡ Some screen
@@ -188,7 +186,7 @@ ran-of given mode inputs bytes source (begun, (ran, all)) = ran
 
 -- bytes that were told are those that were there with those that were written
 wrote : (before after : Option (List ℕ)) (bytes file : List ℕ) → IsSome before → after ≡ Some file → Appends before after bytes → (old : List ℕ) × (file ≡ old ++ bytes)
-wrote None after bytes file some e h = never some
+wrote None after bytes file some e h = absurd (false≢true some)
 wrote (Some xs) None bytes file some e h = absurd h
 wrote (Some xs) (Some ys) bytes file some e h = (xs, ap (λ o. unwrap_or o file) (sym e) ∙ h)
 

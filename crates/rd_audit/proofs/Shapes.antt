@@ -1,8 +1,9 @@
 -- Rows of one width.
-use Rattle.std.proofs.Common.{◌≡◌, ℕ, ◌+◌, ◌<◌, ◌≤◌, nat_lt, Bool, true, false, if◌then◌else◌, Option, None, Some, option_and_then, option_map, unwrap_or, Result, Err, List, [], ◌∷◌, ◌++◌, length, refl, sym, ap, subst, ◌∙◌, arith, length-append}
+use Rattle.std.proofs.Common.{◌≡◌, ℕ, ◌+◌, ◌<◌, ◌≤◌, nat_lt, Bool, true, false, if◌then◌else◌, Option, None, Some, option_and_then, option_map, unwrap_or, Result, Err, List, [], ◌∷◌, ◌++◌, length, refl, sym, ap, ◌∙◌, arith, length-append}
 use Rattle.std.proofs.lemmas.Bool.Decides.{nat_tests}
 use Rattle.std.proofs.lemmas.List.Elements.{All-nil, All-cons, All-push}
 use Rattle.std.proofs.lemmas.Option.{none-some}
+use Rattle.rd_base.proofs.Choices.{kept-some}
 use Rattle.rd_base.specs.declared.cell.Cell.{Cell}
 use Rattle.rd_term.specs.Pictures.{Picture}
 use Rattle.rd_audit.specs.Dumps.{picture_from, ended_by}
@@ -12,12 +13,6 @@ use Rattle.rd_audit.specs.Rows.{is_row, is_as_wide, next_row, row_cells, cursor_
 if_some : {T : Type 0} (b : Bool) (o : Option T) (x : T) → (if b then o else None) ≡ Some x → (b ≡ true) × (o ≡ Some x)
 if_some true o x e = (refl, e)
 if_some false o x e = absurd (none-some x e)
-
-kept : (rows : List (List Cell)) (o : Option (List Cell)) (cells : List Cell) → option_and_then (λ x. if is_as_wide rows x then Some x else None) o ≡ Some cells → is_as_wide rows cells ≡ true
-kept rows None cells e = absurd (none-some cells e)
-kept rows (Some x) cells e =
-    let h = if_some (is_as_wide rows x) (Some x) cells e in
-    subst (λ y. is_as_wide rows y ≡ true) (ap (λ o. unwrap_or o x) h.1) h.0
 
 push-by : (rows : List (List Cell)) (cells : List Cell) → IsShape rows → length rows < 200 → is_as_wide rows cells ≡ true → IsShape (rows ++ cells ∷ [])
 push-by [] cells shape few wide =
@@ -37,7 +32,7 @@ push-by (row ∷ rows) cells shape few wide =
 pub push-row : (rows : List (List Cell)) (line : List ℕ) (cells : List Cell) → IsShape rows → next_row rows line ≡ Some cells → IsShape (rows ++ cells ∷ [])
 push-row rows line cells shape e =
     let h = if_some (nat_lt (length rows) 200) (option_and_then (λ x. if is_as_wide rows x then Some x else None) (row_cells (length rows) line)) cells e in
-    push-by rows cells shape (let small = h.0 in grind (arith, nat_tests)) (kept rows (row_cells (length rows) line) cells h.1)
+    push-by rows cells shape (let small = h.0 in grind (arith, nat_tests)) (kept-some (is_as_wide rows) (row_cells (length rows) line) cells h.1)
 
 -- the next line of a group says the next row
 pub picture-on : (first : ℕ) (rows next : List (List Cell)) (cells : List Cell) (lines more : List (List ℕ)) (line : List ℕ) (whole : Result Picture ℕ) → lines ≡ line ∷ more

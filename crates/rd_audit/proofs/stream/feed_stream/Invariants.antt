@@ -1,14 +1,15 @@
 use Rattle.std.proofs.Common.{◌≡◌, ℕ, ◌-◌, ◌≤◌, List, length}
 use Rattle.std.specs.Io.KnownBytes.{Consumes}
+use Rattle.rd_base.specs.declared.limits.TheConstants.{STREAM_BYTES}
 use Rattle.rd_term.specs.Terminals.{feed_bytes}
 use Rattle.rd_audit.proofs.stream.feed_stream.Given as goal
 
 abbrev pub invariant-loop-n : goal.invariant-loop-n
 invariant-loop-n g l = record {
   read : (bytes : List ℕ) × Consumes (g.S.Source.left l.fn.stream) (g.S.Source.left l.stream) bytes × (l.terminal ≡ feed_bytes l.fn.terminal bytes) × (length bytes ≡ l.taken);
-  few : l.taken ≤ 16777216;
+  few : l.taken ≤ STREAM_BYTES;
   never_falls : g.S.Source.faults l.fn.stream ≤ g.S.Source.faults l.stream;
 }
 
 abbrev pub decreases-loop-n : goal.decreases-loop-n
-decreases-loop-n g l = 16777216 - l.taken
+decreases-loop-n g l = STREAM_BYTES - l.taken
