@@ -123,9 +123,9 @@ made-ok false made e x h = absurd (cc)
 
 pub both-ok : {A E : Type 0} (t u : Bool) (made : A) (e f : E) (x : A) → (if t then (if u then Ok made else Err e) else Err f) ≡ Ok x → (t ≡ true) × (u ≡ true) × (made ≡ x)
 both-ok t u made e f x h =
-    let outer = if-ok t (if u then Ok made else Err e) f x h in
-    let inner = made-ok u made e x outer.1 in
-    (outer.0, inner.0, inner.1)
+    let first = if-ok t (if u then Ok made else Err e) f x h in
+    let second = made-ok u made e x first.1 in
+    (first.0, second.0, second.1)
 
 -- neither a value nor another fault is this fault
 pub ok-free : {A E : Type 0} {fault : E} (x : A) → ◌≢◌ {A = Result A E} (Ok x) (Err fault)

@@ -79,15 +79,15 @@ glyph_number-told g h sg sh first second third =
     let count = in_base 8 (g.count % 8) _ (h.count % 8) _ (omega arith) (omega arith) first in
     let width = in_base 4 (g.width % 4) _ (h.width % 4) _ (omega arith) (omega arith) count.1 in
     let low = packed-told g.base (get_or g.marks 0 0) 0 h.base (get_or h.marks 0 0) 0 width.1 in
-    let middle = packed-told (get_or g.marks 1 0) (get_or g.marks 2 0) (get_or g.marks 3 0) (get_or h.marks 1 0) (get_or h.marks 2 0) (get_or h.marks 3 0) second in
+    let next = packed-told (get_or g.marks 1 0) (get_or g.marks 2 0) (get_or g.marks 3 0) (get_or h.marks 1 0) (get_or h.marks 2 0) (get_or h.marks 3 0) second in
     let high = packed-told (get_or g.marks 4 0) (get_or g.marks 5 0) 0 (get_or h.marks 4 0) (get_or h.marks 5 0) 0 third in
     let small : (x : Glyph) → IsSmallGlyph x → (k : ℕ) → k < 6 → get_or x.marks k 0 < 2097152 = λ x s k p. s.marks k 0 (rw s.places p) in
     let at : (k : ℕ) → k < 6 → get_or g.marks k 0 % 2097152 ≡ get_or h.marks k 0 % 2097152 → get_or g.marks k 0 ≡ get_or h.marks k 0
     = λ k p e. code-told (get_or g.marks k 0) (get_or h.marks k 0) (small g sg k p) (small h sh k p) e in
     let Same : ℕ → Type 0 = λ k. get_or g.marks k 0 ≡ get_or h.marks k 0 in
     let each = below_six Same
-    (at 0 (omega arith) low.1) (at 1 (omega arith) middle.0) (at 2 (omega arith) middle.1)
-    (at 3 (omega arith) middle.2) (at 4 (omega arith) high.0) (at 5 (omega arith) high.1) in
+    (at 0 (omega arith) low.1) (at 1 (omega arith) next.0) (at 2 (omega arith) next.1)
+    (at 3 (omega arith) next.2) (at 4 (omega arith) high.0) (at 5 (omega arith) high.1) in
     let marks = ext_get_or 0 g.marks h.marks (sg.places ∙ sym sh.places) (λ i p. each i (rw (sym sg.places) p)) in
     let count_same : g.count ≡ h.count = omega arith in
     let width_same : g.width ≡ h.width = omega arith in

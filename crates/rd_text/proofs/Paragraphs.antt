@@ -38,7 +38,7 @@ module _ (t : TextValue) (pos at : ℕ) (right : IsText t) (low : t.begin ≤ po
       ∙ blank_at t right e.start (r - 1) (i + 1) (elim e.begins [ inl same ↦ omega arith | inr line ↦ omega (arith, line.0) ]) (omega arith) (omega arith) (omega arith) e.blank in
       elim (cases_lt at (e.start - 1)) [
         | inr past ↦ in_line k (omega arith) to
-        | inl inner ↦ elim e.begins [
+        | inl starts_later ↦ elim e.begins [
           | inl is ↦ let f = o.first in absurd (omega arith)
           | inr line ↦
               let i : ℕ = e.start - 1 - 1 - at in
