@@ -1,6 +1,6 @@
 -- One step over the positions of a block.
 use Rattle.std.proofs.Common.{◌≡◌, ℕ, ◌+◌, ◌-◌, ◌<◌, ◌≤◌, Bool, true, false, List, [], ◌∷◌, ◌++◌, drop, Option, refl, sym, ap, ◌∙◌, arith}
-use Rattle.std.specs.Prelude.{zero, suc, ◌&&◌, if◌then◌else◌}
+use Rattle.std.specs.Prelude.{zero, suc, if◌then◌else◌}
 use Rattle.std.proofs.lemmas.Bool.{both_ways, cond-false, false_from_ne_true}
 use Rattle.rd_base.specs.declared.settings.Invisible.{Invisible}
 use Rattle.rd_ucd.specs.Data.{Data}
@@ -11,9 +11,11 @@ use Rattle.rd_props.specs.Seen.{Seen, seen_at, accessible_char}
 use Rattle.rd_items.specs.declared.showing.Showing.{Showing}
 use Rattle.rd_items.specs.declared.piece.Piece.{Piece}
 use Rattle.rd_items.specs.declared.item.Item.{Item}
-use Rattle.rd_items.specs.Readings.{showing_of, showing_at, is_open, ends_line, ends_block, reading_from, reading}
+use Rattle.rd_items.specs.Readings.{showing_of, showing_at, is_open, ends_block, reading_from, reading}
 use Rattle.rd_items.specs.Pieces.{Scene, scene_in, string_pieces, piece_at, goes_on, run_length, pieces_from}
 use Rattle.rd_items.specs.Walks.{pieces_left}
+use Rattle.rd_items.specs.Covers.{option_ends}
+use Rattle.rd_items.proofs.Chains.{ends-where}
 use Rattle.rd_items.proofs.Readings.{before-end, end-open, reads-one, reading-more}
 use Rattle.rd_items.proofs.Runs.{open-stops, ender-open}
 
@@ -117,19 +119,23 @@ made s o d start p to showing x before mid after xs is =
     let goes = goes-to s o d start p to showing x before mid after is in
     is.put xs ∙ is.strings (x ∷ xs) ∙ rw (is.piece, is.shown, goes.1)
 
--- a position that is shown in a way and has a character ends a block exactly where these do
-pub is-ender : (s : BufferValue) (o : ObjectLists) (p : ℕ) (showing : Showing) (ch : Option ℕ) (ends : Bool) → showing ≡ showing_at s o p → ch ≡ accessible_char s.text p → (is_open showing && ends_line ch) ≡ ends → ends_block s p ≡ ends
-is-ender s o p showing ch ends shown here e = rw (shown, here) at e
+-- a position ends a block exactly where the piece that is put is an ender
+step-ender : (s : BufferValue) (o : ObjectLists) (d : Data) (start p to : ℕ) (showing : Showing) (x : Piece) (before mid after : List Piece → List Item) → IsStep s o d start p to showing x before mid after → ends_block s p ≡ option_ends x.kind
+step-ender s o d start p to showing x before mid after is =
+    let goes = goes-to s o d start p to showing x before mid after is in
+    sym (rw (is.piece, is.shown, goes.1) (ends-where (scene s o d) (seen_at s o p) (drop 1 (reading s o p)) (p - start)))
 
-pub step-ends : (s : BufferValue) (o : ObjectLists) (d : Data) (start p to : ℕ) (showing : Showing) (x : Piece) (before mid after : List Piece → List Item) → IsStep s o d start p to showing x before mid after → ends_block s p ≡ true → after [] ≡ before (pieces_left s (scene s o d) start p)
-step-ends s o d start p to showing x before mid after is ender =
+pub step-ends : (s : BufferValue) (o : ObjectLists) (d : Data) (start p to : ℕ) (showing : Showing) (x : Piece) (before mid after : List Piece → List Item) → IsStep s o d start p to showing x before mid after → option_ends x.kind ≡ true → after [] ≡ before (pieces_left s (scene s o d) start p)
+step-ends s o d start p to showing x before mid after is ends =
+    let ender = step-ender s o d start p to showing x before mid after is ∙ ends in
     let none = ap (drop 1) (reads-one s o (s.text.end - p) p ender) in
     let parts = left-parts s o d (p - start) p is.last in
     let rest : pieces_from (scene s o d) (run_behind s o p) (suc (p - start)) (drop 1 (reading s o p)) ≡ [] = rw none in
     made s o d start p to showing x before mid after [] is ∙ ap before (sym (rw rest at parts))
 
-pub step-goes : (s : BufferValue) (o : ObjectLists) (d : Data) (start p to : ℕ) (showing : Showing) (x : Piece) (before mid after : List Piece → List Item) → IsStep s o d start p to showing x before mid after → ends_block s p ≡ false → (p < to) × (to ≤ s.text.end) × (after (pieces_left s (scene s o d) start to) ≡ before (pieces_left s (scene s o d) start p))
-step-goes s o d start p to showing x before mid after is ender =
+pub step-goes : (s : BufferValue) (o : ObjectLists) (d : Data) (start p to : ℕ) (showing : Showing) (x : Piece) (before mid after : List Piece → List Item) → IsStep s o d start p to showing x before mid after → option_ends x.kind ≡ false → (p < to) × (to ≤ s.text.end) × (after (pieces_left s (scene s o d) start to) ≡ before (pieces_left s (scene s o d) start p))
+step-goes s o d start p to showing x before mid after is none =
+    let ender = step-ender s o d start p to showing x before mid after is ∙ none in
     let k = p - start in
     let skips = behind-left s o d (showing_at s o p) k p is.last ender in
     let goes = goes-to s o d start p to showing x before mid after is in

@@ -1,5 +1,5 @@
 -- What items cover, and how they end.
-use Rattle.std.specs.Prelude.{◌≡◌, ℕ, ◌<◌, nat_lt, Bool, true, false, not, ◌&&◌, List, [], ◌∷◌, All}
+use Rattle.std.specs.Prelude.{◌≡◌, ℕ, ◌<◌, nat_lt, Bool, true, false, not, ◌&&◌, List, [], ◌∷◌, Option, None, Some, All}
 use Rattle.rd_base.specs.Lists.{Follow}
 use Rattle.rd_base.specs.declared.class.Class.TheVariants.{B}
 use Rattle.rd_items.specs.Pieces.{Scene}
@@ -20,6 +20,11 @@ CoverWhereTheyGive scene items = All (λ x. nat_lt x.from x.to ≡ (not x.overla
 abbrev pub is_ender_kind : ItemKind → Bool
 is_ender_kind kind.Ender = true
 is_ender_kind k = false
+
+-- whether what a piece shows, if anything, is an ender
+abbrev pub option_ends : Option ItemKind → Bool
+option_ends None = false
+option_ends (Some k) = is_ender_kind k
 
 -- an ender is a separator of paragraphs and covers the position that ends the block
 pub record IsEnder (x : Item) : Type 0 where

@@ -29,6 +29,7 @@ pub struct Piece {
 
 impl Piece {
     ghost use Rattle.std.specs.Prelude.{◌≡◌, ◌<◌};
+    ghost use Rattle.rd_items.specs.Covers.{option_ends};
     ghost use Rattle.rd_items.specs.Pieces.{piece, string_piece, ender_piece};
 
     /// A piece that marks don't join and that is no overlay's string.
@@ -72,6 +73,13 @@ impl Piece {
         ensures { result ≡ ender_piece face at }
     {
         Piece::new(Class::B, Some(ItemKind::Ender), face, true, at, at + 1)
+    }
+
+    /// Whether this ends a block.
+    pub fn is_ender(&self) -> bool
+        ensures { result ≡ option_ends self.now.kind }
+    {
+        matches!(self.kind, Some(ItemKind::Ender))
     }
 }
 

@@ -3,7 +3,7 @@ ghost use Rattle.std.specs.Prelude.{◌≡◌, IfOk};
 ghost use Rattle.rd_text.specs.Texts.{IsAccessible, is_newline};
 ghost use Rattle.rd_props.specs.Buffers.{meaning};
 ghost use Rattle.rd_props.specs.Seen.{accessible_char};
-ghost use Rattle.rd_items.specs.Readings.{showing_at, showing_by, ends_line, is_hidden};
+ghost use Rattle.rd_items.specs.Readings.{showing_at, showing_by, is_hidden};
 ghost use Rattle.rd_items.specs.Pieces.{same_spec};
 
 use rd_base::{Ch, Face, Invisible, Memory, Pos};
@@ -45,19 +45,9 @@ pub fn is_newline(ch: Ch) -> bool
     ch.code() == 10
 }
 
-/// Whether this is a newline, or the end of the accessible text.
-fn ends_line(ch: &Option<Ch>) -> bool
-    ensures { result ≡ ends_line ch.now }
-{
-    match ch {
-        None => true,
-        Some(ch) => is_newline(*ch),
-    }
-}
-
 impl Showing {
-    ghost use Rattle.std.specs.Prelude.{◌≡◌, ◌&&◌};
-    ghost use Rattle.rd_items.specs.Readings.{is_open, ends_line};
+    ghost use Rattle.std.specs.Prelude.{◌≡◌};
+    ghost use Rattle.rd_items.specs.Readings.{is_open};
     ghost use Rattle.rd_items.specs.Pieces.{goes_on};
 
     /// Whether the text is neither replaced nor hidden.
@@ -65,13 +55,6 @@ impl Showing {
         ensures { result ≡ is_open self.now }
     {
         self.display.is_none() && !is_hidden(self.hidden)
-    }
-
-    /// Whether a position that is shown in this way and has this character, or is the end of the accessible text, ends a block.
-    pub fn ends_block(&self, ch: &Option<Ch>) -> bool
-        ensures { result ≡ (is_open self.now && ends_line ch.now) }
-    {
-        self.is_open() && ends_line(ch)
     }
 
     /// Whether another position belongs to the run of this one.

@@ -173,8 +173,9 @@ impl Walk {
         let showing = self.enter(alloc, view, range, start, pos)?;
         let to = run_end(alloc, view, range, pos, &showing)?;
         let ch = char_at(view, pos);
-        self.put(piece_at(view, &showing, &ch, pos - start, to - start))?;
-        if showing.ends_block(&ch) {
+        let piece = piece_at(view, &showing, &ch, pos - start, to - start);
+        self.put(piece)?;
+        if piece.is_ender() {
             return Ok(None);
         }
         Ok(Some(to))

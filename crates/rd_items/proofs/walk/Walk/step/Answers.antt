@@ -1,25 +1,23 @@
-use Rattle.std.proofs.Common.{true, false, sym, ◌∙◌}
+use Rattle.std.proofs.Common.{sym, ◌∙◌}
 use Rattle.rd_props.specs.Buffers.{files_of, meaning}
 use Rattle.rd_items.specs.Walks.{whole}
-use Rattle.rd_items.proofs.Steps.{IsStep, is-ender, step-ends, step-goes}
-use Rattle.rd_items.proofs.walk.Walk.step.Goals.{After-ends_block}
+use Rattle.rd_items.proofs.Steps.{IsStep, step-ends, step-goes}
+use Rattle.rd_items.proofs.walk.Walk.step.Goals.{After-is_ender}
 use Rattle.rd_items.proofs.walk.Walk.step.Goals as goal
 
 -- the step that was made
-made : (c : goal.After-ends_block) → IsStep
+made : (c : goal.After-is_ender) → IsStep
     (meaning c.args.view.now.state.now) c.args.view.now.objects.now (files_of c.args.view.now)
-    c.args.start c.args.pos c.in_ok-to.to c.in_ok-showing.showing c.piece_at.result
+    c.args.start c.args.pos c.in_ok-to.to c.in_ok-showing.showing c.piece_at-piece.result
     (whole c.args.self.now.items c.args.self.now.since c.args.self.now.held)
     (whole c.enter.new.self.items c.enter.new.self.since c.enter.new.self.held)
     (whole c.put.new.self.items c.put.new.self.since c.put.new.self.held)
-made c = record { strings = c.in_ok-showing.ensures.whole; put = c.in_ok-put.ensures; shown = c.in_ok-showing.ensures.showing; run = c.in_ok-to.ensures.end; piece = c.piece_at.ensures ∙ rw c.char_at-ch.ensures; first = c.requires.behind; last = c.requires.accessible.1 }
+made c = record { strings = c.in_ok-showing.ensures.whole; put = c.in_ok-put.ensures; shown = c.in_ok-showing.ensures.showing; run = c.in_ok-to.ensures.end; piece = c.piece_at-piece.ensures ∙ rw c.char_at-ch.ensures; first = c.requires.behind; last = c.requires.accessible.1 }
 
-pub returns-then-ends_block-clause-steps : goal.returns-then-ends_block-clause-steps
-returns-then-ends_block-clause-steps c =
-    step-ends _ _ _ _ _ _ _ _ _ _ _ (made (goal.at.returns-then-ends_block-clause-steps c).After-ends_block)
-    (is-ender (meaning c.args.view.now.state.now) c.args.view.now.objects.now c.args.pos c.in_ok-showing.showing c.char_at-ch.result true c.in_ok-showing.ensures.showing c.char_at-ch.ensures (sym c.ends_block.ensures ∙ c.if-ends_block.true))
+pub returns-then-is_ender-clause-steps : goal.returns-then-is_ender-clause-steps
+returns-then-is_ender-clause-steps c =
+    step-ends _ _ _ _ _ _ _ _ _ _ _ (made (goal.at.returns-then-is_ender-clause-steps c).After-is_ender) (sym c.is_ender.ensures ∙ c.if-is_ender.true)
 
 pub returns-clause-steps : goal.returns-clause-steps
 returns-clause-steps c =
-    step-goes _ _ _ _ _ _ _ _ _ _ _ (made (goal.at.returns-clause-steps c).After-ends_block)
-    (is-ender (meaning c.args.view.now.state.now) c.args.view.now.objects.now c.args.pos c.in_ok-showing.showing c.char_at-ch.result false c.in_ok-showing.ensures.showing c.char_at-ch.ensures (sym c.ends_block.ensures ∙ c.if-ends_block.false))
+    step-goes _ _ _ _ _ _ _ _ _ _ _ (made (goal.at.returns-clause-steps c).After-is_ender) (sym c.is_ender.ensures ∙ c.if-is_ender.false)
