@@ -2,6 +2,7 @@
 use Rattle.std.specs.Prelude.{◌≡◌, ℕ, ◌+◌, ◌-◌, ◌*◌, ◌/◌, ◌<◌, ◌≤◌, min, nat_lt, if◌then◌else◌, false, List, ◌++◌, length, slice_get, Option, None, Some, ⊤}
 use Rattle.std.specs.List.{range_with_len}
 use Rattle.std.specs.List.Sorted.{IsPermutation}
+use Rattle.rd_base.specs.declared.limits.TheConstants.{LAST_POSITION}
 use Rattle.rd_overlays.specs.declared.overlay.Overlay.{Overlay}
 use Rattle.rd_overlays.specs.declared.overlay.Meeting.{Meeting}
 use Rattle.rd_overlays.specs.declared.bounds.Bounds.{Bounds}
@@ -53,8 +54,8 @@ IsAway pos (Some o) = (m : Meeting) → meets m pos o ≡ false
 -- bounds after an insertion: what stands behind the position moves, and what stands at it may move
 abbrev pub bounds_grown : ℕ → ℕ → Bounds → Bounds
 bounds_grown pos n b = record {
-  low = if nat_lt pos b.low then min (b.low + n) 4294967295 else b.low;
-  high = if nat_lt b.high pos then b.high else min (b.high + n) 4294967295;
+  low = if nat_lt pos b.low then min (b.low + n) LAST_POSITION else b.low;
+  high = if nat_lt b.high pos then b.high else min (b.high + n) LAST_POSITION;
 }
 
 -- bounds after a deletion
