@@ -27,7 +27,7 @@ use Rattle.rd_base.specs.declared.element.Look.TheVariants as look
 use Rattle.rd_glyphs.specs.declared.shown.Shown.{Shown}
 use Rattle.rd_glyphs.specs.declared.shown.Shown.TheVariants.{Caret, Octal, Space, Mark, Itself}
 use Rattle.rd_glyphs.specs.MarkRoles.{mark_role_by, IsMeasuredRole}
-use Rattle.rd_glyphs.specs.Characters.{is_control, is_formatting, caret, shown_as, turned, mirrored, on_blank, narrow, digit, looks_of, slot_or}
+use Rattle.rd_glyphs.specs.Characters.{is_control, is_formatting, caret, shown_as, mirror_code, mirrored, on_blank, narrow, digit, looks_of, slot_or}
 
 -- what is put for a character has the columns that Unicode gives it: a letter is printable, a mark takes none, and a character
 -- that is shown itself takes 1 to 3
@@ -132,7 +132,7 @@ itself-measured code some = (own (is_scalar code) some, own-columns code (column
   own true some = refl
   own false some = absurd (some refl)
 
-pub mirror-measured : (code width : ℕ) (other : Option ℕ) → ShowsMeasured (Itself code width) → ShowsMeasured (Itself (turned code width other) width)
+pub mirror-measured : (code width : ℕ) (other : Option ℕ) → ShowsMeasured (Itself code width) → ShowsMeasured (Itself (mirror_code code width other) width)
 mirror-measured code width None s = s
 mirror-measured code width (Some other) s = by-width (columns other == width) refl where
   by-width : (same : Bool) → (columns other == width) ≡ same → ShowsMeasured (Itself (if same then other else code) width)
@@ -142,10 +142,10 @@ mirror-measured code width (Some other) s = by-width (columns other == width) re
       subst (λ (n : ℕ). ShowsMeasured (Itself other n)) own (itself-measured other (omega (arith, s.2)))
 
 -- what holds of a character that is shown itself and of its mirror holds of what is mirrored
-pub mirrored-keeps : (P : Shown → Type 0) → ((code width : ℕ) (other : Option ℕ) → P (Itself code width) → P (Itself (turned code width other) width))
+pub mirrored-keeps : (P : Shown → Type 0) → ((code width : ℕ) (other : Option ℕ) → P (Itself code width) → P (Itself (mirror_code code width other) width))
     → (pairs : List Pair) (odd : Bool) (shown : Shown) → P shown → P (mirrored pairs odd shown)
 mirrored-keeps P mirror pairs odd (Itself code width) s =
-    either (λ (n : ℕ). P (Itself n width)) odd (turned code width (mirror_in pairs code)) code (mirror code width (mirror_in pairs code) s) s
+    either (λ (n : ℕ). P (Itself n width)) odd (mirror_code code width (mirror_in pairs code)) code (mirror code width (mirror_in pairs code) s) s
 mirrored-keeps P mirror pairs odd (Caret letter) s = s
 mirrored-keeps P mirror pairs odd (Octal byte) s = s
 mirrored-keeps P mirror pairs odd Space s = s

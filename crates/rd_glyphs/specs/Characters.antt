@@ -60,13 +60,13 @@ shown_as ctl_arrow class code =
     else Itself code (columns code)
 
 -- a listed mirror of the same width in place of the character
-abbrev pub turned : ℕ → ℕ → Option ℕ → ℕ
-turned code width None = code
-turned code width (Some other) = if columns other == width then other else code
+abbrev pub mirror_code : ℕ → ℕ → Option ℕ → ℕ
+mirror_code code width None = code
+mirror_code code width (Some other) = if columns other == width then other else code
 
 -- a character that is shown itself has its mirror at an odd level
 abbrev pub mirrored : List Pair → Bool → Shown → Shown
-mirrored pairs odd (Itself code width) = Itself (if odd then turned code width (mirror_in pairs code) else code) width
+mirrored pairs odd (Itself code width) = Itself (if odd then mirror_code code width (mirror_in pairs code) else code) width
 mirrored pairs odd s = s
 
 -- a glyph of one column

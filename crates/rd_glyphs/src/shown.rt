@@ -1,7 +1,7 @@
 //! How one character is shown.
 ghost use Rattle.std.specs.Prelude.{◌≡◌, ◌==◌, if◌then◌else◌, IsTrue};
 ghost use Rattle.rd_objects.specs.Widths.{columns};
-ghost use Rattle.rd_glyphs.specs.Characters.{is_control, caret, is_pop, is_formatting, shown_as, turned, mirrored, ShowsColumns};
+ghost use Rattle.rd_glyphs.specs.Characters.{is_control, caret, is_pop, is_formatting, shown_as, mirror_code, mirrored, ShowsColumns};
 ghost use Rattle.rd_ucd.specs.Lookup.{mirror_in};
 
 use rd_base::Class;
@@ -101,7 +101,7 @@ pub fn mirrored(mirrors: &Mirrors, odd: bool, shown: Shown) -> Shown
 
 /// The code of a character of this width at an odd level or not.
 fn mirror_or_self(mirrors: &Mirrors, odd: bool, code: u32, width: u8) -> u32
-    ensures { result ≡ (if odd then turned code width (mirror_in mirrors.now code) else code) }
+    ensures { result ≡ (if odd then mirror_code code width (mirror_in mirrors.now code) else code) }
 {
     if !odd {
         return code;
