@@ -7,6 +7,7 @@ use Rattle.serde_json.specs.Find.{as_array}
 use Rattle.serde_json.specs.View.{view, items_view}
 use Rattle.serde_json.specs.declared.value.Value.{Value}
 use Rattle.serde_json.proofs.Views.{items_len-items_view}
+use Rattle.rd_base.proofs.Choices.{of-choice}
 use Rattle.rd_base.proofs.Lists.{drop-read}
 use Rattle.rd_script.specs.Fields.{kept_if, consed, each_item, list_of, two_items_of, four_items_of}
 
@@ -41,17 +42,13 @@ each-fails kind vs i v list whole less is found h =
 pub list-none : {T : Type 0} (most : ℕ) (kind : Data → Option T) (d : Data) → None ≡ as_array d → None ≡ list_of most kind d
 list-none most kind d e = ap (λ o. option_and_then (each_item kind) (option_and_then (kept_if (λ ds. nat_le (items_len ds) most)) o)) e
 
-kept-then : {A B : Type 0} (f : A → Option B) (x : A) (b : Bool) → (if b then f x else None) ≡ option_and_then f (if b then Some x else None)
-kept-then f x true = refl
-kept-then f x false = refl
-
 -- whether there are at most so many decides
 list-by : {T : Type 0} (most : ℕ) (kind : Data → Option T) (d : Data) (vs : List Value) (few : Bool) → Some (items_view vs) ≡ as_array d → nat_le (length vs) most ≡ few
     → (if few then each_item kind (items_view vs) else None) ≡ list_of most kind d
 list-by most kind d vs few e is =
     let items = items_view vs in
     let same : nat_le (items_len items) most ≡ few = ap (λ n. nat_le n most) (items_len-items_view vs) ∙ is in
-    kept-then (each_item kind) items few ∙ ap (λ b. option_and_then (each_item kind) (if b then Some items else None)) (sym same)
+    sym (of-choice (option_and_then (each_item kind)) few (Some items) None) ∙ ap (λ b. option_and_then (each_item kind) (if b then Some items else None)) (sym same)
     ∙ ap (λ o. option_and_then (each_item kind) (option_and_then (kept_if (λ ds. nat_le (items_len ds) most)) o)) e
 
 pub list-long : {T : Type 0} (most : ℕ) (kind : Data → Option T) (d : Data) (vs : List Value) → Some (items_view vs) ≡ as_array d → most < length vs → None ≡ list_of most kind d
