@@ -158,14 +158,11 @@ rows-some law s base origin text under xs (i ∷ is) h =
     (λ e. let sum = flat-length (display_part_elements s origin) (row s base xs) (row_end p.face ∷ rows_from s base [] (map (bare_place text under) is)) in omega (arith, sum))
     (λ e. rows-some law s base origin text under (xs ++ part_of s p ∷ []) is (go-on s xs text under i is e h))
 
-get-at : (front : List ℕ) (c : ℕ) (cs all : List ℕ) → all ≡ front ++ c ∷ cs → get_or all (length front) 0 ≡ c
-get-at front c cs all is = ap (λ xs. get_or xs (length front) 0) is ∙ get_or-append_seam front c cs 0
-
 -- the characters of a string by their places
 chars-are : (s : Scene) (text : TextValue) (chars front : List ℕ) → text.chars ≡ front ++ chars → char_gives s text (range_with_len (length front) (length chars)) ≡ give_elements s.parts.table chars
 chars-are s text [] front is = refl
 chars-are s text (c ∷ cs) front is =
-    ap₂ ◌||◌ (ap (gives_element s.parts.table) (get-at front c cs text.chars is))
+    ap₂ ◌||◌ (ap (gives_element s.parts.table) (ap (λ xs. get_or xs (length front) 0) is ∙ get_or-append_seam front c cs 0))
     (subst (λ n. char_gives s text (range_with_len n (length cs)) ≡ give_elements s.parts.table cs) (length_push front c) (chars-are s text cs (front ++ c ∷ []) (is ∙ sym (append_assoc front (c ∷ []) cs))))
 
 parts-are : (s : Scene) (base : ℕ) (text : TextValue) (under : Attributes) → string_parts s base false text under ≡ rows_from s base [] (map (bare_place text under) (range_with_len 0 (length text.chars)))
