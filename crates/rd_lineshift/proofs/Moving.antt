@@ -7,7 +7,7 @@ use Rattle.std.proofs.lemmas.List.Elements.{recursion_from_All, All-append, All-
 use Rattle.rd_base.specs.declared.cell.Cell.{Cell}
 use Rattle.rd_term.specs.Pictures.{Picture, IsGrid, blank, blank_row, width_of}
 use Rattle.rd_term.proofs.Cutting.{map-replicate}
-use Rattle.rd_term.proofs.Shapes.{between-all, length-between}
+use Rattle.rd_term.proofs.Shapes.{between-all, length-between, part-length}
 use Rattle.rd_update.specs.Updates.{differing}
 use Rattle.rd_update.proofs.Spans.{three-parts}
 use Rattle.rd_lineshift.specs.Choices.{cost, shift_by}
@@ -56,8 +56,8 @@ moved-length (negsuc n) free rows le =
     ∙ omega (arith, length-take-le (length rows - suc n) rows (omega arith), length-replicate (suc n) free)
 
 -- how many rows a band has
-pub part-length : {A : Type 0} (xs : List A) (top height : ℕ) → top + height ≤ length xs → length (take (top + height - top) (drop top xs)) ≡ height
-part-length xs top height le = length-take-le (top + height - top) (drop top xs) (omega (arith, length-drop top xs)) ∙ omega arith
+pub band-length : {A : Type 0} (xs : List A) (top height : ℕ) → top + height ≤ length xs → length (take (top + height - top) (drop top xs)) ≡ height
+band-length xs top height le = part-length top (top + height) xs (omega arith) le ∙ omega arith
 
 pub shifted-length : {A : Type 0} (s : Shift) (free : A) (rows : List A) → IsShift (length rows) s → length (shifted_rows s free rows) ≡ length rows
 shifted-length s free rows h =
@@ -92,7 +92,7 @@ front-of xs t h m le = take-take m (t + h - t) (drop t xs) (omega arith)
 back-of : (xs : List ℕ) (t h a m : ℕ) → t + h ≤ length xs → a + m ≡ h → drop a (take (t + h - t) (drop t xs)) ≡ take m (drop (t + a) xs)
 back-of xs t h a m le e =
     let part = take (t + h - t) (drop t xs) in
-    let n : length (drop a part) ≤ m = omega (arith, length-drop a part, part-length xs t h le) in
+    let n : length (drop a part) ≤ m = omega (arith, length-drop a part, band-length xs t h le) in
     sym (take_all m (drop a part) n) ∙ take-within xs t (t + h - t) a m (omega arith)
 
 -- the cost in four parts: above the band, in the two parts that it becomes, and below
@@ -103,7 +103,7 @@ in-parts old new a b t h m k same le first second sum =
     let part = take (t + h - t) (drop t new) in
     let above = unlike (take t old) (take t new) in
     let below = drop (t + h) new in
-    let size = part-length new t h le in
+    let size = band-length new t h le in
     let high : length (take t old) ≡ length (take t new) = length-take-le t old (omega arith) ∙ sym (length-take-le t new (omega arith)) in
     let change : length (a ++ b) ≡ length (take (t + h - t) (drop t new)) = omega (arith, length-append a b, size) in
     let front : length a ≡ length (take m (take (t + h - t) (drop t new))) = omega (arith, length-take-le m part (omega (arith, size))) in
@@ -125,7 +125,7 @@ up-cost old new blank band n same le fits =
     let P = take (t + h - t) (drop t old) in
     let free = replicate n blank in
     let kept = back-of old t h n (h - n) (omega arith) (omega arith) in
-    let left : length (drop n (take (t + h - t) (drop t old))) ≡ h - n = length-drop n P ∙ ap (λ k. k - n) (part-length old t h (omega arith)) in
+    let left : length (drop n (take (t + h - t) (drop t old))) ≡ h - n = length-drop n P ∙ ap (λ k. k - n) (band-length old t h (omega arith)) in
     ap (λ xs. unlike (take t old) (take t new) + unlike xs (take (h - n) (drop t new)) + unlike free (take n (drop (t + (h - n)) new)) + unlike (drop (t + h) old) (drop (t + h) new)) (sym kept)
     ∙ sym (in-parts old new (drop n P) free t h (h - n) n same le left (length-replicate n blank) (omega arith))
 
@@ -142,7 +142,7 @@ down-cost old new blank band (suc k) same le some fits =
     let n = suc k in
     let P = take (t + h - t) (drop t old) in
     let free = replicate n blank in
-    let size = part-length old t h (omega arith) in
+    let size = band-length old t h (omega arith) in
     let kept = ap (λ j. take (j - n) P) size ∙ front-of old t h (h - n) (omega arith) in
     let left : length (take (length P - n) P) ≡ h - n = length-take-le (length P - n) P (omega arith) ∙ ap (λ j. j - n) size in
     swapped (unlike (take t old) (take t new)) (unlike (take (h - n) (drop t old)) (take (h - n) (drop (t + n) new))) (unlike free (take n (drop t new))) (unlike (drop (t + h) old) (drop (t + h) new))
@@ -159,7 +159,7 @@ row-behind s free rows row within le =
 
 moved-long : (s : Shift) (free : List Cell) (rows : List (List Cell)) → IsShift (length rows) s → length (moved s.by free (take (s.top + s.height - s.top) (drop s.top rows))) ≡ s.height
 moved-long s free rows h =
-    let n = part-length rows s.top s.height h.within in
+    let n = band-length rows s.top s.height h.within in
     moved-length s.by free (take (s.top + s.height - s.top) (drop s.top rows)) (omega (arith, n, h.left)) ∙ n
 
 row-within : (s : Shift) (free : List Cell) (rows : List (List Cell)) (row : ℕ) → IsShift (length rows) s → s.top ≤ row → row < s.top + s.height
@@ -203,7 +203,7 @@ moved-free (negsuc n) free P k few less (inr below) = absurd (omega (arith, ints
 pub row-kept : (s : Shift) (free : List Cell) (rows : List (List Cell)) (row j : ℕ) → IsShift (length rows) s → s.top ≤ row → row < s.top + s.height
     → s.top ≤ j → j < s.top + s.height → pos row +ℤ s.by ≡ pos j → get_or rows j [] ≡ get_or (shifted_rows s free rows) row []
 row-kept s free rows row j h le lt from to origin =
-    let n = part-length rows s.top s.height h.within in
+    let n = band-length rows s.top s.height h.within in
     let same : pos (row - s.top) +ℤ s.by ≡ pos (j - s.top) = omega (arith, ints, origin) in
     let place : s.top + (j - s.top) ≡ j = omega arith in
     sym (
@@ -216,7 +216,7 @@ pub row-free : (s : Shift) (free : List Cell) (rows : List (List Cell)) (row : �
     → ((pos row +ℤ s.by) <ℤ pos s.top) ⊎ (pos (s.top + s.height) ≤ℤ (pos row +ℤ s.by)) → free ≡ get_or (shifted_rows s free rows) row []
 row-free s free rows row h le lt origin =
     let P = take (s.top + s.height - s.top) (drop s.top rows) in
-    let n = part-length rows s.top s.height h.within in
+    let n = band-length rows s.top s.height h.within in
     let outside : ((pos (row - s.top) +ℤ s.by) <ℤ pos 0) ⊎ (pos (length P) ≤ℤ (pos (row - s.top) +ℤ s.by)) = elim origin [
       | inl above ↦ inl (omega (arith, ints, above))
       | inr below ↦ inr (omega (arith, ints, below, n))

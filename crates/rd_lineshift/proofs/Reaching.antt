@@ -27,7 +27,7 @@ use Rattle.rd_lineshift.specs.Plans.{after_shift, opening}
 use Rattle.rd_lineshift.specs.Shifts.{moved, moving, region, shift_bytes, shifted, shifted_rows}
 use Rattle.rd_lineshift.specs.declared.band.Band.{Band}
 use Rattle.rd_lineshift.specs.declared.band.Shift.{Shift}
-use Rattle.rd_lineshift.proofs.Moving.{map-shifted, part-length, shifted-all, shifted-length}
+use Rattle.rd_lineshift.proofs.Moving.{band-length, map-shifted, shifted-all, shifted-length}
 
 abbrev Place : Type 0
 Place = Option (ℕ × ℕ)
@@ -115,7 +115,7 @@ shifted-known w s rows grid h =
     let part = take (end - s.top) (drop s.top all) in
     let wide = grid-known w rows grid in
     let inside = All-take (λ row. length row ≡ w) (end - s.top) (drop s.top all) (All-drop (λ row. length row ≡ w) s.top all wide) in
-    let n = part-length all s.top s.height (omega (arith, length-map rows (map Some), h.within)) in
+    let n = band-length all s.top s.height (omega (arith, length-map rows (map Some), h.within)) in
     ap (λ xs. take s.top all ++ (xs ++ drop end all)) (moved-same w s.by part inside (omega (arith, n, h.left)))
     ∙ ap (λ free. shifted_rows s free all) (sym (map-replicate Some w blank))
     ∙ sym (map-shifted (map Some) s (blank_row w) rows)

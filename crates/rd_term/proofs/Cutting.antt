@@ -11,6 +11,7 @@ use Rattle.rd_base.specs.declared.cell.Glyph.{Glyph}
 use Rattle.rd_base.specs.declared.cell.Cell.{Cell}
 use Rattle.rd_term.specs.Overwriting.{is_later, first_column, later_columns, overwritten}
 use Rattle.rd_term.specs.Walks.{passing}
+use Rattle.rd_term.proofs.Shapes.{part-length}
 use Rattle.rd_term.proofs.Walks.{back-le}
 
 abbrev pub Row : Type 0
@@ -67,8 +68,8 @@ cut-made row r1 r2 from to begin end lt order le b e within p q =
     let D = drop end row in
     let F = front row from in
     let f = length-front row from (omega arith) in
-    let m : length M ≡ to - from = length-take-le (to - from) (drop from row) (omega (arith, length-drop from row)) in
-    let l : length L ≡ end - to = length-take-le (end - to) (drop to row) (omega (arith, length-drop to row)) in
+    let m : length M ≡ to - from = part-length from to row (omega arith) le in
+    let l : length L ≡ end - to = part-length to end row (omega arith) within in
     let n : length (F ++ M) ≡ to = omega (arith, length-append F M) in
     let some : end - to ≡ later_columns (drop to row) = omega arith in
     let made : r1 ≡ (F ++ M) ++ (L ++ D) =
@@ -91,21 +92,18 @@ refilled row r M N column to le p e n =
     ∙ filled-seam (front row column) M N (behind row to) column to (length-front row column le) e
     ∙ sym (overwritten-is row column to N n)
 
-part-length : (row : Row) (column to : ℕ) → column ≤ to → to ≤ length row → column + length (take (to - column) (drop column row)) ≡ to
-part-length row column to order within = omega (arith, order, within, length-take-le (to - column) (drop column row) (omega (arith, within, length-drop column row)))
-
 -- copies of a cell in place of the cells that were cut
 pub refilled-same : (row r : Row) (column to : ℕ) (v : Option Cell) → column ≤ to → to ≤ length row → r ≡ overwritten column (take (to - column) (drop column row)) row
     → take column r ++ (replicate (to - column) v ++ drop to r) ≡ overwritten column (replicate (to - column) v) row
 refilled-same row r column to v order within p =
-    refilled row r (take (to - column) (drop column row)) (replicate (to - column) v) column to (omega arith) p (part-length row column to order within) (omega (arith, order, length-replicate (to - column) v))
+    refilled row r (take (to - column) (drop column row)) (replicate (to - column) v) column to (omega arith) p (omega (arith, order, part-length column to row order within)) (omega (arith, order, length-replicate (to - column) v))
 
 -- a first value and others in place of the cells that were cut
 pub refilled-first : (row r : Row) (column to : ℕ) (x v : Option Cell) → column < to → to ≤ length row → r ≡ overwritten column (take (to - column) (drop column row)) row
     → take (column + 1) (set r column x) ++ (replicate (to - (column + 1)) v ++ drop to (set r column x)) ≡ overwritten column (x ∷ replicate (to - (column + 1)) v) row
 refilled-first row r column to x v lt within p =
     let M = take (to - column) (drop column row) in
-    let e = part-length row column to (omega arith) within in
+    let e : column + length M ≡ to = omega (arith, part-length column to row (omega arith) within) in
     let k = to - (column + 1) in
     let long = ap length (p ∙ overwritten-is row column to M e) in
     let inside : column < length r = omega (arith, long, length-append (front row column) (M ++ behind row to), length-append M (behind row to), length-front row column (omega arith)) in

@@ -67,6 +67,10 @@ pub length-moved : (way : RowMove) (n : ℕ) (rows : Rows) → length (moved way
 length-moved Down n rows = length-down n rows
 length-moved Up n rows = length-up n rows
 
+-- how long a part of a list is
+pub part-length : {A : Type 0} (from end : ℕ) (xs : List A) → from ≤ end → end ≤ length xs → length (take (end - from) (drop from xs)) ≡ end - from
+part-length from end xs order within = length-take-le (end - from) (drop from xs) (omega (arith, length-drop from xs))
+
 -- rows of which a part is changed
 pub between-all : {A : Type 0} (P : A → Type 0) (from end : ℕ) (change : List A → List A) (xs : List A) → ((part : List A) → All P part → All P (change part))
     → All P xs → All P (changed_between from end change xs)
@@ -79,7 +83,7 @@ pub length-between : {A : Type 0} (from end : ℕ) (change : List A → List A) 
     → from ≤ end → end ≤ length xs → length (changed_between from end change xs) ≡ length xs
 length-between from end change xs keeps order within =
     let part = take (end - from) (drop from xs) in
-    let n : length part ≡ end - from = length-take-le (end - from) (drop from xs) (omega (arith, length-drop from xs)) in
+    let n = part-length from end xs order within in
     length-append (take from xs) (change part ++ drop end xs)
     ∙ omega (arith, length-append (change part) (drop end xs), keeps part n, n, length-take-le from xs (omega arith), length-drop end xs)
 

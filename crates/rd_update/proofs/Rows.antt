@@ -19,6 +19,7 @@ use Rattle.rd_term.specs.Walks.{passing}
 use Rattle.rd_term.specs.Terminals.{Tty, feed_bytes, known, erased_from, feed_byte}
 use Rattle.rd_term.proofs.Cutting.{Row, front as front_of, behind, overwritten-is, map-replicate}
 use Rattle.rd_term.proofs.Encoded.{Rows, standing}
+use Rattle.rd_term.proofs.Shapes.{part-length}
 use Rattle.rd_term.proofs.Walks.{back-stops, on-le}
 use Rattle.std.proofs.lemmas.List.Sums.{fold-append}
 use Rattle.rd_update.specs.Updates.{move, erase_to_end, text_by, pen_behind, dress, first_difference, end_of_differences, goes_on, begin_of, end_of, used, differs, row_bytes, rows_bytes, rows_after, allows, less_one}
@@ -208,8 +209,8 @@ row_fed region above below old new cursor wait latest w few old_wide new_wide na
     let back : Row = map Some (drop b old) in
     let here : begin_of old new < length old = omega arith in
     let front_length : length front ≡ begin_of old new = length-map (take a old) Some ∙ length-take-le a old (omega arith) in
-    let cells_length : length cells ≡ m - begin_of old new = length-take-le (m - a) (drop a new) (omega (arith, length-drop a new)) in
-    let mid_length : length mid ≡ end_of old new - begin_of old new = length-map (take (b - a) (drop a old)) Some ∙ length-take-le (b - a) (drop a old) (omega (arith, length-drop a old)) in
+    let cells_length : length cells ≡ m - begin_of old new = part-length a m new (omega arith) (omega arith) in
+    let mid_length : length mid ≡ end_of old new - begin_of old new = length-map (take (b - a) (drop a old)) Some ∙ part-length a b old (omega arith) (omega arith) in
     let back_length : length back ≡ length new - end_of old new = length-map (drop b old) Some ∙ length-drop b old ∙ ap (λ n. n - b) same in
     let row_old : map Some old ≡ front ++ (mid ++ back) =
     sym (ap (map Some) (three-parts a b old (omega arith))) ∙ map-append Some (take a old) (take (b - a) (drop a old) ++ drop b old) ∙ ap (λ xs. front ++ xs) (map-append Some (take (b - a) (drop a old)) (drop b old)) in
