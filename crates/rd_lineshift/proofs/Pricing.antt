@@ -1,5 +1,5 @@
 -- The cheapest of shifts, found one after another.
-use Rattle.std.proofs.Common.{◌≡◌, ℕ, suc, ◌+◌, ◌-◌, ◌<◌, ◌≤◌, nat_le, Bool, true, false, if◌then◌else◌, List, [], ◌∷◌, ◌++◌, length, get_or, drop, Option, None, Some, IfSome, refl, sym, ap, ap₂, ◌∙◌, arith}
+use Rattle.std.proofs.Common.{◌≡◌, ℕ, suc, ◌+◌, ◌-◌, ◌<◌, ◌≤◌, nat_le, Bool, true, false, if◌then◌else◌, List, [], ◌∷◌, ◌++◌, length, get_or, drop, Option, None, Some, IfSome, refl, sym, ap, ◌∙◌, arith}
 use Rattle.std.specs.List.{flat_map}
 use Rattle.std.proofs.lemmas.Bool.Decides.{nat_tests}
 use Rattle.std.proofs.lemmas.List.{drop_more}
@@ -40,11 +40,8 @@ lesser-bound None q h k = k
 lesser-bound (Some p) None h k = h
 lesser-bound (Some p) (Some q) h k = either (λ o. IfSome o (λ r. r.cost ≤ 200)) (nat_le p.cost q.cost) (Some p) (Some q) h k
 
-priced-fields : (s t : Shift) (m n : ℕ) → s ≡ t → m ≡ n → let p : Priced = record { shift = s; cost = m } in let q : Priced = record { shift = t; cost = n } in Some p ≡ Some q
-priced-fields s t m n e f = cc
-
 pub priced-is : (f : Shift → ℕ) (p : Priced) (s : Shift) → p.shift ≡ s → p.cost ≡ f s → Some p ≡ priced f (Some s)
-priced-is f p s e g = priced-fields p.shift s p.cost (f s) e g
+priced-is f p s e g = λ i. Some (record { shift = e i; cost = g i })
 
 -- two more shifts of a band
 two-more : (f : Shift → ℕ) (band : Band) (by more : ℕ) (rest : List Shift) (best u d : Option Priced) → u ≡ priced f (Some (shift_by band (pos by))) → d ≡ priced f (Some (shift_by band (neg_ℤ (pos by))))
@@ -86,21 +83,11 @@ band-ends f band by rest best whole le h =
 
 -- ---- what is taken
 
-cheaper-if : (s t : Shift) (a b : Bool) → a ≡ b → (if a then Some s else Some t) ≡ (if b then Some s else Some t)
-cheaper-if s t a b e = ap (λ x. if x then Some s else Some t) e
-
-cheaper-same : (f g : Shift → ℕ) → ((s : Shift) → f s ≡ g s) → (s t : Option Shift) → cheaper f s t ≡ cheaper g s t
-cheaper-same f g same None t = refl
-cheaper-same f g same (Some s) None = refl
-cheaper-same f g same (Some s) (Some t) = cheaper-if s t (nat_le (f s) (f t)) (nat_le (g s) (g t)) (ap₂ nat_le (same s) (same t))
-
-cheapest-same : (f g : Shift → ℕ) → ((s : Shift) → f s ≡ g s) → (xs : List Shift) → cheapest f xs ≡ cheapest g xs
-cheapest-same f g same [] = refl
-cheapest-same f g same (x ∷ xs) = ap (cheaper f (Some x)) (cheapest-same f g same xs) ∙ cheaper-same f g same (Some x) (cheapest g xs)
-
 gained-same : (f g : Shift → ℕ) (rows : ℕ) → ((s : Shift) → f s ≡ g s) → (s : Option Shift) → gained rows (priced f s) ≡ if_gains g rows s
 gained-same f g rows same None = refl
 gained-same f g rows same (Some s) = ap (λ n. if nat_le (n + 3) rows then Some s else None) (same s)
 
 pub taken-is : (f g : Shift → ℕ) (rows : ℕ) (xs : List Shift) → ((s : Shift) → f s ≡ g s) → gained rows (priced f (cheapest f xs)) ≡ if_gains g rows (cheapest g xs)
-taken-is f g rows xs same = gained-same f g rows same (cheapest f xs) ∙ ap (if_gains g rows) (cheapest-same f g same xs)
+taken-is f g rows xs same =
+    let found : cheapest f xs ≡ cheapest g xs = λ i. cheapest (λ (s : Shift). same s i) xs in
+    gained-same f g rows same (cheapest f xs) ∙ ap (if_gains g rows) found

@@ -129,9 +129,6 @@ done-rows limit (o ∷ os) (n ∷ ns) e t =
 
 -- ---- what is sent
 
-sents-same : (a b : ℕ) (c d : Bool) → a ≡ b → c ≡ d → let x : Sent = record { rows = a; done = c } in let y : Sent = record { rows = b; done = d } in x ≡ y
-sents-same a b c d e f = cc
-
 front-chosen : (b : Bool) (current : Option Picture) (target : Picture) (limit : ℕ) → b ≡ nat_lt limit (length (planned current target).parts)
     → (take (front_if b (planned current target) limit).0 (planned current target).bytes ≡ (update current target (Some limit)).bytes)
     × ((front_if b (planned current target) limit).1 ≡ sent_of (update current target (Some limit)))
@@ -139,25 +136,23 @@ front-chosen true current target limit e =
     let old = start current target in
     let n = length-parts 0 (length (opening current)) old.rows target.rows in
     let less : limit < length (parts_from 0 (length (opening current)) old.rows target.rows) = grind (arith, nat_tests) in
-    let all = differing old.rows target.rows in
     let not_done : nat_le (differing old.rows target.rows) limit ≡ false = grind (arith, nat_tests) in
     let count : min limit (differing old.rows target.rows) ≡ limit = omega arith in (
       prefix 0 (length (opening current)) limit old.rows target.rows (opening current) (move target.row target.column) refl less
           ∙ sym (append-nil (opening current ++ rows_bytes 0 (Some limit) old.rows target.rows))
           ∙ ap (λ d. opening current ++ rows_bytes 0 (Some limit) old.rows target.rows ++ (if d then move target.row target.column else [])) (sym not_done),
-      sents-same limit (min limit all) false (nat_le all limit) (sym count) (sym not_done),
+      λ i. record { rows = sym count i; done = sym not_done i },
     )
 front-chosen false current target limit e =
     let old = start current target in
     let n = length-parts 0 (length (opening current)) old.rows target.rows in
     let more : length (parts_from 0 (length (opening current)) old.rows target.rows) ≤ limit = grind (arith, nat_tests) in
-    let all = differing old.rows target.rows in
     let is_all : nat_le (differing old.rows target.rows) limit ≡ true = grind (arith, nat_tests) in
     let count : min limit (differing old.rows target.rows) ≡ differing old.rows target.rows = omega arith in (
       take_all (length (planned current target).bytes) (planned current target).bytes (omega arith)
           ∙ ap (λ xs. opening current ++ xs ++ move target.row target.column) (sym (done-bytes 0 (Some limit) old.rows target.rows is_all))
           ∙ ap (λ d. opening current ++ rows_bytes 0 (Some limit) old.rows target.rows ++ (if d then move target.row target.column else [])) (sym is_all),
-      sents-same (length (planned current target).parts) (min limit all) true (nat_le all limit) (n ∙ sym count) (sym is_all),
+      λ i. record { rows = (n ∙ sym count) i; done = sym is_all i },
     )
 
 pub front-is : (current : Option Picture) (target : Picture) (limit : Option ℕ)
@@ -167,7 +162,7 @@ front-is current target None =
     let old = start current target in
     let n = length-parts 0 (length (opening current)) old.rows target.rows in (
       take_all (length (planned current target).bytes) (planned current target).bytes (omega arith),
-      sents-same (length (planned current target).parts) (differing old.rows target.rows) true true n refl,
+      λ i. record { rows = n i; done = true },
     )
 front-is current target (Some limit) = front-chosen (nat_lt limit (length (planned current target).parts)) current target limit refl
 
