@@ -127,17 +127,17 @@ itself : (effect : Effect) (number : ℕ) (w : WindowState) → IsCalm effect nu
 itself effect number w quiet = same w w refl
 
 -- windows that became others: none that was made before comes to live, and those of which an effect tells no change are calm
-pub record Turned (effect : Effect) (made : ℕ) (ws vs : List NumberedWindow) : Type 0 where
+pub record Became (effect : Effect) (made : ℕ) (ws vs : List NumberedWindow) : Type 0 where
   pub lives : (n : ℕ) → n < made → Lives n vs → Lives n ws
   pub calm : AreApart ws → Each (IsCalm effect) ws vs
 
-pub turned-same : (effect : Effect) (made : ℕ) (ws : List NumberedWindow) → Turned effect made ws ws
-turned-same effect made ws = record { lives = λ n _ l. l; calm = λ _. each-same (IsCalm effect) (itself effect) ws }
+pub became-same : (effect : Effect) (made : ℕ) (ws : List NumberedWindow) → Became effect made ws ws
+became-same effect made ws = record { lives = λ n _ l. l; calm = λ _. each-same (IsCalm effect) (itself effect) ws }
 
 -- where one becomes another
-pub turned-with : (effect : Effect) (made : ℕ) (ws : List NumberedWindow) (n : ℕ) (f : WindowState → WindowState) → ((w : WindowState) → Quiet effect n w.buffer → Same w (f w))
-    → Turned effect made ws (changed_under n f ws)
-turned-with effect made ws n f good = record { lives = λ k _ l. lives-with n f k ws l; calm = λ _. each-with (IsCalm effect) (itself effect) n f ws good }
+pub became-with : (effect : Effect) (made : ℕ) (ws : List NumberedWindow) (n : ℕ) (f : WindowState → WindowState) → ((w : WindowState) → Quiet effect n w.buffer → Same w (f w))
+    → Became effect made ws (changed_under n f ws)
+became-with effect made ws n f good = record { lives = λ k _ l. lives-with n f k ws l; calm = λ _. each-with (IsCalm effect) (itself effect) n f ws good }
 
 -- where all that show a buffer of which the effect tells move
 calm-moved : (effect : Effect) (ws : List NumberedWindow) (i : ℕ) (how : Move) → Loud effect i → Each (IsCalm effect) ws (map (moved_in i how) ws)
@@ -146,13 +146,13 @@ calm-moved effect ws i how loud = each-moved (IsCalm effect) (moved_by i how) ws
   | inr q ↦ same old (moved_by i how old) (sym (cond-false (old.buffer == i) (moved_window how old) old (ne_eqb old.buffer i q)))
 ])
 
-pub turned-moved : (effect : Effect) (made : ℕ) (ws : List NumberedWindow) (i : ℕ) (how : Move) → Loud effect i → Turned effect made ws (map (moved_in i how) ws)
-turned-moved effect made ws i how loud = record { lives = λ n _ l. lives-moved i how n ws l; calm = λ _. calm-moved effect ws i how loud }
+pub became-moved : (effect : Effect) (made : ℕ) (ws : List NumberedWindow) (i : ℕ) (how : Move) → Loud effect i → Became effect made ws (map (moved_in i how) ws)
+became-moved effect made ws i how loud = record { lives = λ n _ l. lives-moved i how n ws l; calm = λ _. calm-moved effect ws i how loud }
 
 -- where one of them becomes another besides
-pub turned-typed : (effect : Effect) (made : ℕ) (ws : List NumberedWindow) (i : ℕ) (how : Move) (n : ℕ) (f : WindowState → WindowState) (w : WindowState) → Loud effect i
-    → window_of n ws ≡ Some w → w.buffer ≡ i → Turned effect made ws (changed_under n f (map (moved_in i how) ws))
-turned-typed effect made ws i how n f w loud at there = record {
+pub became-typed : (effect : Effect) (made : ℕ) (ws : List NumberedWindow) (i : ℕ) (how : Move) (n : ℕ) (f : WindowState → WindowState) (w : WindowState) → Loud effect i
+    → window_of n ws ≡ Some w → w.buffer ≡ i → Became effect made ws (changed_under n f (map (moved_in i how) ws))
+became-typed effect made ws i how n f w loud at there = record {
   lives = λ k _ l. lives-moved i how k ws (lives-with n f k (map (moved_in i how) ws) l);
   calm = λ _ number old new h k quiet. elim (cases_eq number n) [
     | inl p ↦
@@ -163,9 +163,9 @@ turned-typed effect made ws i how n f w loud at there = record {
 }
 
 -- a window more leaves the others as they were
-pub turned-end : (effect : Effect) (ws : List NumberedWindow) (e : NumberedWindow) → Turned effect e.0 ws (ws ++ e ∷ [])
-turned-end effect ws e = record { lives = λ n low l. lives-end n e ws (λ same. omega arith) l; calm = λ _. each-end (IsCalm effect) (itself effect) ws e }
+pub became-end : (effect : Effect) (ws : List NumberedWindow) (e : NumberedWindow) → Became effect e.0 ws (ws ++ e ∷ [])
+became-end effect ws e = record { lives = λ n low l. lives-end n e ws (λ same. omega arith) l; calm = λ _. each-end (IsCalm effect) (itself effect) ws e }
 
 -- a window less leaves the others as they were
-pub turned-without : (effect : Effect) (made : ℕ) (ws : List NumberedWindow) (n : ℕ) → Turned effect made ws (removed_under n ws)
-turned-without effect made ws n = record { lives = λ k _ l. lives-without n k ws l; calm = λ apart. each-without (IsCalm effect) (itself effect) n ws apart }
+pub became-without : (effect : Effect) (made : ℕ) (ws : List NumberedWindow) (n : ℕ) → Became effect made ws (removed_under n ws)
+became-without effect made ws n = record { lives = λ k _ l. lives-without n k ws l; calm = λ apart. each-without (IsCalm effect) (itself effect) n ws apart }

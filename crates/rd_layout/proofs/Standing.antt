@@ -29,7 +29,7 @@ use Rattle.rd_state.specs.declared.refused.Refused.TheVariants.{NoObject, NoOver
 use Rattle.rd_state.specs.declared.window.WindowState.{WindowState}
 use Rattle.rd_layout.specs.Sessions.{is_frame}
 use Rattle.rd_state.proofs.StepParts.{found, unless, objects-if, tree-if, treed-if, making-if, edited-if, edited_moving-if, typing-if, setting-if, placing-if}
-use Rattle.rd_layout.proofs.Calm.{Contents, Kept, Loud, Quiet, Same, Turned, contents-pushed, contents-same, contents-set, covered-loud, loud-all, loud-edit, moved-loud, turned-end, turned-moved, turned-same, turned-typed, turned-with, turned-without}
+use Rattle.rd_layout.proofs.Calm.{Became, Contents, Kept, Loud, Quiet, Same, became-end, became-moved, became-same, became-typed, became-with, became-without, contents-pushed, contents-same, contents-set, covered-loud, loud-all, loud-edit, moved-loud}
 
 -- no count of windows falls
 abbrev Grows : Configuration → Configuration → Type 0
@@ -41,7 +41,7 @@ pub record Moves (framed : Bool) (effect : Effect) (s t : StateValue) : Type 0 w
   pub size : framed ≡ false → (t.width ≡ s.width) × (t.height ≡ s.height)
   pub made : s.tree.made ≤ t.tree.made
   pub contents : Contents effect s.buffers t.buffers
-  pub windows : Turned effect s.tree.made s.windows t.windows
+  pub windows : Became effect s.tree.made s.windows t.windows
 
 abbrev Leads : Effect → StateValue → Result StateValue Refused → Type 0
 Leads effect s r = IfOk r (Moves false effect s)
@@ -54,11 +54,11 @@ stays effect s t w h r b is = record {
   size = λ _. (w, h);
   made = subst (Grows s.tree) (sym r) (omega arith);
   contents = subst (Contents effect s.buffers) (sym b) (contents-same effect s.buffers);
-  windows = subst (Turned effect s.tree.made s.windows) (sym is) (turned-same effect s.tree.made s.windows);
+  windows = subst (Became effect s.tree.made s.windows) (sym is) (became-same effect s.tree.made s.windows);
 }
 
 -- where the frame's size and the tree are the same
-inside : (effect : Effect) (s : StateValue) (bs : List BufferValue) (ws : List NumberedWindow) → Contents effect s.buffers bs → Turned effect s.tree.made s.windows ws
+inside : (effect : Effect) (s : StateValue) (bs : List BufferValue) (ws : List NumberedWindow) → Contents effect s.buffers bs → Became effect s.tree.made s.windows ws
     → Moves false effect s (record s { buffers = bs; windows = ws })
 inside effect s bs ws c w = record { size = λ _. (refl, refl); made = omega arith; contents = c; windows = w }
 
@@ -68,7 +68,7 @@ edited-moves : (effect : Effect) (s : StateValue) (name : List ℕ) (edit : Cont
     → Leads effect s (edited s name edit)
 edited-moves effect s name edit kept =
     edited-if (Moves false effect s) s name edit
-    (λ b c at is. inside effect s _ s.windows (contents-set effect s.buffers (number_of name s.buffers) b c at (kept b c at is)) (turned-same effect s.tree.made s.windows))
+    (λ b c at is. inside effect s _ s.windows (contents-set effect s.buffers (number_of name s.buffers) b c at (kept b c at is)) (became-same effect s.tree.made s.windows))
 
 -- an edit that moves positions
 edited_moving-moves : (effect : Effect) (s : StateValue) (name : List ℕ) (how : Move) (edit : ContentValue → Result ContentValue Refused) → Loud effect (number_of name s.buffers)
@@ -76,17 +76,17 @@ edited_moving-moves : (effect : Effect) (s : StateValue) (name : List ℕ) (how 
 edited_moving-moves effect s name how edit loud =
     let i = number_of name s.buffers in
     edited_moving-if (Moves false effect s) s name how edit
-    (λ b c at is. inside effect s _ _ (contents-set effect s.buffers i b c at (inl loud)) (turned-moved effect s.tree.made s.windows i how loud))
+    (λ b c at is. inside effect s _ _ (contents-set effect s.buffers i b c at (inl loud)) (became-moved effect s.tree.made s.windows i how loud))
 
 -- where windows became others, beside a tree in which no count of windows fell
-turned-moves : (effect : Effect) (s : StateValue) (d : Configuration) (ws : List NumberedWindow) (k : ℕ) → Grows s.tree d → Turned effect s.tree.made s.windows ws
+became-moves : (effect : Effect) (s : StateValue) (d : Configuration) (ws : List NumberedWindow) (k : ℕ) → Grows s.tree d → Became effect s.tree.made s.windows ws
     → Moves false effect s (record s { tree = d; windows = ws; selected = k })
-turned-moves effect s d ws k grows turned = record { size = λ _. (refl, refl); made = grows; contents = contents-same effect s.buffers; windows = turned }
+became-moves effect s d ws k grows became = record { size = λ _. (refl, refl); made = grows; contents = contents-same effect s.buffers; windows = became }
 
 -- where a window becomes another, beside such a tree
 with-moves : (effect : Effect) (s : StateValue) (d : Configuration) (n : ℕ) (f : WindowState → WindowState) → Grows s.tree d → ((w : WindowState) → Quiet effect n w.buffer → Same w (f w))
     → Leads effect s (changing n f (Ok (record s { tree = d })))
-with-moves effect s d n f grows good = turned-moves effect s d _ s.selected grows (turned-with effect s.tree.made s.windows n f good)
+with-moves effect s d n f grows good = became-moves effect s d _ s.selected grows (became-with effect s.tree.made s.windows n f good)
 
 -- a step that makes objects
 objects-moves : (s : StateValue) (r : Result ObjectLists Refused) → Leads Nothing s (with_objects s r)
@@ -128,11 +128,11 @@ moves s (ops.Frame width height) =
       size = λ no. absurd (cc);
       made = subst (Grows s.tree) (resize-means s.tree d width (height - 1) is).1 (omega arith);
       contents = contents-same Nothing s.buffers;
-      windows = turned-same Nothing s.tree.made s.windows;
+      windows = became-same Nothing s.tree.made s.windows;
     })
 moves s (ops.Buffer name) =
     making-if (Moves false Nothing s) s name
-    (λ free room. inside Nothing s _ s.windows (contents-pushed Nothing s.buffers (new_buffer name)) (turned-same Nothing s.tree.made s.windows))
+    (λ free room. inside Nothing s _ s.windows (contents-pushed Nothing s.buffers (new_buffer name)) (became-same Nothing s.tree.made s.windows))
 moves s (ops.Insert name place text) = edited_moving-moves _ s name (Inserted place (length text)) (insertion place text) (loud-edit (number_of name s.buffers) place 0 (length text))
 moves s (ops.InsertRaw name place bytes) =
     edited_moving-moves _ s name (Inserted place (length (raw_text bytes))) (insertion place (raw_text bytes)) (loud-edit (number_of name s.buffers) place 0 (length (raw_text bytes)))
@@ -142,7 +142,7 @@ moves s (ops.TypeText text) =
     (λ w b c lives at is.
     let loud = subst (λ (x : WindowState). Loud effect x.buffer) (ap (λ (o : Option WindowState). unwrap_or o opening_window) lives) (loud-edit (selected_window s).buffer (selected_window s).point 0 (length text)) in
     inside effect s _ _ (contents-set effect s.buffers w.buffer b c at (inl loud))
-    (turned-typed effect s.tree.made s.windows w.buffer (Inserted w.point (length text)) s.selected _ w loud lives refl))
+    (became-typed effect s.tree.made s.windows w.buffer (Inserted w.point (length text)) s.selected _ w loud lives refl))
 moves s (ops.Delete name from to) = edited_moving-moves _ s name (Deleted from to) (deletion from to) (loud-edit (number_of name s.buffers) from (to - from) 0)
 moves s (ops.Narrow name from to) = edited_moving-moves _ s name (Narrowed from to) (narrowing from to) (loud-all (number_of name s.buffers))
 moves s (ops.Widen name) = edited-moves _ s name widening (λ b c at is. inl (loud-all (number_of name s.buffers)))
@@ -168,12 +168,12 @@ moves s (ops.AddTable entries truncation continuation escape control ellipsis bo
 moves s (ops.Split window side size) =
     found (Moves false Nothing s) _ (window_of window s.windows) _
     (λ w lives. tree-if (Moves false Nothing s) (split_tree s.tree window side size) _
-    (λ d is. turned-moves Nothing s d _ _ (subst (Grows s.tree) (split-means s.tree d window side size is).3 (omega arith))
-    (turned-end Nothing s.windows (s.tree.made, record w { forced = false; pending = pos 0 }))))
+    (λ d is. became-moves Nothing s d _ _ (subst (Grows s.tree) (split-means s.tree d window side size is).3 (omega arith))
+    (became-end Nothing s.windows (s.tree.made, record w { forced = false; pending = pos 0 }))))
 moves s (ops.Remove window) =
     found (Moves false Nothing s) _ (window_of window s.windows) _
     (λ w lives. tree-if (Moves false Nothing s) (remove_tree s.tree window) _
-    (λ d is. turned-moves Nothing s d _ _ (subst (Grows s.tree) (remove-means s.tree d window is).2 (omega arith)) (turned-without Nothing s.tree.made s.windows window)))
+    (λ d is. became-moves Nothing s d _ _ (subst (Grows s.tree) (remove-means s.tree d window is).2 (omega arith)) (became-without Nothing s.tree.made s.windows window)))
 moves s (ops.Select window) =
     found (Moves false Nothing s) _ (window_of window s.windows) _ (λ w lives. stays Nothing s (record s { selected = window }) refl refl refl refl refl)
 moves s (ops.Show window name) =
