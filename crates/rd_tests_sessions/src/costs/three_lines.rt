@@ -2,7 +2,7 @@
 ghost use Rattle.std.specs.Prelude.{◌≡◌, ◌≤◌, ◌+◌, [], Ok, OnOk};
 ghost use Rattle.rd_layout.specs.Copies.{without_copies};
 ghost use Rattle.rd_layout.specs.Examples.{after, after_all};
-ghost use Rattle.rd_tests_sessions.specs.Worked.{three_lines};
+ghost use Rattle.rd_tests_sessions.specs.Examples.{three_lines};
 
 use crate::sessions::{apply, insert, is_shown};
 use rd_base::Steps;

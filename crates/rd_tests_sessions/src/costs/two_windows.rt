@@ -4,7 +4,7 @@ ghost use Rattle.rd_layout.specs.Copies.{without_copies};
 ghost use Rattle.rd_layout.specs.Examples.{after, after_all, then_done};
 ghost use Rattle.rd_script.specs.Forms.{is_plain_text};
 ghost use Rattle.rd_script.specs.declared.op.Op.TheVariants.{ModeLine};
-ghost use Rattle.rd_tests_sessions.specs.Worked.{two_windows};
+ghost use Rattle.rd_tests_sessions.specs.Examples.{two_windows};
 
 use crate::sessions::{apply, characters, insert, is_shown};
 use rd_base::Steps;

@@ -15,7 +15,7 @@ use Rattle.rd_state.specs.States.{main_name}
 use Rattle.rd_state.specs.Steps.{step}
 use Rattle.rd_state.specs.declared.refused.Refused.{Refused}
 use Rattle.rd_tree.specs.Calls.{margins_tree, mode_tree, resize_tree, split_tree}
-use Rattle.rd_tests_sessions.specs.Worked.{three_lines}
+use Rattle.rd_tests_sessions.specs.Examples.{three_lines}
 use Rattle.rd_tests_sessions.proofs.Costing.{rise-of, then-applied, then-made, then-shown}
 use Rattle.rd_tests_sessions.proofs.costs.three_lines.are_shown.Goals as goal
 

@@ -14,7 +14,7 @@ use Rattle.rd_state.specs.Effects.{effect_of}
 use Rattle.rd_state.specs.States.{main_name}
 use Rattle.rd_state.specs.Steps.{step}
 use Rattle.rd_tree.specs.Calls.{margins_tree, mode_tree, resize_tree, split_tree}
-use Rattle.rd_tests_sessions.specs.Worked.{two_windows}
+use Rattle.rd_tests_sessions.specs.Examples.{two_windows}
 use Rattle.rd_tests_sessions.proofs.Costing.{rise-behind}
 use Rattle.rd_tests_sessions.proofs.costs.two_windows.are_shown.Goals as goal
 
