@@ -124,9 +124,6 @@ suffix-words xs ys n p q =
 
 -- ---- the columns
 
-columns-same : (a b c d : ℕ) → a ≡ c → b ≡ d → let x : Columns = record { from = a; end = b } in let y : Columns = record { from = c; end = d } in x ≡ y
-columns-same a b c d p q = cc
-
 columns-some : (xs ys : List Cell) → length xs ≡ length ys → AllByRecursion IsTold xs → AllByRecursion IsSmall ys
     → (first last : ℕ) → Some first ≡ first_word (row_words xs) (row_words ys) → Some last ≡ last_word (row_words xs) (row_words ys)
     → let found : Columns = record { from = first / 3; end = last / 3 + 1 } in Some found ≡ differing_columns xs ys
@@ -139,7 +136,7 @@ columns-some xs ys n p q first last f l =
     let e : last / 3 + 1 ≡ end_of_differences xs ys = omega (arith, behind.1, end, lt) in
     let b : first / 3 ≡ first_difference xs ys = ap (λ k. k / 3) (sym from.1) ∙ first-words xs ys n p q in
     let differ : nat_lt 0 (end_of_differences xs ys) ≡ true = grind (arith, nat_tests) in
-    rw differ (ap (λ (c : Columns). Some c) (columns-same (first / 3) (last / 3 + 1) (first_difference xs ys) (end_of_differences xs ys) b e))
+    rw differ (λ i. Some (record { from = b i; end = e i }))
 
 none-differ : (xs ys : List Cell) → end_of_differences xs ys ≡ 0 → None ≡ differing_columns xs ys
 none-differ xs ys e = rw e refl
