@@ -62,7 +62,7 @@ module _ (own : (text : TextValue) (i : ℕ) → IsString text → HasColours (f
   pub line-coloured : (es : List Seen) → All (λ e. HasColours e.appearance.face) es → AreColoured (line_elements s base es)
   line-coloured es all =
       line-each s base ItemColours IsColoured
-      (λ t x h. item-each s base (origin_of t.index x) (λ f. HasColours f) IsColoured faces (λ extent l face inner coloured. coloured) x.kind x.overlay t.odd x.face (λ ends. h) h)
+      (λ t x h. item-each s base (origin_of t.index x) (λ f. HasColours f) IsColoured faces (λ extent l face no_end coloured. coloured) x.kind x.overlay t.odd x.face (λ ends. h) h)
       (items_of s es) (item_turns s base (items_of s es))
       (All-from_recursion ItemColours (items_of s es) (items-coloured s es (recursion_from_All (λ (e : Seen). HasColours e.appearance.face) es all)))
 
@@ -70,4 +70,4 @@ module _ (own : (text : TextValue) (i : ℕ) → IsString text → HasColours (f
   prefix-coloured number =
       let es = display_elements s base outside plain (slice_get s.objects.strings number) in
       before-each IsColoured es (All-from_recursion IsColoured es
-      (display-each s base outside (λ f. HasColours f) IsColoured faces (λ extent l face inner coloured. coloured) number plain plain-coloured))
+      (display-each s base outside (λ f. HasColours f) IsColoured faces (λ extent l face no_end coloured. coloured) number plain plain-coloured))

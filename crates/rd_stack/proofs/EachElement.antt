@@ -53,8 +53,8 @@ module _ (s : Scene) (base : ℕ) (origin : Origin) (F : Attributes → Type 0) 
   Each es = AllByRecursion P es
 
   looks-each : (face : Attributes) (looks : List Look) → F face → AllByRecursion IsOpenLook looks → Each (map (element_of face origin) looks)
-  looks-each face [] h inner = tt
-  looks-each face (l ∷ ls) h inner = (element (Fixed (look_columns l)) l face inner.0 h, looks-each face ls h inner.1)
+  looks-each face [] h no_end = tt
+  looks-each face (l ∷ ls) h no_end = (element (Fixed (look_columns l)) l face no_end.0 h, looks-each face ls h no_end.1)
 
   glyphs-each : (face : Attributes) (text : List Glyph) → F face → Each (glyph_elements face origin text)
   glyphs-each face [] h = tt

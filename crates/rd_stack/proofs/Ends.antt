@@ -21,10 +21,10 @@ IsOpen e = is_line_end e.look ≡ false
 
 pub item-open : (s : Scene) (base : ℕ) (k : ItemKind) (overlay odd : Bool) (face : Attributes) (origin : Origin) → is_ender_kind k ≡ false → AllByRecursion IsOpen (put_kind kind_elements s base k overlay odd face origin)
 item-open s base k overlay odd face origin other =
-    item-each s base origin (λ f. Unit {0}) IsOpen (λ n text found i under any. tt) (λ extent l f inner any. inner) k overlay odd face (λ ends. absurd (both_ways (is_ender_kind k) other ends)) tt
+    item-each s base origin (λ f. Unit {0}) IsOpen (λ n text found i under any. tt) (λ extent l f no_end any. no_end) k overlay odd face (λ ends. absurd (both_ways (is_ender_kind k) other ends)) tt
 
 pub prefix-open : (s : Scene) (base number : ℕ) → AreOpen (prefix s base number)
 prefix-open s base number =
     let es = display_elements s base outside plain (slice_get s.objects.strings number) in
     before-each IsOpen es (All-from_recursion IsOpen es
-    (display-each s base outside (λ f. Unit {0}) IsOpen (λ n text found i under any. tt) (λ extent l f inner any. inner) number plain tt))
+    (display-each s base outside (λ f. Unit {0}) IsOpen (λ n text found i under any. tt) (λ extent l f no_end any. no_end) number plain tt))

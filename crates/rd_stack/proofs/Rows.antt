@@ -48,8 +48,8 @@ module _ (s : Scene) (base : ℕ) (replaced : Bool) (text : TextValue) (under : 
   pub row-ended : ends_row p ≡ true → row s base parts ++ behind_row s base replaced text under i ≡ whole
   row-ended ends =
       let q = place_of replaced text under i in
-      let inner : nat_lt i (length text.chars) ≡ true = grind (arith, nat_tests) in
-      ap (λ t. row s base parts ++ (if t then row_end q.face ∷ shown_from s base replaced text under (i + 1) else [])) inner
+      let before_end : nat_lt i (length text.chars) ≡ true = grind (arith, nat_tests) in
+      ap (λ t. row s base parts ++ (if t then row_end q.face ∷ shown_from s base replaced text under (i + 1) else [])) before_end
       ∙ sym (row-ends s base parts before q rest (ap ends_row (sym here) ∙ ends))
       ∙ read
 

@@ -28,9 +28,9 @@ row-over s base replaced origin under face text parts turns i n end few next non
     let steps = part_steps s base replaced origin in
     let place = place_of replaced text under i in
     let behind = shown_from s base replaced text under (i + 1) in
-    let inner : nat_lt i (length text.chars) ≡ true = grind (arith, nat_tests) in
+    let before_end : nat_lt i (length text.chars) ≡ true = grind (arith, nat_tests) in
     ap (λ ts. string_left s base replaced origin under text parts ts i) none
-    ∙ ap (λ t. flat_map steps (if t then row_end place.face ∷ behind else [])) inner
+    ∙ ap (λ t. flat_map steps (if t then row_end place.face ∷ behind else [])) before_end
     ∙ ap (λ l. l ++ flat_map steps behind) (row-end-steps s base replaced origin place.face)
     ∙ sym (ap (λ f. (element_of f origin look.RowEnd ∷ []) ∷ flat_map steps behind) here)
     ∙ sym (ap (λ e. (e ∷ []) ∷ flat_map steps behind) ends)
