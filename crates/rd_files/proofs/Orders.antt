@@ -74,10 +74,10 @@ same_brackets : (told now : List ℕ → Option (List ℕ)) (name : Option (List
 same_brackets told now None same = refl
 same_brackets told now (Some name) same = same name
 
-failed_later : (before middle after : List ℕ → ℕ) (name : Option (List ℕ)) → ((file : List ℕ) → before file ≤ middle file)
-    → FailedAtSome middle after name → FailedAtSome before after name
-failed_later before middle after None low h = h
-failed_later before middle after (Some name) low h = rose-after (before name) (middle name) (after name) (low name) h
+failed_later : (before between after : List ℕ → ℕ) (name : Option (List ℕ)) → ((file : List ℕ) → before file ≤ between file)
+    → FailedAtSome between after name → FailedAtSome before after name
+failed_later before between after None low h = h
+failed_later before between after (Some name) low h = rose-after (before name) (between name) (after name) (low name) h
 
 module _ (told : List ℕ → Option (List ℕ)) (before : List ℕ → ℕ) (names : Named) where
   -- the class file ends it
@@ -88,23 +88,23 @@ module _ (told : List ℕ → Option (List ℕ)) (before : List ℕ → ℕ) (na
   stops_first after Memory h = tt
 
   -- the class file is good, and the mirror file ends it
-  pub stops_second : (now : List ℕ → Option (List ℕ)) (middle after : List ℕ → ℕ) (classes : List Span) (fault : DataFault) → ((file : List ℕ) → now file ≡ told file)
-      → ((file : List ℕ) → before file ≤ middle file) → Gives classes_in (told names.class_file) (Ok classes)
-      → ReadsFile mirrors_in (now names.mirror_file) (FailedAt middle after names.mirror_file) (Err fault) → ReadsData told before after names (Err fault)
-  stops_second now middle after classes (Bad fault) same low c h =
+  pub stops_second : (now : List ℕ → Option (List ℕ)) (between after : List ℕ → ℕ) (classes : List Span) (fault : DataFault) → ((file : List ℕ) → now file ≡ told file)
+      → ((file : List ℕ) → before file ≤ between file) → Gives classes_in (told names.class_file) (Ok classes)
+      → ReadsFile mirrors_in (now names.mirror_file) (FailedAt between after names.mirror_file) (Err fault) → ReadsData told before after names (Err fault)
+  stops_second now between after classes (Bad fault) same low c h =
       bad_mirrors told names classes fault c (subst (λ (t : Option (List ℕ)). Gives mirrors_in t (Err fault)) (same names.mirror_file) h)
-  stops_second now middle after classes Read same low c h =
-      inr (inl ((classes, c), rose-after (before names.mirror_file) (middle names.mirror_file) (after names.mirror_file) (low names.mirror_file) h))
-  stops_second now middle after classes Memory same low c h = tt
+  stops_second now between after classes Read same low c h =
+      inr (inl ((classes, c), rose-after (before names.mirror_file) (between names.mirror_file) (after names.mirror_file) (low names.mirror_file) h))
+  stops_second now between after classes Memory same low c h = tt
 
   -- both are good, and the bracket file ends it
-  pub stops_third : (now : List ℕ → Option (List ℕ)) (middle after : List ℕ → ℕ) (classes : List Span) (mirrors : List Pair) (fault : DataFault)
-      → ((file : List ℕ) → now file ≡ told file) → ((file : List ℕ) → before file ≤ middle file) → Gives classes_in (told names.class_file) (Ok classes)
-      → Gives mirrors_in (told names.mirror_file) (Ok mirrors) → ReadsFile brackets_in (told_or_empty now names.bracket_file) (FailedAtSome middle after names.bracket_file) (Err fault)
+  pub stops_third : (now : List ℕ → Option (List ℕ)) (between after : List ℕ → ℕ) (classes : List Span) (mirrors : List Pair) (fault : DataFault)
+      → ((file : List ℕ) → now file ≡ told file) → ((file : List ℕ) → before file ≤ between file) → Gives classes_in (told names.class_file) (Ok classes)
+      → Gives mirrors_in (told names.mirror_file) (Ok mirrors) → ReadsFile brackets_in (told_or_empty now names.bracket_file) (FailedAtSome between after names.bracket_file) (Err fault)
       → ReadsData told before after names (Err fault)
-  stops_third now middle after classes mirrors (Bad fault) same low c m h =
+  stops_third now between after classes mirrors (Bad fault) same low c m h =
       bad_brackets told names classes mirrors fault c m
       (subst (λ (t : Option (List ℕ)). Gives brackets_in t (Err fault)) (same_brackets told now names.bracket_file same) h)
-  stops_third now middle after classes mirrors Read same low c m h =
-      inr (inr ((classes, c), (mirrors, m), failed_later before middle after names.bracket_file low h))
-  stops_third now middle after classes mirrors Memory same low c m h = tt
+  stops_third now between after classes mirrors Read same low c m h =
+      inr (inr ((classes, c), (mirrors, m), failed_later before between after names.bracket_file low h))
+  stops_third now between after classes mirrors Memory same low c m h = tt
