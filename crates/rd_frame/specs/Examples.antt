@@ -17,8 +17,8 @@ abbrev pub glyphs : List ℕ → List ℕ → GlyphRow
 glyphs margin text = record { margin = plain_row margin; text = plain_row text }
 
 -- three lines of a text in a window, with a mode line
-abbrev pub three_lines : List ℕ → List ℕ → List ℕ → PaneValues
-three_lines first second third = record {
+abbrev pub three_line_pane : List ℕ → List ℕ → List ℕ → PaneValues
+three_line_pane first second third = record {
   rows = glyphs [] first ∷ glyphs [] second ∷ glyphs [] third ∷ [];
   border = border_cell None;
   mode_line = inverted (codes "main 3 27%  ");
@@ -30,8 +30,8 @@ beside_each_other = record {
   tree = record { windows = Split Right 12 (Window 0 true 0) (Window 1 true 0); width = 24; height = 4; made = 2 };
   panes = λ window.
       if window.number == 0
-      then three_lines (codes "3          ") (codes "4          ") (codes "5          ")
-      else three_lines (codes "3           ") (codes "4           ") (codes "5           ");
+      then three_line_pane (codes "3          ") (codes "4          ") (codes "5          ")
+      else three_line_pane (codes "3           ") (codes "4           ") (codes "5           ");
   echo = plain_row (codes "                        ");
   selected = 0;
   cursor = Some (0, 0);

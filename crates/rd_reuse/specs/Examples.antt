@@ -17,8 +17,8 @@ abbrev pub older : ℕ → ℕ → RowMeaning → ℕ → Entry
 older start number shown copies = record { start = start; number = number; row = record { shown = shown; copies = copies } }
 
 -- a line of three characters, one of fifteen in two rows, and one of two, which were laid out before
-abbrev pub three_lines : List Entry
-three_lines = older 1 0 (row false true) 0 ∷ older 5 0 (row false false) 1 ∷ older 5 1 (row false true) 2 ∷ older 21 0 (row false true) 3 ∷ []
+abbrev pub older_lines : List Entry
+older_lines = older 1 0 (row false true) 0 ∷ older 5 0 (row false false) 1 ∷ older 5 1 (row false true) 2 ∷ older 21 0 (row false true) 3 ∷ []
 
 -- the same lines after a character was put into the second one
 abbrev pub longer_lines : SourceValues
@@ -28,8 +28,8 @@ longer_lines =
     (λ b shape. if b.start == 5 then 17 else 3)
 
 -- the lines `a`, `b` and a third one of so many positions
-abbrev pub letters : ℕ → SourceValues
-letters count =
+abbrev pub two_letters_and : ℕ → SourceValues
+two_letters_and count =
     source_by_itself (block 1 3 0 ∷ block 3 5 0 ∷ block 5 (5 + count) 0 ∷ []) (λ b shape. row false true ∷ []) (λ b shape. if b.start == 5 then count else 2)
 
 -- the rows of the lines `a`, `b` and `c`, copied so often

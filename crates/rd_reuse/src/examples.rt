@@ -3,7 +3,7 @@ ghost use Rattle.std.specs.Prelude.{◌≡◌, true, false, ◌∷◌, [], map, 
 ghost use Rattle.rd_base.specs.Lists.{is_between};
 ghost use Rattle.rd_matrix.specs.Rows.{blocks_with};
 ghost use Rattle.rd_reuse.specs.Changes.{none, all, edit, join};
-ghost use Rattle.rd_reuse.specs.Examples.{block, row, older, three_lines, longer_lines, letters, three_letters};
+ghost use Rattle.rd_reuse.specs.Examples.{block, row, older, older_lines, longer_lines, two_letters_and, three_letters};
 ghost use Rattle.rd_reuse.specs.Keeping.{fresh_cost, is_kept, kept_source, taken};
 ghost use Rattle.rd_reuse.specs.Views.{fresh_costs};
 ghost use Rattle.rd_rows.specs.Examples.{twelve_continued};
@@ -32,34 +32,34 @@ fn combined_edits()
 
 /// A character was put into the second of three lines: the first keeps its row, and so does the third, which was moved.
 fn an_edit_in_a_middle_line()
-    ensures kept { map (is_kept three_lines (edit 6 0 1)) longer_lines.blocks ≡ true ∷ false ∷ true ∷ [] }
-    ensures taken { taken three_lines (edit 6 0 1) 22 ≡ record { shown = row false true; copies = 3 } ∷ [] }
-    ensures costs { map (fresh_cost longer_lines three_lines (edit 6 0 1) twelve_continued) longer_lines.blocks ≡ 0 ∷ 17 ∷ 0 ∷ [] }
-    ensures view { fresh_costs longer_lines three_lines (edit 6 0 1) twelve_continued 0 4 ≡ 17 }
-    ensures last { fresh_costs longer_lines three_lines (edit 6 0 1) twelve_continued 3 4 ≡ 0 }
+    ensures kept { map (is_kept older_lines (edit 6 0 1)) longer_lines.blocks ≡ true ∷ false ∷ true ∷ [] }
+    ensures taken { taken older_lines (edit 6 0 1) 22 ≡ record { shown = row false true; copies = 3 } ∷ [] }
+    ensures costs { map (fresh_cost longer_lines older_lines (edit 6 0 1) twelve_continued) longer_lines.blocks ≡ 0 ∷ 17 ∷ 0 ∷ [] }
+    ensures view { fresh_costs longer_lines older_lines (edit 6 0 1) twelve_continued 0 4 ≡ 17 }
+    ensures last { fresh_costs longer_lines older_lines (edit 6 0 1) twelve_continued 3 4 ≡ 0 }
 {}
 
 /// With no change all three lines keep their rows, after a change of the first character the two behind it, after one of the last
 /// line the two before, and where anything may have changed none.
 fn edits_before_and_behind()
-    ensures none { map (is_kept three_lines none) (block 1 5 0 ∷ block 5 21 0 ∷ block 21 24 0 ∷ []) ≡ true ∷ true ∷ true ∷ [] }
-    ensures first { map (is_kept three_lines (edit 1 1 1)) (block 1 5 0 ∷ block 5 21 0 ∷ block 21 24 0 ∷ []) ≡ false ∷ true ∷ true ∷ [] }
-    ensures last { map (is_kept three_lines (edit 22 0 1)) (block 1 5 0 ∷ block 5 21 0 ∷ block 21 25 0 ∷ []) ≡ true ∷ true ∷ false ∷ [] }
-    ensures all { map (is_kept three_lines all) (block 1 5 0 ∷ block 5 21 0 ∷ block 21 24 0 ∷ []) ≡ false ∷ false ∷ false ∷ [] }
+    ensures none { map (is_kept older_lines none) (block 1 5 0 ∷ block 5 21 0 ∷ block 21 24 0 ∷ []) ≡ true ∷ true ∷ true ∷ [] }
+    ensures first { map (is_kept older_lines (edit 1 1 1)) (block 1 5 0 ∷ block 5 21 0 ∷ block 21 24 0 ∷ []) ≡ false ∷ true ∷ true ∷ [] }
+    ensures last { map (is_kept older_lines (edit 22 0 1)) (block 1 5 0 ∷ block 5 21 0 ∷ block 21 25 0 ∷ []) ≡ true ∷ true ∷ false ∷ [] }
+    ensures all { map (is_kept older_lines all) (block 1 5 0 ∷ block 5 21 0 ∷ block 21 24 0 ∷ []) ≡ false ∷ false ∷ false ∷ [] }
 {}
 
 /// A line whose newline stands just before the edit keeps its rows, and one whose newline was edited does not. A line that starts
 /// one position before the tail does not, since a string could have moved to its first position; one that starts at the tail does.
 fn lines_at_the_edges_of_a_change()
-    ensures head { is_kept three_lines (edit 5 0 0) (block 1 5 0) ≡ true }
-    ensures before { is_kept three_lines (edit 4 1 1) (block 1 5 0) ≡ false }
-    ensures one_short { is_kept three_lines (edit 20 1 1) (block 21 24 0) ≡ false }
-    ensures tail { is_kept three_lines (edit 19 1 1) (block 21 24 0) ≡ true }
+    ensures head { is_kept older_lines (edit 5 0 0) (block 1 5 0) ≡ true }
+    ensures before { is_kept older_lines (edit 4 1 1) (block 1 5 0) ≡ false }
+    ensures one_short { is_kept older_lines (edit 20 1 1) (block 21 24 0) ≡ false }
+    ensures tail { is_kept older_lines (edit 19 1 1) (block 21 24 0) ≡ true }
 {}
 
 /// The base level of a line turned by an edit in a line before it, so its rows are read from the other edge.
 fn a_base_level_that_turns()
-    ensures turned { is_kept three_lines (edit 1 1 1) (block 21 24 1) ≡ false }
+    ensures turned { is_kept older_lines (edit 1 1 1) (block 21 24 1) ≡ false }
     ensures same { is_kept (older 21 0 (row true true) 0 ∷ []) (edit 1 1 1) (block 21 24 1) ≡ true }
     ensures mixed { is_kept (older 21 0 (row true false) 0 ∷ older 21 1 (row false true) 0 ∷ []) (edit 1 1 1) (block 21 24 1) ≡ false }
 {}
@@ -76,16 +76,16 @@ fn rows_that_are_taken()
 
 /// At the shape of the older rows a block that keeps them costs nothing; at another one it costs what it costs its source.
 fn costs_of_a_source_with_kept_rows()
-    ensures same { map (λ b. (kept_source longer_lines three_lines (edit 6 0 1) twelve_continued).cost_of b twelve_continued) longer_lines.blocks ≡ 0 ∷ 17 ∷ 0 ∷ [] }
-    ensures other { map (λ b. (kept_source longer_lines three_lines (edit 6 0 1) twelve_continued).cost_of b (record twelve_continued { hscroll = 1 })) longer_lines.blocks ≡ 3 ∷ 17 ∷ 3 ∷ [] }
+    ensures same { map (λ b. (kept_source longer_lines older_lines (edit 6 0 1) twelve_continued).cost_of b twelve_continued) longer_lines.blocks ≡ 0 ∷ 17 ∷ 0 ∷ [] }
+    ensures other { map (λ b. (kept_source longer_lines older_lines (edit 6 0 1) twelve_continued).cost_of b (record twelve_continued { hscroll = 1 })) longer_lines.blocks ≡ 3 ∷ 17 ∷ 3 ∷ [] }
 {}
 
 /// The lines `a`, `b` and `c`: all of them are laid out at first, none where nothing changed, and the last one after `x` was put
 /// before its letter.
 fn an_edit_in_a_short_line()
-    ensures first { fresh_costs (letters 2) [] all twelve_continued 0 3 ≡ 6 }
-    ensures again { fresh_costs (letters 2) (three_letters 0) none twelve_continued 0 3 ≡ 0 }
-    ensures edited { fresh_costs (letters 3) (three_letters 0) (edit 5 0 1) twelve_continued 0 3 ≡ 3 }
+    ensures first { fresh_costs (two_letters_and 2) [] all twelve_continued 0 3 ≡ 6 }
+    ensures again { fresh_costs (two_letters_and 2) (three_letters 0) none twelve_continued 0 3 ≡ 0 }
+    ensures edited { fresh_costs (two_letters_and 3) (three_letters 0) (edit 5 0 1) twelve_continued 0 3 ≡ 3 }
 {}
 
 /// The lines that have a row in view: from the second row of the second line on, the first row, and none.

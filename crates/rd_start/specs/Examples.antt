@@ -21,8 +21,8 @@ short_lines start zero = []
 short_lines start (suc n) = record { start = start; end = start + 2; base = 0 } ∷ short_lines (start + 2) n
 
 -- lines of one character, each in one row of two elements
-abbrev pub letters : ℕ → SourceValues
-letters n = source_by_itself (short_lines 1 n) (λ b shape. last_row (items_from 0 2) ∷ []) (λ b shape. 2)
+abbrev pub one_letter_lines : ℕ → SourceValues
+one_letter_lines n = source_by_itself (short_lines 1 n) (λ b shape. last_row (items_from 0 2) ∷ []) (λ b shape. 2)
 
 -- the lines `ab` and `c`
 abbrev pub two_and_one : SourceValues
