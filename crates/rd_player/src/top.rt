@@ -51,7 +51,7 @@ use std::sync::ledger::Ledger;
 /// that under valid words, over good files whose bytes are known, a script without a bad line ends Done or NoMemory, where no count
 /// rose. A script has no bad line if each op is accepted for some choice of redisplays without memory that is the run's own as far as
 /// it went: want of memory at a redisplay can make a later hit be refused. Its bytes are to be known too, unless it is generated.
-/// `free` says that want of memory is no kind of a bad data file, nor of a line that is no op, nor of an op that is refused.
+/// `no_memory_told` says that want of memory is no kind of a bad data file, nor of a line that is no op, nor of an op that is refused.
 ///
 /// Each file and each line is read once.
 pub fn play<S: Source, F: Files, K: Sink, R: Sink, L: Ledger>(
@@ -66,7 +66,7 @@ pub fn play<S: Source, F: Files, K: Sink, R: Sink, L: Ledger>(
     ensures ran { Played (given_by (values_of (texts words.items)) F.contents F.faults files.old files.new) result (S.left script.old)
         (drawn_by S.left S.faults script.old script.new) (sunk_by K.written K.faults screen.old screen.new) (sunk_by R.written R.faults report.old report.new) steps.old steps.new }
     ensures read { HasReadFault (given_by (values_of (texts words.items)) F.contents F.faults files.old files.new) result (drawn_by S.left S.faults script.old script.new) }
-    ensures free { TellsNoMemory result }
+    ensures no_memory_told { TellsNoMemory result }
     ensures unread { (w : WordValues) → values_of (texts words.items) ≡ Some w → IsSome w.generate → script.new ≡ script.old }
     ensures script { S.faults script.old ≤ S.faults script.new }
     ensures contents { (file : List ℕ) → F.contents files.new file ≡ F.contents files.old file }

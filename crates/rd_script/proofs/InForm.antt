@@ -59,7 +59,7 @@ record Finds {T : Type 0} (kind : Data → Option T) (P : T → Type 0) : Type 0
 ok-same : {T : Type 0} (x y : T) → ◌≡◌ {A = Result T OpFault} (Ok x) (Ok y) → x ≡ y
 ok-same x y e = cc
 
--- ---- what is free of want of memory
+-- ---- readings of which no fault is want of memory
 
 pub and_then-free : {A B : Type 0} (f : A → Result B OpFault) (r : Result A OpFault) → ((a : A) → r ≡ Ok a → IsFree (f a)) → IsFree r → IsFree (and_then f r)
 and_then-free f (Ok a) h g = h a refl

@@ -24,7 +24,7 @@ use std::alloc::Global;
 pub fn read_op(alloc: Global, line: &[u8]) -> Result<Op, OpFault>
     ensures read { IsRead result (reading line.now) }
     ensures form { (op : Op) → reading line.now ≡ Ok op → IsInForm op }
-    ensures free { reading line.now ≢ Err faults.Memory }
+    ensures no_memory_told { reading line.now ≢ Err faults.Memory }
 {
     let value = read_json(alloc, line)?;
     match value.as_object() {

@@ -31,8 +31,8 @@ returns-in-Ok-clause-ran g c = ran g (goal.at.returns-in-Ok-clause-ran g c).Afte
 pub returns-in-Ok-clause-read : goal.returns-in-Ok-clause-read
 returns-in-Ok-clause-read g c = played-read _ _ _ _ _ _ _ _ (ran g (goal.at.returns-in-Ok-clause-read g c).After-run_whole)
 
-pub returns-in-Ok-clause-free : goal.returns-in-Ok-clause-free
-returns-in-Ok-clause-free g c = played-free _ _ _ _ _ _ _ _ (ran g (goal.at.returns-in-Ok-clause-free g c).After-run_whole)
+pub returns-in-Ok-clause-no_memory_told : goal.returns-in-Ok-clause-no_memory_told
+returns-in-Ok-clause-no_memory_told g c = played-free _ _ _ _ _ _ _ _ (ran g (goal.at.returns-in-Ok-clause-no_memory_told g c).After-run_whole)
 
 pub returns-in-Err-clause-ran : goal.returns-in-Err-clause-ran
 returns-in-Err-clause-ran g c = none-ran g (goal.at.returns-in-Err-clause-ran g c).After-finish
@@ -40,5 +40,5 @@ returns-in-Err-clause-ran g c = none-ran g (goal.at.returns-in-Err-clause-ran g 
 pub returns-in-Err-clause-read : goal.returns-in-Err-clause-read
 returns-in-Err-clause-read g c = played-read _ _ _ _ _ _ _ _ (none-ran g (goal.at.returns-in-Err-clause-read g c).After-finish)
 
-pub returns-in-Err-clause-free : goal.returns-in-Err-clause-free
-returns-in-Err-clause-free g c = played-free _ _ _ _ _ _ _ _ (none-ran g (goal.at.returns-in-Err-clause-free g c).After-finish)
+pub returns-in-Err-clause-no_memory_told : goal.returns-in-Err-clause-no_memory_told
+returns-in-Err-clause-no_memory_told g c = played-free _ _ _ _ _ _ _ _ (none-ran g (goal.at.returns-in-Err-clause-no_memory_told g c).After-finish)
