@@ -83,7 +83,7 @@ returns-in_err-matrix-clause-steps g c = let at = goal.at.returns-in_err-matrix-
 pub is_first_row-requires : goal.is_first_row-requires
 is_first_row-requires g c =
     let begun = start g (goal.at.is_first_row-requires g c).After-hand_out in
-    back-at-source (λ (x : SourceValues). IsWithin c.in_ok-chosen.chosen.anchor.pos x.blocks) _ _ (c.relay.ensures.stays ∙ begun.same) begun.within
+    back-at-source (λ (x : SourceValues). IsWithin c.in_ok-chosen.chosen.anchor.pos x.blocks) _ _ (ap (λ (x : SourceValues). kept_source x c.args.old.now c.args.change c.args.shape) c.relay.ensures.stays ∙ begun.same) begun.within
 
 pub returns-in_err-top-clause-steps : goal.returns-in_err-top-clause-steps
 returns-in_err-top-clause-steps g c = let at = goal.at.returns-in_err-top-clause-steps g c in steps g at.After-relay (start g at.After-hand_out)
@@ -95,9 +95,9 @@ has_last_row-requires g c =
     let at = goal.at.has_last_row-requires g c in
     let begun = start g at.After-hand_out in
     let laid = rows g at.In_ok-matrix begun in
-    let stays = c.is_first_row.ensures.stays ∙ (c.relay.ensures.stays ∙ begun.same) in
+    let stays = ap (λ (x : SourceValues). kept_source x c.args.old.now c.args.change c.args.shape) (c.is_first_row.ensures.stays ∙ c.relay.ensures.stays) ∙ begun.same in
     record {
-      source = back-at-source IsSource _ _ stays (at-source IsSource m _ (same g at.After-new-kept) c.choose.ensures.source);
+      source = back-at-source IsSource _ _ (c.is_first_row.ensures.stays ∙ c.relay.ensures.stays) c.relay.ensures.source;
       some = some-laid m c.args.shape w c.in_ok-matrix.matrix c.requires.height begun.low laid;
       rows = back-at-source (λ (x : SourceValues). (shape : ShapeValues) × IsShape shape × ((place : ℕ) × (shown_entries c.in_ok-matrix.matrix ≡ take w.height (drop place (rows_at x shape))))) _ _
           stays (c.args.shape, begun.shaped, (start_row m c.args.shape w, laid));
@@ -118,9 +118,9 @@ returns g c =
       chosen = at-source (λ (x : SourceValues). c.in_ok-chosen.chosen ≡ chosen_of x c.args.shape w) m _ (same g at.After-new-kept) c.in_ok-chosen.ensures.value;
       rows = laid;
       top = c.in_ok-top.ensures.value c.args.shape place begun.shaped
-          (back-at-source (λ (x : SourceValues). Names c.in_ok-chosen.chosen.anchor (rows_at x c.args.shape) place) _ _ (c.relay.ensures.stays ∙ begun.same) begun.named);
+          (back-at-source (λ (x : SourceValues). Names c.in_ok-chosen.chosen.anchor (rows_at x c.args.shape) place) _ _ (ap (λ (x : SourceValues). kept_source x c.args.old.now c.args.change c.args.shape) c.relay.ensures.stays ∙ begun.same) begun.named);
       bottom = at-source (λ (x : SourceValues). (shape : ShapeValues) (place : ℕ) → IsShape shape → shown_entries c.in_ok-matrix.matrix ≡ take w.height (drop place (rows_at x shape))
-          → c.in_ok-bottom.bottom ≡ leb (length (rows_at x shape)) (place + w.height)) _ _ (c.is_first_row.ensures.stays ∙ (c.relay.ensures.stays ∙ begun.same)) c.in_ok-bottom.ensures.value
+          → c.in_ok-bottom.bottom ≡ leb (length (rows_at x shape)) (place + w.height)) _ _ (ap (λ (x : SourceValues). kept_source x c.args.old.now c.args.change c.args.shape) (c.is_first_row.ensures.stays ∙ c.relay.ensures.stays) ∙ begun.same) c.in_ok-bottom.ensures.value
           c.args.shape place begun.shaped laid;
       copies = at-source (λ (x : SourceValues). All (IsCopied c.args.old.now c.args.change x.blocks) c.in_ok-matrix.matrix) _ _ begun.same c.in_ok-matrix.ensures.copies;
       steps = steps g at.After-relay begun;
