@@ -6,6 +6,7 @@ use Rattle.std.proofs.lemmas.Bool.{cases_eq}
 use Rattle.rd_base.specs.Classes.{direction_of, is_initiator, x9_is_removed}
 use Rattle.rd_base.specs.declared.class.Class.{Class}
 use Rattle.rd_base.specs.declared.class.Class.TheVariants.{L}
+use Rattle.rd_base.specs.declared.line.Seq.{Seq}
 use Rattle.rd_explicit.specs.declared.links.Link.{Link}
 use Rattle.rd_explicit.specs.declared.links.First.{First}
 use Rattle.rd_explicit.specs.declared.links.Links.{Links}
@@ -13,7 +14,7 @@ use Rattle.rd_explicit.specs.Follow.{bd13_follower, x10_level_behind}
 use Rattle.rd_explicit.specs.Links.{link_at, chain, chain_end, gathered, seq_at, IsLinkedFrom, LeadsOn, unmatched, first_of, beginning, without_beginning}
 use Rattle.rd_explicit.specs.Sequences.{bd9_partner, x9_items}
 use Rattle.rd_explicit.proofs.Chains.{gathered-step, bd13_follower-within, Within, jumps-on}
-use Rattle.rd_base.proofs.Choices.{either}
+use Rattle.rd_base.proofs.Choices.{either, of-choice}
 use Rattle.rd_base.proofs.Lists.{drop-at}
 
 length-without : (f : Option ℕ) (bs : List Bool) → length (without_beginning f bs) ≡ length bs
@@ -148,13 +149,8 @@ gathered-next before i classes levels links begins c l within same_levels same_l
     let within_begins : i < length begins = omega arith in
     let none : Link = record { next = None; eos = L } in
     rw (drop-at classes i c read_class, drop-at levels i l read_level, drop_more links i none within_links, drop_more begins i false within_begins)
-    (elim (get_or begins i false) as (λ b.
-    (if b then seq_at links i (direction_of (max l before)) ∷ gathered (if x9_is_removed c then before else l) (i + 1) (drop (i + 1) classes) (drop (i + 1) levels) (drop (i + 1) links) (drop (i + 1) begins)
-    else gathered (if x9_is_removed c then before else l) (i + 1) (drop (i + 1) classes) (drop (i + 1) levels) (drop (i + 1) links) (drop (i + 1) begins))
-    ≡ (if b then seq_at links i (direction_of (max l before)) ∷ [] else []) ++ gathered (if x9_is_removed c then before else l) (i + 1) (drop (i + 1) classes) (drop (i + 1) levels) (drop (i + 1) links) (drop (i + 1) begins)) [
-      | true ↦ refl
-      | false ↦ refl
-    ])
+    (sym (of-choice (λ (s : List Seq). s ++ gathered (if x9_is_removed c then before else l) (i + 1) (drop (i + 1) classes) (drop (i + 1) levels) (drop (i + 1) links) (drop (i + 1) begins))
+    (get_or begins i false) (seq_at links i (direction_of (max l before)) ∷ []) []))
 
 -- nothing is added where no sequence begins
 pub none-added : {X : Type 0} (xs : List X) (x : X) (bs : List Bool) (i : ℕ) (b : Bool) → slice_get bs i ≡ Some b → b ≡ false
