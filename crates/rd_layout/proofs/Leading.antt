@@ -9,6 +9,7 @@ use Rattle.rd_blocks.specs.Leads.{LeadsTo}
 use Rattle.rd_blocks.proofs.Leading.{leads-none, leads-ranged}
 use Rattle.rd_objects.specs.Sound.{IsClosed, Extends}
 use Rattle.rd_objects.specs.Things.{ObjectLists}
+use Rattle.rd_props.proofs.Replacing.{no-more}
 use Rattle.rd_props.specs.Made.{AreMade}
 use Rattle.rd_reuse.proofs.Combining.{all-last}
 use Rattle.rd_reuse.specs.Changes.{all, change_of, edit, is_all, is_small, join, none}
@@ -31,9 +32,6 @@ edit-inside begin from removed added (inr same) = omega (arith, ints)
 
 none-inside : (begin tail : ℕ) → (pos begin +ℤ pos 0) ≤ℤ pos (max begin tail)
 none-inside begin tail = omega (arith, ints)
-
-nothing-added : (n : ℕ) → (pos n -ℤ pos n) ≡ pos 0
-nothing-added n = omega (arith, ints)
 
 module _ (old new : ContentValue) (a b : ObjectLists) (closed : IsClosed a) (named : AreMade (seen old) a) (extends : Extends a b) where
   abbrev pub Goal : Change → Type 0
@@ -80,7 +78,7 @@ module _ (old new : ContentValue) (a b : ObjectLists) (closed : IsClosed a) (nam
       by true false = inl (all-last x)
       by true true =
           either Goal (is_all x || is_all y) _ _ (inl refl)
-          (combined-lead before.0 after.0 (before.0 + n + 1) (after.0 + m + 1) x.added y.added (nothing-added n) (nothing-added m)
+          (combined-lead before.0 after.0 (before.0 + n + 1) (after.0 + m + 1) x.added y.added (no-more n) (no-more m)
           (subst (λ tail. Stays old a new b (min before.0 after.0) tail (pos 0)) tails s))
 
   shown-leads : (i k : ℕ) (change : Change) → (k ≡ i → Goal change) → (k ≢ i → Goal none) → Goal (if_shown i k change)

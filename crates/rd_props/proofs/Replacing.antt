@@ -50,7 +50,8 @@ unmoved old new objects begin head last added none stays =
     kept old new objects objects begin head (last + 1) added none
     (λ x away. same-by old new objects x x (stays x (elim away [ inl low ↦ inl low | inr high ↦ inr (omega (arith, high)) ])))
 
-no-more : (n : ℕ) → pos n -ℤ pos n ≡ pos 0
+-- where as many positions stand as before none is added
+pub no-more : (n : ℕ) → pos n -ℤ pos n ≡ pos 0
 no-more n = omega (arith, ints)
 
 -- ---- the settings alone
