@@ -1,8 +1,9 @@
 -- How often rows were copied changes no allowance, no op, and nothing that is told.
-use Rattle.std.proofs.Common.{◌≡◌, ℕ, zero, suc, ◌+◌, ◌*◌, ◌&&◌, Bool, true, false, cond, if◌then◌else◌, Option, None, Some, Err, List, [], ◌∷◌, length, map, ap, refl, ◌∙◌}
+use Rattle.std.proofs.Common.{◌≡◌, ℕ, zero, suc, ◌+◌, ◌*◌, ◌&&◌, Bool, true, false, cond, if◌then◌else◌, Option, None, Some, Err, List, [], ◌∷◌, length, map, sym, ap, refl, ◌∙◌}
 use Rattle.std.proofs.lemmas.List.{length-map}
 use Rattle.std.proofs.lemmas.Simd.{map-map}
 use Rattle.std.specs.Prelude.{option_map, unwrap_or}
+use Rattle.rd_base.proofs.Choices.{of-choice}
 use Rattle.rd_frame.specs.Panes.{body_height}
 use Rattle.rd_matrix.specs.Cursors.{cursor_in}
 use Rattle.rd_matrix.specs.Entries.{EntryMeaning, shown_entries, shown_entry}
@@ -75,10 +76,7 @@ same-kept es c b =
     ap (λ (rows : List RowMeaning). is_outside c b && are_whole b.base rows) all
 
 same-older : (l : Layout) (shape : ShapeValues) → older_rows (Some (uncopied l)) shape ≡ map uncopied_entry (older_rows (Some l) shape)
-same-older l shape = by (is_same_shape l.shape shape) where
-  by : (t : Bool) → (if t then map uncopied_entry l.matrix else []) ≡ map uncopied_entry (if t then l.matrix else [])
-  by true = refl
-  by false = refl
+same-older l shape = sym (of-choice (map uncopied_entry) (is_same_shape l.shape shape) l.matrix [])
 
 -- ---- allowances
 

@@ -6,6 +6,7 @@ use Rattle.std.proofs.lemmas.List.Elements.{All-from_get_or, All-nil, recursion_
 use Rattle.std.proofs.lemmas.Option.{none-some, slice_get-get_or, slice_get-map}
 use Rattle.std.specs.List.{All, AllByRecursion, flat_map}
 use Rattle.std.specs.Prelude.{slice_get, option_map}
+use Rattle.rd_base.proofs.Choices.{either}
 use Rattle.rd_base.proofs.Lists.{all-one}
 use Rattle.rd_frame.specs.Panes.{body_height}
 use Rattle.rd_lineshift.specs.Choices.{AreWithin}
@@ -80,19 +81,14 @@ module _ (s : StateValue) (valid : IsValid s) where
   InFrame band = band.top + band.height ≤ s.height
 
   band-fits : (p : Placed) → place_of p.number s ≡ Some p → All InFrame (band_of s.width p)
-  band-fits p at = by (p.rect.width == s.width) where
-    fits : p.rect.y + body_height p ≤ s.height
-    fits =
-        let stands = stands_in p.number s.tree.windows (frame_of s.tree) p valid.windows.tree.room at in
-        let low = stands.0.3 in
-        body-fits p.mode p.rect.y p.rect.height s.tree.height s.height (omega arith) valid.frame.rows
-
-    by : (t : Bool) → All InFrame (if t then record { top = p.rect.y; height = body_height p } ∷ [] else [])
-    by true = all-one InFrame (record { top = p.rect.y; height = body_height p }) fits
-    by false = All-nil InFrame
+  band-fits p at =
+      let stands = stands_in p.number s.tree.windows (frame_of s.tree) p valid.windows.tree.room at in
+      let low = stands.0.3 in
+      let fits : p.rect.y + body_height p ≤ s.height = body-fits p.mode p.rect.y p.rect.height s.tree.height s.height (omega arith) valid.frame.rows in
+      let band : Band = record { top = p.rect.y; height = body_height p } in
+      either (All InFrame) (p.rect.width == s.width) (band ∷ []) [] (all-one InFrame band fits) (All-nil InFrame)
 
   pub bands-within : AreWithin s.height (bands_of s)
-  bands-within = by s.shifting where
-    by : (t : Bool) → All InFrame (if t then flat_map (band_of s.width) (places s) else [])
-    by true = all-flat InFrame (band_of s.width) (places s) (all-places (λ p. All InFrame (band_of s.width p)) band-fits)
-    by false = All-nil InFrame
+  bands-within =
+      either (All InFrame) s.shifting (flat_map (band_of s.width) (places s)) []
+      (all-flat InFrame (band_of s.width) (places s) (all-places (λ p. All InFrame (band_of s.width p)) band-fits)) (All-nil InFrame)
