@@ -27,7 +27,7 @@ use Rattle.rd_items.specs.declared.item.ItemKind.TheVariants as kind
 use Rattle.rd_items.specs.Readings.{showing_of, is_hidden, is_open, ends_line, is_ender, IsReading}
 use Rattle.rd_items.specs.Pieces.{Scene, string_pieces, string_piece, spec_in, spec_piece, open_piece, char_piece, has_element, piece_by, piece_at, ender_piece, goes_on, run_length, run_in, pieces_from}
 use Rattle.rd_items.specs.Items.{piece_joins, kind_gives}
-use Rattle.rd_items.specs.Covers.{option_ends}
+use Rattle.rd_items.specs.Covers.{shows_ender}
 use Rattle.rd_items.proofs.Runs.{open-stops, open-alone}
 
 -- ---- pieces that stand one behind the other
@@ -49,7 +49,7 @@ pub record IsLink (s : Scene) (p : ℕ) (x : Piece) : Type 0 where
 -- one that is not the last is no ender
 pub record IsNoEnder (s : Scene) (p : ℕ) (x : Piece) : Type 0 where
   pub link : IsLink s p x
-  pub no_ender : option_ends x.kind ≡ false
+  pub no_ender : shows_ender x.kind ≡ false
 
 -- the last is an ender, and no mark
 pub record IsLast (s : Scene) (p to : ℕ) (x : Piece) : Type 0 where
@@ -186,11 +186,11 @@ open-ender s None No face None p to ends = refl
 open-ender s None No face (Some c) p to ends = cond-true (is_newline c) (ender_piece face p) (char_piece s face c p) ends
 
 -- the piece of what is seen is an ender exactly where this ends a block
-pub ends-where : (s : Scene) (e : Seen) (es : List Seen) (p : ℕ) → option_ends (piece_at s (shown_in s e) e.character p (suc p + run_in s e es)).kind ≡ is_ender s.parts.settings.invisible e
+pub ends-where : (s : Scene) (e : Seen) (es : List Seen) (p : ℕ) → shows_ender (piece_at s (shown_in s e) e.character p (suc p + run_in s e es)).kind ≡ is_ender s.parts.settings.invisible e
 ends-where s e es p = by-end (is_ender s.parts.settings.invisible e) refl where
-  by-end : (ends : Bool) → is_ender s.parts.settings.invisible e ≡ ends → option_ends (piece_at s (shown_in s e) e.character p (suc p + run_in s e es)).kind ≡ ends
+  by-end : (ends : Bool) → is_ender s.parts.settings.invisible e ≡ ends → shows_ender (piece_at s (shown_in s e) e.character p (suc p + run_in s e es)).kind ≡ ends
   by-end true ends =
-      ap (λ (x : Piece). option_ends x.kind) (open-ender s (shown_in s e).display (shown_in s e).hidden e.appearance.face e.character p (suc p + run_in s e es) ends)
+      ap (λ (x : Piece). shows_ender x.kind) (open-ender s (shown_in s e).display (shown_in s e).hidden e.appearance.face e.character p (suc p + run_in s e es) ends)
   by-end false none = (own s e es p none).own.no_ender
 
 last-ender : (s : Scene) (face : Attributes) (p : ℕ) → IsLast s p (p + 1) (ender_piece face p)

@@ -14,7 +14,7 @@ use Rattle.rd_items.specs.declared.item.Item.{Item}
 use Rattle.rd_items.specs.Readings.{showing_of, showing_at, is_open, ends_block, reading_from, reading}
 use Rattle.rd_items.specs.Pieces.{Scene, scene_in, string_pieces, piece_at, goes_on, run_length, pieces_from}
 use Rattle.rd_items.specs.Walks.{pieces_left}
-use Rattle.rd_items.specs.Covers.{option_ends}
+use Rattle.rd_items.specs.Covers.{shows_ender}
 use Rattle.rd_items.proofs.Chains.{ends-where}
 use Rattle.rd_items.proofs.Readings.{before-end, end-open, reads-one, reading-more}
 use Rattle.rd_items.proofs.Runs.{open-stops, ender-open}
@@ -120,12 +120,12 @@ made s o d start p to showing x before mid after xs is =
     is.put xs ∙ is.strings (x ∷ xs) ∙ rw (is.piece, is.shown, goes.1)
 
 -- a position ends a block exactly where the piece that is put is an ender
-step-ender : (s : BufferValue) (o : ObjectLists) (d : Data) (start p to : ℕ) (showing : Showing) (x : Piece) (before mid after : List Piece → List Item) → IsStep s o d start p to showing x before mid after → ends_block s p ≡ option_ends x.kind
+step-ender : (s : BufferValue) (o : ObjectLists) (d : Data) (start p to : ℕ) (showing : Showing) (x : Piece) (before mid after : List Piece → List Item) → IsStep s o d start p to showing x before mid after → ends_block s p ≡ shows_ender x.kind
 step-ender s o d start p to showing x before mid after is =
     let goes = goes-to s o d start p to showing x before mid after is in
     sym (rw (is.piece, is.shown, goes.1) (ends-where (scene s o d) (seen_at s o p) (drop 1 (reading s o p)) (p - start)))
 
-pub step-ends : (s : BufferValue) (o : ObjectLists) (d : Data) (start p to : ℕ) (showing : Showing) (x : Piece) (before mid after : List Piece → List Item) → IsStep s o d start p to showing x before mid after → option_ends x.kind ≡ true → after [] ≡ before (pieces_left s (scene s o d) start p)
+pub step-ends : (s : BufferValue) (o : ObjectLists) (d : Data) (start p to : ℕ) (showing : Showing) (x : Piece) (before mid after : List Piece → List Item) → IsStep s o d start p to showing x before mid after → shows_ender x.kind ≡ true → after [] ≡ before (pieces_left s (scene s o d) start p)
 step-ends s o d start p to showing x before mid after is ends =
     let ender = step-ender s o d start p to showing x before mid after is ∙ ends in
     let none = ap (drop 1) (reads-one s o (s.text.end - p) p ender) in
@@ -133,7 +133,7 @@ step-ends s o d start p to showing x before mid after is ends =
     let rest : pieces_from (scene s o d) (run_behind s o p) (suc (p - start)) (drop 1 (reading s o p)) ≡ [] = rw none in
     made s o d start p to showing x before mid after [] is ∙ ap before (sym (rw rest at parts))
 
-pub step-goes : (s : BufferValue) (o : ObjectLists) (d : Data) (start p to : ℕ) (showing : Showing) (x : Piece) (before mid after : List Piece → List Item) → IsStep s o d start p to showing x before mid after → option_ends x.kind ≡ false → (p < to) × (to ≤ s.text.end) × (after (pieces_left s (scene s o d) start to) ≡ before (pieces_left s (scene s o d) start p))
+pub step-goes : (s : BufferValue) (o : ObjectLists) (d : Data) (start p to : ℕ) (showing : Showing) (x : Piece) (before mid after : List Piece → List Item) → IsStep s o d start p to showing x before mid after → shows_ender x.kind ≡ false → (p < to) × (to ≤ s.text.end) × (after (pieces_left s (scene s o d) start to) ≡ before (pieces_left s (scene s o d) start p))
 step-goes s o d start p to showing x before mid after is none =
     let ender = step-ender s o d start p to showing x before mid after is ∙ none in
     let k = p - start in

@@ -22,9 +22,9 @@ is_ender_kind kind.Ender = true
 is_ender_kind k = false
 
 -- whether what a piece shows, if anything, is an ender
-abbrev pub option_ends : Option ItemKind → Bool
-option_ends None = false
-option_ends (Some k) = is_ender_kind k
+abbrev pub shows_ender : Option ItemKind → Bool
+shows_ender None = false
+shows_ender (Some k) = is_ender_kind k
 
 -- an ender is a separator of paragraphs and covers the position that ends the block
 pub record IsEnder (x : Item) : Type 0 where

@@ -29,7 +29,7 @@ pub struct Piece {
 
 impl Piece {
     ghost use Rattle.std.specs.Prelude.{◌≡◌, ◌<◌};
-    ghost use Rattle.rd_items.specs.Covers.{option_ends};
+    ghost use Rattle.rd_items.specs.Covers.{shows_ender};
     ghost use Rattle.rd_items.specs.Pieces.{piece, string_piece, ender_piece};
 
     /// A piece that marks don't join and that is no overlay's string.
@@ -76,8 +76,8 @@ impl Piece {
     }
 
     /// Whether this ends a block.
-    pub fn is_ender(&self) -> bool
-        ensures { result ≡ option_ends self.now.kind }
+    pub fn shows_ender(&self) -> bool
+        ensures { result ≡ shows_ender self.now.kind }
     {
         matches!(self.kind, Some(ItemKind::Ender))
     }

@@ -175,7 +175,7 @@ impl Walk {
         let ch = char_at(view, pos);
         let piece = piece_at(view, &showing, &ch, pos - start, to - start);
         self.put(piece)?;
-        if piece.is_ender() {
+        if piece.shows_ender() {
             return Ok(None);
         }
         Ok(Some(to))

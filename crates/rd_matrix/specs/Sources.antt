@@ -18,7 +18,7 @@ pub record SourceValues : Type 0 where
   pub cost_of : Block → ShapeValues → ℕ
   pub cost_beneath : Block → ShapeValues → ℕ
 
--- a source that stands on none
+-- a source that stands on none, whose cost beneath is its own
 abbrev pub source_by_itself : List Block → (Block → ShapeValues → List RowMeaning) → (Block → ShapeValues → ℕ) → SourceValues
 source_by_itself blocks rows cost = record { blocks = blocks; rows_of = rows; cost_of = cost; cost_beneath = cost }
 

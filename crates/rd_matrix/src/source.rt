@@ -7,17 +7,17 @@ use std::alloc::Global;
 use std::sync::ledger::Ledger;
 
 /// A source of blocks, and of the rows of each block at a shape. Contracts see it as the list of its blocks, the rows of a block
-/// at a shape, and their cost, here and in the source that this one stands on, none of which a call changes. Each call says what holds of every source: there is a block, each
-/// but the first starts at the end of the one before, and the rows of a block at a shape are at least one, of which the last and
-/// no other ends the block; each position of a block is covered by exactly one item that begins in its rows. After want of
-/// memory a source is to be made anew.
+/// at a shape, and their cost, here and in the source that this one stands on, none of which a call changes. Each call says what
+/// holds of every source: there is a block, each but the first starts at the end of the one before, and the rows of a block at a
+/// shape are at least one, of which the last and no other ends the block; each position of a block is covered by exactly one item
+/// that begins in its rows. After want of memory a source is to be made anew.
 pub trait BlockSource {
     ghost use Rattle.std.specs.Prelude.{◌≡◌, ℕ, ◌+◌, ◌^◌, ◌<◌, ◌≤◌, length, slice_get, Some, IfOk};
     ghost use Rattle.rd_matrix.specs.Blocks.{IsAmong, IsWithin, HoldsPosition, block_before};
     ghost use Rattle.rd_matrix.specs.Sources.{SourceValues, IsSource};
     ghost use Rattle.rd_rows.specs.Copies.{shown_rows};
 
-    // the blocks, their rows and what the rows cost
+    // the blocks, their rows and what the rows cost, here and in the source beneath
     ghost meaning: { Self → SourceValues };
 
     /// The block that holds a position, which is not before the first block and below the last block's end.

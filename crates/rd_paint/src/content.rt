@@ -40,7 +40,7 @@ impl<'a> Model for Content<'a> {
 pub(crate) fn content_of(state: &State, i: u32) -> Option<Content<'_>>
     ensures { result ≡ option_map painted_of (slice_get state.now.buffers i) }
 {
-    let (name, buffer, marks) = state.whole_buffer(i)?;
+    let (name, buffer, marks) = state.named_buffer(i)?;
     Some(Content {
         name,
         buffer,

@@ -41,7 +41,7 @@ pub record IsFaultless (script : List ℕ) (e : End) : Type 0 where
   pub sent : ¬ Rose e.screen.faults_before e.screen.faults_after
   pub told : ¬ Rose e.report.faults_before e.report.faults_after
 
--- no part failed during the run, and no want of memory ended it
+-- a run as above that no want of memory ended
 pub record IsUndisturbed (script : List ℕ) (e : End) : Type 0 where
   pub faultless : IsFaultless script e
   pub found : e.status ≢ NoMemory

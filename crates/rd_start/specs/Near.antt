@@ -7,7 +7,7 @@ use Rattle.rd_start.specs.Chosen.{places_of}
 use Rattle.rd_start.specs.Starts.{Places, suits, scrolled}
 use Rattle.rd_start.specs.declared.wanted.Wanted.{Wanted}
 
--- whether a row is at most so many rows below another, or above it
+-- whether a row is at most so many rows below another, or so many others above it
 abbrev pub is_within : ℕ → ℕ → ℕ → ℕ → Bool
 is_within above below row k = nat_le row (k + above) && nat_le k (row + below)
 

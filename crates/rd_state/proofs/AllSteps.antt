@@ -1,8 +1,8 @@
 -- A step leads from a valid state to a valid one, op by op.
-use Rattle.std.proofs.Common.{◌≡◌, ℕ, zero, suc, ◌+◌, ◌≤◌, inl, inr, ◌==◌, Bool, true, false, pos, ◌+ℤ◌, map, IsTrue, Some, Result, Ok, Err, List, [], ◌∷◌, length, subst, sym, ap, refl, ◌∙◌, arith}
+use Rattle.std.proofs.Common.{◌≡◌, ℕ, zero, suc, ◌+◌, ◌≤◌, inl, inr, ◌==◌, Bool, true, false, pos, ◌+ℤ◌, map, IsTrue, None, Some, Result, Ok, Err, List, [], ◌∷◌, length, subst, sym, ap, refl, ◌∙◌, arith}
 use Rattle.std.specs.Prelude.{slice_get, IfOk, option_map}
 use Rattle.std.specs.Str.{chars}
-use Rattle.rd_base.proofs.Choices.{either}
+use Rattle.rd_base.proofs.Choices.{either, of-choice}
 use Rattle.rd_base.proofs.Lists.{get-set}
 use Rattle.rd_base.specs.declared.limits.TheConstants.{SCROLL_CONSERVATIVELY, SCROLL_MARGIN}
 use Rattle.rd_base.specs.declared.settings.Anchor.{Anchor}
@@ -199,7 +199,7 @@ opening-valid = record {
   closed = nothing_closed;
   windows = record {
     tree = opening_valid 80 23 (omega arith) (omega arith) (omega arith) (omega arith);
-    leaves = λ number. sym (map-if leaf_of (0 == number) opening_window);
+    leaves = λ number. sym (of-choice (option_map leaf_of) (0 == number) (Some opening_window) None);
     apart = (refl, tt);
     each = opening-windows;
     selected = refl;

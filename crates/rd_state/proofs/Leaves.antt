@@ -2,7 +2,7 @@
 use Rattle.std.proofs.Common.{◌≡◌, ◌≢◌, ℕ, ◌≤◌, ◌==◌, ◌||◌, Bool, true, false, is_some, Option, None, Some, sym, ap, refl, ◌∙◌, inl, inr, arith}
 use Rattle.std.proofs.lemmas.Bool.{cases_eq, eqb-true, false_from_ne_true, cond-false, cond_both, cond-true, eq-eqb, ne_eqb, or_left}
 use Rattle.std.proofs.lemmas.Iterator.Adapters.{option_map_id}
-use Rattle.rd_base.proofs.Choices.{none-both, or-first, map-or, map-some, none-of, some-mapped}
+use Rattle.rd_base.proofs.Choices.{none-both, of-choice, or-first, map-or, map-some, none-of, some-mapped}
 use Rattle.std.specs.Prelude.{option_map}
 use Rattle.std.specs.Option.{option_or}
 use Rattle.rd_tree.proofs.Keeping.{is_some-if, is_some-or, by_way, removed_less, resized_same}
@@ -17,7 +17,7 @@ use Rattle.rd_state.specs.States.{StateValue}
 use Rattle.rd_state.specs.Valid.{IsValid}
 use Rattle.rd_state.specs.Windows.{leaf_at, leaf_of, window_of}
 use Rattle.rd_state.specs.declared.window.WindowState.{WindowState}
-use Rattle.rd_state.proofs.Options.{map-if, or-none}
+use Rattle.rd_state.proofs.Options.{or-none}
 
 abbrev pub Leaf : Type 0
 Leaf = Bool × ℕ
@@ -51,7 +51,7 @@ abbrev pub facts : Placed → Leaf
 facts p = (p.mode, p.margins)
 
 pub leaf-placed : (n : ℕ) (ws : Windows) (rect : Rect) → option_map facts (of_number n (placed ws rect)) ≡ leaf_at n ws
-leaf-placed n (Window m mode margins) rect = map-if facts (m == n) (record { number = m; mode = mode; margins = margins; rect = rect })
+leaf-placed n (Window m mode margins) rect = of-choice (option_map facts) (m == n) (Some (record { number = m; mode = mode; margins = margins; rect = rect })) None
 leaf-placed n (Split side size first second) rect =
     let a = placed first (first_part side size rect) in
     let b = placed second (second_part side size rect) in

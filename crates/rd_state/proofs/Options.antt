@@ -15,10 +15,6 @@ pub or-none : {X : Type 0} (o : Option X) → option_or o None ≡ o
 or-none None = refl
 or-none (Some x) = refl
 
-pub map-if : {X Y : Type 0} (f : X → Y) (t : Bool) (x : X) → option_map f (if t then Some x else None) ≡ (if t then Some (f x) else None)
-map-if f true x = refl
-map-if f false x = refl
-
 pub map-map : {X Y Z : Type 0} (f : X → Y) (g : Y → Z) (h : X → Z) (o : Option X) → ((x : X) → g (f x) ≡ h x) → option_map g (option_map f o) ≡ option_map h o
 map-map f g h None e = refl
 map-map f g h (Some x) e = ap (λ z. Some z) (e x)

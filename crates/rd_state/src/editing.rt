@@ -143,7 +143,7 @@ fn inserted(buffer: u32, from: Pos, added: u32) -> Effect
     }
 }
 
-/// A position in 32 bits, which is refused where it has more: no text has as many.
+/// A position in 32 bits; one of more bits is refused, since no text reaches there.
 fn place(pos: u64) -> Result<Pos, Refused>
     ensures same { IfOk result (λ place. place ≡ pos) }
     ensures far { OnErr result (TEXT_CHARACTERS + 1 < pos) }

@@ -132,8 +132,8 @@ impl State {
         }
     }
 
-    /// The buffer with a number under its name, with the margin strings of its overlays; None exactly where none was made.
-    pub fn whole_buffer(&self, i: u32) -> Option<(&str, &BufferState, &Marks)>
+    /// The name of the buffer with a number, the buffer, and the margin strings of its overlays; None exactly where none was made.
+    pub fn named_buffer(&self, i: u32) -> Option<(&str, &BufferState, &Marks)>
         ensures name { option_map (λ b. b.0.now) result ≡ option_map (λ b. b.name) (slice_get self.now.buffers i) }
         ensures buffer { option_map (λ b. meaning b.1.now) result ≡ option_map (λ b. seen b.content) (slice_get self.now.buffers i) }
         ensures marks { option_map (λ b. b.2.now) result ≡ option_map (λ b. b.content.marks) (slice_get self.now.buffers i) }

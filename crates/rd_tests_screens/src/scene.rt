@@ -212,7 +212,7 @@ fn is_overlay(overlay: Option<&Overlay>) -> bool {
 
 /// Whether the first overlay of the first buffer has its margin string.
 fn has_mark(state: &State) -> bool {
-    match state.whole_buffer(0) {
+    match state.named_buffer(0) {
         Some((_name, _buffer, marks)) => marks.get(0) == Some(0) && marks.get(1).is_none(),
         None => false,
     }

@@ -48,7 +48,7 @@ at-source P m n same told = subst P same told
 pub back-at-source : (P : SourceValues → Type 0) (m n : SourceValues) → n ≡ m → P m → P n
 back-at-source P m n same told = subst P (sym same) told
 
--- a source with kept rows determines what the one beneath it is
+-- a source with kept rows determines the blocks, the rows and the costs of the one beneath
 pub beneath-same : (n m : SourceValues) (old other : List Entry) (c d : Change) (shape at : ShapeValues) → kept_source n other d at ≡ kept_source m old c shape
     → kept_source n old c shape ≡ kept_source m old c shape
 beneath-same n m old other c d shape at same = ap (λ (x : SourceValues). kept_source (record x { cost_of = x.cost_beneath }) old c shape) same

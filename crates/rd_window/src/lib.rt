@@ -15,8 +15,8 @@
 //!    rows.
 //! 4. `rd_start::choose` chooses the start and the point. It reads through a `rd_reuse::Kept`, which copies the rows of blocks that keep
 //!    theirs.
-//! 5. `rd_reuse::relay` takes the rows in view from there on, and itself copies those that are kept. They are the new layout, since which
-//!    nothing changed.
+//! 5. `rd_reuse::relay` takes the rows in view from there on, and itself copies those that are kept. The rows in view are the new layout,
+//!    since which nothing changed.
 //! 6. `window`: whether the text's first row and its last one are in view is noted, for step 1 of the next redisplay and for the mode line.
 //!
 //! Emacs first measures with the iterator alone (`start_display`, `move_it_to`), and makes the rows afterwards (`try_window`), so that a
