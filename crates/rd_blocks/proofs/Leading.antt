@@ -18,8 +18,8 @@ use Rattle.rd_blocks.specs.Leads.{Leads, LeadsTo}
 
 -- what is known of changes
 abbrev pub ChangeLaw : Type 0
-ChangeLaw = (old middle new : BufferValue) (a b c : ObjectLists) (head later_head tail later_tail both_tail : ℕ) (added later_added : ℤ) → Unchanged old a middle b head tail added → Unchanged middle b new c later_head later_tail later_added
-    → (pos middle.text.begin +ℤ later_added) ≤ℤ pos (max middle.text.begin later_tail) → (pos tail +ℤ later_added) ≤ℤ pos both_tail → later_tail ≤ both_tail → Unchanged old a new c (min head later_head) both_tail (added +ℤ later_added)
+ChangeLaw = (old between new : BufferValue) (a b c : ObjectLists) (head later_head tail later_tail both_tail : ℕ) (added later_added : ℤ) → Unchanged old a between b head tail added → Unchanged between b new c later_head later_tail later_added
+    → (pos between.text.begin +ℤ later_added) ≤ℤ pos (max between.text.begin later_tail) → (pos tail +ℤ later_added) ≤ℤ pos both_tail → later_tail ≤ both_tail → Unchanged old a new c (min head later_head) both_tail (added +ℤ later_added)
 
 -- a change of a range, or of all where it is none
 pub leads-ranged : (old new : BufferValue) (made objects : ObjectLists) (head tail : ℕ) (added : ℤ) → IsClosed made → AreMade old made → without_flags new.settings ≡ without_flags old.settings → Extends made objects

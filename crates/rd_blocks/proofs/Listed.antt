@@ -89,7 +89,7 @@ module _ (classes : List Span) (s : BufferValue) (are : AreListed s) where
       let short = text.short in
       omega arith
 
-  -- and each block of the buffer is in the list
+  -- each block of the buffer is in the list
   block-among : (b : Block) → IsBlock s b.start b.end → b.base ≡ block_base classes s b.start → IsAmong (blocks_in classes s) b
   block-among b block level =
       let found = are.every b.start b.end block in

@@ -135,7 +135,7 @@ given base s B cs = x8_paragraph_separator base
 given base s PDI cs = x6_level_and_override (top (after s PDI cs).stack) PDI
 given base s c cs = if x9_is_removed c then x9_removed base c else x6_level_and_override (top s.stack) c
 
--- the levels and types of the classes that are left, from a state on
+-- for X1 to X8, the levels and types of the classes that are left, from a state on
 abbrev pub explicit_from : ℕ → State → List Class → List Given
 explicit_from base s [] = []
 explicit_from base s (c ∷ cs) = given base s c cs ∷ explicit_from base (after s c cs) cs
@@ -144,9 +144,11 @@ explicit_from base s (c ∷ cs) = given base s c cs ∷ explicit_from base (afte
 abbrev pub explicit : ℕ → List Class → List Given
 explicit base cs = explicit_from base (x1_start base) cs
 
+-- the levels that X1 to X8 give
 abbrev pub levels_of : List Given → List ℕ
 levels_of gs = map (λ g. g.level) gs
 
+-- the types that X1 to X8 give
 abbrev pub types_of : List Given → List Class
 types_of gs = map (λ g. g.class) gs
 

@@ -16,7 +16,7 @@ module _ (s : BufferValue) (o : ObjectLists) (first stop : ℕ) (look : LookAlik
     | inr here ↦ let same : q ≡ first = omega arith in ap (showing_at s o) same
   ]
 
-  -- and as any of them
+  -- positions of a range are shown alike as any of them is
   alike-within : (p : ℕ) (showing : Showing) → first ≤ p → p < stop → (first < s.text.end → stop ≤ s.text.end) → showing ≡ showing_at s o p → IsAlikeRange s o (record { from = first; until = stop; showing = showing })
   alike-within p showing low before within same = record {
     within = within;

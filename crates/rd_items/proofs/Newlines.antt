@@ -22,8 +22,8 @@ pub none-inside : (s : BufferValue) (p : ℕ) → AreInside s p p
 none-inside s p = λ q a b. absurd (omega arith)
 
 -- a range that goes on with another
-pub both-inside : (s : BufferValue) (from middle to : ℕ) → AreInside s from middle → AreInside s middle to → AreInside s from to
-both-inside s from middle to first last = λ q a b. elim (cases_lt q middle) [ inl below ↦ first q a below | inr above ↦ last q above b ]
+pub both-inside : (s : BufferValue) (from place to : ℕ) → AreInside s from place → AreInside s place to → AreInside s from to
+both-inside s from place to first last = λ q a b. elim (cases_lt q place) [ inl below ↦ first q a below | inr above ↦ last q above b ]
 
 pub one-inside : (s : BufferValue) (p : ℕ) → is_shown_newline s p ≡ false → AreInside s p (suc p)
 one-inside s p none = λ q a b. let here : q ≡ p = omega arith in rw here none
@@ -35,7 +35,7 @@ pub record ComesOn (s : BufferValue) (end pos newline : ℕ) : Type 0 where
   pub inside : AreInside s pos newline
   pub ends : newline < end → ends_line (accessible_char s.text newline) ≡ true
 
--- and where a search back has come: right behind a newline, or to the beginning
+-- where a search back for a shown newline has come: right behind one, or to the beginning
 pub record ComesBack (s : BufferValue) (begin pos from : ℕ) : Type 0 where
   pub ordered : from ≤ pos
   pub within : begin ≤ from

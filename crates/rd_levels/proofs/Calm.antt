@@ -8,7 +8,7 @@ use Rattle.rd_base.proofs.Lists.{each-take, each-drop}
 use Rattle.rd_base.specs.declared.class.Class.{Class}
 use Rattle.rd_base.specs.declared.class.Class.TheVariants.{L, R, AL, BN, EN, ES, ET, AN, CS, NSM, B, S, WS, ON, LRI, RLI, FSI, PDI}
 use Rattle.rd_ucd.specs.declared.spans.BracketEntry.{BracketEntry}
-use Rattle.rd_resolve.specs.Weak.{w1_nonspacing_marks, w1, strong_after, w2, w3_arabic_letters, w3, w4_separators, first_type, w4, w5_is_en, w5_comes_en, w5_terminators, w5, w6_remaining_separators, w6, w7_latin_numbers, w7, weak_types}
+use Rattle.rd_resolve.specs.Weak.{w1_nonspacing_marks, w1, strong_after, w2, w3_arabic_letters, w3, w4_separators, w4_first_type, w4, w5_is_en, w5_comes_en, w5_terminators, w5, w6_remaining_separators, w6, w7_latin_numbers, w7, weak_types}
 use Rattle.rd_resolve.specs.Neutral.{n1_following, n1_surrounding_direction, n1, n2, neutral_types}
 use Rattle.rd_brackets.specs.Pairs.{roles, bd16_pairs_of, closings}
 use Rattle.rd_brackets.specs.Sides as sides
@@ -94,7 +94,7 @@ w4-plain : (before : Class) (cs : List Class) → IsPlain before → Each IsPlai
 w4-plain before [] p qs = (refl, tt)
 w4-plain before (c ∷ cs) p qs =
     let rest = w4-plain c cs qs.0 qs.1 in
-    (ap (λ n. suc n) rest.0, (w4_separators-plain before c (first_type cs) p qs.0, rest.1))
+    (ap (λ n. suc n) rest.0, (w4_separators-plain before c (w4_first_type cs) p qs.0, rest.1))
 
 w5_terminators-plain : (b : Bool) (c : Class) → IsPlain c → IsPlain (w5_terminators b c)
 w5_terminators-plain true ET p = refl
@@ -174,8 +174,8 @@ n0_with_pairs-calm : (sos : Class) (place : ℕ) (cs : List (Option ℕ)) (ts : 
 n0_with_pairs-calm sos place [] ts ps = (refl, ps)
 n0_with_pairs-calm sos place (None ∷ cs) ts ps = n0_with_pairs-calm sos (suc place) cs ts ps
 n0_with_pairs-calm sos place (Some closing ∷ cs) ts ps =
-    let inner = each-take IsCalm (closing - suc place) (drop (suc place) ts) (each-drop IsCalm (suc place) ts ps) in
-    let side = n0_pair_side-calm (sides.last_side sos (take place ts)) (sides.between place closing ts) inner in
+    let within = each-take IsCalm (closing - suc place) (drop (suc place) ts) (each-drop IsCalm (suc place) ts ps) in
+    let side = n0_pair_side-calm (sides.last_side sos (take place ts)) (sides.between place closing ts) within in
     let both = both-calm (sides.n0_pair_side L (sides.last_side sos (take place ts)) (sides.between place closing ts)) place closing ts side ps in
     let rest = n0_with_pairs-calm sos (suc place) cs (sides.n0_with_pair L sos place closing ts) both.1 in
     (rest.0 ∙ both.0, rest.1)

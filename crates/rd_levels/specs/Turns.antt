@@ -1,4 +1,4 @@
--- The order in which the places of a line are shown.
+-- The order in which the places of a line are shown, by L2.
 use Rattle.std.specs.Prelude.{◌≡◌, ℕ, ◌%◌, ◌<◌, ◌==◌, [], ◌∷◌, ◌++◌, All, Bool, if◌then◌else◌, List, length, map, replicate, slice_index}
 use Rattle.rd_base.specs.declared.class.Class.{Class}
 use Rattle.rd_ucd.specs.declared.spans.BracketEntry.{BracketEntry}
@@ -10,10 +10,11 @@ use Rattle.rd_levels.specs.declared.turn.Turn.{Turn}
 abbrev pub levels_with : List BracketEntry → Bool → ℕ → List Class → List ℕ → List ℕ
 levels_with entries reorder base cs codes = if reorder then line_levels entries base cs codes else replicate (length cs) 0
 
+-- for L2, a place with whether its level is odd
 abbrev pub turn_of : List ℕ → ℕ → Turn
 turn_of levels i = record { index = i; odd = slice_index levels i % 2 == 1 }
 
--- places of these levels in visual order, each with whether its level is odd
+-- for L2, places of these levels in visual order, each with whether its level is odd
 abbrev pub turns_by : ℕ → List ℕ → List Turn
 turns_by base levels = map (turn_of levels) (l2_visual_order base levels)
 

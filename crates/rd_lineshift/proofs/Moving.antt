@@ -132,7 +132,7 @@ up-cost old new blank band n same le fits =
 swapped : (a b c d : ℕ) → a + b + c + d ≡ a + c + b + d
 swapped a b c d = omega arith
 
--- and where they move down
+-- what a shift costs where rows move down
 pub down-cost : (old new : List ℕ) (blank : ℕ) (band : Band) (n : ℕ) → length old ≡ length new → band.top + band.height ≤ length new → 1 ≤ n → n ≤ band.height
     → unlike_moved old new blank band n band.top (band.top + n) band.top ≡ number_cost old new blank (shift_by band (neg_ℤ (pos n)))
 down-cost old new blank band zero same le some fits = absurd (omega arith)

@@ -200,6 +200,6 @@ abbrev pub SlotFits : ℕ → ℕ → Option Overlay → Type 0
 SlotFits pos n None = ⊤
 SlotFits pos n (Some overlay) = Fits pos n overlay.from × Fits pos n overlay.to
 
--- so can all overlays
+-- each start and each end of all overlays can move on so
 abbrev pub AllFit : ℕ → ℕ → List (Option Overlay) → Type 0
 AllFit pos n slots = (number : ℕ) (slot : Option Overlay) → slice_get slots number ≡ Some slot → SlotFits pos n slot

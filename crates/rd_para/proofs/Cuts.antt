@@ -56,7 +56,7 @@ levels_here classes last inside line lines pieces n cut low =
     ap (λ (p : List (List ℕ)). get_or (levels_of classes last inside p) n 0) cut
     ∙ get_or_append_left (replicate (length line + 1) b) (levels_of classes b (not (is_separator line)) lines) 0 n (omega arith) ∙ get_or-replicate (length line + 1) n b 0 (omega arith)
 
--- and behind it come those of the next lines
+-- behind a line come the levels of the next lines
 pub levels_next : (classes : List Span) (last : ℕ) (inside : Bool) (line : List ℕ) (lines pieces : List (List ℕ)) (n : ℕ) → pieces ≡ line ∷ lines
     → length line < n → get_or (levels_of classes last inside pieces) n 0
     ≡ get_or (levels_of classes (level_by classes last inside line lines) (not (is_separator line)) lines) (n - (length line + 1)) 0

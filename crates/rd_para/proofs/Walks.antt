@@ -247,8 +247,8 @@ module _ (classes : List Span) (t : TextValue) (right : IsText t) where
           | inr some ↦
               let some_at = some.0 in
               elim (cases_lt place to) [
-                | inl inner ↦ absurd (both_ways _ (blank_not_ink (get_or t.text (place - 1) 0) (blank_at t right start to place first reaches inner inside blank)) some.1)
-                | inr outer ↦ elim (cases_lt to t.end) [
+                | inl less ↦ absurd (both_ways _ (blank_not_ink (get_or t.text (place - 1) 0) (blank_at t right start to place first reaches less inside blank)) some.1)
+                | inr reached ↦ elim (cases_lt to t.end) [
                   | inr last ↦ absurd (omega arith)
                   | inl more ↦
                       let past = past_place start (omega arith) begins_line (omega arith) more blank in
@@ -315,7 +315,7 @@ start_before t right pos ink place start low high ink_is place_is begins = elim 
       ]
 ]
 
--- and each position from there on has the level that the paragraph's lines give
+-- each position from a paragraph's start on has the level that the paragraph's lines give
 pub paragraph_is : (classes : List Span) (t : TextValue) (right : IsText t) (pos ink place start : ℕ) → t.begin ≤ pos → pos ≤ t.end → ink ≡ prev_ink t (next_newline t pos) → place ≡ max t.begin (ink - 1)
     → IsParagraphStart t place start → (p : ℕ) → start ≤ p → p ≤ next_newline t pos → text_level classes t p ≡ unwrap_or (decided classes (rows t start)) 0
 paragraph_is classes t right pos ink place start low high ink_is place_is begins p at p_high =

@@ -19,21 +19,21 @@ abbrev pub decided : List Span → List (List ℕ) → Option ℕ
 decided classes [] = None
 decided classes (line ∷ lines) = if is_separator line then None else option_or (p2_p3_level_of_line classes line) (decided classes lines)
 
--- the base level of a line, by that of the line before, whether that is one of a paragraph, and the lines from here on: a
+-- for P2 and P3, the base level of a line, by that of the line before, whether that is one of a paragraph, and the lines from here on: a
 -- separator and a later line of a paragraph have that of the line before, and the first line of a paragraph has the
 -- paragraph's, 0 where no line decides
 abbrev pub level_by : List Span → ℕ → Bool → List ℕ → List (List ℕ) → ℕ
 level_by classes last inside line lines =
     if is_separator line || inside then last else unwrap_or (decided classes (line ∷ lines)) 0
 
--- the base level at each place of lines, their ends included
+-- for P2 and P3, the base level at each place of lines, their ends included
 abbrev pub levels_of : List Span → ℕ → Bool → List (List ℕ) → List ℕ
 levels_of classes last inside [] = []
 levels_of classes last inside (line ∷ lines) =
     replicate (length line + 1) (level_by classes last inside line lines)
     ++ levels_of classes (level_by classes last inside line lines) (not (is_separator line)) lines
 
--- the base level at a position, where the text decides: its accessible part is cut at its newlines
+-- for P2 and P3, the base level at a position, where the text decides: its accessible part is cut at its newlines
 abbrev pub text_level : List Span → TextValue → ℕ → ℕ
 text_level classes t pos = slice_index (levels_of classes 0 false (slice_split is_newline (between t t.begin t.end))) (pos - t.begin)
 
@@ -42,6 +42,7 @@ text_level classes t pos = slice_index (levels_of classes 0 false (slice_split i
 abbrev pub paragraph_place : TextValue → ℕ → ℕ
 paragraph_place t pos = max t.begin (prev_ink t (next_newline t pos) - 1)
 
+-- the base level at a position: by P2 and P3 where the text decides, else the direction's own
 abbrev pub base_at : List Span → TextValue → Direction → ℕ → ℕ
 base_at classes t Auto pos = text_level classes t pos
 base_at classes t Left pos = 0

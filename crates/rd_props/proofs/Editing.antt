@@ -76,7 +76,7 @@ module _ (old new : BufferValue) (objects : ObjectLists) (text : IsText old.text
     start = let begin = text.first in let low = at.first in omega arith
 
     inside : from ≤ length old.text.text + 1
-    inside = let end = text.last in let middle = at.ordered in let high = at.last in omega arith
+    inside = let end = text.last in let ordered = at.ordered in let high = at.last in omega arith
 
     deletion-before : (x : ℕ) → x < from → StaysSame old x new x
     deletion-before x less =

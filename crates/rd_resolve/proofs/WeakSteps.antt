@@ -3,7 +3,7 @@ use Rattle.std.proofs.Common.{◌≡◌, Bool, true, false, ◌||◌, List, ◌�
 use Rattle.rd_base.specs.declared.class.Class.{Class}
 use Rattle.rd_base.specs.declared.class.Class.TheVariants.{AL, EN, AN, ES, ET, CS}
 use Rattle.rd_resolve.specs.declared.weak_walk.Before.{Before}
-use Rattle.rd_resolve.specs.Weak.{w1_nonspacing_marks, strong_after, w2_european_numbers_after_arabic, w3_arabic_letters, w4_separators, first_type, w5_is_en, w5_comes_en, w5_terminators, w6_remaining_separators, w7_latin_numbers, w1, w2, w3, w4, w5, w6, w7}
+use Rattle.rd_resolve.specs.Weak.{w1_nonspacing_marks, strong_after, w2_european_numbers_after_arabic, w3_arabic_letters, w4_separators, w4_first_type, w5_is_en, w5_comes_en, w5_terminators, w6_remaining_separators, w7_latin_numbers, w1, w2, w3, w4, w5, w6, w7}
 use Rattle.rd_resolve.specs.Walks.{weak_left, w5_run_ends, w5_run_of, RunIs}
 
 w4_separators-et : (before c next : Class) → w4_separators before c next ≡ ET → c ≡ ET
@@ -39,7 +39,7 @@ module _ (b : Before) (c : Class) (cs : List Class) where
   w3_type = w3_arabic_letters (w2_european_numbers_after_arabic b.w2_strong w1_type)
 
   abbrev pub w4_type : Class
-  w4_type = w4_separators b.w4_before w3_type (first_type (w3 (w2 strong_type (w1 w1_type cs))))
+  w4_type = w4_separators b.w4_before w3_type (w4_first_type (w3 (w2 strong_type (w1 w1_type cs))))
 
   -- in a run of ET the rules' states are those of the run
   pub w3_type-et : w4_type ≡ ET → w3_type ≡ ET

@@ -52,14 +52,14 @@ w4_separators AN CS AN = AN
 w4_separators before c next = c
 
 -- for W4, the type after one, or ON at the end, where there is no number
-abbrev pub first_type : List Class → Class
-first_type [] = ON
-first_type (c ∷ cs) = c
+abbrev pub w4_first_type : List Class → Class
+w4_first_type [] = ON
+w4_first_type (c ∷ cs) = c
 
 -- W4 over a sequence, with the type before it, which is no number at the start
 abbrev pub w4 : Class → List Class → List Class
 w4 before [] = []
-w4 before (c ∷ cs) = w4_separators before c (first_type cs) ∷ w4 c cs
+w4 before (c ∷ cs) = w4_separators before c (w4_first_type cs) ∷ w4 c cs
 
 -- for W5, whether a type is EN
 abbrev pub w5_is_en : Class → Bool

@@ -2,7 +2,7 @@
 //! definitions a whole walk; `Before` has the state in which each pass stands.
 ghost use Rattle.std.specs.Prelude.{◌≡◌, ◌<◌, length, ◌||◌, false, unwrap_or, All, AllPairs, IfSome};
 ghost use Rattle.rd_resolve.specs.Places.{types_at, TakesTypes};
-ghost use Rattle.rd_resolve.specs.Weak.{w1_nonspacing_marks, strong_after, w2_european_numbers_after_arabic, w3_arabic_letters, w4_separators, first_type, w5_is_en, w5_terminators, w6_remaining_separators, w7_latin_numbers, weak_types, w1, w2, w3};
+ghost use Rattle.rd_resolve.specs.Weak.{w1_nonspacing_marks, strong_after, w2_european_numbers_after_arabic, w3_arabic_letters, w4_separators, w4_first_type, w5_is_en, w5_terminators, w6_remaining_separators, w7_latin_numbers, weak_types, w1, w2, w3};
 ghost use Rattle.rd_resolve.specs.Walks.{w5_run_ends, w5_run_of};
 
 use crate::walk::{WalkRules, walk};
@@ -66,7 +66,7 @@ impl WalkRules for Before {
         let after_w3 = w3_arabic_letters(after_w2);
         let next = w4_next_type(after_w1, strong, types, rest);
         let after_w4 = w4_separators(self.w4_before, after_w3, next);
-        let run = self.w5_run_ends(after_w4, types, rest);
+        let run = self.w5_run_of(after_w4, types, rest);
         let after_w5 = w5_terminators(w5_beside(self.w5_number, run), after_w4);
         let after_w6 = w6_remaining_separators(after_w5);
         let given = w7_latin_numbers(self.w7_strong, after_w6);
@@ -83,7 +83,7 @@ impl WalkRules for Before {
 impl Before {
     /// For W5, whether EN comes behind the run of ET that a character of this type after W4 belongs to. The run is looked through
     /// only where it begins; None for another character.
-    fn w5_run_ends(&self, class: Class, types: &[Class], rest: &[u32]) -> Option<bool>
+    fn w5_run_of(&self, class: Class, types: &[Class], rest: &[u32]) -> Option<bool>
         requires within { All (λ i. i < length types.now) rest.now }
         requires run { class ≡ Class.ET → IfSome self.now.w5_run (λ ends. ends ≡ w5_run_ends self.now.w2_strong (types_at rest.now types.now)) }
         ensures { result ≡ w5_run_of class (w5_run_ends self.now.w2_strong (types_at rest.now types.now)) }
@@ -91,7 +91,7 @@ impl Before {
         if let Class::ET = class {
             match self.w5_run {
                 Some(ends) => Some(ends),
-                None => Some(w5_comes_en(self.w2_strong, types, rest)),
+                None => Some(w5_run_ends(self.w2_strong, types, rest)),
             }
         } else {
             None
@@ -144,7 +144,7 @@ fn w3_arabic_letters(class: Class) -> Class
 /// before it after W1 and the last strong type before it.
 fn w4_next_type(before: Class, strong: Class, types: &[Class], rest: &[u32]) -> Class
     requires { All (λ i. i < length types.now) rest.now }
-    ensures { result ≡ first_type (w3 (w2 strong (w1 before (types_at rest.now types.now)))) }
+    ensures { result ≡ w4_first_type (w3 (w2 strong (w1 before (types_at rest.now types.now)))) }
 {
     match rest.first() {
         Some(next) => {
@@ -168,7 +168,7 @@ fn w4_separators(before: Class, class: Class, next: Class) -> Class
 }
 
 /// For W5, whether the characters at these indexes, behind an ET, are ET after W4 up to an EN.
-fn w5_comes_en(strong: Class, types: &[Class], rest: &[u32]) -> bool
+fn w5_run_ends(strong: Class, types: &[Class], rest: &[u32]) -> bool
     requires { All (λ i. i < length types.now) rest.now }
     ensures { result ≡ w5_run_ends strong (types_at rest.now types.now) }
 {

@@ -90,7 +90,7 @@ fn an_edit_in_a_short_line()
 
 /// The lines that have a row in view: from the second row of the second line on, the first row, and none.
 fn blocks_in_view_of_a_window()
-    ensures middle { blocks_with (is_between 2 4) (λ b. longer_lines.rows_of b twelve_continued) 0 longer_lines.blocks ≡ block 5 22 0 ∷ block 22 25 0 ∷ [] }
+    ensures from_second { blocks_with (is_between 2 4) (λ b. longer_lines.rows_of b twelve_continued) 0 longer_lines.blocks ≡ block 5 22 0 ∷ block 22 25 0 ∷ [] }
     ensures first { blocks_with (is_between 0 1) (λ b. longer_lines.rows_of b twelve_continued) 0 longer_lines.blocks ≡ block 1 5 0 ∷ [] }
     ensures empty { blocks_with (is_between 2 2) (λ b. longer_lines.rows_of b twelve_continued) 0 longer_lines.blocks ≡ [] }
 {}

@@ -61,11 +61,11 @@ twelve_truncated = record { width = 12; wrap = Truncate; hscroll = 0 }
 abbrev pub by_words : ShapeValues
 by_words = record { width = 12; wrap = Word; hscroll = 0 }
 
--- scrolled sideways, in a window of five columns
+-- a shape of five columns, scrolled sideways by so many
 abbrev pub cut_at : ℕ → ShapeValues
 cut_at columns = record { width = 5; wrap = Truncate; hscroll = columns }
 
--- cut with the marks $ and \, without a prefix
+-- the rows of elements, cut with the marks $ and \, without a prefix
 abbrev pub rows : ShapeValues → List Element → List LaidRow
 rows shape es = rows_of (cutting_of shape 0 [] [] (single 36 1) (single 92 1)) es
 
@@ -78,11 +78,11 @@ prefix cs = map (λ c. record {
   origin = record { item = 4294967295; from = 0; to = 0 };
 }) cs
 
--- the same behind these letters in the first row and in the others
+-- the rows of elements behind these letters in the first row and in the others
 abbrev pub rows_with : ShapeValues → List ℕ → List ℕ → List Element → List LaidRow
 rows_with shape first wrap es = rows_of (cutting_of shape 0 (prefix first) (prefix wrap) (single 36 1) (single 92 1)) es
 
--- from the right edge, with the marks $ and /
+-- the rows of elements, read from the right edge, with the marks $ and /
 abbrev pub rows_reversed : ShapeValues → List Element → List LaidRow
 rows_reversed shape es = rows_of (cutting_of shape 1 [] [] (single 36 1) (single 47 1)) es
 

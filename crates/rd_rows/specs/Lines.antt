@@ -17,7 +17,7 @@ rows_left m es = rows_behind m es
 unfoldable pub columns_held : MakerValues → ℕ
 columns_held m = m.spot.column + columns_at_most m.held
 
--- and whether the line end was placed.
+-- whether a maker has placed the line end
 unfoldable pub is_finished : MakerValues → Bool
 is_finished m = m.finished
 

@@ -28,7 +28,7 @@ scrolled-up m s z rows h low is =
     let all = all-inside m s h in
     (λ begins. (omega arith, elim begins [ inl far ↦ omega arith | inr text ↦ omega arith ]), λ kind asks k from to. asks k (omega arith) (omega arith))
 
--- and the row that it is scrolled down to, in the strip that reaches it
+-- the row that a start is scrolled down to, in the strip that reaches it
 pub scrolled-down : (m : SourceValues) (s : Strip) (z : ℤ) (rows place : ℕ) → IsStrip m s → int_lt z (pos 0) ≡ false → rows ≡ unsigned_abs z → place ≡ s.home + rows
     → (Reaches m s (place + 1) → (min place (length s.strip_rows.items - 1) < length s.strip_rows.items) × (first_row m s + min place (length s.strip_rows.items - 1) ≡ moved_row m s.sweep z))
     × ((kind : ℕ → Bool) → Between kind (min (home_row m s.sweep) (moved_row m s.sweep z)) (max (home_row m s.sweep) (moved_row m s.sweep z) + 1) → AsksAt Bottom kind m s (place + 1))

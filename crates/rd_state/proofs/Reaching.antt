@@ -63,7 +63,7 @@ refused-there s name how edit valid less refuses =
     let done : BufferValue → Result StateValue Refused = λ x. moving i how (content_replaced s i x (edit x.content)) in
     ap (λ o. with_found NoBuffer o done) at ∙ ap (λ r. moving i how (content_replaced s i b r)) (refuses b.content (valid.buffers.contents i b at).text)
 
--- and so is an op that asks for it of the buffer that was found
+-- an op that asks for an edit of the buffer that was found is refused where the edit is
 pub refuses-behind : (r : Result Effect Refused) (op : Op) (s t : StateValue) (e : Refused) (name : List ℕ) (i : ℕ) (how : Move) (edit : ContentValue → Result ContentValue Refused)
     → IsErr r → IsErrAnd r (λ x. x ≡ e) → e ≡ OutOfRange → t ≡ s → IsValid s → i ≡ number_of name t.buffers → i < length t.buffers
     → ((c : ContentValue) → IsText c.text → edit c ≡ Err OutOfRange) → step s op ≡ edited_moving s name how edit → Applies r op s s

@@ -32,9 +32,9 @@ pub few-at : (m : SourceValues) (shape : ShapeValues) (es : List EntryMeaning) (
 few-at m shape es point source is rows =
     let all = few-whole m shape point source is in
     let whole : count_at point (rows_at m shape) ≡ count_at point (rows.above ++ (es ++ rows.below)) = ap (count_at point) rows.rows in
-    let outer = total-append (covering point) rows.above (es ++ rows.below) in
-    let inner = total-append (covering point) es rows.below in
-    omega (arith, all, whole, outer, inner)
+    let above = total-append (covering point) rows.above (es ++ rows.below) in
+    let below = total-append (covering point) es rows.below in
+    omega (arith, all, whole, above, below)
 
 -- the cursor stands where the item of its position begins
 
@@ -149,8 +149,8 @@ comes-back m shape es row column point source is rows hit =
     let one = item-member (shown_column e.row column) e.row.begins b h.found in
     let parts = item-column (shown_column e.row column) e.row.begins b h.found in
     let before = parts.1 in
-    let inner = shown-in e.row column _ refl h.cell in
-    let low : b.column < length e.row.cells = omega (arith, before, inner) in
+    let cell = shown-in e.row column _ refl h.cell in
+    let low : b.column < length e.row.cells = omega (arith, before, cell) in
     let covered : covers e.start point b ≡ true = subst (λ (p : ℕ). covers e.start p b ≡ true) h.least (covers-least e.start b parts.0) in
     let read = shown-read e.row b.column _ refl low in
     let again : item_at (shown_column e.row (shown_column e.row b.column)) e.row.begins ≡ Some b = ap (λ c. item_at c e.row.begins) read ∙ item-again (shown_column e.row column) e.row.begins b h.found in (

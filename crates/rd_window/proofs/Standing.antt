@@ -169,9 +169,9 @@ anchor-place m shape anchor k source named =
     let inside = f.inside in
     let skips = anchor-skips rows anchor from f.before f.after f.block whole (omega (arith, starts)) (omega (arith, starts, some)) in
     let held : min anchor.row (length (rows f.block) - 1) ≡ anchor.row = omega (arith, inside) in
-    let inner : row_in_block anchor f.block.start (rows f.block) ≡ anchor.row =
+    let own_row : row_in_block anchor f.block.start (rows f.block) ≡ anchor.row =
     ap (λ (b : Bool). if b then min anchor.row (length (rows f.block) - 1) else 0) (eq-eqb anchor.pos f.block.start (sym starts)) ∙ held in
-    ap (anchor_row rows anchor) f.pieces ∙ (skips ∙ (ap (λ (n : ℕ). length (all_rows rows f.before) + n) inner ∙ f.place))
+    ap (anchor_row rows anchor) f.pieces ∙ (skips ∙ (ap (λ (n : ℕ). length (all_rows rows f.before) + n) own_row ∙ f.place))
 
 pub stands-new : (last : Option Layout) (m : SourceValues) (shape : ShapeValues) (w : Wanted) (new : Layout) → IsSource m → start_row m shape w < length (rows_at m shape) → IsLaidOut last m shape w new
     → Stands m (chosen_of m shape w).anchor new
