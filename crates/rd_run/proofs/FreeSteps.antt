@@ -78,24 +78,6 @@ insertion-free place new c = both-free _ _ _ TextTooLarge OutOfRange (λ e. cc) 
 overlay_making-free : (from to : ℕ) (priority : ℤ) (front rear : Bool) (c : ContentValue) → AnswersFree (overlay_making from to priority front rear c)
 overlay_making-free from to priority front rear c = either AnswersFree _ _ _ (either AnswersFree _ _ _ (no-free TooManyOverlays (λ e. cc)) (ok-free _)) (no-free OutOfRange (λ e. cc))
 
-making-free : (from to : ℕ) (priority : ℤ) (front rear : Bool) (c : ContentValue) → AnswersFree (overlay_making from to priority front rear c)
-overlay_making-free from to priority front rear c = either AnswersFree _ _ _ (either AnswersFree _ _ _ (no-free TooManyOverlays (λ e. cc)) (ok-free _)) (no-free OutOfRange (λ e. cc))
-
-overlay_moving-free : (number from to : ℕ) (c : ContentValue) → AnswersFree (overlay_moving number from to c)
-overlay_moving-free number from to c = either AnswersFree _ _ _ (either AnswersFree _ _ _ (ok-free _) (no-free OutOfRange (λ e. cc))) (no-free NoOverlay (λ e. cc))
-
-overlay_dropping-free : (number : ℕ) (c : ContentValue) → AnswersFree (overlay_dropping number c)
-overlay_dropping-free number c = either AnswersFree _ _ _ (ok-free _) (no-free NoOverlay (λ e. cc))
-
-overlay_putting-free : (objects : ObjectLists) (number : ℕ) (kind : _) (value : Option ℕ) (c : ContentValue) → AnswersFree (overlay_putting objects number kind value c)
-overlay_putting-free objects number kind value c = either AnswersFree _ _ _ (either AnswersFree _ _ _ (ok-free _) (no-free NoObject (λ e. cc))) (no-free NoOverlay (λ e. cc))
-
-margin_putting-free : (objects : ObjectLists) (number : ℕ) (string : Option ℕ) (c : ContentValue) → AnswersFree (margin_putting objects number string c)
-margin_putting-free objects number string c = either AnswersFree _ _ _ (either AnswersFree _ _ _ (ok-free _) (no-free NoObject (λ e. cc))) (no-free NoOverlay (λ e. cc))
-
-setting_putting-free : (objects : ObjectLists) (value : Setting) (c : ContentValue) → AnswersFree (setting_putting objects value c)
-setting_putting-free objects value c = either AnswersFree _ _ _ (ok-free _) (no-free NoObject (λ e. cc))
-
 making-free : (s : StateValue) (name : List ℕ) → AnswersFree (making s name)
 making-free s name = either AnswersFree _ _ _ (no-free NameTaken (λ e. cc)) (either AnswersFree _ _ _ (no-free TooManyBuffers (λ e. cc)) (ok-free _))
 
