@@ -252,7 +252,7 @@ all-at P xs i x all found = subst P (get_or_from_slice_get xs i x x found) (all 
 pub found-each : {X : Type 0} (P : X → Type 0) (p : X → Bool) (xs : List X) → All P xs → IfSome (find p xs) P
 found-each P p xs all = if-value P (find p xs) (λ x e. let at = found-passes p xs x e in all-at P xs at.1 x all at.2)
 
--- and of what is read at a place, where it holds of what stands in for an element
+-- what holds of all elements, and of what stands in for one, holds of what is read at a place
 pub all-read : {X : Type 0} (P : X → Type 0) (xs : List X) (i : ℕ) (d : X) → All P xs → P d → P (get_or xs i d)
 all-read P xs i d all that = elim (cases_lt i (length xs)) as (λ _. P (get_or xs i d)) [
   | inl inside ↦ all i d inside

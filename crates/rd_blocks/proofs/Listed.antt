@@ -68,7 +68,7 @@ module _ (classes : List Span) (s : BufferValue) (are : AreListed s) where
         end-is classes s s.text.begin (s.text.end + 1) 0 (blocks_of s) are.adjoin less,
       )
 
-  -- so their positions are the accessible ones
+  -- the positions of the list's blocks are accessible
   pub within-accessible : s.text.begin ≤ s.text.end → (pos : ℕ) → IsWithin pos (blocks_in classes s) → IsAccessible s.text pos
   within-accessible order pos within = let is = ends-of order in (omega (arith, is.0, within.0), omega (arith, is.1, within.1))
 
@@ -81,7 +81,7 @@ module _ (classes : List Span) (s : BufferValue) (are : AreListed s) where
       let found = get-map (block_in classes s) (blocks_of s) among.0 b among.1 in
       subst (λ (x : Block). IsBlock s x.start x.end) found.2 (are.blocks among.0 found.0 found.1)
 
-  -- so none reaches 2^32
+  -- no block of the list reaches 2^32
   pub among-small : IsText s.text → (b : Block) → IsAmong (blocks_in classes s) b → b.end < 2 ^ 32
   among-small text b among =
       let last = (among-block b among).last in

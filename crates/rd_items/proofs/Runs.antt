@@ -35,7 +35,7 @@ open-begins first next shown =
     let hides = and_left (is_hidden first.hidden) (is_hidden next.hidden) (not-true (is_hidden first.hidden) parts.1) in
     or_from (same_spec first.display next.display) _ (spec-alone first.display next.display (not-true (is_some first.display) parts.0)) hides
 
--- nor does it begin one
+-- what is shown itself begins no run
 pub open-alone : (setting : Invisible) (first : Showing) (es : List Seen) → is_open first ≡ true → run_length setting first es ≡ 0
 open-alone setting first [] shown = refl
 open-alone setting first (e ∷ es) shown = rw (open-begins first (showing_of setting e) shown)

@@ -90,7 +90,7 @@ x9_items-zero i (c ∷ cs) =
     cond_both (x9_is_removed c) (all_items (i + 1) cs) (item_at 0 0 i c cs 0 (all_items (i + 1) cs) ∷ all_items (i + 1) cs) (Each IsZero)
     (λ _. rest) (λ _. (item-zero i c cs (all_items (i + 1) cs) rest, rest))
 
--- so there is one level run, and one sequence
+-- items of level zero are one level run and one sequence
 has-zero : (x y : Item) (ys : List Item) → IsZero x → IsZero y → has_level x.level (y ∷ ys) ≡ true
 has-zero x y ys p q = ap₂ (λ (m n : ℕ). m == n) p.level q.level
 

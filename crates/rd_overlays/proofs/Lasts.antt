@@ -11,7 +11,7 @@ module _ (value : ℕ → Option ℕ) where
       ap (last_given value) (drop_more numbers i 0 within)
       ∙ ap (λ (p : Option ℕ). option_or p (value (get_or numbers i 0))) (ap (λ (k : ℕ). last_given value (drop k numbers)) (sym next) ∙ none) ∙ is
 
-  -- and if that is one, it is the last of all
+  -- the last value from a place on is the last of all
   pub last-from : (numbers : List ℕ) (i given : ℕ) → last_given value (drop i numbers) ≡ Some given → last_given value numbers ≡ Some given
   last-from numbers zero given e = e
   last-from [] (suc i) given e = e

@@ -34,7 +34,7 @@ after-set slots i slot number p h =
       | inr old ↦ inl (ap (λ s. unwrap_or s None) old.1)
     ]
 
--- and so it is where there is one more
+-- an overlay that is found where there is one more was there before, or is that one
 pub after-end : (slots : List (Option Overlay)) (o : Overlay) (number : ℕ) (p : Overlay) → overlay_at (slots ++ Some o ∷ []) number ≡ Some p
     → (overlay_at slots number ≡ Some p) ⊎ (o ≡ p)
 after-end slots o number p h =

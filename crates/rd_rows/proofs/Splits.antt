@@ -110,7 +110,7 @@ cut-is shape spot e es =
 rest-less : (n : ℕ) (e : Element) (es xs : List Element) → 0 < length xs → length (e ∷ es) ≤ suc n → length (drop (length xs) (e ∷ es)) ≤ n
 rest-less n e es xs some few = let size = length-drop (length xs) (e ∷ es) in omega (arith, size, some, few)
 
--- so the rows are the same, however many there may be at most
+-- the rows are the same, however many there may be at most
 
 pub none-left : (n : ℕ) (c : Cutting) (lead : List Placed) (spot : Spot) → rows_within n c lead spot [] ≡ []
 none-left zero c lead spot = refl

@@ -37,7 +37,7 @@ reading-is : (place : Standing) (t : Input) (P : Effect → Type 0) → OfKinds 
 reading-is place t P h (Err fault) e = h.unread fault e
 reading-is place t P h (Ok op) e = op-is place t P h (asked op) t.starved op refl (reading-in_form t.line op e)
 
--- so it holds of the effect of each line
+-- what holds of the effects of each kind holds of the effect of each line
 pub effect-is : (place : Standing) (t : Input) (P : Effect → Type 0) → OfKinds place t P → P (effect place t)
 unfolding effect
 effect-is place t P h =

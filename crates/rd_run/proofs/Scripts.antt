@@ -66,7 +66,7 @@ long-line n m rest more e long free =
 abbrev pub IsTakenFrom : List ℕ → List ℕ → Option (List ℕ) → Type 0
 IsTakenFrom script bytes left = Consumes (Some script) left bytes
 
--- so they were where the script is read
+-- where no script is generated: these bytes of the script were taken
 abbrev pub IsTakenIn : Option ℕ → List ℕ → List ℕ → Option (List ℕ) → Type 0
 IsTakenIn generated script bytes left = generated ≡ None → IsTakenFrom script bytes left
 

@@ -32,7 +32,7 @@ opened-from values pos n p v h = by (nat_lt p pos) (nat_lt p (pos + n)) refl ref
     by false true ht hu h = absurd (cc)
     by false false ht hu h = (p - n, h, omega arith, omega arith)
 
--- and before some were taken away
+-- where a value stood before positions were taken away
 pub closed-from : (values : ℕ → Option ℕ) (from to p v : ℕ) → values_closed values from to p ≡ Some v
     → (q : ℕ) × (values q ≡ Some v) × (((q ≡ p) × (p < from)) ⊎ ((q ≡ p + (to - from)) × (from ≤ p)))
 closed-from values from to p v h = elim (cases_lt p from) [

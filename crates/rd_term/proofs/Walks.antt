@@ -50,7 +50,7 @@ pub back-stops : (test : ℕ → Bool) (place : ℕ) → (back_while test place 
 back-stops test zero = inl refl
 back-stops test (suc place) = back-stops-chosen test place (back_while test place) (test (suc place)) refl (back-stops test place)
 
--- and it passes no place at which the test fails
+-- a walk back passes no place at which the test fails
 pub back-greatest : (test : ℕ → Bool) (k place : ℕ) → test k ≡ false → k ≤ place → k ≤ back_while test place
 back-greatest test k zero e le = le
 back-greatest test k (suc place) e le = elim (cases_eq k (suc place)) [
@@ -75,7 +75,7 @@ on-stops test place (suc more) e =
     let next : suc place + more ≡ place + suc more = omega arith in
     on-stops-chosen test place (passing test (suc place) more) (test place) refl (on-stops test (suc place) more (ap test next ∙ e))
 
--- and the walk passes no place at which the test fails
+-- a walk on passes no place at which the test fails
 pub on-least : (test : ℕ → Bool) (place more k : ℕ) → test k ≡ false → place ≤ k → place + passing test place more ≤ k
 on-least test place zero k e le = omega arith
 on-least test place (suc more) k e le = elim (cases_eq k place) [

@@ -65,7 +65,7 @@ none-behind (b ∷ bs) zero j d none at = absurd cc
 none-behind (b ∷ bs) (suc k) zero d none at = omega arith
 none-behind (b ∷ bs) (suc k) (suc j) d none at = let low = none-behind bs k j d none at in omega (arith, low)
 
--- and all are right
+-- where the round ends behind the last block, all blocks are right
 pub all-right : (m : SourceValues) (old : List Entry) (c : Change) (shape : ShapeValues) (b : Block) (o : Option Block) → Round m old c shape b → IsRight m old c shape b
     → ((k : ℕ) → slice_get m.blocks k ≡ Some b → o ≡ slice_get m.blocks (k + 1)) → o ≡ None → AreRight m old c shape
 all-right m old c shape b o r right next is d among =

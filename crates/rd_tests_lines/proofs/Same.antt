@@ -19,6 +19,6 @@ cell-is x y = search rules
 pub cell-decides : (x y : Cell) → Decides (cells.eq-value.it x y) (x ≡ y)
 cell-decides x y = (λ e. cell-told x y (sym (cell-is x y) ∙ e), λ e. cell-is x y ∙ subst (λ z. same_cell x z ≡ true) e (cell-itself x))
 
--- and so does `==` of two places where items begin
+-- `==` decides whether two places where items begin are the same
 pub begin-decides : (x y : Begin) → Decides (begins.eq-value.it x y) (x ≡ y)
 begin-decides x y = (λ e. search rules, λ e. search rules)

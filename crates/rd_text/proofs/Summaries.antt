@@ -20,7 +20,7 @@ opens-append (c ∷ cs) ys =
     ap (λ b. is_newline c || (is_blank c && b)) (opens-append cs ys)
     ∙ begin_cases (is_newline c) (is_blank c) (opens cs) (list_all is_blank cs) (opens ys)
 
--- and where blanks alone stand between two of their newlines
+-- the cases of blanks alone between two newlines, where texts are put together
 gap_cases : (nl first all rest inside ends later : Bool)
     → ((nl && (first || (all && rest))) || ((inside || (ends && rest)) || later)) ≡ ((((nl && first) || inside) || (((nl && all) || ends) && rest)) || later)
 gap_cases false first all rest inside ends later = refl

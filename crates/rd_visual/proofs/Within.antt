@@ -103,7 +103,7 @@ row-wide c used continued ps =
     let blank = length-replicate (room c.shape - length cells) (Blank plain) in
     omega (arith, size, whole, two, blank)
 
--- so each item begins in a column of its row
+-- each item begins in a column of its row
 
 abbrev pub HoldsBegins : RowMeaning → Type 0
 HoldsBegins row = All (λ b. b.column < length row.cells) row.begins
