@@ -12,7 +12,7 @@ use Rattle.rd_run.specs.declared.status.Status.TheVariants.{Done}
 abbrev pub since : List ℕ → Effect → List ℕ
 since bytes e = (if e.fresh then [] else bytes) ++ e.sent
 
--- the same behind lines that are run
+-- the bytes since the last accepted frame behind lines that are run in a world, before which these had come
 abbrev pub since_frame : List ℕ → World → List Input → List ℕ
 since_frame bytes w [] = bytes
 since_frame bytes w (t ∷ ts) = since_frame (since bytes (effect w.now t)) (run_line w t) ts

@@ -73,7 +73,7 @@ abbrev pub painted : ℕ → List Cell → List (List ℕ) → Option (List Cell
 painted from cells [] = Some cells
 painted from cells (text ∷ texts) = option_and_then (λ next. painted next.0 next.1 texts) (with_run from cells text)
 
--- the same by the text of the runs, each behind a space
+-- cells with the runs of a text, each behind a space, which stand from the first column on, in order
 abbrev pub runs_over : List ℕ → List Cell → Option (List Cell)
 runs_over [] cells = Some cells
 runs_over (b ∷ bs) cells = if b == 32 then painted 0 cells (pieces 32 bs) else None

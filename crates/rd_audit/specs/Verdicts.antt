@@ -57,7 +57,7 @@ IsAnswer verdict dump t = ⊥
 abbrev pub terminal_after : Picture → List ℕ → Tty
 terminal_after dump bytes = feed_bytes (unknown (width_of dump.rows) (length dump.rows)) bytes
 
--- these are the contents of FILE, where they are known
+-- these bytes are no more than FILE may have, and are its contents, where those are known
 abbrev pub IsFile : Option (List ℕ) → List ℕ → Type 0
 IsFile told file = (length file ≤ FILE_BYTES) × IfSome told (λ bytes. file ≡ bytes)
 
@@ -75,20 +75,20 @@ abbrev pub Judges : Verdict → Picture → List ℕ → Option (List ℕ) → T
 Judges TooLong dump bytes left = STREAM_BYTES < length bytes
 Judges verdict dump bytes left = IsWholeStream bytes left × IsAnswer verdict dump (terminal_after dump bytes)
 
--- the same, or the stream failed, or memory was wanting
+-- what holds where a verdict comes on a dump, which may also be that the stream failed or that memory was wanting
 abbrev pub JudgesDump : Verdict → Picture → List ℕ → Option (List ℕ) → Type 0
 JudgesDump ReadFault dump bytes left = Unit {0}
 JudgesDump NoMemory dump bytes left = Unit {0}
 JudgesDump verdict dump bytes left = Judges verdict dump bytes left
 
--- where it comes on what was read of FILE
+-- what holds where a verdict comes on what was read of FILE
 abbrev pub JudgesFile : Verdict → Option (List ℕ) → List ℕ → Option (List ℕ) → Type 0
 JudgesFile (BadDump n) told bytes left = IsBadFile told n × (bytes ≡ [])
 JudgesFile ReadFault told bytes left = Unit {0}
 JudgesFile NoMemory told bytes left = Unit {0}
 JudgesFile verdict told bytes left = (dump : Picture) × ((file : List ℕ) × IsFile told file × (dump_in file ≡ Ok dump)) × Judges verdict dump bytes left
 
--- where it comes, by the words and by what is known of the files
+-- what holds where a verdict comes, by the words and by what is known of the files
 abbrev pub Comes : Verdict → List (List ℕ) → (List ℕ → Option (List ℕ)) → List ℕ → Option (List ℕ) → Type 0
 Comes Usage words told bytes left = (length words ≢ 1) × (bytes ≡ [])
 Comes verdict words told bytes left = (name : List ℕ) × (words ≡ name ∷ []) × JudgesFile verdict (told name) bytes left

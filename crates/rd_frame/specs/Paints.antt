@@ -10,7 +10,7 @@ laid_over column [] rows = rows
 laid_over column (new ∷ news) [] = []
 laid_over column (new ∷ news) (row ∷ rows) = written_over column new row ∷ laid_over column news rows
 
--- the same from a row on
+-- rows with others over them, from a column on and from a row on
 abbrev pub laid_from : {C : Type 0} → ℕ → ℕ → List (List C) → List (List C) → List (List C)
 laid_from row column news rows = take row rows ++ laid_over column news (drop row rows)
 

@@ -25,7 +25,7 @@ change_by (Moved buffer before after) window shown = if_shown buffer shown (join
 change_by (All buffer) window shown = if_shown buffer shown all
 change_by (Window number) window shown = if number == window then all else none
 
--- the same for a window that lives
+-- the change that an effect is for the window with a number, and none where no such window lives
 abbrev pub change_in : Effect → ℕ → Option WindowState → Change
 change_in effect number None = none
 change_in effect number (Some w) = change_by effect number w.buffer

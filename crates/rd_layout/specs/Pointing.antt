@@ -35,7 +35,7 @@ is_shown l shape height = is_none l.change && is_same_shape l.shape shape && (l.
 abbrev pub pointed : StateValue → ℕ → WindowState → Layout → ℕ → ℕ → Result StateValue Refused
 pointed s window w l row column = step s (Point window (unwrap_or (hit_in (shown_entries l.matrix) row column) w.point))
 
--- the same where the layout is what the window still shows
+-- point moves to what a cell of a last layout shows, where the window has a place and still shows that layout; else NotShown
 abbrev pub hitting_by : StateValue → ℕ → WindowState → Option Layout → Option Placed → ℕ → ℕ → Result StateValue Refused
 hitting_by s window w (Some l) (Some place) row column =
     if is_shown l (window_shape s w place) (body_height place) then pointed s window w l row column else Err NotShown

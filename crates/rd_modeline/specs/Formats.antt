@@ -81,7 +81,7 @@ abbrev pub IsBegun : Begun → Type 0
 IsBegun Text = Unit {0}
 IsBegun (Percent start digits width) = HasDigits digits width
 
--- the same of what is begun behind a character
+-- a width that was begun behind a character has at most three digits
 abbrev pub IsBegunBehind : ReadOn → Type 0
 IsBegunBehind (On after) = IsBegun after
 IsBegunBehind (Ends p) = Unit {0}

@@ -22,7 +22,7 @@ pub record Unchanged (old : BufferValue) (old_objects : ObjectLists) (new : Buff
   pub before : (x : ℕ) → new.text.begin ≤ x → x < head → IsInReach old x new x → IsSame old old_objects x new new_objects x
   pub behind : (x y : ℕ) → new.text.begin ≤ y → tail ≤ y → pos x +ℤ added ≡ pos y → IsInReach old x new y → IsSame old old_objects x new new_objects y
 
--- the same with the change that an edit makes which takes so many positions away from a place on, and puts so many others there:
+-- two states of a buffer, before and behind an edit that takes so many positions away from a place on, and puts so many others there:
 -- the position just behind those that were put there counts as changed, since the strings of overlays can move to it
 abbrev pub IsEdited : BufferValue → ObjectLists → BufferValue → ObjectLists → ℕ → ℕ → ℕ → Type 0
 IsEdited old old_objects new new_objects from removed added =

@@ -20,7 +20,7 @@ older start number shown copies = record { start = start; number = number; row =
 abbrev pub older_lines : List Entry
 older_lines = older 1 0 (row false true) 0 ∷ older 5 0 (row false false) 1 ∷ older 5 1 (row false true) 2 ∷ older 21 0 (row false true) 3 ∷ []
 
--- the same lines after a character was put into the second one
+-- the lines of `older_lines` after a character was put into the second one
 abbrev pub longer_lines : SourceValues
 longer_lines =
     source_by_itself (block 1 5 0 ∷ block 5 22 0 ∷ block 22 25 0 ∷ [])

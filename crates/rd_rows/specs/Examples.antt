@@ -32,7 +32,7 @@ wide item code columns = item_element item (Fixed columns) (Glyph (single code c
 abbrev pub tab : ℕ → Element
 tab item = item_element item (Tab 8) Blank
 
--- these letters from an item on
+-- an element for each of these letters, which are the items from this one on
 abbrev pub letters : ℕ → List ℕ → List Element
 letters item [] = []
 letters item (c ∷ cs) = letter item c ∷ letters (item + 1) cs

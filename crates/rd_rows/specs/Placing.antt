@@ -77,7 +77,7 @@ behind spot p = record {
   before = Some p.element.origin.item;
 }
 
--- these elements one behind the other
+-- elements that are placed one behind the other, from a spot on
 abbrev pub place_all : ShapeValues → Spot → List Element → List Placed
 place_all shape spot [] = []
 place_all shape spot (e ∷ es) =

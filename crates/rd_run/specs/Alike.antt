@@ -52,12 +52,12 @@ AreStarvedAlike w [] us = Unit {0}
 AreStarvedAlike w (t ∷ ts) [] = Unit {0}
 AreStarvedAlike w (t ∷ ts) (u ∷ us) = (is_some (outcome_at w t) ≡ true → t.starved ≡ u.starved) × AreStarvedAlike (run_line w t) ts us
 
--- the same of runs from their beginning, where they have begun
+-- of two runs from their beginning, where they have begun: of the redisplays that both run the same find no memory
 abbrev pub AreStarvedAlikeIn : Option Mode → List Input → List Input → Type 0
 AreStarvedAlikeIn None ts us = Unit {0}
 AreStarvedAlikeIn (Some mode) ts us = AreStarvedAlike (opened mode) ts us
 
--- they have one status, one stream of bytes on the screen, and one report
+-- two runs have one status, one stream of bytes on the screen, and one report
 pub record AreAlike (a b : End) : Type 0 where
   pub status : a.status ≡ b.status
   pub screen : (bytes : List ℕ) × Took a.screen bytes × Took b.screen bytes

@@ -39,11 +39,11 @@ abbrev pub sunk : Option (List ℕ) → Option (List ℕ) → ℕ → ℕ → Su
 sunk before after faults_before faults_after =
     record { before = before; after = after; faults_before = faults_before; faults_after = faults_after }
 
--- these bytes were written to it
+-- these bytes were written to a sink
 abbrev pub Took : Sunk → List ℕ → Type 0
 Took s bytes = Appends s.before s.after bytes
 
--- its count of faults rose, and these bytes and then a front of others were written to it
+-- a sink's count of faults rose, and these bytes and then a front of others were written to it
 pub record Broke (s : Sunk) (bytes others : List ℕ) : Type 0 where
   pub rose : Rose s.faults_before s.faults_after
   pub front : (n : ℕ) × (n ≤ length others) × Appends s.before s.after (bytes ++ take n others)

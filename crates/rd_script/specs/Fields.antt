@@ -176,7 +176,7 @@ IsRead (Ok x) said = said ≡ Ok x
 IsRead (Err Memory) said = Unit {0}
 IsRead (Err fault) said = said ≡ Err fault
 
--- the same where a value is seen as another
+-- an answer is what is said, with its value seen as another, or want of memory
 abbrev pub IsReadAs : {A T : Type 0} → (A → T) → Result A OpFault → Result T OpFault → Type 0
 IsReadAs f (Ok x) said = said ≡ Ok (f x)
 IsReadAs f (Err Memory) said = Unit {0}
@@ -189,7 +189,7 @@ pub record Asking : Type 0 where
   pub members : List (String Global × Value)
   pub keys : List (List ℕ)
 
--- the same where these keys were asked for too
+-- what is asked of an op's object, where these keys were asked for too
 abbrev pub asked_too : List (List ℕ) → Asking → Asking
 asked_too keys asking = record { members = asking.members; keys = asking.keys ++ keys }
 

@@ -123,7 +123,7 @@ text_row texts.Delete = made (λ f. ops.Delete f.0 f.1.0 f.1.1) stretch_fields
 text_row texts.Narrow = made (λ f. ops.Narrow f.0 f.1.0 f.1.1) stretch_fields
 text_row texts.Widen = made ops.Widen buffer_field
 
--- those about properties, overlays and settings
+-- the ops about properties, overlays and settings
 abbrev pub property_row : PropertyOp → Fields Op
 property_row properties.Put = made (λ f. ops.Put f.0.0 f.0.1.0 f.0.1.1 f.1.0 f.1.1) (both stretch_fields (property text_kind))
 property_row properties.Overlay = made (λ f. ops.Overlay f.0.0 f.0.1.0 f.0.1.1 f.1.0 f.1.1.0 f.1.1.1) (both stretch_fields overlay_manner)
@@ -133,7 +133,7 @@ property_row properties.OverlayPut = made (λ f. ops.OverlayPut f.0 f.1.0 f.1.1.
 property_row properties.MarginPut = made (λ f. ops.MarginPut f.0 f.1.0 f.1.1) (both buffer_field (both overlay_field (optional (codes "string") whole)))
 property_row properties.Setting = made (λ f. ops.Setting f.0 f.1) (both buffer_field setting)
 
--- those that make objects
+-- the ops that make objects
 abbrev pub object_row : ObjectOp → Fields Op
 object_row objects.String = made (λ f. ops.AddString f.0 f.1) (both text_field (defaulted [] (codes "runs") (list_of STRING_RUNS run)))
 object_row objects.Spec = made ops.AddSpec spec
@@ -142,7 +142,7 @@ object_row objects.Table = made (λ f. ops.AddTable f.0 f.1.0 f.1.1.0 f.1.1.1.0 
     (both (defaulted [] (codes "entries") (list_of TABLE_ENTRIES entry)) (both (slot_field (codes "truncation")) (both (slot_field (codes "continuation"))
     (both (slot_field (codes "escape")) (both (slot_field (codes "control")) (both (optional (codes "ellipsis") glyph_text) (slot_field (codes "border"))))))))
 
--- those about windows
+-- the ops about windows
 abbrev pub window_row : WindowOp → Fields Op
 window_row windows.Split = made (λ f. ops.Split f.0 f.1.0 f.1.1) (both window_field (both (required side_key (word split_sides)) (number_field (codes "size"))))
 window_row windows.Remove = made ops.Remove window_field
@@ -160,7 +160,7 @@ window_row windows.Hit = made (λ f. ops.Hit f.0 f.1.0 f.1.1)
 window_row windows.Margin = made (λ f. ops.Margin f.0 f.1.0 f.1.1)
     (both window_field (both (required (codes "numbers") (within 0 NUMBER_COLUMNS)) (required (codes "strings") (within 0 STRING_COLUMNS))))
 
--- those about the whole screen
+-- the ops about the whole screen
 abbrev pub screen_row : ScreenOp → Fields Op
 screen_row screens.Frame = made (λ f. ops.Frame f.0 f.1)
     (both (required (codes "width") (within LEAST_FRAME_COLUMNS FRAME_COLUMNS)) (required (codes "height") (within LEAST_FRAME_ROWS FRAME_ROWS)))

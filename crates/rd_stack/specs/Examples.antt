@@ -91,7 +91,7 @@ scene s objects = scene_in s.settings objects (files [])
 abbrev pub line_at : BufferValue → ObjectLists → ℕ → ℕ → List Element
 line_at s objects base start = line_elements (scene s objects) base (reading s objects start)
 
--- the same where round brackets are paired
+-- the line of the block that starts at a position of a buffer, with a base level, where round brackets are paired
 abbrev pub paired_line_at : BufferValue → ObjectLists → ℕ → ℕ → List Element
 paired_line_at s objects base start = line_elements (scene_in s.settings objects (files round)) base (reading s objects start)
 

@@ -31,7 +31,7 @@ abbrev pub put_turn : {X : Type 0} → Putting X → Scene → ℕ → Turn → 
 put_turn put s base turn None = []
 put_turn put s base turn (Some item) = put_kind put s base item.kind item.overlay turn.odd item.face (origin_of turn.index item)
 
--- the same, of the items of a block
+-- what is put for a turn, by the items of a block; where the turn's item is none of these, nothing
 abbrev pub put_item : {X : Type 0} → Putting X → Scene → ℕ → List Item → Turn → List X
 put_item put s base items turn = put_turn put s base turn (slice_get items turn.index)
 

@@ -238,8 +238,8 @@ Finds m window o rows =
     option_map (λ place. first_row m window.strip + place) o
     ≡ find (suits window.wanted (places_of m window.strip.sweep.shape window.wanted)) rows
 
--- the same of the rows at most as far from the anchor's as the start may be moved, the nearest first, and the lesser first where two
--- are equally near
+-- the first row that suits as the start, as `Finds` says it, of those at most as far from the anchor's as the start may be moved: the
+-- nearest first, and the lesser first where two are equally near
 abbrev pub FindsNear : SourceValues → Window → Option ℕ → Type 0
 FindsNear m window o = Finds m window o (around (first_row m window.strip + window.strip.home) window.wanted.conservatively)
 

@@ -31,7 +31,7 @@ is_accessible_range t from to = nat_le t.begin from && nat_le from to && nat_le 
 abbrev pub is_range_of_all : TextValue → ℕ → ℕ → Bool
 is_range_of_all t from to = nat_le 1 from && nat_le from to && nat_le to (length t.text + 1)
 
--- there is room for so many characters more
+-- a text has room for these characters more
 abbrev pub has_room : TextValue → List ℕ → Bool
 has_room t new = nat_le (length t.text + length new) TEXT_CHARACTERS
 
@@ -40,11 +40,11 @@ abbrev pub is_number_made : ℕ → Option ℕ → Bool
 is_number_made count None = true
 is_number_made count (Some number) = nat_lt number count
 
--- the same of the object that a value of a kind names, where it names one
+-- whether the object that a value of a kind names was made, where it names one
 abbrev pub is_value_made : ObjectLists → Kind → Option ℕ → Bool
 is_value_made objects kind value = unwrap_or (option_map (λ count. is_number_made count value) (object_count objects kind)) true
 
--- the same of the object that a setting names
+-- whether the object that a setting names was made, where it names one
 abbrev pub is_setting_made : ObjectLists → Setting → Bool
 is_setting_made objects (setting.Table number) = is_number_made (length objects.tables) number
 is_setting_made objects (setting.LinePrefix number) = is_number_made (length objects.strings) number

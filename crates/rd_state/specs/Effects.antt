@@ -22,7 +22,7 @@ inserted_effect buffer place text = Edit buffer place 0 (length text)
 abbrev pub restyled : ℕ → ℕ → ℕ → Effect
 restyled buffer from to = Edit buffer from (to - from) (to - from)
 
--- the same of the text that an overlay covers
+-- the text that an overlay covers may look otherwise
 abbrev pub covered_effect : ℕ → Option Overlay → Effect
 covered_effect buffer None = Nothing
 covered_effect buffer (Some o) = restyled buffer o.from o.to

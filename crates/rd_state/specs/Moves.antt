@@ -22,10 +22,10 @@ place_after (Narrowed from to) p = brought_into from to p
 abbrev pub moved : Move → WindowState → WindowState
 moved how w = record w { point = place_after how w.point; anchor = record { pos = place_after how w.anchor.pos; row = w.anchor.row } }
 
--- the same where the window shows the buffer with this number
+-- a window after a move of the text of the buffer with this number: its point and view move where it shows that
 abbrev pub moved_by : ℕ → Move → WindowState → WindowState
 moved_by buffer how w = if w.buffer == buffer then moved how w else w
 
--- the same of a window that stands under its own number
+-- a window under its own number, after a move of the text of the buffer with this number
 abbrev pub moved_in : ℕ → Move → ℕ × WindowState → ℕ × WindowState
 moved_in buffer how e = (e.0, moved_by buffer how e.1)

@@ -21,7 +21,7 @@ use Rattle.rd_state.specs.declared.window.WindowState.{WindowState}
 abbrev pub table : ℕ → (ℕ → ℕ → Option ℕ) → List (List (Option ℕ))
 table size values = map (λ kind. map (values kind) (range_with_len 1 size)) (0 ∷ 1 ∷ 2 ∷ 3 ∷ 4 ∷ [])
 
--- the same of a text
+-- the values of the five text properties at the positions of a text
 abbrev pub values_on : TextValue → (ℕ → ℕ → Option ℕ) → List (List (Option ℕ))
 values_on text values = table (length text.text) values
 

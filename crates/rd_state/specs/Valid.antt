@@ -26,7 +26,7 @@ pub record IsOverlayIn (size : ℕ) (o : Overlay) : Type 0 where
   pub ordered : o.from ≤ o.to
   pub last : o.to ≤ size + 1
 
--- there are five text properties and few overlays, and their values and the overlays lie in the text
+-- a buffer has five text properties and few overlays, and their values and the overlays lie in its text
 pub record IsWithin (b : props.BufferValue) : Type 0 where
   pub kinds : (kind p value : ℕ) → b.properties kind p ≡ Some value → kind < 5
   pub first : (kind p value : ℕ) → b.properties kind p ≡ Some value → 1 ≤ p
@@ -49,7 +49,7 @@ pub record IsContent (objects : ObjectLists) (c : ContentValue) : Type 0 where
 abbrev pub AreToldByName : List BufferValue → Type 0
 AreToldByName buffers = (j k : ℕ) (a b : BufferValue) → slice_get buffers j ≡ Some a → slice_get buffers k ≡ Some b → a.name ≡ b.name → j ≡ k
 
--- there are at most 64 buffers, each with a name of its own
+-- at most 64 buffers, each with a name of its own, and with sound contents
 pub record AreBuffers (objects : ObjectLists) (buffers : List BufferValue) : Type 0 where
   pub few : length buffers ≤ BUFFERS
   pub told : AreToldByName buffers

@@ -33,11 +33,11 @@ abbrev pub becoming : {X : Type 0} → ℕ → (X → Option X) → List (ℕ ×
 becoming number f [] = []
 becoming number f (e ∷ rest) = if e.0 == number then kept_as e.0 (f e.1) rest else e ∷ becoming number f rest
 
--- where it became something else
+-- the list where what stands under a number became something else
 abbrev pub changed_under : {X : Type 0} → ℕ → (X → X) → List (ℕ × X) → List (ℕ × X)
 changed_under number f es = becoming number (λ x. Some (f x)) es
 
--- where it went
+-- the list where what stands under a number went
 abbrev pub removed_under : {X : Type 0} → ℕ → List (ℕ × X) → List (ℕ × X)
 removed_under number es = becoming number (λ x. None) es
 
@@ -51,7 +51,7 @@ abbrev pub leaf_at : ℕ → Windows → Option (Bool × ℕ)
 leaf_at number (Window n mode margins) = if n == number then Some (mode, margins) else None
 leaf_at number (Split side size first second) = option_or (leaf_at number first) (leaf_at number second)
 
--- the same as the window says it: it shows a mode line where it has a format for it
+-- whether a window shows a mode line, as it does where it has a format for one, and the columns of its margins
 abbrev pub leaf_of : WindowState → Bool × ℕ
 leaf_of w = (is_some w.format, w.numbers + w.strings)
 

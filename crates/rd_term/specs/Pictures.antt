@@ -32,7 +32,7 @@ width_of (row ∷ rows) = length row
 abbrev pub IsGrid : {A : Type 0} → ℕ → List (List A) → Type 0
 IsGrid width rows = All (λ row. length row ≡ width) rows
 
--- so many columns and rows, with the cursor on them
+-- a picture has so many columns and rows, with the cursor on them
 pub record IsOfSize (width height : ℕ) (picture : Picture) : Type 0 where
   pub rows : length picture.rows ≡ height
   pub each : IsGrid width picture.rows

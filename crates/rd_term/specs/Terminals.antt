@@ -49,7 +49,7 @@ unknown width height = record {
   confused = false;
 }
 
--- it has read what it can't obey, and stays as it is
+-- a terminal that has read what it can't obey, and stays as it is
 abbrev pub confuse : Tty → Tty
 confuse t = record t { confused = true }
 
@@ -142,7 +142,7 @@ put_at code columns face row column t =
       latest = Some (row, column);
     }
 
--- such a character needs the cursor and the pen, that no wait stands, and its columns
+-- a character of so many columns needs that the cursor and the pen are known, that no wait stands, and room for its columns
 abbrev pub put : ℕ → ℕ → Option Attributes → Option (ℕ × ℕ) → Tty → Tty
 put code columns (Some face) (Some place) t =
     if t.wait || nat_lt (length (row_at t.rows place.0)) (place.1 + columns) then confuse t
@@ -196,7 +196,7 @@ feed_bytes = fold feed_byte
 abbrev pub known : List (List Cell) → List (List (Option Cell))
 known rows = map (map Some) rows
 
--- it shows a picture: each cell is the picture's, and the cursor is the picture's
+-- a terminal that is not confused shows a picture: each cell is the picture's, and the cursor is the picture's
 pub record Shows (t : Tty) (picture : Picture) : Type 0 where
   pub sure : t.confused ≡ false
   pub cells : t.rows ≡ known picture.rows

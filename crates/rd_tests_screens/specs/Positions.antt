@@ -2,6 +2,6 @@
 use Rattle.std.specs.Prelude.{ℕ, ◌≤◌, IfSome, slice_get}
 use Rattle.rd_state.specs.States.{StateValue}
 
--- there is a buffer with this number, and the position is accessible in it
+-- a position is accessible in the buffer with this number, where there is one
 abbrev pub HasPosition : StateValue → ℕ → ℕ → Type 0
 HasPosition s buffer pos = IfSome (slice_get s.buffers buffer) (λ b. (b.content.text.begin ≤ pos) × (pos ≤ b.content.text.end))

@@ -67,13 +67,13 @@ abbrev pub Answers : Result ⊤ TreeFault → Result Configuration TreeFault →
 Answers (Ok _) said old new = said ≡ Ok new
 Answers (Err fault) said old new = (new ≡ old) × (said ≡ Err fault)
 
--- the same of a split, which may find no memory, and answers the new window's number
+-- a split leaves what was said and answers the new window's number; or it answers the fault that was said, or Memory, and changes nothing
 abbrev pub Splits : Result ℕ TreeFault → Result Configuration TreeFault → Configuration → Configuration → Type 0
 Splits (Ok number) said old new = (said ≡ Ok new) × (number ≡ old.made)
 Splits (Err Memory) said old new = new ≡ old
 Splits (Err fault) said old new = (new ≡ old) × (said ≡ Err fault)
 
--- the same of a removal, which answers the first window of the sibling
+-- a removal leaves what was said and answers the first window of the sibling; or it answers the fault that was said and changes nothing
 abbrev pub Removes : Result ℕ TreeFault → ℕ → Result Configuration TreeFault → Configuration → Configuration → Type 0
 Removes (Ok heir) window said old new = (said ≡ Ok new) × (heir ≡ first_leaf (sibling window old.windows))
 Removes (Err fault) window said old new = (new ≡ old) × (said ≡ Err fault)

@@ -28,7 +28,7 @@ pub record AtFrame (width height : ℕ) (current : Option Picture) (t : Tty) : T
   pub each : IsGrid width t.rows
   pub now : IsCurrent width height current t
 
--- such a terminal, within the bounds of a frame, and a sound target of its size
+-- what an update asks: a terminal as `AtFrame` says, within the bounds of a frame, and a sound target of its size
 pub record IsReady (width height : ℕ) (current : Option Picture) (target : Picture) (t : Tty) : Type 0 where
   pub there : AtFrame width height current t
   pub wide : width ≤ FRAME_COLUMNS

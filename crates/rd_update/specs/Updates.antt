@@ -76,7 +76,7 @@ erase_to_end = 27 ∷ 91 ∷ 75 ∷ []
 abbrev pub repaint : List ℕ
 repaint = 27 ∷ 91 ∷ 48 ∷ 109 ∷ 27 ∷ 91 ∷ 50 ∷ 74 ∷ []
 
--- those numbers of a face that there are
+-- the numbers of a control sequence that make a plain face this one
 abbrev pub renditions : Attributes → List ℕ
 renditions f = flat_map option_to_list (numbers_of_face f)
 

@@ -20,7 +20,7 @@ abbrev pub differing_columns : List Cell → List Cell → Option Columns
 differing_columns old new =
     if differs old new then Some (record { from = first_difference old new; end = end_of_differences old new }) else None
 
--- the same by the words of two rows, three for each cell
+-- the columns from that of the first to that of the last of the words at which two rows differ, three words for each cell
 abbrev pub columns_from : Option ℕ → Option ℕ → Option Columns
 columns_from (Some first) (Some last) = Some (record { from = first / 3; end = last / 3 + 1 })
 columns_from _ _ = None

@@ -21,7 +21,7 @@ block_items s objects files b = items_of (scene_in s.settings objects files) (re
 abbrev pub ranges_in_order : ℕ → List Item → List Range
 ranges_in_order start items = flat_map (λ x. range_by start (Some x)) items
 
--- those of a block's items, in order of position
+-- the ranges of a block's items that cover a position, in order of position
 abbrev pub ordered_ranges : BufferValue → ObjectLists → Data → Block → List Range
 ordered_ranges s objects files b = ranges_in_order b.start (block_items s objects files b)
 
