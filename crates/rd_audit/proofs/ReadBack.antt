@@ -126,7 +126,7 @@ group-on (cells ∷ rows) row number picture group found more h = group-on rows 
 abbrev Finds : List (List ℕ) → Option (ℕ × List (List ℕ)) → Type 0
 Finds group found = (n : ℕ) × (found ≡ Some (n, group))
 
--- these lines are found as the last group, whatever stands before them
+-- a group is found as the last one of these lines, whatever group was found before them
 abbrev IsFound : List (List ℕ) → List (List ℕ) → Type 0
 IsFound group lines = (number : ℕ) (found : Option (ℕ × List (List ℕ))) → Finds group (last_group number None found lines)
 
@@ -140,7 +140,7 @@ windows-passed : (windows : List WindowFacts) (group lines : List (List ℕ)) �
 windows-passed [] group lines h number found = h number found
 windows-passed (w ∷ windows) group lines h number found = windows-passed windows group lines h (number + 1) found
 
--- the same where a group may have begun that goes on at these lines
+-- a group is found as the last one of these lines, whatever group was found before them, or has begun
 abbrev IsFoundBehind : List (List ℕ) → List (List ℕ) → Type 0
 IsFoundBehind group lines = (number : ℕ) (begun found : Option (ℕ × List (List ℕ))) → Finds group (last_group number begun found lines)
 

@@ -74,7 +74,7 @@ told-shown mode number u next screen read dumps done current =
     ∙ ap (λ b. shown_line number u.rows ++ dump_lines b next.current (facts_of next)) dumps
     ∙ ap (λ o. shown_line number u.rows ++ dump_lines true o (facts_of next)) current
 
--- its line, and the dump of the screen that is reached
+-- what a shown redisplay tells, where the dumps of a script that is read are told: its line, and the dump of the screen that is reached
 abbrev Tells : Standing → Picture → Effect → Type 0
 Tells place screen e = is_shown e.outcome ≡ true → place.mode.generated ≡ None → place.mode.dumps ≡ true → e.now.session.current ≡ Some screen
     → (rows : ℕ) × (e.told ≡ shown_line (place.lines + 1) rows ++ dump_text screen (facts_of e.now.session))

@@ -71,7 +71,7 @@ get-second [] ys i j e = let s : i ≡ j = omega arith in ap (slice_get ys) s
 get-second (x ∷ xs) ys zero j e = absurd (omega arith)
 get-second (x ∷ xs) ys (suc i) j e = get-second xs ys i j (omega arith)
 
--- the same of a part of a list
+-- what stands at a place of a list's first part stands there in the list
 pub get-take : {X : Type 0} (n : ℕ) (xs : List X) (i : ℕ) → i < n → slice_get (take n xs) i ≡ slice_get xs i
 get-take zero xs i p = absurd (omega arith)
 get-take (suc n) [] i p = refl
@@ -150,7 +150,7 @@ read-set P (y ∷ xs) zero (suc k) x new old = old
 read-set P (y ∷ xs) (suc i) zero x new old = old
 read-set P (y ∷ xs) (suc i) (suc k) x new old = read-set P xs i k x (λ e. new (ap suc e)) old
 
--- the same where another element stands in for one that is not there
+-- what holds of what is read at a place, where an element stands in for none, and of what is written, holds of what is read after the write
 pub read-or : {X : Type 0} (P : X → Type 0) (xs : List X) (i k : ℕ) (x d : X) → (k ≡ i → P x) → P (get_or xs k d) → P (get_or (set xs i x) k d)
 read-or P xs i k x d new old =
     subst P (unwrap_or-slice_get (set xs i x) k d)

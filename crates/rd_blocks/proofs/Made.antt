@@ -34,7 +34,7 @@ left-is : (scene : Scene) (base : ℕ) (shape : ShapeValues) (es : List Seen) (f
     → rows_left m line ≡ block_rows scene base shape es
 left-is scene base shape es first wrap line truncation continuation m fresh a b c d e = fresh.rows line ∙ rw (a, b, c, d, e) refl
 
--- the same of a maker with the prefixes of a position that looks like this
+-- the rows that are left to a maker with the prefixes of a position that looks like this are the rows of the block from there on
 pub left-seen : (scene : Scene) (base : ℕ) (shape : ShapeValues) (s : BufferValue) (objects : ObjectLists) (p : ℕ) (a : Appearance) (settings : SettingValues)
     (first wrap line : List Element) (truncation continuation : Glyph) (m : MakerValues)
     → a ≡ appearance_at s objects p → settings ≡ scene.parts.settings → IsFresh (cutting_of shape base first wrap truncation continuation) m

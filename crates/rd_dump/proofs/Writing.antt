@@ -62,7 +62,7 @@ pub going-each : {A T E : Type 0} (f : A → List ℕ) (xs : List A) (i : ℕ) (
 going-each {A} {T} {E} f xs i d x a b c k l m all t less going p is =
     going-on a b c k l m all _ (f (get_or xs i d)) _ t going (flat-step f xs i d less) (subst (λ y. Prints {T = T} {E = E} b c l m (f y) (Ok t)) is p)
 
--- it failed there
+-- an element's text was not written in a loop over a list, so neither is the whole
 pub going-failed : {A T E U F : Type 0} (f : A → List ℕ) (xs : List A) (i : ℕ) (d x : A) (a b c : Option (List ℕ)) (k l m : ℕ) (all : List ℕ) (e : E) (s : Result U F)
     → i < length xs → Going a b k l all (flat_map f (drop i xs)) → Prints {T = T} {E = E} b c l m (f x) (Err e) → IsErr s → x ≡ get_or xs i d → Prints a c k m all s
 going-failed f xs i d x a b c k l m all e s less going p bad is =
@@ -77,7 +77,7 @@ going-done {A} {T} {E} f xs i a b k l all t past going =
     going-last a b b k l l all _ (Ok t) going
     (subst (λ ys. Prints {T = T} {E = E} b b l l ys (Ok t)) (sym rest) (record { bytes = record { whole = Appends-nil b; front = tt }; never_falls = omega arith; failed = tt }))
 
--- the same text in other words
+-- what is printed may be said in other words
 pub prints-as : {T E : Type 0} (a b : Option (List ℕ)) (f g : ℕ) (xs ys : List ℕ) (s : Result T E) → xs ≡ ys → Prints a b f g xs s → Prints a b f g ys s
 prints-as a b f g xs ys s e p = subst (λ l. Prints a b f g l s) e p
 

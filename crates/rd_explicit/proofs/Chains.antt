@@ -237,7 +237,7 @@ jumps (suc d) (k ∷ ks) i w at h =
     let other = ne_eqb w i (λ e. omega arith) in
     record { indexes = rw other further.indexes; ends = λ e. rw other (further.ends e) }
 
--- the same from an index of the whole list on
+-- links of a whole list are followed from behind an index on, past what lies between, to the one at w and what is behind it
 pub jumps-on : (ks : List Link) (i w : ℕ) → i < w → w < length ks → Jumps (drop (i + 1) ks) (drop (w + 1) ks) (i + 1) w (link_at ks w)
 jumps-on ks i w behind within =
     let d = w - (i + 1) in
@@ -274,7 +274,7 @@ gathered-ascends (c ∷ cs) (l ∷ ls) (k ∷ ks) (true ∷ bs) b i n h zero d w
 gathered-ascends (c ∷ cs) (l ∷ ls) (k ∷ ks) (true ∷ bs) b i n h (suc j) d within = gathered-ascends cs ls ks bs (if x9_is_removed c then b else l) (i + 1) n (omega arith) j d (omega arith)
 gathered-ascends (c ∷ cs) (l ∷ ls) (k ∷ ks) (false ∷ bs) b i n h j d within = gathered-ascends cs ls ks bs (if x9_is_removed c then b else l) (i + 1) n (omega arith) j d within
 
--- the same by places
+-- indexes that ascend from one on, below an end, all lie between these two
 pub ascends-within : (i n : ℕ) (xs : List ℕ) → Ascends i n xs → All (λ x. (i ≤ x) × (x < n)) xs
 ascends-within i n [] a = All-nil (λ x. (i ≤ x) × (x < n))
 ascends-within i n (x ∷ xs) a =

@@ -97,7 +97,7 @@ module _ (told : List ℕ → Option (List ℕ)) (before : List ℕ → ℕ) (na
       inr (inl ((classes, c), rose-after (before names.mirror_file) (between names.mirror_file) (after names.mirror_file) (low names.mirror_file) h))
   stops_second now between after classes Memory same low c h = tt
 
-  -- both are good, and the bracket file ends it
+  -- the class file and the mirror file are good, and the bracket file ends it
   pub stops_third : (now : List ℕ → Option (List ℕ)) (between after : List ℕ → ℕ) (classes : List Span) (mirrors : List Pair) (fault : DataFault)
       → ((file : List ℕ) → now file ≡ told file) → ((file : List ℕ) → before file ≤ between file) → Gives classes_in (told names.class_file) (Ok classes)
       → Gives mirrors_in (told names.mirror_file) (Ok mirrors) → ReadsFile brackets_in (told_or_empty now names.bracket_file) (FailedAtSome between after names.bracket_file) (Err fault)

@@ -143,7 +143,7 @@ of-character parts ch odd face origin is code = by-entry (entry_of parts.table c
   by-entry (Some text) own = of-glyphs face origin text own
   by-entry None own = by-tab (ch == 9)
 
--- they are at most four where the table does not show it
+-- the elements of a character are at most four where the table does not show it
 pub few-elements : (parts : PartValues) (ch : ℕ) (odd : Bool) (face : Attributes) (origin : Origin) → entry_of parts.table ch ≡ None → length (elements_of parts ch odd face origin) ≤ 4
 few-elements parts ch odd face origin none =
     rw none (either (λ (es : List Element). length es ≤ 4) (ch == 9) _ _ (omega arith) (rw (length-map (own_looks parts ch odd) (element_of face origin)) (looks-count _ _ _).1))

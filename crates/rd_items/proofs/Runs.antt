@@ -95,7 +95,7 @@ range-goes-on s o first range p n is from some within more so-far =
     let jump = run-jumps s o first range.showing (range.until - p) p (omega arith) (λ r a b. alike-at s o range p r is from a (omega arith)) more in
     rw place at jump ∙ so-far
 
--- else the run ends before it
+-- a run ends before a range that does not go on with it
 pub range-stops : (s : BufferValue) (o : ObjectLists) (first : Showing) (range : AlikeRange) (p n : ℕ) → IsAlikeRange s o range → range.from ≤ p → p < range.until → p < s.text.end → goes_on first range.showing ≡ false → p + run_length s.settings.invisible first (reading s o p) ≡ n → p ≡ n
 range-stops s o first range p n is from some before none so-far =
     let here : goes_on first (showing_at s o p) ≡ false = ap (goes_on first) (alike-at s o range p p is from (omega arith) some) ∙ none in

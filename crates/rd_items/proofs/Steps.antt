@@ -108,7 +108,7 @@ pub record IsStep (s : BufferValue) (o : ObjectLists) (d : Data) (start p to : �
   pub first : start ≤ p
   pub last : p ≤ s.text.end
 
--- where it goes on, counted from the start
+-- where a step's piece ends, as a position and counted from the start
 goes-to : (s : BufferValue) (o : ObjectLists) (d : Data) (start p to : ℕ) (showing : Showing) (x : Piece) (before mid after : List Piece → List Item) → IsStep s o d start p to showing x before mid after → (to ≡ suc p + run_behind s o p) × (to - start ≡ suc (p - start) + run_behind s o p)
 goes-to s o d start p to showing x before mid after is =
     let place : to ≡ suc p + run_behind s o p = rw is.shown at is.run in

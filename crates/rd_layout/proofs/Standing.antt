@@ -206,6 +206,6 @@ moves s (ops.Margin window numbers strings) =
 moves s (ops.MarginPut name overlay string) =
     edited-moves Nothing s name (margin_putting s.objects overlay string) (λ b c at is. inr (margins-seen s.objects overlay string b.content c is))
 
--- the same of the state to which an op led
+-- what holds between a state and the one to which an op led, by the op's effect
 pub moved : (s t : StateValue) (op : Op) → step s op ≡ Ok t → Moves (is_frame op) (effect_of s op) s t
 moved s t op is = IfOk-at_ok (Moves (is_frame op) (effect_of s op) s) is (moves s op)

@@ -29,7 +29,7 @@ count-append rows xs ys = ap length (all-append rows xs ys) ∙ length-append (a
 pub count-last : (rows : Block → List RowMeaning) (xs : List Block) (b : Block) → length (all_rows rows (xs ++ b ∷ [])) ≡ length (all_rows rows xs) + length (rows b)
 count-last rows xs b = omega (arith, count-append rows xs (b ∷ []), count-cons rows b [])
 
--- there is a row where the last one ends the block
+-- rows of which the last one ends the block are one or more
 pub some-row : (rows : List RowMeaning) → ends_last rows ≡ true → 0 < length rows
 some-row [] e = absurd cc
 some-row (r ∷ rows) e = omega arith

@@ -20,7 +20,7 @@ pub slot-each : (Q : Overlay → Type 0) (change : Overlay → Overlay) (slot : 
     → (p : Overlay) → option_map change slot ≡ Some p → Q p
 slot-each Q change slot becomes p h = let (o, is, same) = map-some change slot p h in subst Q same (becomes o is)
 
--- the same where all slots are changed
+-- what holds of each slot's overlay as it is changed holds of each overlay of the slots, once all are changed
 pub changed-each : (Q : Overlay → Type 0) (change : Overlay → Overlay) (slots : List (Option Overlay)) → ((n : ℕ) (o : Overlay) → overlay_at slots n ≡ Some o → Q (change o))
     → (n : ℕ) (p : Overlay) → overlay_at (map (option_map change) slots) n ≡ Some p → Q p
 changed-each Q change slots becomes n p h = slot-each Q change (overlay_at slots n) (becomes n) p (sym (overlay_at-map (option_map change) slots n refl) ∙ h)

@@ -47,7 +47,7 @@ told-same law mode number rows done old new stop same count whole =
     let is : done ≡ (update_of old stop).done = sym whole in
     λ i. if is_some mode.generated then [] else if is i then shown_line number (count i) ++ dump_lines mode.dumps (current i) (facts i) else stopped_line number (count i)
 
--- it was sent as far as it goes, and the report was told of it or broke
+-- a redisplay was sent as far as it goes, and the report was told of it or broke
 pub sent-acts : (law : CopyLaw) (answer : Result Unit Failed) (result : Result Unit Halt) (dumps : Bool) (generated : Option ℕ) (lines shown : ℕ) (old new : SessionValue) (stop : Option ℕ) (rows : ℕ) (done : Bool)
     (s0 s1 r0 r1 : Option (List ℕ)) (m0 m1 n0 n1 : ℕ) → IsTold answer result → without_copies new ≡ redisplayed_session old stop → IsSent rows done stop old new s0 s1
     → Prints r0 r1 n0 n1 (told_of (stand dumps generated lines shown new).mode (lines + 1) done rows new) answer → OnErr answer (generated ≡ None)
@@ -69,7 +69,7 @@ sent-acts law (Err x) result dumps generated lines shown old new stop rows done 
     subst (λ (r : Result Unit Halt). Acts r (λ starved. if starved then unshown place else redisplayed place stop) next (sunk s0 s1 m0 m1) (sunk r0 r1 n0 n1)) (sym told)
     (false, is-sent u.done u.rows, h.bytes, record { rose = prints.failed; front = front }, inl read)
 
--- it found no memory
+-- a redisplay found no memory
 pub starved-acts : (answer : Result Unit Failed) (result : Result Unit Halt) (dumps : Bool) (generated : Option ℕ) (lines shown : ℕ) (old new : SessionValue) (stop : Option ℕ)
     (s0 s1 r0 r1 : Option (List ℕ)) (m0 m1 n0 n1 : ℕ) → IsTold answer result → new ≡ record old { current = None } → Appends s0 s1 []
     → Prints r0 r1 n0 n1 (no_memory_line (lines + 1)) answer

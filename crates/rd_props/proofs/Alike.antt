@@ -35,7 +35,7 @@ pub record Mark : Type 0 where
 abbrev pub mark_of : Overlay → Mark
 mark_of o = record { priority = o.priority; values = o.values; empty = is_empty o }
 
--- the same where the overlay passes a test
+-- what a position sees of an overlay that passes a test
 abbrev pub picked : (Overlay → Bool) → Option Overlay → Option Mark
 picked test None = None
 picked test (Some o) = if test o then Some (mark_of o) else None

@@ -28,7 +28,7 @@ same-by s t objects x y stays reach =
       | inr within ↦ record { old_within = text.from within; new_within = within; agree = agree }
     ]
 
--- the same where what the texts and the overlays become is known
+-- all that two positions see is the same, where what the texts and the overlays become is known
 pub stays-by : (s t : BufferValue) (x y : ℕ) (text : TextValue) (slots : List (Option Overlay)) → t.text ≡ text → t.overlays ≡ slots → ReadsAlike s.text x text y → ((kind : ℕ) → s.properties kind x ≡ t.properties kind y) → SeeSame x y s.overlays slots
     → StaysSame s x t y
 stays-by s t x y text slots is are reads properties sees = record {

@@ -89,7 +89,7 @@ pub w5-run-is : (run : Option Bool) (number : Class) (ends : Bool) (b : Before) 
     → (number ≡ ET → (b.w1_before ≡ ET) × (b.w4_before ≡ ET) × (ends ≡ w5_run_ends b.w2_strong cs)) → RunIs run b cs
 w5-run-is run number ends b cs e h = rw e (w5-run-of-is number ends b cs h)
 
--- the same with values that equal those of the rules
+-- the types by W1 to W7 from a character on, with values that equal those of the rules
 pub assembled : (d e : Class) (n m : Bool) (o p s t k l v w : Class) (cs all : List Class)
     → all ≡ v ∷ w7 d (w6 (w5 n (w4 o (w3 (w2 s (w1 k cs)))))) → w ≡ v → e ≡ d → m ≡ n → p ≡ o → t ≡ s → l ≡ k
     → all ≡ w ∷ w7 e (w6 (w5 m (w4 p (w3 (w2 t (w1 l cs))))))

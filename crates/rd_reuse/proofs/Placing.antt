@@ -52,7 +52,7 @@ row-if most rows e true true low room = let size = length_push rows e in let mor
 row-if most rows e true false low room = low
 row-if most rows e false b low room = low
 
--- there are no more rows than are wanted
+-- the rows are no more than are wanted, once another one was met
 pub row-room : (first most : ℕ) (rows : List Entry) (e : Entry) → length rows ≤ most → length (with_row first most rows e) ≤ most
 row-room first most rows e low = row-if most rows e (leb first e.number) (ltb (length rows) most) low (λ room. ltb-true (length rows) most room)
 

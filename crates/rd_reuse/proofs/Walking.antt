@@ -206,7 +206,7 @@ module _ {m : SourceValues} {old : List Entry} {c : Change} {shape : ShapeValues
   next-first o next =
       sym (next (length w.before) among.1 ∙ (ap (λ bs. slice_get bs (length w.before + 1)) w.pieces ∙ get-second w.before (block ∷ w.after) (length w.before + 1) 1 refl))
 
-  -- there are more rows than before
+  -- the rows grow by those of the next block, where they were fewer than are wanted
   pub grows : (laid : List RowValues) (new : List Entry) → shown_rows laid ≡ m.rows_of block shape → length rows < most → new ≡ grown laid → length rows < length new
   grows laid new e low is =
       let before = length-map rows shown_entry in

@@ -260,7 +260,7 @@ abbrev pub HaveRunAlike : Option Mode → List Input → List Input → Type 0
 HaveRunAlike None ts us = ts ≡ us
 HaveRunAlike (Some mode) ts us = AreRunAlike (opened mode) ts us
 
--- both have begun alike, have run alike, and have one status
+-- two runs have begun alike, have run alike, and have one status
 came-alike : (script : List ℕ) (a b : End) (m n : Option Mode) → AreGivenAlike a.given b.given → AreStarvedAlikeIn m a.inputs b.inputs → IsUndisturbed script a → IsUndisturbed script b
     → Comes a.given m a.status a.inputs a.bytes a.source → Comes b.given n b.status b.inputs b.bytes b.source → (m ≡ n) × HaveRunAlike m a.inputs b.inputs × (a.status ≡ b.status)
 came-alike script a b None None h alike p q c d =

@@ -38,7 +38,7 @@ data-same a b names x y h one two three p q =
 words-same : (a b : Given) (w v : WordValues) → a.words ≡ b.words → a.words ≡ Some w → b.words ≡ Some v → w ≡ v
 words-same a b w v e p q = let k : Some w ≡ Some v = sym p ∙ e ∙ q in cc
 
--- both read the same words, and what their files stand for is the same
+-- two runs that are given the same read the same words, and what their files stand for is the same
 answers-same : (a b : Given) (w v : WordValues) (x y : Result Data BadFile) → AreGivenAlike a b → AreTold a → a.words ≡ Some w → b.words ≡ Some v
     → GivesData a.contents (names_of w) x → GivesData b.contents (names_of v) y → (w ≡ v) × (x ≡ y)
 answers-same a b w v x y h told p q one other =
@@ -106,7 +106,7 @@ bad-same a b file other m n kind reason h told p q =
     let both = answers-same a b p.words q.words (Err (record { file = file; line = m; kind = kind })) (Err (record { file = other; line = n; kind = reason })) h told p.said q.said p.files q.files in
     ap status_of both.1
 
--- it is refused with one status
+-- two runs that are given the same, and are refused, have one status
 pub refused-alike : (a b : Given) (s r : Status) → AreGivenAlike a b → AreTold a → Refuses a s → Refuses b r → s ≡ r
 refused-alike a b Usage Usage h told p q = refl
 refused-alike a b Usage (BadData file n kind) h told p q = absurd (not-known a b q.words h p q.said)

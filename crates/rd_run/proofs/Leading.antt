@@ -28,7 +28,7 @@ shown-made : (rows : List EntryMeaning) → shown_entries (map made_entry rows) 
 shown-made [] = refl
 shown-made (row ∷ rows) = ap (λ es. row ∷ es) (shown-made rows)
 
--- its layout from nothing
+-- a window's layout from nothing
 fresh-laid : (files : Data) (s : StateValue) (w : WindowState) (p : Placed)
     → IsLaidOut None (window_source files s w) (window_shape s w p) (wanted_of s w p) (fresh_layout files s p w).1
 fresh-laid files s w p = record {

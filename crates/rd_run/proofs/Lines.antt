@@ -51,7 +51,7 @@ pub record IsAt (v : SessionValue) (t : Tty) : Type 0 where
   pub session : IsSession v
   pub there : AtFrame v.state.width v.state.height v.current t
 
--- it stands so behind a session whose frame keeps its size
+-- a run stands with its terminal behind a session whose frame kept its size
 frame-at : (v next : SessionValue) (c : Option Picture) (t : Tty) → IsSession next → AreOfOneSize v.state next.state → next.current ≡ c → AtFrame v.state.width v.state.height c t → IsAt next t
 frame-at v next c t session same now there = record {
   session = session;

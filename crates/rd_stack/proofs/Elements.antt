@@ -27,7 +27,7 @@ one-by-one f g each [] = refl
 one-by-one f g each (x ∷ xs) =
     flat_map-append (λ (es : List Element). es) (f x) (flat_map f xs) ∙ ap₂ (λ these those. these ++ those) (each x) (one-by-one f g each xs)
 
--- those of what is shown, where those of strings are
+-- the elements in the steps of what an item shows are the item's, where those of strings are the strings'
 kind-elements : (end : Look) (steps : Option TextValue → List (List Element)) (string : Option TextValue → List Element) → ((text : Option TextValue) → elements_in (steps text) ≡ string text)
     → (s : Scene) (k : ItemKind) (odd : Bool) (face : Attributes) (origin : Origin) → elements_in (kind_steps end steps s k odd face origin) ≡ kind_elements end string s k odd face origin
 kind-elements end steps string each s (item.Text n) odd face origin = each (slice_get s.objects.strings n)

@@ -133,7 +133,7 @@ pub record Asked (edge : Edge) (m : SourceValues) (s : Strip) (steps more : ℕ)
   pub next : StandsBeyond m s edge b
   pub cost : more ≤ steps + cost_in m s.sweep b
 
--- the same, as they were told of the same source
+-- the block beyond an edge, and the steps behind the making of its rows, as they were told of the same source
 pub beyond-given : (edge : Edge) (m other : SourceValues) (s : Strip) (o told : Option Block) → other ≡ m → IsBeyond other s edge o → o ≡ told → IsBeyond m s edge told
 beyond-given edge m other s o told e beyond is = subst (λ (x : SourceValues). IsBeyond x s edge told) e (subst (λ (y : Option Block). IsBeyond other s edge y) is beyond)
 

@@ -103,7 +103,7 @@ pub window-placed : (bs cs : List BufferValue) (w : WindowState) (buffer place :
 window-placed bs cs w buffer place anchor v made point start =
     window-still cs (record w { buffer = buffer; point = place; anchor = anchor }) made point start v.pending v.hscroll v.format v.numbers v.strings
 
--- the same where each position that counts is accessible there
+-- a window of some buffers is one of others where each position that was accessible in its buffer is accessible there
 pub window-over : (bs cs : List BufferValue) (w : WindowState) → length bs ≤ length cs
     → ((c : BufferValue) → slice_get cs w.buffer ≡ Some c → (b : BufferValue) × (slice_get bs w.buffer ≡ Some b) × ((p : ℕ) → IsAccessible b.content.text p → IsAccessible c.content.text p))
     → IsWindow bs w → IsWindow cs w

@@ -78,7 +78,7 @@ same-whole s k b c hb hc = subst (λ (x : BufferValue). StaysWhole b.content s.o
 extends-kept : (s t : StateValue) → t.objects ≡ s.objects → Extends s.objects t.objects
 extends-kept s t is = subst (Extends s.objects) (sym is) (extends_itself s.objects)
 
--- the same buffers and objects, by an effect that leaves all that is seen
+-- an op that keeps buffers and objects leaves the rest, by an effect that leaves all that is seen
 kept : (s t : StateValue) (effect : Effect)
     → ((k : ℕ) (b c : BufferValue) → StaysWhole b.content s.objects c.content t.objects → Leaves effect k b.content s.objects c.content t.objects)
     → t.buffers ≡ s.buffers → t.objects ≡ s.objects → Show s t effect → LeavesTheRest s t effect
@@ -137,7 +137,7 @@ range-outcome : (s t : StateValue) (i from removed added : ℕ) (edit : ContentV
 range-outcome s t i from removed added edit e stays show =
     edit-outcome s t i edit (Edit i from removed added) e (part-stays s t i from (from + added + 1) (pos added -ℤ pos removed) edit e stays) show
 
--- such an edit of a buffer of a valid state, where the windows behind it are these
+-- an edit of a range in a buffer of a valid state, where the windows behind it are these
 ranged : (s : StateValue) (i from removed added : ℕ) (edit : ContentValue → Result ContentValue Refused) (ws : List NumberedWindow) (r : Result StateValue Refused) → IsValid s
     → ((c d : ContentValue) → IsContent s.objects c → edit c ≡ Ok d → Stays c s.objects d s.objects from (from + added + 1) (pos added -ℤ pos removed))
     → ((t : StateValue) → t.windows ≡ ws → Show s t (Edit i from removed added)) → IfOk r (Edited s i edit ws) → IfOk r (λ t. LeavesTheRest s t (Edit i from removed added))

@@ -184,7 +184,7 @@ format-refuses s t n i e format x same there bad =
     at-window s t n i e (λ y w. unless_bad (format_fault format) (done y)) same there
     ∙ (ap (λ o. unless_bad o (done t)) bad.2 ∙ ap (λ y. Err y) (sym bad.1))
 
--- where it is good the window changes with the tree
+-- where a format is good a window's mode line changes with the tree
 pub good-format : (s : StateValue) (n : ℕ) (format : Option (List ℕ)) → format_fault format ≡ None
     → mode_lining s n format ≡ in_window s n (λ w. changing n (λ old. record old { format = format }) (on_tree (mode_tree s.tree n (is_some format)) (λ c. record s { tree = c })))
 good-format s n format good =

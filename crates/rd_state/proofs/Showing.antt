@@ -138,7 +138,7 @@ format-in-form (Some text) form h = record { plain = form; good = h }
 both-parts : (x : Leaf) → ◌≡◌ {A = Leaf} (x.0, x.1) x
 both-parts (mode, margins) = refl
 
--- the same window of the tree with another mode line or other margins
+-- a window of the tree, with another mode line or other margins
 abbrev retold : ℕ → (Leaf → Leaf) → Bool → ℕ → Windows
 retold number g mode margins = Window number (g (mode, margins)).0 (g (mode, margins)).1
 

@@ -20,7 +20,7 @@ tested : {T E : Type 0} (t : Bool) (r : Result T E) (e : E) (P : T → Type 0) �
 tested true r e P h = h refl
 tested false r e P h = tt
 
--- where it refuses what holds
+-- where a test refuses what holds
 untested : {T E : Type 0} (t : Bool) (r : Result T E) (e : E) (P : T → Type 0) → (t ≡ false → IfOk r P) → IfOk (if t then Err e else r) P
 untested true r e P h = tt
 untested false r e P h = h refl

@@ -61,7 +61,7 @@ pub record IsEditOf (s t : StateValue) (i : ℕ) (edit : ContentValue → Result
   pub gives : edit buffer.content ≡ Ok content
   pub is : record s { buffers = slice_set s.buffers i (holding buffer content); windows = t.windows } ≡ t
 
--- such a state is valid where what the buffer holds and the windows are
+-- a state in which one buffer was edited is valid where what the buffer holds and the windows are
 edit-valid : (s : StateValue) (i : ℕ) (b : BufferValue) (d : ContentValue) (edit : ContentValue → Result ContentValue Refused) (f : ℕ → ℕ) (ws : List NumberedWindow) → IsValid s → Keeps s.objects f edit
     → slice_get s.buffers i ≡ Some b → edit b.content ≡ Ok d
     → (((p : ℕ) → IsAccessible b.content.text p → IsAccessible d.text (f p)) → AreWindows (slice_set s.buffers i (holding b d)) s.tree ws s.selected)

@@ -49,7 +49,7 @@ pub rise-of : (r : Result SessionValue Refused) (v : SessionValue) (n old new : 
 rise-of r v n old new reached costs rises =
     subst (λ (m : ℕ). new ≤ old + m) (ap value_of (sym (ap (told allowed) reached) ∙ costs)) rises
 
--- the same of the second redisplay behind ops from the opening on, with one op more between the two
+-- a count that rose by what the second redisplay may cost, behind ops from the opening on, with one op more between the two
 pub rise-behind : (ops : List Op) (op : Op) (v w x y : SessionValue) (n old new : ℕ) → after [] ≡ Ok v → after_all (Ok v) ops ≡ Ok w → x ≡ redisplayed w None → then_done (Ok x) op ≡ Ok y
     → told allowed (then_done (then_done (after ops) (Redisplay None)) op) ≡ Ok n → new ≤ old + allowed y → new ≤ old + n
 rise-behind ops op v w x y n old new opens makes shows leads costs rises =

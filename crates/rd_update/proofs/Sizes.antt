@@ -10,7 +10,7 @@ width-is width height p size =
     let some : 0 < length p.rows = let a = size.row in let b = size.rows in omega arith in
     grid-width width p.rows some size.each
 
--- it may be a screen where a screen may be of that size
+-- a picture may be a screen where a screen may be of its size
 pub is-screen : (width height : ℕ) (p : Picture) → width ≤ 400 → height ≤ 200 → IsOfSize width height p → IsScreen p
 is-screen width height p narrow low size =
     let wide = width-is width height p size in

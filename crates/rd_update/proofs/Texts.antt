@@ -38,7 +38,7 @@ first-whole (x ∷ front) rest h =
 
 -- ---- what a text leaves
 
--- its cells in their places, what is left of the cells that were before them, and the cursor behind it where the row goes on
+-- what a text leaves: its cells in place, what is left of the cells that were before them, and the cursor behind it where the row goes on
 pub record TextFed (region : Option (ℕ × ℕ)) (above below : Rows) (front : Row) (many : ℕ) (back : Row) (new : List Cell) (pen : Attributes) (t : Tty) : Type 0 where
   pub cursor : Option (ℕ × ℕ)
   pub wait : Bool

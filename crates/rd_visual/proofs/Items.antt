@@ -35,7 +35,7 @@ passed : (x b : Begin) (q : Bool) → (q ≡ true → nat_le b.column x.column �
 passed x b false before = refl
 passed x b true before = rw (before refl) refl
 
--- it is an item of the row that covers a position and begins there or before
+-- the item at a column is one of the list that covers a position and begins there or before
 pub item-member : (column : ℕ) (bs : List Begin) (b : Begin) → item_at column bs ≡ Some b → IsOneOf (reaches column) bs b
 item-member column [] b found = absurd cc
 item-member column (x ∷ xs) b found = elim (nearer-one x (reaches column x) (item_at column xs) b found) [

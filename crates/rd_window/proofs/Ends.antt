@@ -47,7 +47,7 @@ module _ {m : SourceValues} {shape : ShapeValues} (source : IsSource m) (is : Is
   each-ends before after b pieces =
       (source.rows b shape (length before, ap (λ bs. slice_get bs (length before)) pieces ∙ at-seam before b after) is).ends
 
-  -- there is a row from each of the blocks on
+  -- the rows from each of the blocks on are one or more
   some-rows : (before after xs : List Block) (x : Block) → m.blocks ≡ before ++ x ∷ after → 0 < length (all_rows rows_in (x ∷ xs))
   some-rows before after xs x pieces =
       let some = some-row (rows_in x) (each-ends before after x pieces) in

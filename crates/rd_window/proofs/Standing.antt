@@ -101,7 +101,7 @@ module _ {l : Layout} {m : SourceValues} {shape : ShapeValues} {w : Wanted} (r :
   abbrev at : Places
   at = places_of m shape w
 
-  -- it starts where it started
+  -- a window that rests starts where it started
   start-stays : start_row m shape w ≡ at.old
   start-stays =
       ap (λ (b : Bool). if b then scrolled w at else following w at) r.current.free ∙ ap (λ o. unwrap_or o (centred w at)) (find-first (suits w at) at.old w.conservatively r.fits)
@@ -121,7 +121,7 @@ module _ {l : Layout} {m : SourceValues} {shape : ShapeValues} {w : Wanted} (r :
   bottom-stays : l.bottom ≡ has_last_row m shape w
   bottom-stays = r.stands.bottom ∙ (λ i. leb (length (rows_at m (shapes i))) (start-seen i + r.current.height i))
 
-  -- it has a row
+  -- a window that rests has a row
   pub some-stay : 1 ≤ w.height → 0 < length l.matrix
   some-stay some =
       let start = start-stays in

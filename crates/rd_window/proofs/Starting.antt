@@ -72,7 +72,7 @@ spent m n old c shape w chosen before chose laid start first told =
     let same = ap (λ (x : SourceValues). near_costs x shape w) start.same in
     omega (arith, first, second, less, same)
 
--- there is a row in view
+-- a window of at least one row, which starts at a row that there is, has a row in view
 pub some-laid : (m : SourceValues) (shape : ShapeValues) (w : Wanted) (es : List Entry) → 1 ≤ w.height → start_row m shape w < length (rows_at m shape) → shown_entries es ≡ rows_in_view m shape w → 0 < length es
 some-laid m shape w es some low same =
     let count = sym (length-map es shown_entry) ∙ ap length same in

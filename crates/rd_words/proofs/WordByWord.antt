@@ -84,7 +84,7 @@ outcome-is w (word ∷ words) =
 abbrev pub after_word : Walk → Text → List Text → Kinds → Held × Step → Option WordValues
 after_word w word rest fault m = unless (or_else fault (step_fault shape 1 m.0 m.1)) (outcome (after_step shape.rules word w m.0 m.1) rest)
 
--- the same of a word that names flags or an option
+-- a word that names flags or an option, with this fault and this meaning, and then the rest
 abbrev pub flagged : Walk → Text → List Text → Kinds → Held × Outcome → Option WordValues
 flagged w word rest fault m = after_word w word rest fault (after_flag shape.rules w.waiting word m.0 m.1)
 

@@ -8,7 +8,7 @@ use Rattle.rd_lineshift.proofs.Moving.{shifted-all, shifted-length}
 use Rattle.rd_lineshift.proofs.screens.shifted.Goals.{After-row_after}
 use Rattle.rd_lineshift.proofs.screens.shifted.Goals as goal
 
--- there is the row after the shift, and these are its cells
+-- the loop's row is one of the screen after the shift, and its cells are these
 here : (c : goal.After-row_after) → c.loop-row.row < length (shifted c.args.shift c.args.current.now).rows
 here c = omega (arith, shifted-length c.args.shift (blank_row (width_of c.args.current.now.rows)) c.args.current.now.rows c.requires)
 

@@ -1,7 +1,7 @@
 use Rattle.std.proofs.Common.{◌≡◌, ◌++◌, length, map, take, drop}
 use Rattle.rd_overlays.proofs.moves.change_each.Given as goal
 
--- those before a place are what calls made of them, and those from it on stand as they stood
+-- the elements of a list before a place are what calls made of them, and those from it on stand as they stood
 abbrev pub invariant-loop-i : goal.invariant-loop-i
 invariant-loop-i g l = record {
   size : length l.list ≡ length l.initial.list;

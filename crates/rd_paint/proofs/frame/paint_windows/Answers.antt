@@ -29,7 +29,7 @@ leaf_at-leaf-requires c = inside c.args.state.now c.states_are_valid.ensures c.r
 viewed : (c : goal.After-leaf_at-leaf) → slice_get c.args.windows.now c.loop-i.i ≡ Some c.index-windows-i.result
 viewed c = slice_get-get_or c.args.windows.now c.loop-i.i c.index-windows-i.result c.loop-i-test.true ∙ ap (λ (x : WindowView). Some x) (sym c.index-windows-i.is)
 
--- that window
+-- the leaf that was found is the window that is painted next
 painted-next : (c : goal.After-leaf_at-leaf) (files : Data) → IsPaintedNext (frame_in files c.args.state.now) c.loop-i.i c.leaf_at-leaf.result.place c.loop-i.screen.rows
 painted-next c =
     let leaf = c.leaf_at-leaf.result in

@@ -9,7 +9,7 @@ use Rattle.rd_term.proofs.Shapes.{put-whole}
 use Rattle.rd_term.proofs.terminal.Terminal.put_at.Goals.{After-index_mut-cells}
 use Rattle.rd_term.proofs.terminal.Terminal.put_at.Goals as goal
 
--- there is the row, and these are its cells
+-- the row at which a character is put is one of the terminal's, and its cells are these
 here : (c : goal.After-index_mut-cells) → c.args.row < length c.self.inside.rows.items
 here c = subst (λ (t : Tty). c.args.row < length t.rows) (sym c.self.view_is) c.requires.row
 
