@@ -20,7 +20,7 @@ pub enum Verdict {
     Yes,
     /// The stream does not show the dump; this differs first.
     No(Difference),
-    /// There is no word, or more than one.
+    /// The command line has no word, or more than one.
     Usage,
     /// The first line of the file's last dump that is bad, from 1; 0 where there is no dump, or the file has more than 8,388,608
     /// bytes.

@@ -15,9 +15,9 @@ pub enum MarkRole {
     Empty,
     /// No mark joins it.
     Alone,
-    /// It is shown itself, as this glyph, which marks may join.
+    /// The character is shown itself, as this glyph, which marks may join.
     Base(Glyph),
-    /// It is a mark, which stands on a blank where it joins nothing.
+    /// The character is a mark, which stands on a blank where it joins nothing.
     Mark(u32),
 }
 

@@ -24,7 +24,7 @@ pub enum LineFault {
     /// A line has more than 1,048,576 bytes.
     #[error("a line is too long")]
     TooLong,
-    /// There are more than 1,000,000 lines.
+    /// The source has more than 1,000,000 lines.
     #[error("there are too many lines")]
     TooMany,
     #[error("no memory")]

@@ -143,7 +143,7 @@ impl HeldBlock {
     ghost use Rattle.rd_rows.specs.Laws.{seen_rows};
     ghost use Rattle.rd_rows.specs.Rows.{weight_of};
 
-    /// Its rows at a shape.
+    /// The block's rows at a shape.
     fn rows<L: Ledger>(
         &self,
         alloc: Global,

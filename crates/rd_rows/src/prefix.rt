@@ -66,7 +66,7 @@ impl Prefix {
         self.columns
     }
 
-    /// Its elements, in the order in which they stand.
+    /// The prefix's elements, in the order in which they stand.
     pub fn placed(&self) -> &[Placed]
         ensures placed { result.now ≡ self.now }
         ensures lead { IsLead self.now }

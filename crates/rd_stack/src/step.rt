@@ -23,9 +23,9 @@ pub enum Frame<'a> {
 pub enum Step<'a> {
     /// Nothing is left in the frame.
     Ends,
-    /// It gives one element.
+    /// The step gives one element.
     Gives(Element),
-    /// It gives the elements that it has put into the list of a few.
+    /// The step gives the elements that it has put into the list of a few.
     Lists,
     /// A string is entered.
     Enters(Entrance<'a>),

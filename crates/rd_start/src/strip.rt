@@ -87,7 +87,7 @@ impl Strip {
     ghost use Rattle.rd_start.specs.declared.strip.Edge.TheVariants.{Bottom, Top};
     ghost use Rattle.rd_start.specs.declared.strip.StripRow.{StripRow};
 
-    /// What it was swept for.
+    /// What the strip was swept for.
     pub(crate) fn sweep(&self) -> Sweep
         ensures { result ≡ self.now.sweep }
     {

@@ -145,7 +145,7 @@ fn mirrors(alloc: Global) -> Result<Mirrors, Fail> {
     Ok(Mirrors::read(alloc, b"0028; 0029\n003C; FF1E\n005B; D800")?)
 }
 
-/// Those data, with or without arrows for controls.
+/// The data of these classes and mirrors, with or without arrows for controls.
 fn worked_data(alloc: Global, ctl_arrow: bool) -> Result<Data, Fail> {
     let classes = classes(alloc)?;
     let mirrors = mirrors(alloc)?;

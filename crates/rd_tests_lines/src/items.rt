@@ -153,7 +153,7 @@ fn assert_cut(
 /// The items of a letter with eight marks.
 const MANY: [(char, u32, u32); 3] = [('E', 0, 7), ('"', 7, 9), ('$', 9, 10)];
 
-/// Those of a letter and two marks with a string between.
+/// The items of a letter and two marks with a string between.
 const PARTED: [(char, u32, u32); 4] = [('e', 0, 1), ('9', 1, 1), ('"', 1, 3), ('$', 3, 4)];
 
 #[test]

@@ -197,10 +197,10 @@ fn shows<L: Ledger>(alloc: Global, view: &View, wrap: Wrap, texts: &[&str], blan
 /// The rows of a line of 15 characters where it is cut.
 const CUT: [&'static str; 1] = ["the quick b$"];
 
-/// Those where it is continued.
+/// The rows of a line of 15 characters where it is continued.
 const CONTINUED: [&'static str; 2] = ["the quick b\\", "rown        "];
 
-/// Those where it is continued by words.
+/// The rows of a line of 15 characters where it is continued by words.
 const BY_WORDS: [&'static str; 2] = ["the quick   ", "brown       "];
 
 #[test]

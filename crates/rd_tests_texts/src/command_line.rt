@@ -106,7 +106,7 @@ fn add_all(
     add(files, alloc, "B", brackets)
 }
 
-/// Those files in memory.
+/// A class file, and where they are given a mirror file and a bracket file, in memory.
 fn files_of(
     alloc: Global,
     classes: &[u8],

@@ -11,7 +11,7 @@ use crate::stretch::{NEWLINE, Stretch};
 /// A part of a text that lies together in memory, no longer than a stretch.
 #[derive(Drop)]
 pub(crate) struct Piece<'a> {
-    /// Its codes.
+    /// The part's codes.
     pub(crate) codes: &'a [u32],
     /// What is kept of it where it is a whole stretch.
     pub(crate) known: Option<Stretch>,

@@ -136,7 +136,7 @@ impl Node {
         }
     }
 
-    /// Its window at a place in order, and None past the last.
+    /// The tree's window at a place in order, and None past the last.
     pub(crate) fn leaf(&self, i: u32) -> Option<u32>
         requires { length (leaves (shape self.now)) ≤ WINDOWS }
         ensures { result ≡ slice_get (leaves (shape self.now)) i }
@@ -154,7 +154,7 @@ impl Node {
         }
     }
 
-    /// Its first window in order.
+    /// The tree's first window in order.
     pub(crate) fn first_leaf(&self) -> u32
         ensures { result ≡ first_leaf (shape self.now) }
     {

@@ -27,7 +27,7 @@ impl Rect {
         }
     }
 
-    /// Its first `size` columns or rows, where it is split.
+    /// The rectangle's first `size` columns or rows, where it is split.
     pub(crate) fn first_part(self, side: Side, size: u32) -> Rect
         ensures { result ≡ first_part side size self }
     {

@@ -49,9 +49,9 @@ impl Covers for Pair {
 /// What a bracket does, with the code of its partner (UAX 9 BD14, BD15).
 #[derive(Clone, Copy, Debug, PartialEq, Eq)]
 pub enum Bracket {
-    /// It opens what the partner closes.
+    /// The bracket opens what the partner closes.
     Opens(u32),
-    /// It closes what the partner opens.
+    /// The bracket closes what the partner opens.
     Closes(u32),
 }
 

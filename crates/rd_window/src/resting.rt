@@ -62,7 +62,7 @@ impl Layout {
         )
     }
 
-    /// Its rows, where it has a shape, and else those of another matrix, which has none.
+    /// The layout's rows, where it has this shape, and else those of another matrix, which has none.
     pub(crate) fn rows_at<'a>(&'a self, none: &'a Matrix, shape: Shape) -> &'a Matrix
         requires { none.now ≡ [] }
         ensures { result.now ≡ older_rows (Some self.now) shape }
@@ -74,7 +74,7 @@ impl Layout {
         }
     }
 
-    /// Its start, and point as it is wanted.
+    /// The layout's start, and point as it is wanted.
     pub(crate) fn chosen(&self, wanted: Wanted) -> Chosen
         requires { 0 < length self.now.matrix }
         ensures { result ≡ record { anchor = anchor_at (shown_entries self.now.matrix) 0; point = wanted.point } }

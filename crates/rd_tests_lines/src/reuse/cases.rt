@@ -104,7 +104,7 @@ macro_rules! combined {
 /// The rows of three lines.
 const ABC: Older = rows_of!("abc");
 
-/// Those of which the second is read from the right edge.
+/// The rows of three lines of which the second is read from the right edge.
 const OTHER: Older = rows_of!("aBc");
 
 /// The rows of five lines.
