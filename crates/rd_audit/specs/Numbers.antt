@@ -7,7 +7,7 @@ use Rattle.rd_base.specs.Cuts.{cut}
 abbrev pub digit : ℕ → Option ℕ
 digit byte = if nat_le 48 byte && nat_le byte 57 then Some (byte - 48) else None
 
--- one of a first digit that is not 0
+-- the number of a first digit, which is not 0
 abbrev pub lead : ℕ → Option ℕ
 lead byte = if byte == 48 then None else digit byte
 

@@ -89,7 +89,7 @@ printable-measured base low high =
     let scalar : is_scalar base ≡ true = grind (arith, nat_tests) in
     single-measured base 1 (search (rules, tests)) (one-column base low high) (omega arith) (omega arith)
 
--- behind those that count the marks are zeros
+-- a list of so many numbers, each of which is 0, is so many zeros
 pub zeros : (n : ℕ) (xs : List ℕ) → length xs ≡ n → ((k : ℕ) → k < n → get_or xs k 0 ≡ 0) → xs ≡ replicate n 0
 zeros zero [] e all = refl
 zeros zero (x ∷ xs) e all = absurd (omega (arith, e))

@@ -76,7 +76,7 @@ all-taken zero es c start k rest at last whole = absurd cc
 all-taken (suc n) es c start k rest at last whole =
     found-or-not es c start k rest (taken_from n es c start (k + 1)) (entry_under es c start k) refl at last whole (λ rs f a b. all-taken n es c start (k + 1) rs f a b)
 
--- where some are taken there is one of number 0
+-- where rows of a block are taken from older ones, one of these has number 0
 first-by : (es : List Entry) (c : Change) (start : ℕ) (older : List RowValues) (o : Option Entry) → entry_under es c start 0 ≡ o → ends_last (shown_rows (up_to_end o older)) ≡ true → (e : Entry) × (entry_under es c start 0 ≡ Some e)
 first-by es c start older None found whole = absurd cc
 first-by es c start older (Some e) found whole = (e, found)

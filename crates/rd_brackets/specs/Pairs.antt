@@ -41,12 +41,12 @@ abbrev pub opener : ℕ → List Opened → Option ℕ
 opener code [] = None
 opener code (o ∷ os) = if o.partner == code then Some o.place else opener code os
 
--- for BD16, the entries below that one
+-- for BD16, the entries below the opening bracket that a code closes
 abbrev pub below : ℕ → List Opened → List Opened
 below code [] = []
 below code (o ∷ os) = if o.partner == code then os else below code os
 
--- for BD16, the stack behind a closing bracket: that entry and all above it are gone; where there is none, nothing changes
+-- for BD16, the stack behind a closing bracket: the bracket that it closes and all above are gone; where there is none, nothing changes
 abbrev pub closed : ℕ → List Opened → List Opened
 closed code os = if is_some (opener code os) then below code os else os
 

@@ -39,7 +39,7 @@ pub going-on : {T E : Type 0} (a b c : Option (List ℕ)) (f g h : ℕ) (all res
     → Going a b f g all rest → rest ≡ piece ++ more → Prints {T = T} {E = E} b c g h piece (Ok t) → Going a c f h all more
 going-on a b c f g h all rest piece more t going e p = going-by a b c f g h all rest piece more going e p.bytes.whole p.never_falls
 
--- what is left is written by another
+-- what is left of a text is written by another call
 pub going-last : {U F : Type 0} (a b c : Option (List ℕ)) (f g h : ℕ) (all rest : List ℕ) (s : Result U F)
     → Going a b f g all rest → Prints b c g h rest s → Prints a c f h all s
 going-last {U} {F} a b c f g h all rest s going p =

@@ -13,7 +13,7 @@ use Rattle.rd_items.proofs.Readings.{end-ends, newline-ends, block-ends, reads-o
 read-more : (s : BufferValue) (o : ObjectLists) (n p : ℕ) → ends_block s p ≡ false → length (reading_from s o (suc n) p) ≡ suc (length (reading_from s o n (suc p)))
 read-more s o n p ender = ap (λ (es : List Seen). suc (length es)) (cond-false (ends_block s p) [] (reading_from s o n (suc p)) ender)
 
--- from a position of a block on as many are read as there are up to its end
+-- from a position of a block on as many positions are read as there are up to the block's end
 reach : (s : BufferValue) (o : ObjectLists) (n p to : ℕ) → p + n ≡ s.text.end → IsFirstEnd s p to → p + length (reading_from s o n p) ≡ to
 reach s o zero p to far rest = omega (arith, rest.first, rest.last)
 reach s o (suc n) p to far rest = elim (cases_lt (suc p) to) [

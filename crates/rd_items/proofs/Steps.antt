@@ -91,7 +91,7 @@ run_behind s o p = run_length s.settings.invisible (showing_at s o p) (drop 1 (r
 left-parts : (s : BufferValue) (o : ObjectLists) (d : Data) (k p : ℕ) → p ≤ s.text.end → left s o d k p ≡ string_pieces k (showing_at s o p).face (strings_at s p) ++ piece_at (scene s o d) (showing_at s o p) (accessible_char s.text p) k (suc k + run_behind s o p) ∷ pieces_from (scene s o d) (run_behind s o p) (suc k) (drop 1 (reading s o p))
 left-parts s o d k p within = ap (pieces_from (scene s o d) 0 k) (reading-behind s o p within)
 
--- behind a position that is no ender
+-- what is skipped behind a position that is no ender
 behind-left : (s : BufferValue) (o : ObjectLists) (d : Data) (first : Showing) (k p : ℕ) → p ≤ s.text.end → ends_block s p ≡ false → IsSkipped s o d first (suc k) (suc p) (drop 1 (reading s o p))
 behind-left s o d first k p within ender =
     let before = before-end s o p within ender in

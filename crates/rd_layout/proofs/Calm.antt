@@ -134,7 +134,7 @@ pub record Became (effect : Effect) (made : ℕ) (ws vs : List NumberedWindow) :
 pub became-same : (effect : Effect) (made : ℕ) (ws : List NumberedWindow) → Became effect made ws ws
 became-same effect made ws = record { lives = λ n _ l. l; calm = λ _. each-same (IsCalm effect) (itself effect) ws }
 
--- where one becomes another
+-- windows of which one becomes another
 pub became-with : (effect : Effect) (made : ℕ) (ws : List NumberedWindow) (n : ℕ) (f : WindowState → WindowState) → ((w : WindowState) → Quiet effect n w.buffer → Same w (f w))
     → Became effect made ws (changed_under n f ws)
 became-with effect made ws n f good = record { lives = λ k _ l. lives-with n f k ws l; calm = λ _. each-with (IsCalm effect) (itself effect) n f ws good }
@@ -149,7 +149,7 @@ calm-moved effect ws i how loud = each-moved (IsCalm effect) (moved_by i how) ws
 pub became-moved : (effect : Effect) (made : ℕ) (ws : List NumberedWindow) (i : ℕ) (how : Move) → Loud effect i → Became effect made ws (map (moved_in i how) ws)
 became-moved effect made ws i how loud = record { lives = λ n _ l. lives-moved i how n ws l; calm = λ _. calm-moved effect ws i how loud }
 
--- where one of them becomes another besides
+-- windows that move with a buffer's text, of which one becomes another besides
 pub became-typed : (effect : Effect) (made : ℕ) (ws : List NumberedWindow) (i : ℕ) (how : Move) (n : ℕ) (f : WindowState → WindowState) (w : WindowState) → Loud effect i
     → window_of n ws ≡ Some w → w.buffer ≡ i → Became effect made ws (changed_under n f (map (moved_in i how) ws))
 became-typed effect made ws i how n f w loud at there = record {

@@ -31,7 +31,7 @@ numbered-each P start number [] own = tt
 numbered-each P start number (r ∷ rs) own =
     (own 0 number r (omega arith) refl, numbered-each P start (number + 1) rs (λ j k x is found. own (suc j) k x (omega (arith, is)) found))
 
--- by the start of the row's block, and its number in it
+-- what holds of each row of each block, by the block's start and the row's number in it, holds of all rows
 pub entries-each : (P : EntryMeaning → Type 0) (rows : Block → List RowMeaning) (bs : List Block)
     → ((b : Block) (k : ℕ) (r : RowMeaning) → IsAmong bs b → slice_get (rows b) k ≡ Some r → P (record { start = b.start; number = k; row = r })) → AllByRecursion P (all_rows rows bs)
 entries-each P rows [] own = tt

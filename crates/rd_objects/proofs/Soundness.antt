@@ -218,7 +218,7 @@ named_strings o spec number closed e = all-at (NamesMade (length o.strings)) o.s
 pub string_coloured : (text : TextValue) (i : ℕ) → IsString text → HasColours (face_of text i)
 string_coloured text i sound = if-else HasColours (given_at text.faces i) plain (given_at-each HasColours text.faces i sound.faces) plain-coloured
 
--- where there is no fault
+-- where fewer objects were made than may be, there is no fault
 pub has_room : (most made : ℕ) → made < most → full_fault most made ≡ None
 has_room most made p = let q : nat_le most made ≡ false = grind (arith, nat_tests) in rw q refl
 

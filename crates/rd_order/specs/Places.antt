@@ -40,7 +40,7 @@ pub record IsNextTo (m q r : ℕ) : Type 0 where
   pub forwards : m % 2 ≡ 0 → r ≡ suc q
   pub backwards : m % 2 ≡ 1 → suc r ≡ q
 
--- for L2, what is found beside place q in that direction, and None where the line ends there or the run does
+-- for L2, what is found beside place q as a run at level base + m is read, and None where the line ends there or the run does
 abbrev pub IsBeside : (ℕ → ℕ) → ℕ → ℕ → ℕ → ℕ → Option ℕ → Type 0
 IsBeside level n base m q (Some r) = IsNextTo m q r × (r < n) × (0 < m → base + m ≤ level r)
 IsBeside level n base m q None = (r : ℕ) → IsNextTo m q r → r < n → (0 < m) × (level r < base + m)

@@ -17,7 +17,7 @@ use Rattle.rd_overlays.specs.Overlays.{covers, overlay_at, precedes}
 use Rattle.rd_overlays.specs.Values.{Gives, IsGreatest, last_given}
 use Rattle.rd_overlays.proofs.Listed.{weak}
 
--- where there is no last one, none of them has one
+-- where these numbers have no last value, none of them has a value
 none-has : (value : ℕ → Option ℕ) (ns : List ℕ) (j : ℕ) → last_given value ns ≡ None → j < length ns → value (get_or ns j 0) ≡ None
 none-has value [] j e inside = absurd (omega arith)
 none-has value (n ∷ ns) zero e inside = (none-both (last_given value ns) (value n) e).1

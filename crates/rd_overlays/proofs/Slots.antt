@@ -25,7 +25,7 @@ pub changed-each : (Q : Overlay → Type 0) (change : Overlay → Overlay) (slot
     → (n : ℕ) (p : Overlay) → overlay_at (map (option_map change) slots) n ≡ Some p → Q p
 changed-each Q change slots becomes n p h = slot-each Q change (overlay_at slots n) (becomes n) p (sym (overlay_at-map (option_map change) slots n refl) ∙ h)
 
--- where one is put stands what stood there, or the new one
+-- an overlay of slots of which one was written stood there before, or is the new one
 pub after-set : (slots : List (Option Overlay)) (i : ℕ) (slot : Option Overlay) (number : ℕ) (p : Overlay) → overlay_at (set slots i slot) number ≡ Some p
     → (overlay_at slots number ≡ Some p) ⊎ (slot ≡ Some p)
 after-set slots i slot number p h =

@@ -34,7 +34,7 @@ use Rattle.rd_paint.proofs.Starts.{is-view}
 pub width-is : (width height : ℕ) (rows : List (List Cell)) → HasSize width (height + 1) rows → width_of rows ≡ width
 width-is width height rows h = grid-width width rows (let tall = h.0 in omega arith) h.1
 
--- when no window is left
+-- where no window is left to be painted, all are painted
 pub all-painted : (f : FrameValues) (i : ℕ) (first rows : List (List Cell)) → length (placed f.tree.windows (frame_of f.tree)) ≤ i → painted_from f 0 first ≡ painted_from f i rows
     → painted (rows_of f) (placed f.tree.windows (frame_of f.tree)) first ≡ rows
 all-painted f i first rows end h = h ∙ ap (λ (ps : List Placed). painted (rows_of f) ps rows) (drop_all i (placed f.tree.windows (frame_of f.tree)) end)

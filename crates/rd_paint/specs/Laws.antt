@@ -15,7 +15,7 @@ use Rattle.rd_tree.specs.declared.placed.Placed.{Placed}
 use Rattle.rd_layout.specs.Laws.{ChosenLaw}
 use Rattle.rd_layout.specs.Screens.{frame_in}
 
--- of the window that is painted next
+-- laws of the layers below: of blocks, of a frame's windows, of the window that is painted next, and of a window's start and point
 pub record PaintLaws : Type 0 where
   pub listed : ListedLaw
   pub fits : (files : Data) (s : StateValue) → IsValid s → FitsFrame (frame_in files s)

@@ -12,7 +12,7 @@ same-cons : (values : List (Option ℕ)) (spans : List (List (Option ℕ))) (p q
 same-cons values spans p q here rest zero = here
 same-cons values spans p q here rest (suc kind) = rest kind
 
--- another value, or an edge
+-- why a stop is one: a property has another value beside it, or an overlay has an edge there
 abbrev Reason : List (List (Option ℕ)) → List (Option Overlay) → ℕ → ℕ → ℕ → Type 0
 Reason spans slots p pos stop = Differs (values_of spans) p pos ⊎ HasEdge slots stop
 

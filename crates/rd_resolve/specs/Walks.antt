@@ -14,7 +14,7 @@ weak_left b cs = w7 b.w7_strong (w6 (w5 b.w5_number (w4 b.w4_before (w3 (w2 b.w2
 abbrev pub w5_run_ends : Class → List Class → Bool
 w5_run_ends strong cs = w5_comes_en (w4 ET (w3 (w2 strong (w1 ET cs))))
 
--- for W5, what is known of that run, where a character with this type after W4 belongs to one
+-- for W5, what is known of whether EN comes behind a run of ET, where a character with this type after W4 belongs to one
 abbrev pub w5_run_of : Class → Bool → Option Bool
 w5_run_of ET ends = Some ends
 w5_run_of c ends = None

@@ -69,7 +69,7 @@ placed_at shape spot e = record {
   first = not (is_item spot.before e.origin.item);
 }
 
--- where the element behind it comes
+-- where the element behind a placed one comes
 abbrev pub behind : Spot → Placed → Spot
 behind spot p = record {
   column = spot.column + p.columns;

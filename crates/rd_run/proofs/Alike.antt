@@ -27,7 +27,7 @@ use Rattle.rd_run.proofs.Whole.{whole-of}
 
 -- ---- where a run stops
 
--- behind n lines this one is too long, or one too many; a generated script has none such
+-- behind n lines a line is too long, or one too many; a generated script has none such
 abbrev pub IsBarred : Option ℕ → ℕ → List ℕ → Status → Type 0
 IsBarred None n line status =
     ((n < LINES) × (LINE_BYTES < length line) × (status ≡ BadScript (n + 1) TooLong)) ⊎ ((LINES ≤ n) × (status ≡ BadScript (n + 1) TooMany))
@@ -83,12 +83,12 @@ not-further : (o : Option ℕ) (n : ℕ) (line : List ℕ) (more lines : List (L
 not-further o n line more lines s (inl a) e passes = no-line lines line more a.0 e
 not-further o n line more lines s (inr a) e passes = not-run o n a.0 line s (heads (sym a.2 ∙ e)).0 a.3 passes
 
--- as many lines were run, and the run stands at the same
+-- two runs from one world have run as many lines, and stand at the same
 pub record AreRunAlike (w : World) (ts us : List Input) : Type 0 where
   pub same : run w ts ≡ run w us
   pub count : length ts ≡ length us
 
--- behind a line that both have run
+-- two runs have run alike, and have one status, where they do so behind a line that both have run
 behind-alike : (o : Option ℕ) (w : World) (n : ℕ) (ts us : List Input) (more : List (List ℕ)) (s r : Status) → (Stops o w (n + 1) ts more s → Stops o w (n + 1) us more r → AreRunAlike w ts us × (s ≡ r))
     → StopsAt w n ts s ⊎ ((w.fault ≡ None) × Stops o w (n + 1) ts more s) → StopsAt w n us r ⊎ ((w.fault ≡ None) × Stops o w (n + 1) us more r) → AreRunAlike w ts us × (s ≡ r)
 behind-alike o w n ts us more s r on (inl a) (inl b) =
@@ -255,7 +255,7 @@ pub taken-in : (given : Given) (mode : Mode) (script bytes : List ℕ) (left : O
     → IsTakenIn mode.generated script bytes left
 taken-in given mode script bytes left m taken = λ read. taken (m.words, m.said, sym m.generated ∙ read)
 
--- as many lines were run from the beginning, if any, and the run stands at the same
+-- two runs that have begun alike, if at all, have run as many lines from their beginning, and stand at the same
 abbrev pub HaveRunAlike : Option Mode → List Input → List Input → Type 0
 HaveRunAlike None ts us = ts ≡ us
 HaveRunAlike (Some mode) ts us = AreRunAlike (opened mode) ts us

@@ -83,7 +83,7 @@ ready laws v t h =
     let frame = h.session.state.frame in
     record { there = h.there; wide = frame.narrow; tall = frame.low; size = target.0; sound = target.1 }
 
--- behind the bytes of an update
+-- a run stands with its terminal behind the bytes of an update
 updated-at : (v next : SessionValue) (u : Update) (target : Picture) (t : Tty) → IsSession next → AreOfOneSize v.state next.state → next.current ≡ Some u.screen
     → IsUpdated v.state.width v.state.height u target t → IsAt next t
 updated-at v next u target t session same now h =

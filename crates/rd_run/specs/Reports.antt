@@ -130,8 +130,8 @@ last_line ReadFault lines = codes "read fault\n"
 last_line WriteFault lines = codes "write fault\n"
 last_line NoMemory lines = codes "no memory\n"
 
--- in place of it, where a generated script was run to its end: how many lines were run and redisplays shown, how many characters the
--- first buffer has, and where the selected window starts
+-- the lines in place of the last one, where a generated script was run to its end: how many lines were run and redisplays shown, how many
+-- characters the first buffer has, and where the selected window starts
 abbrev pub summary_lines : ℕ → ℕ → ℕ → Anchor → List ℕ
 summary_lines lines shown characters start =
     codes "lines " ++ (decimal lines ++ (codes "\nredisplays " ++ (decimal shown ++ (codes "\ncharacters " ++ (decimal characters

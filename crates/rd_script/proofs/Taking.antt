@@ -21,7 +21,7 @@ pub record Left {A B : Type 0} (fields : Fields A) (before now : Asking) (left :
   pub said : fields.taken (members_view before.members) ≡ and_then (λ b. Ok (make b)) (left.taken (members_view now.members))
   pub asked : asked_too fields.keys before ≡ asked_too left.keys now
 
--- before the first is taken all are left
+-- all fields are left before the first of them is taken
 pub all-left : {A B : Type 0} (fields : Fields A) (r : Asking) (make : B → A) (left : Fields B) → fields ≡ made make left → Left fields r r left make
 all-left fields r make left e = record { said = ap (λ x. x.taken (members_view r.members)) e; asked = ap (λ x. asked_too x.keys r) e }
 

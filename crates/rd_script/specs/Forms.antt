@@ -60,11 +60,11 @@ IsStop (Some n) = n ≤ FRAME_ROWS
 abbrev pub is_glyph : ℕ → Bool
 is_glyph c = is_scalar c && not (has_no_glyph c)
 
--- at most so many of them as an entry of a display table shows
+-- glyph characters, at most so many as an entry of a display table shows
 abbrev pub is_glyph_text : List ℕ → Bool
 is_glyph_text text = nat_le (length text) ENTRY_GLYPHS && list_all is_glyph text
 
--- one of one column
+-- a glyph character of one column, which a slot of a display table may show
 abbrev pub is_slot : ℕ → Bool
 is_slot c = is_glyph c && (columns c == 1)
 

@@ -16,7 +16,7 @@ kind_names = (codes "face", kinds.Face) ∷ (codes "display", kinds.Display) ∷
 abbrev pub overlay_kind : Data → Option Kind
 overlay_kind = word kind_names
 
--- one that text has
+-- a kind of properties that text has
 abbrev pub text_kind : Data → Option Kind
 text_kind d = option_and_then (kept_if is_text_kind) (overlay_kind d)
 

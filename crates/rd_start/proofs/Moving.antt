@@ -209,7 +209,7 @@ unsuited-on m win new moves strip same =
       home = ap (λ (x : Sweep). suits w (places_of m x.shape w) (first_row m new + new.home)) same ∙ (ap (suits w (places_of m win.strip.sweep.shape w)) place ∙ moves.home);
     }
 
--- as far above the old start as it may be moved, and then below it
+-- what is asked of a strip: rows as far above the old start as that may be moved, and then below it
 pub far-above : (m : SourceValues) (win : Window) (up : Strip) (n steps base : ℕ) → IsUnsuited m win → EdgePays Top m win.strip up n steps win.wanted.conservatively → NearPaid m win win.strip base n
     → NearPaid m win up base steps
 far-above m win up n steps base moves pays paid =

@@ -98,7 +98,7 @@ kept-past : {X : Type 0} (n m : ℕ) (o : Option X) (rest : List (ℕ × X)) →
 kept-past n m None rest other = refl
 kept-past n m (Some x) rest other = under-there m (n, x) rest other
 
--- the others stay, and so does the number itself where nothing stands under it
+-- where what stands under a number becomes something else, or goes, all else stays, and so does the number where nothing stands under it
 pub under-past : {X : Type 0} (n m : ℕ) (f : X → Option X) (es : List (ℕ × X)) → (m ≡ n → under m es ≡ None) → under m (becoming n f es) ≡ under m es
 under-past n m f [] ne = refl
 under-past n m f (e ∷ rest) ne = elim (cases_eq e.0 n) [
@@ -221,7 +221,7 @@ module _ (R : ℕ → WindowState → WindowState → Type 0) (stays : (number :
   pub each-same : (ws : List NumberedWindow) → Each R ws ws
   each-same ws number w v h k = stays-found number ws w v h k
 
-  -- where one becomes another
+  -- windows of which one becomes another
   pub each-with : (n : ℕ) (f : WindowState → WindowState) (ws : List NumberedWindow) → ((w : WindowState) → R n w (f w)) → Each R ws (changed_under n f ws)
   each-with n f ws changed number w v h k = elim (cases_eq number n) [
     | inl p ↦
@@ -232,7 +232,7 @@ module _ (R : ℕ → WindowState → WindowState → Type 0) (stays : (number :
     | inr q ↦ stays-found number ws w v h (sym (under-other n number f ws q) ∙ k)
   ]
 
-  -- where one comes
+  -- windows to which one is added
   pub each-end : (ws : List NumberedWindow) (e : NumberedWindow) → Each R ws (ws ++ e ∷ [])
   each-end ws e number w v h k =
       let other = if e.0 == number then Some e.1 else None in
@@ -240,7 +240,7 @@ module _ (R : ℕ → WindowState → WindowState → Type 0) (stays : (number :
       let is : w ≡ v = cc (sym (ap (λ (o : Option WindowState). option_or o other) h) ∙ after) in
       subst (R number w) is (stays number w)
 
-  -- where one goes
+  -- windows of which one goes
   pub each-without : (n : ℕ) (ws : List NumberedWindow) → AreApart ws → Each R ws (removed_under n ws)
   each-without n ws apart number w v h k = elim (cases_eq number n) [
     | inl p ↦ absurd (none-some v (sym (window-gone n ws apart) ∙ (ap (λ (m : ℕ). window_of m (removed_under n ws)) (sym p) ∙ k)))

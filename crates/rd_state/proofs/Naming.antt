@@ -87,7 +87,7 @@ content-extended o p c more v =
     let size = goes_longer o.strings p.strings more.strings in
     still-valid p c (v.least_tab, v.most_tab) v.text v.characters v.within (made-extended (seen c) o p v.names more) (λ k x h. let old = v.marks k x h in omega arith)
 
--- other objects, that go on from those that there were
+-- a valid state is valid with other objects, that go on from those that there were
 pub objects-valid : (s : StateValue) (fault : Option ObjectFault) (added : ObjectLists) → IsValid s → (fault ≡ None → AreRight s.objects → AreRight added)
     → Extends s.objects added → IfOk (with_objects s (unless_fault fault added)) IsValid
 objects-valid s (Some e) added v right more = tt

@@ -231,7 +231,7 @@ making-outcome s name =
 changed-outcome : (s : StateValue) (n : ℕ) (f : WindowState → WindowState) → ((w : WindowState) → (f w).buffer ≡ w.buffer) → IfOk (changing n f (Ok s)) (Quiet s)
 changed-outcome s n f keep = quiet s _ refl refl (show-with Nothing n f s.windows keep)
 
--- another tree and another window
+-- a state in which the tree and a window became others
 tree-outcome : (s : StateValue) (n : ℕ) (f : WindowState → WindowState) (r : Result Configuration TreeFault) → ((w : WindowState) → (f w).buffer ≡ w.buffer)
     → IfOk (changing n f (on_tree r (λ tree. record s { tree = tree }))) (Quiet s)
 tree-outcome s n f r keep = treed-if (Quiet s) s r n f (λ d is. quiet s _ refl refl (show-with Nothing n f s.windows keep))

@@ -86,7 +86,7 @@ pub point-keeps : (bs : List BufferValue) (place : ℕ) (w : WindowState) → Is
     → IsWindow bs (record w { point = place })
 point-keeps bs place w v at = window-placed bs bs w w.buffer place w.anchor v v.made at v.anchor
 
--- another point and start, in any buffer, with no rows to go
+-- a window with another point and start, in any buffer, with no rows to go
 pub placed-keeps : (bs : List BufferValue) (w : WindowState) (buffer point : ℕ) (anchor : Anchor) (forced : Bool) → IsWindow bs w → buffer < length bs
     → ((b : BufferValue) → slice_get bs buffer ≡ Some b → IsAccessible b.content.text point) → ((b : BufferValue) → slice_get bs buffer ≡ Some b → IsAccessible b.content.text anchor.pos)
     → IsWindow bs (record w { buffer = buffer; point = point; anchor = anchor; forced = forced; pending = pos 0 })

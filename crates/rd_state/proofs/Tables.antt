@@ -81,7 +81,7 @@ new-content b m e f = λ i. record {
   marks = f i;
 }
 
--- what is left after an edit
+-- what a buffer holds after an edit
 pub changed-content : (b c : BufferState) (m : MarkValues) (text : TextValue) (change : (ℕ → ℕ → Option ℕ) → ℕ → ℕ → Option ℕ) (overlays : List (Option Overlay)) (settings : SettingValues)
     → IsWithin (props.meaning b) → c.text ≡ text → AreAlike (props.values_of c.spans) (change (props.values_of b.spans)) → c.overlays ≡ overlays → c.settings ≡ settings
     → ◌≡◌ {A = ContentValue}

@@ -84,7 +84,7 @@ cut-made row r1 r2 from to begin end lt order le b e within p q =
     ∙ ap (λ k. F ++ (M ++ (replicate (later_columns (drop to row)) None ++ drop k row))) e
     ∙ sym (overwritten-is row from to M (omega arith))
 
--- other cells in place of what was put
+-- a row with other cells in place of those that were put into it
 refilled : (row r M N : Row) (column to : ℕ) → column ≤ length row → r ≡ overwritten column M row → column + length M ≡ to → column + length N ≡ to
     → take column r ++ (N ++ drop to r) ≡ overwritten column N row
 refilled row r M N column to le p e n =

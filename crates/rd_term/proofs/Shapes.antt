@@ -25,7 +25,7 @@ some-rows : (rows : Rows) → 0 < width_of rows → 0 < length rows
 some-rows [] some = absurd (omega arith)
 some-rows (row ∷ rows) some = omega arith
 
--- other rows, as many and as wide
+-- a terminal with other rows, as many and as wide
 pub whole-kept : (rows new : Rows) (cursor next latest region : Option (ℕ × ℕ)) → IsWhole rows cursor latest region
     → length new ≡ length rows → IsGrid (width_of rows) new → IsWithin rows next → IsWhole new next latest region
 whole-kept rows new cursor next latest region h n grid place =
@@ -106,7 +106,7 @@ whole-moved rows cursor latest region from end change h long wide total part =
     whole-kept rows (changed_between from end change rows) cursor None latest region h (length-between from end change rows (λ xs _. long xs) part.0 (omega (arith, part.1, total)))
     (between-all (λ row. length row ≡ width_of rows) from end change rows wide h.0.each) tt
 
--- another row with the latest character and the cursor in it
+-- a terminal with another row, in which the latest character and the cursor are
 pub put-whole : (rows : Rows) (cursor latest region : Option (ℕ × ℕ)) (row column next : ℕ) (new : List (Option Cell)) → IsWhole rows cursor latest region
     → row < length rows → column < width_of rows → next < width_of rows → length new ≡ width_of rows
     → IsWhole (set rows row new) (Some (row, next)) (Some (row, column)) region

@@ -35,7 +35,7 @@ abbrev pub AreTaken : List Entry → Change → ℕ → ℕ → ℕ → ℕ → 
 AreTaken old c start base n number rs = AreOwn old c start base number rs → ends_last rs ≡ true
     → are_whole base (shown_rows (taken_from n old c start number)) ≡ true → shown_rows (taken_from n old c start number) ≡ rs
 
--- by whether the first of them ends the block
+-- the rows that are taken from a number on are the block's, by whether the first of them ends the block
 own-by : (old : List Entry) (c : Change) (start base n number : ℕ) (r : RowMeaning) (rs : List RowMeaning) (e : Entry) (last : Bool) → e.row.shown.ends_block ≡ last → r ≡ e.row.shown
     → AreTaken old c start base n (number + 1) rs → AreOwn old c start base number (r ∷ rs) → ends_last (r ∷ rs) ≡ true
     → are_whole base (shown_rows (e.row ∷ (if last then [] else taken_from n old c start (number + 1)))) ≡ true
@@ -49,7 +49,7 @@ own-by old c start base n number r rs e false last same behind own ends whole =
     let rest = behind (own-rest old c start base number r rs own) (behind-first r rs ends-not ends) (whole-rest base e.row.shown (shown_rows left) last whole) in
     ap (λ x. x ∷ shown_rows left) (sym same) ∙ ap (λ xs. r ∷ xs) rest
 
--- by whether there is one
+-- the rows that are taken from a number on are the block's, by whether there is one of that number
 own-at : (old : List Entry) (c : Change) (start base n number : ℕ) (rs : List RowMeaning) (o : Option Entry) → entry_under old c start number ≡ o
     → ((xs : List RowMeaning) → AreTaken old c start base n (number + 1) xs) → AreOwn old c start base number rs → ends_last rs ≡ true
     → are_whole base (shown_rows (up_to_end o (taken_from n old c start (number + 1)))) ≡ true → shown_rows (up_to_end o (taken_from n old c start (number + 1))) ≡ rs

@@ -58,7 +58,7 @@ next-round m old c shape b d o r right next is = record {
   before = λ j e low at. up-to m old c shape b r right j e (omega (arith, low)) at;
 }
 
--- behind the last one there is none
+-- each of some blocks stands before a place at which there is none
 none-behind : (bs : List Block) (k j : ℕ) (d : Block) → slice_get bs k ≡ None → slice_get bs j ≡ Some d → j < k
 none-behind [] k j d none at = absurd cc
 none-behind (b ∷ bs) zero j d none at = absurd cc

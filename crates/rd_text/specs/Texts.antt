@@ -48,7 +48,7 @@ deleted t from to = record {
   end = t.end - (to - from);
 }
 
--- another accessible range
+-- a text with another accessible range
 abbrev pub narrowed : TextValue → ℕ → ℕ → TextValue
 narrowed t from to = record { text = t.text; begin = from; end = to }
 

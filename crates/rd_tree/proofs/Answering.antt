@@ -74,7 +74,7 @@ pub mode_unknown : (c : Configuration) (w : ℕ) (shown : Bool) (found : Option 
 unfolding mode_tree
 mode_unknown c w shown found looked e = rw (held_by c w None (sym looked ∙ e)) refl
 
--- another mode line, by the window that was found
+-- a tree in which a window has another mode line, by the window that was found
 pub mode_found : (result : Result ⊤ TreeFault) (c d : Configuration) (w : ℕ) (shown : Bool) (found : Option Placed) (window : Placed) → found ≡ window_at w c.windows (frame_of c) → found ≡ Some window
     → Answers result (changed_to c (dressed (record window { mode = shown }) c.windows)) c d → Answers result (mode_tree c w shown) c d
 unfolding mode_tree
@@ -86,7 +86,7 @@ pub margins_unknown : (c : Configuration) (w columns : ℕ) (found : Option Plac
 unfolding margins_tree
 margins_unknown c w columns found looked e = rw (held_by c w None (sym looked ∙ e)) refl
 
--- other margins, by the window that was found
+-- a tree in which a window has other margins, by the window that was found
 pub margins_found : (result : Result ⊤ TreeFault) (c d : Configuration) (w columns : ℕ) (found : Option Placed) (window : Placed) → found ≡ window_at w c.windows (frame_of c) → found ≡ Some window
     → Answers result (changed_to c (dressed (record window { margins = columns }) c.windows)) c d → Answers result (margins_tree c w columns) c d
 unfolding margins_tree

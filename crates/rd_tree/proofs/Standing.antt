@@ -66,7 +66,7 @@ all_room (Split side size first second) rect h =
     let b = second_part side size rect in
     each-append (λ (window : Placed). (columns_for window.margins ≤ window.rect.width) × (rows_for window.mode ≤ window.rect.height)) (placed first a) (placed second b) (all_room first a h.0) (all_room second b h.1)
 
--- others in place of the first element that passes, where it stands among the first elements, or behind them
+-- others in place of the first of two lists' elements that passes, where that stands in the first list, or in the second
 first-front : {X : Type 0} (p : X → Bool) (others : X → List X) (xs ys : List X) → list_any p xs ≡ true → replaced_first p others (xs ++ ys) ≡ replaced_first p others xs ++ ys
 first-front p others [] ys e = absurd (cc)
 first-front p others (x ∷ xs) ys e =

@@ -48,7 +48,7 @@ resize_tree c width height =
     then Ok (record c { windows = resized c.windows (frame width height); width = width; height = height })
     else Err TooSmall
 
--- other windows, where they have room
+-- a configuration with other windows, where they have room
 abbrev pub changed_to : Configuration → Windows → Result Configuration TreeFault
 changed_to c windows = if fits windows (frame_of c) then Ok (record c { windows = windows }) else Err TooSmall
 

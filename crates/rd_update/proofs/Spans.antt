@@ -66,7 +66,7 @@ end-step false zero n h = omega arith
 end-step true (suc end) n h = omega arith
 end-step false (suc end) n h = omega arith
 
--- behind the last that differs
+-- from the end of the differences on nothing differs
 pub behind-here : (same : Bool) (end : ℕ) → end_before same end ≤ 0 → same ≡ true
 behind-here true end le = refl
 behind-here false zero le = absurd (omega arith)

@@ -53,7 +53,7 @@ length-row : (cells : List Cell) → length (row_words cells) ≡ 3 * length cel
 length-row [] = omega arith
 length-row (x ∷ cells) = ap (λ ws. length (ws ++ row_words cells)) (three-words x) ∙ omega (arith, length-row cells)
 
--- as many words for rows as wide
+-- rows of one width have as many words
 pub words-even : (xs ys : List Cell) (olds news : List ℕ) → length xs ≡ length ys → olds ≡ row_words xs → news ≡ row_words ys → length olds ≡ length news
 words-even xs ys olds news n a b = ap length a ∙ length-row xs ∙ ap (λ k. 3 * k) n ∙ sym (ap length b ∙ length-row ys)
 

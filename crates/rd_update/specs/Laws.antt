@@ -36,7 +36,7 @@ pub record IsReady (width height : ℕ) (current : Option Picture) (target : Pic
   pub size : IsOfSize width height target
   pub sound : IsSound target
 
--- the terminal's cells are then those of the new current screen, its pen is plain, and where the update is done its cursor is
+-- behind an update the terminal's cells are those of the new current screen, its pen is plain, and where the update is done its cursor is
 -- the target's
 pub record IsUpdated (width height : ℕ) (u : Update) (target : Picture) (t : Tty) : Type 0 where
   pub sure : t.confused ≡ false

@@ -14,7 +14,7 @@ use Rattle.rd_visual.specs.declared.range.Range.{Range}
 use Rattle.rd_visual.specs.declared.way.Way.{Way}
 use Rattle.rd_visual.specs.declared.way.Way.TheVariants.{Forward, Backward}
 
--- where one was chosen, the test passed and it is this one, or it is what was left
+-- what was chosen by a test is its own where the test passed, and else what was left
 chosen-either : {X : Type 0} (b : Bool) (x y : X) (rest : Option X) → (if b then Some x else rest) ≡ Some y → ((b ≡ true) × (x ≡ y)) ⊎ ((b ≡ false) × (rest ≡ Some y))
 chosen-either true x y rest h = inl (refl, cc)
 chosen-either false x y rest h = inr (refl, h)
@@ -35,7 +35,7 @@ some-back (r ∷ front) back some = some-back front back some.1
 abbrev pub HoldOnce : List Range → Type 0
 HoldOnce rs = (pos : ℕ) → count_by (holds pos) rs ≤ 1
 
--- where one of them has a position those before it and behind it have not
+-- of ranges of which at most one has a position: where one has it, those before it and behind it have not
 alone : (pos : ℕ) (front : List Range) (r : Range) (back : List Range) → count_by (holds pos) (front ++ (r ∷ back)) ≤ 1 → holds pos r ≡ true → (count_by (holds pos) front ≡ 0) × (count_by (holds pos) back ≡ 0)
 alone pos front r back few here =
     let all = count-append (holds pos) front (r ∷ back) in

@@ -57,7 +57,7 @@ start us words = outcome (walk_from (held (rows us) None)) words
 abbrev wait : List Use → Setting → List Text → Option WordValues
 wait us s words = outcome (awaiting (held (rows us) None) (name_of s)) words
 
--- behind an option and its value, each a word
+-- what words make behind an option and its value, each a word
 pending : (us : List Use) (s : Setting) (v : Text) (words : List Text) → has_value s ≡ true
     → outcome (walk_from (held (rows us) (Some (name_of s, v ∷ [])))) words ≡ (if fits us (s, v) then start (us ++ (s, v) ∷ []) words else None)
 pending us s v words e =

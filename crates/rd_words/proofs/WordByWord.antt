@@ -88,7 +88,7 @@ after_word w word rest fault m = unless (or_else fault (step_fault shape 1 m.0 m
 abbrev pub flagged : Walk → Text → List Text → Kinds → Held × Outcome → Option WordValues
 flagged w word rest fault m = after_word w word rest fault (after_flag shape.rules w.waiting word m.0 m.1)
 
--- behind an option whose value is still to come, and behind `--`
+-- where a walk stands behind an option whose value is still to come, and behind `--`
 abbrev pub awaiting : Held → Text → Walk
 awaiting h id = record (walk_from (record h { pending = Some (id, []) })) { waiting = option id }
 
