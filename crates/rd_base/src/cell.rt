@@ -36,7 +36,7 @@ impl Glyph {
         self.base == 32 && self.count == 0
     }
 
-    /// Whether one more mark may join it: it has fewer than six.
+    /// Whether one more mark may join the glyph: it has fewer than six.
     pub fn takes_mark(&self) -> bool
         ensures { result ≡ takes_mark self.now }
     {

@@ -116,7 +116,7 @@ impl<'a> Blocks<'a> {
         Ok(Some(Block { start, end, base }))
     }
 
-    /// What holds of one of its blocks: it is a block of the buffer, and its base level is 0 or 1.
+    /// What holds of one of the source's blocks: it is a block of the buffer, and its base level is 0 or 1.
     fn stands(&self, block: &Block)
         requires { IsAmong (source_of self.now).blocks block.now }
         ensures block { IsBlock (meaning self.now.state.now) block.now.start block.now.end }

@@ -25,7 +25,7 @@ pub enum DataKind {
 /// A data file that is bad.
 #[derive(Clone, Copy, Debug, Drop, PartialEq, Eq)]
 pub struct BadFile {
-    /// Which of the three it is.
+    /// Which of the three data files is bad.
     pub file: DataFile,
     /// The number of the file's first bad line, from 1; 0 where the file is too large.
     pub line: u32,

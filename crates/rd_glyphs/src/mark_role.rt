@@ -11,9 +11,9 @@ use rd_base::{Ch, Glyph};
 /// How a character stands towards marks that join glyphs. A character that a display table shows joins no mark, nor is it one.
 #[derive(Clone, Copy, Debug, PartialEq, Eq)]
 pub enum MarkRole {
-    /// The table shows nothing for it, so it has no element.
+    /// The table shows nothing for the character, so it has no element.
     Empty,
-    /// No mark joins it.
+    /// No mark joins the character.
     Alone,
     /// The character is shown itself, as this glyph, which marks may join.
     Base(Glyph),

@@ -23,7 +23,7 @@ pub fn l1_reset(line: &mut Line)
     }
 }
 
-/// For L1, whether it resets a character, where it is known whether it resets what is behind.
+/// For L1, whether the rule resets a character, where it is known whether it resets what is behind.
 fn l1_resets(class: Class, behind: bool) -> bool
     ensures { result ≡ (l1_is_separator class || (l1_is_white class && behind)) }
 {
@@ -34,7 +34,7 @@ fn l1_resets(class: Class, behind: bool) -> bool
     }
 }
 
-/// For L1, the base where it resets, else the level.
+/// For L1, the base where the rule resets a character, else the character's level.
 fn l1_level(white: bool, base: u8, level: u8) -> u8
     ensures { result ≡ (if white then base else level) }
 {

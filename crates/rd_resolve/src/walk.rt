@@ -10,13 +10,13 @@ pub trait WalkRules: Copy {
     ghost use Rattle.rd_base.specs.declared.class.Class.{Class};
     ghost use Rattle.rd_resolve.specs.Places.{types_at};
 
-    // what they make of the types that are left, of characters with these classes and levels
+    // what the rules make of the types that are left, of characters with these classes and levels
     ghost left: { Self → List Class → List Class → List ℕ → List Class };
 
-    // what they know of the types that are left is so
+    // what the rules know of the types that are left is so
     ghost is_known: { Self → List Class → Type 0 };
 
-    /// The type that they give the next character, which has this original class, type and level; its line has these types, and `rest`
+    /// The type that the rules give the next character, which has this original class, type and level; its line has these types, and `rest`
     /// are the indexes behind it.
     fn step(
         &mut self,

@@ -58,7 +58,7 @@ impl Prefix {
         Ok(Prefix { placed, columns })
     }
 
-    /// How many columns it takes, at most 200.
+    /// How many columns the prefix takes, at most 200.
     pub fn columns(&self) -> u64
         ensures columns { result ≡ columns_of self.now }
         ensures lead { IsLead self.now }

@@ -24,7 +24,7 @@ pub struct Part {
     pub class: Class,
     pub kind: ItemKind,
     pub face: Face,
-    /// How it stands towards the marks behind it.
+    /// How the part stands towards the marks behind it.
     pub role: MarkRole,
 }
 

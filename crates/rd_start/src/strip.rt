@@ -101,7 +101,7 @@ impl Strip {
         self.home
     }
 
-    /// How many rows it has.
+    /// How many rows the strip has.
     pub(crate) fn count(&self) -> usize
         ensures value { result ≡ length self.now.strip_rows.items }
         ensures bound { result < 2 ^ 63 }
@@ -196,7 +196,7 @@ impl Strip {
         }
     }
 
-    /// How far it reaches at an edge: at the top, how many rows stand above the anchor's; at the bottom, how many rows it has.
+    /// How far the strip reaches at an edge: at the top, how many rows stand above the anchor's; at the bottom, how many rows it has.
     fn extent(&self, edge: Edge) -> usize
         ensures { result ≡ extent edge self.now }
     {

@@ -84,7 +84,7 @@ impl Parameters {
         }
     }
 
-    /// With one more digit. None where it follows a leading zero, or would begin a seventeenth number.
+    /// The numbers with one more digit. None where it follows a leading zero, or would begin a seventeenth number.
     pub(crate) fn with_digit(self, digit: u8) -> Option<Parameters>
         requires { digit < 10 }
         ensures { result ≡ with_digit self digit }

@@ -10,7 +10,7 @@ use crate::parameters::{Numbers, Parameters};
 /// How far a control sequence or a character was read.
 #[derive(Drop)]
 pub(crate) enum Reading {
-    /// None of it: the terminal stands between two sequences.
+    /// Nothing of a sequence or a character was read: the terminal stands between two sequences.
     Between,
     /// The escape byte.
     Escaped,

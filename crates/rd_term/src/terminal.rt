@@ -102,7 +102,7 @@ impl Terminal {
         self.cursor
     }
 
-    /// Whether it has read what it could not obey.
+    /// Whether the terminal has read what it could not obey.
     pub fn confused(&self) -> bool
         ensures { result ≡ self.now.confused }
     {

@@ -129,7 +129,7 @@ const FACES: [(&'static str, Pos, Face); 4] = [
     ("the face of the end", 4, Face::PLAIN),
 ];
 
-/// How its positions are hidden.
+/// How the positions of the buffer of three characters are hidden.
 const HIDDEN: [(&'static str, Pos, Hidden); 3] = [
     ("the first is hidden", 1, Hidden::Plain),
     ("the second is replaced", 2, Hidden::No),

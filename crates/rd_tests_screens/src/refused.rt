@@ -210,7 +210,7 @@ fn filled(alloc: Global, front: &str, count: usize) -> Result<String, AllocError
     Ok(line)
 }
 
-/// What a state answers to such a line; None also where there was no memory for it.
+/// What a state answers to a line with so many characters `a`; None also where there was no memory for it.
 fn answer_filled(
     state: &mut State,
     alloc: Global,

@@ -114,7 +114,7 @@ fn stand(alloc: Global, line: &str, wanted: (u32, u32)) -> bool {
     }
 }
 
-/// Where they stand after a line, in a state.
+/// Where the points of the twins stand after a line, in a state.
 fn points_in(state: &mut State, alloc: Global, line: &str) -> Option<(u32, u32)> {
     if !runs(state, alloc, &TWINS) || !is_accepted(state, alloc, line) {
         return None;

@@ -32,7 +32,7 @@ fn assert_made(rt: &impl Abort, overlays: &mut Overlays) {
     assert!(rt; overlays.set(0, Kind::After, Some(7)) == Ok(()));
 }
 
-/// Looks for those overlays.
+/// Looks for the overlays around position 2.
 fn assert_found(rt: &impl Abort, overlays: &Overlays) {
     assert!(rt; has_only_after(overlays, 0, 7));
     assert!(rt; overlays.get(5).is_none());
@@ -55,7 +55,7 @@ fn assert_found(rt: &impl Abort, overlays: &Overlays) {
     assert!(rt; overlays.next_edge(3) == None);
 }
 
-/// Moves the third of them and takes the fifth away.
+/// Moves the third of the overlays and takes the fifth away.
 fn assert_changed(rt: &impl Abort, overlays: &mut Overlays) {
     assert!(rt; overlays.move_to(2, 2, 6) == Ok(()));
     assert!(rt; overlays.next_edge(3) == Some(6));

@@ -13,12 +13,12 @@ use crate::stretch::{NEWLINE, Stretch};
 pub(crate) struct Piece<'a> {
     /// The part's codes.
     pub(crate) codes: &'a [u32],
-    /// What is kept of it where it is a whole stretch.
+    /// What is kept of the part where it is a whole stretch.
     pub(crate) known: Option<Stretch>,
 }
 
 impl<'a> Piece<'a> {
-    /// How many characters it has.
+    /// How many characters the part has.
     pub(crate) fn len(&self) -> usize
         ensures { result ≡ length self.now.codes.now }
     {
@@ -49,7 +49,7 @@ impl<'a> Piece<'a> {
         }
     }
 
-    /// How many newlines there are.
+    /// How many newlines the part has.
     pub(crate) fn newlines(&self) -> u32
         requires { IsPiece self.now.codes.now self.now.known }
         ensures value { result ≡ count_by is_newline self.now.codes.now }

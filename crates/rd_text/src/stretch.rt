@@ -13,7 +13,7 @@ pub(crate) const NEWLINE: u32 = 10;
 /// What a search needs to know of a stretch of a text so that it can pass over it.
 #[derive(Clone, Copy)]
 pub(crate) struct Stretch {
-    /// How many newlines there are.
+    /// How many newlines the stretch has.
     pub(crate) newlines: u32,
     /// Whether a character is neither newline nor blank.
     pub(crate) inked: bool,

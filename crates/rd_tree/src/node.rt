@@ -87,7 +87,7 @@ impl Node {
         })
     }
 
-    /// How many columns its windows need.
+    /// How many columns the tree's windows need.
     pub(crate) fn columns(&self) -> u32
         requires { columns_needed (shape self.now) ≤ FRAME_COLUMNS }
         ensures { result ≡ columns_needed (shape self.now) }
@@ -106,7 +106,7 @@ impl Node {
         }
     }
 
-    /// How many rows its windows need.
+    /// How many rows the tree's windows need.
     pub(crate) fn rows(&self) -> u32
         requires { rows_needed (shape self.now) ≤ FRAME_ROWS }
         ensures { result ≡ rows_needed (shape self.now) }
@@ -125,7 +125,7 @@ impl Node {
         }
     }
 
-    /// How many windows it has.
+    /// How many windows the tree has.
     pub(crate) fn count(&self) -> u32
         requires { length (leaves (shape self.now)) ≤ WINDOWS }
         ensures { result ≡ length (leaves (shape self.now)) }
@@ -164,14 +164,14 @@ impl Node {
         }
     }
 
-    /// Whether it is one window alone.
+    /// Whether the tree is one window alone.
     pub(crate) fn is_single(&self) -> bool
         ensures { result ≡ is_single (shape self.now) }
     {
         matches!(self, Node::Leaf(_leaf))
     }
 
-    /// Whether it is one window alone, with this number.
+    /// Whether the tree is one window alone, with this number.
     fn is_leaf_of(&self, window: u32) -> bool
         ensures { result ≡ is_leaf_of window (shape self.now) }
     {
@@ -181,7 +181,7 @@ impl Node {
         }
     }
 
-    /// Whether one of its windows has this number.
+    /// Whether one of the tree's windows has this number.
     pub(crate) fn holds(&self, window: u32) -> bool
         ensures { result ≡ holds window (shape self.now) }
     {
@@ -217,7 +217,7 @@ impl Node {
         }
     }
 
-    /// Lets its windows share another rectangle, which meets their needs. A first part keeps its size where it can.
+    /// Lets the tree's windows share another rectangle, which meets their needs. A first part keeps its size where it can.
     pub(crate) fn resize(&mut self, rect: Rect)
         requires parts { FirstPartsFit (shape self.old) }
         requires needs { NeedsMet (shape self.old) rect }
@@ -290,7 +290,7 @@ impl Node {
         }
     }
 
-    /// Gives way to one of its parts, which takes the whole rectangle, and answers the first window of that part.
+    /// A tree gives way to one of its parts, which takes the whole rectangle; answers the first window of that part.
     fn give_way(&mut self, rest: Node, rect: Rect) -> u32
         requires fills { FirstPartsFit (shape rest) × NeedsMet (shape rest) rect }
         requires inside { InFrame rect }

@@ -43,7 +43,7 @@ impl Rect {
         }
     }
 
-    /// What is behind its first `size` columns or rows.
+    /// What is behind the rectangle's first `size` columns or rows.
     pub(crate) fn second_part(self, side: Side, size: u32) -> Rect
         requires inside { InFrame self }
         requires within { size ≤ along side self }

@@ -16,7 +16,7 @@ impl Range {
     ghost use Rattle.std.specs.Prelude.{◌≡◌};
     ghost use Rattle.rd_visual.specs.Motion.{holds};
 
-    /// Whether it has a position.
+    /// Whether the range has a position.
     fn holds(self, pos: Pos) -> bool
         ensures { result ≡ holds pos self }
     {

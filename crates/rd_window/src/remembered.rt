@@ -56,7 +56,7 @@ impl<B: BlockSource> Remembered<B> {
         }
     }
 
-    /// Lets it hand out what it remembers, from the next call on.
+    /// Lets the source hand out what it remembers, from the next call on.
     pub(crate) fn hand_out(&mut self)
         ensures { self.new ≡ self.old }
     {

@@ -1,7 +1,7 @@
 //! Lines with a field that is of another kind or out of its range.
 use super::assert_faults;
 
-/// Lines with such a field, and its key. In two tables: the proof of one of all would be too long.
+/// Lines with a bad field, and its key. In two tables: the proof of one of all would be too long.
 const BAD: [(&'static str, &'static str, &'static str); 50] = [
     case!("null as an op" => r#"{"op":null}"#, "op"),
     case!("an array as an op" => r#"{"op":["type"],"text":""}"#, "op"),

@@ -17,7 +17,7 @@ fn nested(alloc: Global, arrays: usize) -> Result<String, AllocError> {
     Ok(line)
 }
 
-/// Whether such a line has a fault of this kind, at this key.
+/// Whether a line whose extra member is so many arrays deep has a fault of this kind, at this key.
 fn nests_with(alloc: Global, arrays: usize, kind: &str, key: &str) -> bool {
     match nested(alloc, arrays) {
         Ok(line) => faults(alloc, line.as_str(), kind, key),
@@ -49,7 +49,7 @@ fn repeated(alloc: Global, front: &str, part: &str, count: usize) -> Result<Stri
     Ok(line)
 }
 
-/// Whether such a line is an op.
+/// Whether a line that repeats a text so many times is an op.
 fn is_read(alloc: Global, front: &str, part: &str, count: usize) -> bool {
     match repeated(alloc, front, part, count) {
         Ok(line) => read_op(alloc, line.as_bytes()).is_ok(),
@@ -57,7 +57,7 @@ fn is_read(alloc: Global, front: &str, part: &str, count: usize) -> bool {
     }
 }
 
-/// Whether such a line is refused for the field of a key.
+/// Whether a line that repeats a text so many times is refused for the field of a key.
 fn is_too_long(alloc: Global, front: &str, part: &str, count: usize, key: &str) -> bool {
     match repeated(alloc, front, part, count) {
         Ok(line) => faults(alloc, line.as_str(), "BadField", key),

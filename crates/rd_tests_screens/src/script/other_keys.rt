@@ -4,7 +4,7 @@ use super::{assert_faults, has_fault};
 use crate::claims::assert_each;
 use std::alloc::{AllocError, Global};
 
-/// Lines with such keys, and the first of them in byte order.
+/// Lines with keys that the op does not have, and the first of them in byte order.
 const EXTRA: [(&'static str, &'static str, &'static str); 7] = [
     case!("a key of other ops" => r#"{"op":"buffer","name":"a","buffer":"a"}"#, "buffer"),
     case!("two other keys, against their order" => r#"{"op":"widen","y":1,"buffer":"a","x":1}"#, "x"),
