@@ -92,7 +92,7 @@ covered before (cell ∷ cells) p q =
     let range = own-colours before cell p (All-head IsColoured cell cells q) in
     covers-more cell face (runs_of (faces_of face cells)) cells (own-face before cell) range (start-by face cells) (covered face cells range (All-tail IsColoured cell cells q))
 
--- ---- their texts
+-- ---- the texts of runs
 
 -- the texts of runs that are not plain
 abbrev pub texts : ℕ → List Stretch → List (List ℕ)

@@ -17,7 +17,7 @@ stripped-behind f s rest e = rw (e, take-append_seam f rest, (bytes_eq-Decides f
 
 -- ---- the last of a byte
 
--- bytes without it have no cut
+-- bytes none of which is this one have no cut at it
 pub last-none : (byte : ℕ) (bs : List ℕ) → ((k : ℕ) → k < length bs → get_or bs k 0 ≢ byte) → None ≡ cut_last byte bs
 last-none byte [] none = refl
 last-none byte (b ∷ bs) none =

@@ -28,7 +28,7 @@ abbrev pub face_from : ℕ → Attributes → List (List ℕ) → Option Attribu
 face_from place face [] = Some face
 face_from place face (text ∷ texts) = option_and_then (λ next. face_from next.0 next.1 texts) (with_number place face text)
 
--- the face of its numbers, at least one, between semicolons
+-- the face that bytes say: its numbers, at least one, between semicolons
 abbrev pub face_of : List ℕ → Option Attributes
 face_of bytes = face_from 0 plain (pieces 59 bytes)
 

@@ -31,7 +31,7 @@ abbrev pub place_or : ℕ → Option ℕ → Option (ℕ × ℕ) → Option (ℕ
 place_or row None place = place
 place_or row (Some column) place = Some (row, column)
 
--- the row and the column of the first such cell, by row and then by column
+-- the row and the column of the first cell that is not known or is another, or that only one of two screens has, row by row
 abbrev pub other_place : ℕ → List (List Cell) → List (List (Option Cell)) → Option (ℕ × ℕ)
 other_place row [] [] = None
 other_place row [] (other ∷ others) = Some (row, 0)

@@ -66,7 +66,7 @@ IsColoured Rest = Unit {0}
 IsColoured (Blank f) = HasColours f
 IsColoured (First g f) = HasColours f
 
--- rows of such cells
+-- rows of cells whose colours are in their range
 abbrev pub AreColoured : List (List Cell) → Type 0
 AreColoured rows = All (λ row. All IsColoured row) rows
 
@@ -78,7 +78,7 @@ pub record IsSmallGlyph (g : Glyph) : Type 0 where
   pub count : g.count ≤ GLYPH_MARKS
   pub width : g.width ≤ 3
 
--- a cell of such a glyph
+-- a cell whose glyph, where it has one, is small, as `IsSmallGlyph` says it, and whose colours are in their range
 abbrev pub IsSmall : Cell → Type 0
 IsSmall Rest = Unit {0}
 IsSmall (Blank f) = HasColours f

@@ -30,7 +30,7 @@ abbrev pub change_in : Effect → ℕ → Option WindowState → Change
 change_in effect number None = none
 change_in effect number (Some w) = change_by effect number w.buffer
 
--- a last layout since which that changed too, of a window of the state behind the op
+-- a last layout of a window of the state behind an op, with what the op changed joined to what had changed since
 abbrev pub later : Effect → StateValue → ℕ × Layout → ℕ × Layout
 later effect s e = (e.0, record e.1 { change = join e.1.change (change_in effect e.0 (window_of e.0 s.windows)) })
 

@@ -85,7 +85,7 @@ abbrev pub mode_line : Data → FactValues → ℕ → Option (List ℕ) → Lis
 mode_line files facts width None = []
 mode_line files facts width (Some format) = cells_of_pieces files facts width (pieces_of format)
 
--- ---- all of it
+-- ---- all of a window
 
 -- what a window of so many columns shows in its rectangle of a buffer that holds this and has these facts, where this is its view
 abbrev pub pane_with : Data → ObjectLists → ContentValue → FactValues → WindowState → ℕ → WindowView → PaneValues

@@ -30,7 +30,7 @@ cheaper cost_of None other = other
 cheaper cost_of (Some s) None = Some s
 cheaper cost_of (Some s) (Some other) = if nat_le (cost_of s) (cost_of other) then Some s else Some other
 
--- the first of those that cost the least
+-- the first of the shifts that cost the least
 abbrev pub cheapest : (Shift → ℕ) → List Shift → Option Shift
 cheapest cost_of [] = None
 cheapest cost_of (s ∷ shifts) = cheaper cost_of (Some s) (cheapest cost_of shifts)

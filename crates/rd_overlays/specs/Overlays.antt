@@ -97,12 +97,12 @@ meets Ends pos overlay = ends pos overlay
 abbrev pub precedes : Rank → Rank → Bool
 precedes a b = is_lt (ordering_then (int_cmp a.priority b.priority) (nat_cmp a.number b.number))
 
--- a list in that order with one more overlay
+-- a list in the order of listings, with one more overlay
 abbrev pub placed : Rank → List Rank → List Rank
 placed rank [] = rank ∷ []
 placed rank (r ∷ rs) = if precedes r rank then r ∷ placed rank rs else rank ∷ r ∷ rs
 
--- ranks with that of the overlay of a number, where it lives and passes a test
+-- the ranks of a listing, with that of the overlay of a number where it lives and passes a test
 abbrev pub with_slot : (Overlay → Bool) → ℕ → Option Overlay → List Rank → List Rank
 with_slot test number None ranks = ranks
 with_slot test number (Some overlay) ranks =

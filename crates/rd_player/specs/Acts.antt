@@ -33,7 +33,7 @@ mode_of r = record { files = r.session.files; dumps = r.dumps; generated = r.gen
 abbrev pub standing : Playing → Standing
 standing r = record { mode = mode_of r; session = without_copies r.session; lines = r.lines; shown = r.shown }
 
--- no line of it was run
+-- a run of which no line was run
 abbrev pub IsNew : Playing → Type 0
 IsNew r = standing r ≡ (opened (mode_of r)).now
 

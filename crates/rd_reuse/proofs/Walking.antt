@@ -138,7 +138,7 @@ module _ {m : SourceValues} {old : List Entry} {c : Change} {shape : ShapeValues
   abbrev pub among : IsAmong m.blocks block
   among = (length w.before, ap (λ bs. slice_get bs (length w.before)) w.pieces ∙ at-seam w.before block w.after)
 
-  -- what its rows cost
+  -- what the rows of the next block cost
   pub costs : length (shown_entries rows) < most
       → steps + fresh_cost m old c shape block
       + costs_of (fresh_cost m old c shape) (blocks_with (is_between place (place + most)) (λ b. m.rows_of b shape) (length (all_rows (λ b. m.rows_of b shape) w.before) + length (m.rows_of block shape)) w.after)

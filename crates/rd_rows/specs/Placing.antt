@@ -22,7 +22,7 @@ abbrev pub is_blank : Look → Bool
 is_blank Blank = true
 is_blank look = false
 
--- a row ends behind such an element
+-- whether a row ends behind an element of this look
 abbrev pub ends_row : Look → Bool
 ends_row RowEnd = true
 ends_row LineEnd = true

@@ -54,7 +54,7 @@ Stops o w n (t ∷ ts) lines status =
     (more : List (List ℕ)) × (lines ≡ t.line ∷ more) × IsLet o n t.line
     × (StopsAt (run_line w t) n ts status ⊎ (((run_line w t).fault ≡ None) × Stops o (run_line w t) (n + 1) ts more status))
 
--- ---- it stops at one place
+-- ---- a run stops at one place
 
 no-line : (lines : List (List ℕ)) (y : List ℕ) (ys : List (List ℕ)) → lines ≡ [] → lines ≡ y ∷ ys → ⊥
 no-line lines y ys p q = let e : [] ≡ y ∷ ys = sym p ∙ q in cc

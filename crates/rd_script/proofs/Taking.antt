@@ -25,7 +25,7 @@ pub record Left {A B : Type 0} (fields : Fields A) (before now : Asking) (left :
 pub all-left : {A B : Type 0} (fields : Fields A) (r : Asking) (make : B → A) (left : Fields B) → fields ≡ made make left → Left fields r r left make
 all-left fields r make left e = record { said = ap (λ x. x.taken (members_view r.members)) e; asked = ap (λ x. asked_too x.keys r) e }
 
--- the first of those that are left is taken
+-- the first of the fields that are left is taken
 pub taken : {A B C : Type 0} {fields : Fields C} {r s t : Asking} {make : A × B → C} {a : A} (f : Fields A) (g : Fields B) → Left fields r s (both f g) make → IsTaken (Ok a) f s t
     → Left fields r t g (λ b. make (a, b))
 taken {A} {B} {C} {fields} {r} {s} {t} {make} {a} f g h k = record {
@@ -34,11 +34,11 @@ taken {A} {B} {C} {fields} {r} {s} {t} {make} {a} f g h k = record {
   asked = h.asked ∙ ap (λ keys. record { members = s.members; keys = keys }) (sym (append_assoc s.keys f.keys g.keys)) ∙ ap (asked_too g.keys) (sym k.1);
 }
 
--- the last one is taken
+-- the last field that is left is taken
 pub last-taken : {A B : Type 0} {fields : Fields B} {r s t : Asking} {f : Fields A} {make : A → B} {a : A} → Left fields r s f make → IsTaken (Ok a) f s t → IsTaken (Ok (make a)) fields r t
 last-taken {make = make} h k = (h.said ∙ ap (and_then (λ x. Ok (make x))) k.0, k.1 ∙ sym h.asked)
 
--- all are refused where those that are left are
+-- all fields are refused where those that are left are
 left-refused : {A B : Type 0} {fields : Fields B} {r s : Asking} {f : Fields A} {make : A → B} (t : Asking) (e : OpFault) (result : Result B OpFault) → IsErrAnd result (λ y. y ≡ e)
     → Left fields r s f make → IsRead {T = A} (Err e) (f.taken (members_view s.members)) → IsTaken result fields r t
 left-refused t e (Ok x) is h k = absurd is
@@ -48,7 +48,7 @@ left-refused {A} {B} {fields} {r} {s} {f} {make} t e (Err y) is h k = (
   tt,
 )
 
--- the first of them is refused
+-- the first of the fields that are left is refused
 pub first-refused : {A B C : Type 0} {fields : Fields C} {r s : Asking} {make : A × B → C} (f : Fields A) (g : Fields B) (t : Asking) (e : OpFault) (result : Result C OpFault) → IsErrAnd result (λ y. y ≡ e)
     → Left fields r s (both f g) make → IsTaken {T = A} (Err e) f s t → IsTaken result fields r t
 first-refused {s = s} f g t e result is h k = left-refused t e result is h (fault-stays (λ x. and_then (λ y. Ok (x, y)) (g.taken (members_view s.members))) e (f.taken (members_view s.members)) k.0)

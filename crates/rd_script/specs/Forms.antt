@@ -28,7 +28,7 @@ is_name_character c = is_scalar c && (nat_le 32 c && (nat_lt c 127 || nat_le 160
 abbrev pub is_name_length : ℕ → Bool
 is_name_length n = nat_le 1 n && nat_le n NAME_CHARACTERS
 
--- the bytes of a buffer's name in UTF-8, which spell so many such characters
+-- the bytes of a buffer's name in UTF-8: they spell characters that such a name may have, and as many as it may have
 abbrev pub is_buffer_name : List ℕ → Bool
 is_buffer_name name = is_name_length (length (chars name)) && list_all is_name_character (chars name)
 

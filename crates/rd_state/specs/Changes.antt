@@ -16,7 +16,7 @@ pub record Stays (old : ContentValue) (old_objects : ObjectLists) (new : Content
   pub seen : Unchanged (seen old) old_objects (seen new) new_objects head tail added
   pub settings : without_flags new.settings ≡ without_flags old.settings
 
--- all of it is the same
+-- a buffer before and behind an op, of which all is the same
 abbrev pub StaysWhole : ContentValue → ObjectLists → ContentValue → ObjectLists → Type 0
 StaysWhole old old_objects new new_objects = (head tail : ℕ) → Stays old old_objects new new_objects head tail (pos 0)
 

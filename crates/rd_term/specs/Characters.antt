@@ -24,7 +24,7 @@ begun byte =
     else if byte == 244 then read 4 3 128 143
     else None
 
--- the bits with those of one more byte
+-- the bits of a character that is being read, with those of one more byte
 abbrev pub with_bits : CharacterRead → ℕ → ℕ
 with_bits c byte = 64 * c.bits + byte % 64
 

@@ -10,7 +10,7 @@ is_rendition n = n == 0 || n == 1 || n == 4 || n == 7 || (nat_le 30 n && nat_le 
 abbrev pub are_renditions : List ℕ → Bool
 are_renditions numbers = list_all is_rendition numbers
 
--- a face after such a number
+-- a face after the number of a rendition
 abbrev pub dressed : ℕ → Attributes → Attributes
 dressed n f =
     if n == 0 then plain
@@ -32,13 +32,13 @@ colour_number colour base = if colour == 8 then None else Some (base + colour)
 abbrev pub numbers_of_face : Attributes → List (Option ℕ)
 numbers_of_face f = flag_number f.bold 1 ∷ flag_number f.underline 4 ∷ flag_number f.inverse 7 ∷ colour_number f.fg 30 ∷ colour_number f.bg 40 ∷ []
 
--- a pen after such a number: only 0 makes an unknown pen known
+-- a pen after the number of a rendition: only 0 makes an unknown pen known
 abbrev pub pen_after : ℕ → Option Attributes → Option Attributes
 pen_after n (Some f) = Some (dressed n f)
 pen_after zero None = Some plain
 pen_after (suc n) None = None
 
--- a pen after such numbers, one after another
+-- a pen after the numbers of renditions, one after another
 abbrev pub pen_by : List ℕ → Option Attributes → Option Attributes
 pen_by [] pen = pen
 pen_by (n ∷ ns) pen = pen_by ns (pen_after n pen)

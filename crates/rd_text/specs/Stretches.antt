@@ -9,7 +9,7 @@ abbrev pub opens : List ℕ → Bool
 opens [] = false
 opens (c ∷ cs) = is_newline c || (is_blank c && opens cs)
 
--- whether it ends with a newline and blanks behind it
+-- whether a list ends with a newline and blanks behind it
 abbrev pub closes : List ℕ → Bool
 closes [] = false
 closes (c ∷ cs) = (is_newline c && list_all is_blank cs) || closes cs

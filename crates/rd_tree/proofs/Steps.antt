@@ -47,7 +47,7 @@ pub resize-means : (c d : Configuration) (width height : ℕ) → resize_tree c 
 unfolding resize_tree
 resize-means c d width height h = made-ok (nat_le (columns_needed c.windows) width && nat_le (rows_needed c.windows) height) _ TooSmall d h
 
--- ---- what they leave is valid
+-- ---- what calls leave is valid
 
 pub split_keeps : (c d : Configuration) (w : ℕ) (side : Side) (size : ℕ) → IsValid c → split_tree c w side size ≡ Ok d → IsValid d
 split_keeps c d w side size valid said = let m = split-means c d w side size said in subst IsValid m.3 (split_valid c w side size valid m.0 m.1 m.2)

@@ -132,12 +132,12 @@ with_margins number columns windows = replaced number (λ mode _. Window number 
 abbrev pub dressed : Placed → Windows → Windows
 dressed window windows = replaced window.number (λ _ _. Window window.number window.mode window.margins) windows
 
--- whether this is one window alone, with the number
+-- whether a tree is one window alone, with this number
 abbrev pub is_leaf_of : ℕ → Windows → Bool
 is_leaf_of number (Window n mode margins) = n == number
 is_leaf_of number (Split side size first second) = false
 
--- whether it is one window alone
+-- whether a tree is one window alone
 abbrev pub is_single : Windows → Bool
 is_single (Window number mode margins) = true
 is_single (Split side size first second) = false

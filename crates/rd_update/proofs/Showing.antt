@@ -92,7 +92,7 @@ put_seam region above below front o1 o2 back base w f latest first same some h =
     let rows = set_at above row below (front ++ (cells ++ (loose o2 ++ back))) (length above) refl in
     rw (at, room, over, rows) refl
 
--- ---- marks that join it
+-- ---- marks that join a glyph
 
 -- the cell of a glyph with the first of its marks
 abbrev pub grown : Glyph → ℕ → Attributes → Cell

@@ -63,7 +63,7 @@ turns-before start place others ender (t ∷ ts) lie low =
     (rw (get-first others (ender ∷ []) t.index (All-head (λ u. u.index < length others) t ts low)) (range-before start place others t.index lie))
     (turns-before start place others ender ts lie (All-tail (λ u. u.index < length others) t ts low))
 
--- ---- its range comes last
+-- ---- the ender's range comes last
 
 ender-range : (start : ℕ) (x : Item) → x.from < x.to → range_by start (Some x) ≡ range_of start x ∷ []
 ender-range start x less =

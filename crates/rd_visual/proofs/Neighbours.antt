@@ -26,7 +26,7 @@ AreSome rs = AllByRecursion (λ (r : Range). r.from < r.to) rs
 covers-first : (r : Range) → r.from < r.to → holds r.from r ≡ true
 covers-first r some = grind (arith, nat_tests)
 
--- the ranges behind those that came before
+-- of ranges that have a position each, those behind the first ones have one
 pub some-back : (front back : List Range) → AreSome (front ++ back) → AreSome back
 some-back [] back some = some
 some-back (r ∷ front) back some = some-back front back some.1

@@ -55,7 +55,7 @@ current l shape w e =
       conservatively = eqb-true l.conservatively w.conservatively five.1;
     }
 
--- ---- whether its start suits
+-- ---- whether a layout's start suits
 
 pub suits-shown : (w : Wanted) (at : Places) (row above below : ℕ) → at.point ≡ at.old + row → at.old < at.count → above ≡ wanted_above w at.old → below ≡ wanted_below w at.count at.old
     → is_inside w.height above below 0 row ≡ suits w at at.old

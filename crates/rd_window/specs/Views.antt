@@ -20,7 +20,7 @@ rows_in_view m shape w = take w.height (drop (start_row m shape w) (rows_at m sh
 abbrev pub has_first_row : SourceValues → ShapeValues → Wanted → Bool
 has_first_row m shape w = start_row m shape w == 0
 
--- whether it holds the last one
+-- whether the view holds the last row of the text
 abbrev pub has_last_row : SourceValues → ShapeValues → Wanted → Bool
 has_last_row m shape w = nat_le (length (rows_at m shape)) (start_row m shape w + w.height)
 
