@@ -22,7 +22,7 @@ pub record FrameValues : Type 0 where
 abbrev pub rows_of : FrameValues → Placed → List (List Cell)
 rows_of f window = window_rows f.tree.width (f.panes window) window
 
--- the rows of the frame
+-- the rows of a frame: those of its windows in their places, and below them the echo area
 abbrev pub frame_rows : FrameValues → List (List Cell)
 frame_rows f = composed (rows_of f) f.tree.windows (frame_of f.tree) ++ f.echo ∷ []
 

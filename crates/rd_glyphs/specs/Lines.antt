@@ -65,7 +65,7 @@ fitted face room (l ∷ ls) =
 abbrev pub plain_cells : List Span → Attributes → ℕ → List ℕ → List Cell
 plain_cells classes face width text = fitted face width (plain_looks classes text)
 
--- the columns of looks
+-- how many columns looks take, one behind the other
 abbrev pub columns_of_looks : List Look → ℕ
 columns_of_looks ls = total look_columns ls
 

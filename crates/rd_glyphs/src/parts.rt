@@ -140,7 +140,7 @@ pub fn element_of(look: Look, face: Face, origin: Origin) -> Element
     }
 }
 
-/// The element of a tab.
+/// The element of a tab, whose stops stand so many columns apart.
 pub(crate) fn tab_element(stop: u8, face: Face, origin: Origin) -> Element
     ensures { result ≡ tab_of stop face origin }
 {

@@ -46,12 +46,12 @@ pub record IsLink (s : Scene) (p : ℕ) (x : Piece) : Type 0 where
   pub gives : x.covers ≡ (not x.overlay && option_gives s x.kind)
   pub based : is_some x.base ≡ true → (x.covers ≡ true) × (x.overlay ≡ false)
 
--- one that is not the last is no ender
+-- a piece that is not the last is no ender
 pub record IsNoEnder (s : Scene) (p : ℕ) (x : Piece) : Type 0 where
   pub link : IsLink s p x
   pub no_ender : shows_ender x.kind ≡ false
 
--- the last is an ender, and no mark
+-- the last piece is an ender, and no mark
 pub record IsLast (s : Scene) (p to : ℕ) (x : Piece) : Type 0 where
   pub link : IsLink s p x
   pub kind : x.kind ≡ Some kind.Ender

@@ -30,7 +30,7 @@ holding from to p (b ∷ bs) all low high = elim (cases_lt p b.1) [
 
 -- ---- blocks that hold one position are one
 
--- the first position of one is not behind the other's
+-- of two blocks that hold one position, the first position of one is not behind the other's
 not-later : (s : BufferValue) (p a b c d : ℕ) → IsBlock s a b → IsBlock s c d → p < b → c ≤ p → a < c → ⊥
 not-later s p a b c d one other inside first less = by-start other.begins where
   by-start : StartsBlock s c → ⊥

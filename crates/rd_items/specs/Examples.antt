@@ -84,7 +84,7 @@ an_e = char_by (Base (single 101 1)) L plain 101 0
 abbrev pub a_grave : Piece
 a_grave = char_by (Mark 768) NSM plain 768 1
 
--- the items of pieces
+-- the items of pieces, once marks have joined
 abbrev pub items_of_pieces : List Piece → List Item
 items_of_pieces xs = covering 0 (marks_joined piece_joins xs)
 

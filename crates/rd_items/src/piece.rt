@@ -23,7 +23,7 @@ pub struct Piece {
     pub to: u32,
     /// The glyph that marks may join.
     pub base: Option<Glyph>,
-    /// The mark that this is.
+    /// The mark that the piece is, where it is one.
     pub mark: Option<u32>,
 }
 

@@ -38,7 +38,7 @@ pub fn same_spec(a: Option<u32>, b: Option<u32>) -> bool
     }
 }
 
-/// Whether this is a newline.
+/// Whether a character is a newline.
 pub fn is_newline(ch: Ch) -> bool
     ensures { result ≡ is_newline ch }
 {

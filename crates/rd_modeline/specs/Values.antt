@@ -31,7 +31,7 @@ place_text f =
     else if f.bottom then codes "Bottom"
     else decimal (share f.above f.total) ++ codes "%"
 
--- the text of a value
+-- the text that a mode line shows for a field, by a window's facts
 abbrev pub value_text : FactValues → Field → List ℕ
 value_text f Name = f.name
 value_text f Line = decimal f.line

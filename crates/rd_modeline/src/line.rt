@@ -104,7 +104,7 @@ fn push_filled(text: &mut ListOf<Ch>, field: Field, blanks: u32, value: &[Ch]) -
     }
 }
 
-/// The text of a value.
+/// The text that a mode line shows for a field, by a window's facts.
 fn value_text(alloc: Global, field: Field, facts: &Facts) -> Result<ListOf<Ch>, Memory>
     ensures { IfOk result (λ text. text ≡ value_text facts.now field) }
 {

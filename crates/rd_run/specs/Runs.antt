@@ -58,15 +58,15 @@ pub record Effect : Type 0 where
   pub allowed : ℕ
   pub fault : Option ScriptFault
 
--- one more line was run
+-- where a run stands once one more line was run
 abbrev pub counted : Standing → Standing
 counted now = record now { lines = now.lines + 1 }
 
--- one more line was run, of which nothing is sent or told
+-- the effect of a line of which nothing is sent or told
 abbrev pub quiet : Standing → Effect
 quiet now = record { now = counted now; sent = []; told = []; fresh = false; outcome = None; allowed = 0; fault = None }
 
--- the line is refused
+-- the effect of a line that is refused
 abbrev pub refused : Standing → ScriptFault → Effect
 refused now fault = record (quiet now) { fault = Some fault }
 

@@ -22,6 +22,6 @@ pub record IsValidScript (mode : Mode) (ran : List Input) (script : List ℕ) : 
   pub alike : AreStarvedAlike (opened mode) ran all
   pub accepted : Ran mode all
 
--- the run ended well
+-- a run ended well: it is done, or memory was wanting
 abbrev pub EndsWell : Status → Type 0
 EndsWell status = (status ≡ Done) ⊎ (status ≡ NoMemory)

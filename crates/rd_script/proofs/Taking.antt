@@ -53,7 +53,7 @@ pub first-refused : {A B C : Type 0} {fields : Fields C} {r s : Asking} {make : 
     → Left fields r s (both f g) make → IsTaken {T = A} (Err e) f s t → IsTaken result fields r t
 first-refused {s = s} f g t e result is h k = left-refused t e result is h (fault-stays (λ x. and_then (λ y. Ok (x, y)) (g.taken (members_view s.members))) e (f.taken (members_view s.members)) k.0)
 
--- the last one is refused
+-- the last field that is left is refused
 pub last-refused : {A B : Type 0} {fields : Fields B} {r s : Asking} {f : Fields A} {make : A → B} (t : Asking) (e : OpFault) (result : Result B OpFault) → IsErrAnd result (λ y. y ≡ e)
     → Left fields r s f make → IsTaken {T = A} (Err e) f s t → IsTaken result fields r t
 last-refused t e result is h k = left-refused t e result is h k.0

@@ -26,7 +26,7 @@ pub fn overlay(alloc: Global, asked: &mut Asked) -> Result<u64, OpFault>
     number(alloc, asked, "overlay")
 }
 
-/// A position.
+/// A position, under the key `pos`.
 pub fn position(alloc: Global, asked: &mut Asked) -> Result<u64, OpFault>
     ensures { IsTaken result position_field asked.old asked.new }
 {
@@ -51,7 +51,7 @@ pub fn stretch(alloc: Global, asked: &mut Asked) -> Result<(BufferName, (u64, u6
     Ok((buffer, range))
 }
 
-/// A text.
+/// A text, under the key `text`.
 pub fn text(alloc: Global, asked: &mut Asked) -> Result<ListOf<Ch>, OpFault>
     ensures { IsTaken result text_field asked.old asked.new }
 {

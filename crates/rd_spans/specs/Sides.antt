@@ -32,7 +32,7 @@ abbrev pub value_in : List ValueRun → ℕ → Option ℕ
 value_in [] p = None
 value_in (r ∷ rs) p = if nat_lt p r.end then r.value else value_in rs p
 
--- the last run
+-- the last of these runs, if there is one
 abbrev pub top : List ValueRun → Option ValueRun
 top rs = last_or None rs
 

@@ -69,7 +69,7 @@ fn put_row(alloc: Global, walker: &mut Walker, elements: &mut ListOf<Element>) -
     Ok(())
 }
 
-/// Whether this ends a row.
+/// Whether a look is the end of a row.
 fn is_row_end(look: Look) -> bool
     ensures { result ≡ is_row_end look }
 {

@@ -23,15 +23,15 @@ use Rattle.rd_state.specs.States.{ContentValue, seen, value_in, values_on}
 abbrev pub is_accessible : TextValue → ℕ → Bool
 is_accessible t pos = nat_le t.begin pos && nat_le pos t.end
 
--- a range in the accessible one
+-- whether a range lies in the accessible one, and does not end before it begins
 abbrev pub is_accessible_range : TextValue → ℕ → ℕ → Bool
 is_accessible_range t from to = nat_le t.begin from && nat_le from to && nat_le to t.end
 
--- a range in the whole text
+-- whether a range lies in the whole text, and does not end before it begins
 abbrev pub is_range_of_all : TextValue → ℕ → ℕ → Bool
 is_range_of_all t from to = nat_le 1 from && nat_le from to && nat_le to (length t.text + 1)
 
--- a text has room for these characters more
+-- whether a text has room for these characters more
 abbrev pub has_room : TextValue → List ℕ → Bool
 has_room t new = nat_le (length t.text + length new) TEXT_CHARACTERS
 

@@ -27,7 +27,7 @@ abbrev pub covered_effect : ℕ → Option Overlay → Effect
 covered_effect buffer None = Nothing
 covered_effect buffer (Some o) = restyled buffer o.from o.to
 
--- an overlay was moved
+-- what an overlay covered and what it covers may look otherwise, once it was moved to a range
 abbrev pub moved_effect : ℕ → ℕ → ℕ → Option Overlay → Effect
 moved_effect buffer from to None = Nothing
 moved_effect buffer from to (Some o) = Moved buffer (o.from, o.to) (from, to)

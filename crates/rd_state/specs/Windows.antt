@@ -41,7 +41,7 @@ changed_under number f es = becoming number (λ x. Some (f x)) es
 abbrev pub removed_under : {X : Type 0} → ℕ → List (ℕ × X) → List (ℕ × X)
 removed_under number es = becoming number (λ x. None) es
 
--- no number stands twice
+-- no two windows have one number
 abbrev pub AreApart : List NumberedWindow → Type 0
 AreApart [] = Unit {0}
 AreApart (e ∷ rest) = (window_of e.0 rest ≡ None) × AreApart rest

@@ -56,7 +56,7 @@ fn put_entries(alloc: Global, table: &mut Table, entries: &[OpEntry]) -> Result<
     Ok(())
 }
 
-/// Puts an entry.
+/// Puts an entry of an op behind those of a display table.
 fn put_entry(alloc: Global, table: &mut Table, entry: &OpEntry) -> Result<(), Memory>
     requires { IsEntryInForm entry.now }
     ensures { OnOk result (table.new ≡ record table.old { entries = table.old.entries ++ entry_of entry.now ∷ [] }) }

@@ -24,7 +24,7 @@ digit_after p (Some (suc n)) digit = Some (record p { last = Some (longer (suc n
 abbrev pub with_digit : ParametersRead → ℕ → Option ParametersRead
 with_digit p digit = digit_after p p.last digit
 
--- a semicolon
+-- the numbers of a sequence after a semicolon
 abbrev pub separated_after : ParametersRead → Option ℕ → ParametersRead
 separated_after p None = record p { gap = true }
 separated_after p (Some n) = record { ended = p.ended ++ n ∷ []; last = None; gap = p.gap }

@@ -176,7 +176,7 @@ show code None t = confuse t
 show code (Some zero) t = join_mark code t.latest t
 show code (Some (suc columns)) t = put code (suc columns) t.pen t.cursor t
 
--- what was read
+-- a terminal after a step of its reading: it reads on, shows a character, obeys a control, or is confused
 abbrev pub perform : Step → Tty → Tty
 perform Begins t = record t { reading = Escaped; latest = None }
 perform (GoesOn reading) t = record t { reading = reading }
@@ -184,11 +184,11 @@ perform (Prints code) t = show code (columns_of code) t
 perform (Obeys control numbers) t = obey control numbers t
 perform Fails t = confuse t
 
--- one byte; a confused terminal stays as it is
+-- a terminal after one byte; one that is confused stays as it is
 abbrev pub feed_byte : Tty → ℕ → Tty
 feed_byte t byte = if t.confused then t else perform (read_byte t.reading byte) (record t { reading = Between })
 
--- bytes, one after another
+-- a terminal after bytes, one after another
 abbrev pub feed_bytes : Tty → List ℕ → Tty
 feed_bytes = fold feed_byte
 

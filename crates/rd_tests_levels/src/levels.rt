@@ -299,7 +299,7 @@ fn turns_of_a_line(rt: HostRuntime) {
     );
 }
 
-/// A turn.
+/// The turn of an index, at an odd level or not.
 fn turn(index: usize, odd: bool) -> Turn {
     Turn { index, odd }
 }

@@ -39,7 +39,7 @@ first-round m old c shape from b stand among low =
 right-here : (m : SourceValues) (old : List Entry) (c : Change) (shape : ShapeValues) (b d : Block) (bs : List Block) (k : ℕ) → slice_get bs k ≡ Some b → slice_get bs k ≡ Some d → IsRight m old c shape b → IsRight m old c shape d
 right-here m old c shape b d bs k at is right = let same : b ≡ d = cc in subst (IsRight m old c shape) same right
 
--- the next one
+-- each block up to that of a round is right, where the round's is
 up-to : (m : SourceValues) (old : List Entry) (c : Change) (shape : ShapeValues) (b : Block) (r : Round m old c shape b) → IsRight m old c shape b
     → (j : ℕ) (d : Block) → j ≤ r.place → slice_get m.blocks j ≡ Some d → IsRight m old c shape d
 up-to m old c shape b r right j d low at =

@@ -192,7 +192,7 @@ fn data_files_are_read_in_order(rt: HostRuntime) {
     );
 }
 
-/// Files that are good.
+/// Data files that are good.
 fn good_files(alloc: Global) -> Result<MemFiles, AllocError> {
     files_of(
         alloc,

@@ -20,7 +20,7 @@ inside a b c from to = grind (arith, nat_tests)
 
 -- a code in entries that ascend, of which so many end below it
 module _ {E : Type 0} (first last : E → ℕ) (es : List E) (code below : ℕ) (ascend : IsAscending first last es) (point : IsPartitionPoint (λ e. ltb (last e) code ≡ true) (λ e. ltb (last e) code ≡ false) es below) where
-  -- the next covers it, where it begins at the code or before
+  -- the next entry covers the code, where it begins at the code or before
   pub entry_in-hit : (d : E) → below < length es → first (get_or es below d) ≤ code → entry_in first last es code ≡ Some (get_or es below d)
   entry_in-hit d within from =
       let ends = ltb-false _ _ (point.1 below d (omega arith) within) in

@@ -9,7 +9,7 @@ abbrev pub number_from : ℕ → List ℕ → Option ℕ
 number_from n [] = Some n
 number_from n (b ∷ bs) = if is_digit b 16 then number_from (16 * n + digit_value b) bs else None
 
--- a code point
+-- a number where it is a code point, and else None
 abbrev pub in_range : Option ℕ → Option ℕ
 in_range None = None
 in_range (Some n) = if nat_lt n CODE_POINTS then Some n else None

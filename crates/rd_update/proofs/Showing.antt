@@ -225,7 +225,7 @@ glyph_fed region above below front o1 o2 back g f latest first same h good =
     ∙ ap State (whole-glyph g f good)
     ∙ ap (λ (cs : Row). standing region (above ++ (front ++ (cs ++ (loose o2 ++ back))) ∷ below) cursor wait (Some f) (Some (length above, length front))) (sym cells)
 
--- a blank
+-- a space puts a blank cell in the face of the pen
 pub blank_fed : (region : Option (ℕ × ℕ)) → (above below : Rows) (front back : Row) (o : Option Cell) (o2 : Row) (f : Attributes) (latest : Option (ℕ × ℕ))
     → first_column (front ++ (o ∷ (o2 ++ back))) (length front) ≡ length front → later_columns back ≡ 0
     → feed_bytes (standing region (above ++ (front ++ (o ∷ (o2 ++ back))) ∷ below) (Some (length above, length front)) false (Some f) latest) (32 ∷ [])

@@ -154,7 +154,7 @@ rows_after limit (old ∷ olds) (new ∷ news) =
     else old ∷ olds
 rows_after limit olds news = olds
 
--- how many rows differ
+-- how many of the rows of two screens differ
 abbrev pub differing : List (List Cell) → List (List Cell) → ℕ
 differing (old ∷ olds) (new ∷ news) = if differs old new then suc (differing olds news) else differing olds news
 differing _ _ = 0

@@ -100,7 +100,7 @@ abbrev pub layouts_taken : List (ℕ × Layout) → List LaidWindow → List (�
 layouts_taken lasts (x ∷ xs) (e ∷ es) = taken_at lasts x e ∷ layouts_taken lasts xs es
 layouts_taken lasts _ _ = []
 
--- no number stands twice
+-- no two layouts have one number
 abbrev pub AreOnce : List (ℕ × Layout) → Type 0
 AreOnce [] = Unit {0}
 AreOnce (e ∷ es) = (layout_of e.0 es ≡ None) × AreOnce es

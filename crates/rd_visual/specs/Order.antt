@@ -13,7 +13,7 @@ use Rattle.rd_matrix.specs.declared.block.Block.{Block}
 use Rattle.rd_visual.specs.Motion.{range_by}
 use Rattle.rd_visual.specs.declared.range.Range.{Range}
 
--- the items of a block
+-- the items of a block, in the order in which its positions are read
 abbrev pub block_items : BufferValue → ObjectLists → Data → Block → List Item
 block_items s objects files b = items_of (scene_in s.settings objects files) (reading s objects b.start)
 

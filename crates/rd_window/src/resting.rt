@@ -18,7 +18,7 @@ impl Layout {
     ghost use Rattle.rd_start.specs.Starts.{suits};
     ghost use Rattle.rd_window.specs.Layouts.{Stands, StandsUnchanged, is_current, older_rows, rests};
 
-    /// Whether it is still a window's layout, whose start suits point: then the cursor alone moves. It reads the layout alone, at no
+    /// Whether this is still a window's layout, whose start suits point: then the cursor alone moves. It reads the layout alone, at no
     /// step and without memory.
     pub(crate) fn rests(&self, shape: Shape, wanted: Wanted) -> bool
         ensures { (m : SourceValues) → IsSource m → IsWithin wanted.point m.blocks → StandsUnchanged (Some self.now) m wanted.forced wanted.anchor

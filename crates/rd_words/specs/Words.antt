@@ -86,7 +86,7 @@ is_used s uses = list_any (is_of s) uses
 abbrev pub value_of : Setting → List Use → Option Text
 value_of s uses = option_map (λ u. u.1) (find (is_of s) uses)
 
--- the flag was used
+-- whether a setting was used with the value `true`, as the flag is
 abbrev pub is_true : Option Text → Bool
 is_true value = option_map_or (λ text. bytes_eq text (codes "true")) value false
 

@@ -260,7 +260,7 @@ fn bytes_of(alloc: Global, device: Device, lines: usize) -> Result<Vec<u8>, Fail
     Ok(bytes)
 }
 
-/// The script.
+/// The bytes of the script.
 fn script(alloc: Global) -> Result<Vec<u8>, Fail> {
     bytes_of(alloc, Device::Script, ALL)
 }
