@@ -20,7 +20,7 @@ lacks byte bytes = list_all (λ (b : ℕ). not (b == byte)) bytes
 pub lacks-append : (byte : ℕ) (front back : List ℕ) → lacks byte front ≡ true → lacks byte back ≡ true → lacks byte (front ++ back) ≡ true
 lacks-append byte front back p q = list_all-append (λ (b : ℕ). not (b == byte)) front back ∙ rw (p, q) refl
 
--- whether none of these texts has it
+-- none of these texts has this byte
 abbrev pub AllLack : ℕ → List (List ℕ) → Type 0
 AllLack byte texts = AllByRecursion (λ (text : List ℕ). lacks byte text ≡ true) texts
 

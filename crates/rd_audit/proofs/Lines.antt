@@ -25,7 +25,7 @@ line-behind front bytes line p h = record {
   unbroken = lacks-append 10 front line p h.unbroken;
 }
 
--- the first line, and those behind it
+-- the first line of some bytes, and the lines behind it
 pub line-first : (bytes line back : List ℕ) → IsLine bytes line → lines_of (bytes ++ back) ≡ line ∷ lines_of back
 line-first bytes line back h =
     ap lines_of (ap (λ l. l ++ back) h.whole ∙ append_assoc line (10 ∷ []) back) ∙ lines-seam line back h.unbroken

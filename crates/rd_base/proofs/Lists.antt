@@ -235,7 +235,7 @@ range-split a (suc m) n =
     ap (range_with_len a) more
     ∙ ap (λ (ks : List ℕ). a ∷ ks) (range-split (a + 1) m n ∙ ap (λ (k : ℕ). range_with_len (a + 1) m ++ range_with_len k n) same)
 
--- one number more
+-- a range of numbers with one number more
 pub range-more : (a n m : ℕ) → m ≡ a + n → range_with_len a n ++ m ∷ [] ≡ range_with_len a (n + 1)
 range-more a n m same = ap (λ (k : ℕ). range_with_len a n ++ k ∷ []) same ∙ sym (range-split a n 1)
 

@@ -121,7 +121,7 @@ at-row zero column new (row ∷ rows) = refl
 at-row (suc y) column new [] = refl
 at-row {C = C} (suc y) column new (row ∷ rows) = ap (λ (xs : List (List C)). row ∷ xs) (at-row y column new rows)
 
--- one row more
+-- rows that are laid over others, with one row more
 pub at-more : {C : Type 0} (y at column : ℕ) (news : List (List C)) (new : List C) (rows : List (List C)) → at ≡ y + length news → with_cells (laid_at y column news rows) at column new ≡ laid_at y column (news ++ new ∷ []) rows
 at-more y at column news new rows e = sym (at-row at column new (laid_at y column news rows)) ∙ at-below y at column news (new ∷ []) rows e
 

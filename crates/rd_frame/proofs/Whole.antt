@@ -12,6 +12,6 @@ use Rattle.rd_rows.proofs.Marks as marks
 pub mark-coloured : (g : Glyph) → All IsColoured (mark g ∷ [])
 mark-coloured g = All-cons IsColoured (mark g) [] (marks.mark-coloured g) (All-nil IsColoured)
 
--- a vertical bar is one
+-- a vertical bar is a mark
 pub bar-mark : IsMark (single 124 1)
 bar-mark = record { measured = printable-measured 124 (omega arith) (omega arith); columns = refl }

@@ -27,7 +27,7 @@ unlike-append (x ∷ a) b (y ∷ c) d e =
 
 -- ---- rows of equal numbers are the same
 
--- one of the rows
+-- a row is one of some rows
 abbrev pub IsIn : List Cell → List (List Cell) → Type 0
 IsIn row rows = (k : ℕ) × (k < length rows) × (row ≡ get_or rows k [])
 

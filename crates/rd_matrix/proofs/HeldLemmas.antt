@@ -184,7 +184,7 @@ source-right hs held some last begun leads = record {
       is.inside (λ k. covered-at size k (ranges_of None h.elements) is.covers)));
 }
 
--- one more block
+-- held blocks with one block more
 
 stand-more : (from : ℕ) (bs : List Block) (b : Block) → StandFrom from bs → b.start ≡ end_from from bs → b.start < b.end → StandFrom from (bs ++ b ∷ [])
 stand-more from [] b h next some = (next, some, tt)

@@ -23,7 +23,7 @@ none-has value [] j e inside = absurd (omega arith)
 none-has value (n ∷ ns) zero e inside = (none-both (last_given value ns) (value n) e).1
 none-has value (n ∷ ns) (suc j) e inside = none-has value ns j (none-both (last_given value ns) (value n) e).0 (omega arith)
 
--- the place of the last one
+-- the place of the last of these numbers that has a value
 record LastAt (value : ℕ → Option ℕ) (ns : List ℕ) (given : ℕ) : Type 0 where
   place : ℕ
   inside : place < length ns

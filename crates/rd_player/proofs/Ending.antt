@@ -142,7 +142,7 @@ played ending given mode l0 source screen result p0 p1 p2 n0 n1 n2 c0 c1 law m n
 last-none : (status : Status) → last_in None status [] ≡ last_line status 0
 last-none status = refl
 
--- one of which no line could begin
+-- the end of a run of which no line could begin
 pub unplayed : (status : Status) (given : Given) (l : Option (List ℕ)) (q : ℕ) (s : Option (List ℕ)) (m : ℕ) (result : Status) (p0 p1 : Option (List ℕ)) (n0 n1 c : ℕ) → ShowsAlways → n0 ≤ n1
     → ((source : Drawn) → Comes given None status [] [] source) → Finishes (endings.Ends status 0) result (sunk p0 p1 n0 n1)
     → Played given result l (record { left = l; faults_before = q; faults_after = q }) (sunk s s m m) (sunk p0 p1 n0 n1) c c

@@ -121,7 +121,7 @@ in-hand given mode inputs place line bytes left begun whole stands lines sent = 
       ∙ ap (λ x. is_sent (effect x (input_of line false)).outcome) stands ∙ sent;
 }
 
--- the line in hand counts too
+-- what the line in hand may place counts for the run
 hand-spent : (mode : Mode) (inputs : List Input) (place : Standing) (line : List ℕ) (c0 c1 c2 : ℕ) → (run (opened mode) inputs).fault ≡ None → (run (opened mode) inputs).now ≡ place
     → c1 ≤ c0 + (run (opened mode) inputs).allowed → c2 ≤ c1 + (effect place (input_of line false)).allowed → c2 ≤ c0 + allowed_in (Some mode) (inputs ++ input_of line false ∷ [])
 hand-spent mode inputs place line c0 c1 c2 whole stands one other =

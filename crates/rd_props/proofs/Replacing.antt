@@ -111,7 +111,7 @@ overlays-stay : (old new : BufferValue) (slots : List (Option Overlay)) (low hig
 overlays-stay old new slots low high x edit differ away =
     stays-by old new x x _ _ edit.text edit.overlays (itself old.text x) (λ kind. sym (edit.properties kind x)) (see-elsewhere low high old.overlays slots differ x away)
 
--- one more that isn't found
+-- overlays with one more that a test does not pick
 found-end : (f : Overlay → Bool) (slots : List (Option Overlay)) (n : ℕ) (slot : Option Overlay) → picked f slot ≡ None
     → picked f (overlay_at slots n) ≡ picked f (overlay_at (slots ++ slot ∷ []) n)
 found-end f [] zero slot new = sym new

@@ -6,7 +6,7 @@ use Rattle.rd_base.specs.declared.class.Class.{Class}
 use Rattle.rd_resolve.specs.Implicit.{l1_is_separator, l1_is_white, l1_resets, l1}
 use Rattle.rd_base.proofs.Lists.{drop-at}
 
--- one character nearer to the front
+-- L1, one character nearer to the line's front
 module _ (base i j : ℕ) (cs : List Class) (ls old : List ℕ) (c : Class) (l v : ℕ) (white now : Bool)
     (next : j + 1 ≡ i) (within : i ≤ length cs) (same_ls : length ls ≡ length cs) (same_old : length old ≡ length cs)
     (read_c : slice_get cs j ≡ Some c) (read_l : slice_get ls j ≡ Some l)

@@ -71,7 +71,7 @@ few-by false shape start xs e break sound fit on few =
           omega (arith, some, size, kept, least, within);
     }
 
--- one more element
+-- a row's elements are few with one element more
 pub few-more : (shape : ShapeValues) (start : Spot) (xs : List Element) (e : Element) → IsSound e → has_room shape xs (reached shape start xs) e ≡ true → ends_row e.look ≡ false
     → AreFewBehind shape (reached shape start xs) xs → AreFewBehind shape (reached shape start (xs ++ e ∷ [])) (xs ++ e ∷ [])
 few-more shape start xs e sound fit on few = few-by (is_break e.look) shape start xs e refl sound fit on few

@@ -108,7 +108,7 @@ sound-parts m n es fs f w =
     let all = subst AreSound w.parts w.line.sound in
     (all-front IsSound w.xs (n.held ++ fs) all, all-back IsSound w.xs (n.held ++ fs) all)
 
--- one more element
+-- a walk over a row's elements goes on by one element more
 pub walk-on : (m n k : MakerValues) (es fs gs : List Element) (f g : Filling) (w : Walks m es n fs f) (e : Element) (shape : ShapeValues) → n.held ++ fs ≡ e ∷ (k.held ++ gs) → k ≡ record n { held = k.held } → length k.held ≡ length n.held - 1
     → has_room m.cutting.shape w.xs (reached m.cutting.shape (start_of m) w.xs) e ≡ true → ends_row e.look ≡ false → shape ≡ m.cutting.shape
     → ((lead : List Placed) (start : Spot) (xs : List Element) → IsFilling shape lead start xs f → IsFilling shape lead start (xs ++ e ∷ []) g)

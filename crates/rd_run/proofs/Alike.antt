@@ -113,7 +113,7 @@ stops-alike o w n (t ∷ ts) (u ∷ us) lines s r h p q =
 
 -- ---- lines that pass no limit
 
--- each of these, behind n others
+-- lines that pass no limit behind n others
 abbrev pub ArePassed : Option ℕ → ℕ → List Input → Type 0
 ArePassed o n [] = Unit {0}
 ArePassed o n (t ∷ ts) = IsLet o n t.line × ArePassed o (n + 1) ts

@@ -314,7 +314,7 @@ trimmed-last rs r h some p is none =
     ∙ get_or-replicate (r.end - size_of rs) (p - size_of rs) r.value None (omega (arith, parts.1))) in
     some (sym last ∙ none)
 
--- both sides together
+-- the value at a position by both sides together
 pub values_of_both-front : (front back : List ValueRun) (p : ℕ) → Rises 0 front → p < size_of front → value_at (values_of_both front back) p ≡ value_at (values_of front) p
 values_of_both-front front back p h l = get_or_append_left (values_of front) (reverse (values_of back)) None p (omega (arith, size-values front h))
 

@@ -87,7 +87,7 @@ written [] i c = refl
 written (e ∷ es) zero c = refl
 written (e ∷ es) (suc i) c = ap (λ bs. named e.0 e.1 ∷ bs) (written es i c)
 
--- what stands there, written again
+-- buffers stay as they are where what one holds is written again
 pub rewritten : (es : List (String Global × ContentValue)) (i : ℕ) (b : ContentValue) → slice_get (values_of es) i ≡ Some b
     → buffers_of (set_value_at es i b) ≡ buffers_of es
 rewritten [] i b h = refl

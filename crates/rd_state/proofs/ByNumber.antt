@@ -207,7 +207,7 @@ window-each n f ws = under-became (λ k. f) n ws
 abbrev pub Each : (ℕ → WindowState → WindowState → Type 0) → List NumberedWindow → List NumberedWindow → Type 0
 Each R ws vs = (number : ℕ) (w v : WindowState) → window_of number ws ≡ Some w → window_of number vs ≡ Some v → R number w v
 
--- where all windows become others
+-- windows all of which become others
 pub each-moved : (R : ℕ → WindowState → WindowState → Type 0) (f : WindowState → WindowState) (ws : List NumberedWindow) → ((number : ℕ) (w : WindowState) → R number w (f w)) → Each R ws (map (each_by f) ws)
 each-moved R f ws moved number w v h k =
     let after : option_map f (window_of number ws) ≡ Some v = sym (window-each number f ws) ∙ k in

@@ -97,7 +97,7 @@ Quiet s t = LeavesTheRest s t Nothing
 quiet : (s t : StateValue) → t.buffers ≡ s.buffers → t.objects ≡ s.objects → Show s t Nothing → Quiet s t
 quiet s t = kept s t Nothing (λ k b c h. h)
 
--- the windows are the same, too
+-- a state with the same buffers, objects and windows shows no change
 unseen : (s t : StateValue) → t.buffers ≡ s.buffers → t.objects ≡ s.objects → t.windows ≡ s.windows → Quiet s t
 unseen s t buffers objects windows = quiet s t buffers objects (show-same s t Nothing windows)
 

@@ -121,7 +121,7 @@ overlays-within b c slots within same values overlays few all =
     (λ kind p value h. (p, sym (values kind p) ∙ h, λ one most. (one, subst (λ t. p ≤ length t) (sym same) most))) overlays few
     (subst (λ t. AreIn (length t) slots) (sym same) all)
 
--- one whose overlays are that one's too
+-- a buffer whose characters, values and overlays are another's
 pub same-within : (b c : props.BufferValue) → IsWithin b → c.text.text ≡ b.text.text → ((kind p : ℕ) → c.properties kind p ≡ b.properties kind p)
     → c.overlays ≡ b.overlays → IsWithin c
 same-within b c within same values overlays = overlays-within b c b.overlays within same values overlays within.few within.overlays

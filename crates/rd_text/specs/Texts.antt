@@ -72,7 +72,7 @@ line_of t pos = 1 + count_by is_newline (between t t.begin pos)
 abbrev pub is_blank : ℕ → Bool
 is_blank c = (c == 32) || (c == 9) || (c == 12)
 
--- a line of nothing else stands between paragraphs
+-- whether a line has blanks alone, as one that stands between paragraphs
 abbrev pub is_separator : List ℕ → Bool
 is_separator line = list_all is_blank line
 

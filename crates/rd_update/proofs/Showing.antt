@@ -73,7 +73,7 @@ over-seam front o1 o2 back cells first same h =
 
 -- ---- a character that is put
 
--- where the cursor then is
+-- where the cursor is behind a character that was put
 abbrev pub behind_it : ℕ → ℕ → ℕ → ℕ → Option (ℕ × ℕ)
 behind_it row column w long = Some (row, min (column + w) (long - 1))
 

@@ -146,7 +146,7 @@ rows_bytes row limit (old ∷ olds) (new ∷ news) =
     else []
 rows_bytes row limit _ _ = []
 
--- the rows that then stand
+-- the rows that stand once those that differ were sent, from the top, as many as a limit allows
 abbrev pub rows_after : Option ℕ → List (List Cell) → List (List Cell) → List (List Cell)
 rows_after limit (old ∷ olds) (new ∷ news) =
     if not (differs old new) then new ∷ rows_after limit olds news

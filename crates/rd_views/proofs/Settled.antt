@@ -198,7 +198,7 @@ pub first-settles : (s : StateValue) (xs : List LaidWindow) (es : List Last) (i 
     → CanSettle s (get_or xs i d ∷ drop (i + 1) xs) (get_or es i f ∷ drop (i + 1) es)
 first-settles s xs es i d f there less can = subst₂ (CanSettle s) (drop_more xs i d there) (drop_more es i f less) can
 
--- one window more
+-- one window more is settled
 pub step-settled : (s new whole : StateValue) (xs : List LaidWindow) (es : List Last) (i : ℕ) (d : LaidWindow) (f : Last) → i < length xs → i < length es → CanSettle s (drop i xs) (drop i es)
     → new ≡ settled s (get_or es i f).0 (get_or xs i d).chosen.anchor (get_or xs i d).chosen.point → all_settled (drop i xs) (drop i es) s ≡ whole
     → CanSettle new (drop (i + 1) xs) (drop (i + 1) es) × (all_settled (drop (i + 1) xs) (drop (i + 1) es) new ≡ whole)

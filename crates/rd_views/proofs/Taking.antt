@@ -54,7 +54,7 @@ module _ (xs : List LaidWindow) (es : List Last) (i : ℕ) (d : LaidWindow) (the
       (λ j. front j ++ left j) ∙ (append_assoc (take i es) (new ∷ []) (layouts_taken lasts (drop (i + 1) xs) (drop (i + 1) es))
       ∙ λ j. take i es ++ layouts_taken lasts (sym windows-left j) (sym layouts-left j))
 
--- one window more
+-- the layout of one window more is taken
 pub step-taken : (xs : List LaidWindow) (es new : List Last) (i : ℕ) (d : LaidWindow) (lasts others whole : List Last) → i < length xs → i < length es → AreOnce (drop i es)
     → new ≡ set es i (taken_at lasts (get_or xs i d) (get_or es i nobody)) → ((n : ℕ) → n ≢ (get_or es i nobody).0 → layout_of n others ≡ layout_of n lasts)
     → take i es ++ layouts_taken lasts (drop i xs) (drop i es) ≡ whole

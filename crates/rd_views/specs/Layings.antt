@@ -95,7 +95,7 @@ views_taken lasts _ _ = []
 abbrev pub taken_at : List (ℕ × Layout) → LaidWindow → ℕ × Layout → ℕ × Layout
 taken_at lasts x e = (e.0, layout_taken (layout_of e.0 lasts) x e.1)
 
--- the layouts that the windows then have
+-- the layouts that windows have once they are taken, where these are the last ones
 abbrev pub layouts_taken : List (ℕ × Layout) → List LaidWindow → List (ℕ × Layout) → List (ℕ × Layout)
 layouts_taken lasts (x ∷ xs) (e ∷ es) = taken_at lasts x e ∷ layouts_taken lasts xs es
 layouts_taken lasts _ _ = []

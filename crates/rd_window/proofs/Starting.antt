@@ -60,7 +60,7 @@ rows-laid m n shape w chosen es start told =
     at-source (λ (x : SourceValues). (place : ℕ) → Names chosen.anchor (rows_at x shape) place → shown_entries es ≡ take w.height (drop place (rows_at x shape))) m n start.same told
     (start_row m shape w) start.named
 
--- the steps of both calls
+-- the steps of choosing a start and of laying out the rows from there
 pub spent : (m n : SourceValues) (old : List Entry) (c : Change) (shape : ShapeValues) (w : Wanted) (chosen : Chosen) (before chose laid : ℕ)
     → IsStart (kept_source m old c shape) (kept_source n old c shape) shape w chosen → chose ≤ before + 2 * near_costs (kept_source m old c shape) shape w
     → ((place : ℕ) → Names chosen.anchor (rows_at n shape) place → laid ≤ chose + fresh_costs n old c shape place (place + w.height))

@@ -15,7 +15,7 @@ use Rattle.rd_words.specs.Command.{command, unless, values_of_rows}
 use Rattle.rd_words.proofs.WordByWord.{awaiting, at_end, held, later, met, outcome, outcome-is, outcome-word, rule, shape, unless-first, waits}
 use Rattle.rd_words.proofs.Uses.{ended-is, flag-fits, flag-used, named-is, rows, value-fits, value-used}
 
--- what uses say behind these
+-- what uses say behind those that were met
 abbrev after : List Use → Option (List Use) → Option WordValues
 after us o = option_and_then (values_from us) o
 
