@@ -29,7 +29,7 @@ empty_files dumps = record {
   faults_after = λ name. 0;
 }
 
--- what the screen and the report then have, before which they were empty
+-- what the screen has behind the short inputs, before which it was empty
 abbrev pub short_stream : List ℕ
 short_stream = 27 ∷ codes "[0m" ++ 27 ∷ codes "[2J" ++ 27 ∷ codes "[1;1Hab" ++ 27 ∷ codes "[1;3H"
 

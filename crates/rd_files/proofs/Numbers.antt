@@ -31,12 +31,12 @@ use Rattle.rd_files.specs.DataFiles.{line_of}
 abbrev pub IsLine : ℕ → ℕ → Type 0
 IsLine most n = (1 ≤ n) × (n ≤ most)
 
--- a fault names one of so many lines
+-- a fault has the number of a line up to this one
 abbrev pub IsWithin : {T : Type 0} → ℕ → Result T UcdFault → Type 0
 IsWithin most (Ok value) = Unit {0}
 IsWithin most (Err fault) = IsLine most (line_of fault)
 
--- entries are of so many lines, and the faults of them name these
+-- each entry has the number of a line up to this one, and its fault has such a number
 abbrev AreWithin : {T : Type 0} → ℕ → List (ℕ × Result T UcdFault) → Type 0
 AreWithin most [] = Unit {0}
 AreWithin most ((n, entry) ∷ entries) = IsLine most n × IsWithin most entry × AreWithin most entries

@@ -38,7 +38,7 @@ given held s = held_looks held ++ looks_of (single 92 1) (single 94 1) s
 abbrev pub joined_held : Option Glyph → ℕ → Glyph
 joined_held held code = unwrap_or (marked_glyph held (Some code)) (on_blank code)
 
--- the glyph that is held then; behind a control, an escape or a blank of its own nothing is held
+-- the glyph that is held behind a character; behind a control, an escape or a blank of its own nothing is held
 abbrev pub held_after : Option Glyph → Shown → Option Glyph
 held_after held (Mark code) = Some (joined_held held code)
 held_after held (Itself code width) = Some (single code width)

@@ -50,7 +50,7 @@ length-front row column le =
     length-append (take (first_column row column) row) (replicate (column - first_column row column) None)
     ∙ omega (arith, length-take-le (first_column row column) row (omega arith), length-replicate {A = Option Cell} (column - first_column row column) None)
 
--- the part from a column on, likewise
+-- the part from a column on, where what is left of a character that is cut there is unknown
 abbrev pub behind : Row → ℕ → Row
 behind row to = replicate (later_columns (drop to row)) None ++ drop (to + later_columns (drop to row)) row
 

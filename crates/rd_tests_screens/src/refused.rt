@@ -183,7 +183,7 @@ fn assert_limit(rt: &impl Abort, state: &mut State, alloc: Global, limit: Limit)
     }
 }
 
-/// Asserts the same of a new state; it is made here alone, since to drop it takes long to prove.
+/// Asserts what a new state takes up to a limit; the state is made here alone, since to drop it takes long to prove.
 fn assert_in_new(rt: &impl Abort, alloc: Global, limit: Limit) -> Result<(), Fail> {
     let mut state = State::new(alloc)?;
     assert_limit(rt, &mut state, alloc, limit);

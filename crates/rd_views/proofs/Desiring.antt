@@ -95,7 +95,7 @@ module _ (v : SessionValue) where
   each-desired C none more (p ∷ ps) (x ∷ xs) [] h = absurd h
   each-desired C none more (p ∷ ps) (x ∷ xs) (e ∷ es) h = more p x e ps xs es h.0 h.1 (each-desired C none more ps xs es h.1)
 
-  -- the layouts that the windows then have are new ones
+  -- the layouts that windows have once they are taken are new ones
   pub laid-out : (ps : List Placed) (xs : List LaidWindow) (es : List Last) → AreDesired v ps xs es → AreLaidOut v ps (layouts_taken v.layouts xs es)
   laid-out = each-desired (λ ps xs es. AreLaidOut v ps (layouts_taken v.layouts xs es)) tt (λ p x e ps xs es own rest more.
       let one = laid-by p (window_of p.number v.state.windows) x e own in

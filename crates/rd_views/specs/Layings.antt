@@ -51,7 +51,7 @@ window_in laying = record { chosen = laying.chosen; anew = is_some laying.anew }
 abbrev pub layout_in : Laying → Layout
 layout_in laying = unwrap_or laying.anew no_layout
 
--- the layout that a window then has: the new one, or its last one where it was not laid out anew
+-- the layout that a window has once it is taken: the new one, or its last one where it was not laid out anew
 abbrev pub layout_taken : Option Layout → LaidWindow → Layout → Layout
 layout_taken last x new = if x.anew then new else unwrap_or last new
 
@@ -91,7 +91,7 @@ views_taken lasts _ _ = []
 
 -- ---- what is kept
 
--- the layout that a window then has, under its number, where these are the last ones
+-- the layout that a window has once it is taken, under its number, where these are the last ones
 abbrev pub taken_at : List (ℕ × Layout) → LaidWindow → ℕ × Layout → ℕ × Layout
 taken_at lasts x e = (e.0, layout_taken (layout_of e.0 lasts) x e.1)
 
