@@ -9,7 +9,7 @@ use Rattle.rd_brackets.specs.Pairs.{closing_of}
 use Rattle.rd_brackets.specs.Sides.{n0_with_pairs, became, followed, side_taken, n0_with_marks}
 use Rattle.rd_brackets.specs.declared.matching.Pair.{Pair}
 
--- without pairs none closes
+-- without pairs no pair closes that opens at a place
 pub none-close : (a n : ℕ) → map (closing_of []) (range_with_len a n) ≡ replicate n None
 none-close a zero = refl
 none-close a (suc n) = ap (λ l. None ∷ l) (none-close (a + 1) n)

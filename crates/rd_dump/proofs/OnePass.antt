@@ -121,7 +121,7 @@ pub run_text-last : (first end last : ℕ) (face : Attributes) → same_face fac
 run_text-last first end last face shown is =
     ap (λ n. concat (codes " " ∷ decimal first ∷ codes "-" ∷ decimal n ∷ []) ++ numbers_text face) is ∙ sym (cond-false (same_face face plain) [] _ shown)
 
--- the next number failed
+-- the next of a face's numbers was not written, so neither is the whole
 pub numbers-failed : {U F : Type 0} (a b c : Option (List ℕ)) (f g h : ℕ) (all : List ℕ) (any : Bool) (i : ℕ) (number : Option ℕ) (numbers : List (Option ℕ)) (s : Result U F)
     → Prints b c g h (number_text any number) s → Going a b f g all (numbers_behind any (drop i numbers)) → i < length numbers → IsErr s → number ≡ get_or numbers i number → Prints a c f h all s
 numbers-failed a b c f g h all any i number numbers s p going less bad is =

@@ -34,7 +34,7 @@ prints-then a b c f g h xs ys t (Err d) p q =
       failed = rose-after f g h p.never_falls q.failed;
     }
 
--- the next piece was written
+-- the next piece of a text was written
 pub going-on : {T E : Type 0} (a b c : Option (List ℕ)) (f g h : ℕ) (all rest piece more : List ℕ) (t : T)
     → Going a b f g all rest → rest ≡ piece ++ more → Prints {T = T} {E = E} b c g h piece (Ok t) → Going a c f h all more
 going-on a b c f g h all rest piece more t going e p = going-by a b c f g h all rest piece more going e p.bytes.whole p.never_falls
@@ -46,7 +46,7 @@ going-last {U} {F} a b c f g h all rest s going p =
     subst (λ l. Prints a c f h l s) (sym going.split)
     (prints-then {T = Unit {0}} {E = F} a b c f g h going.done rest tt s (record { bytes = record { whole = going.printed; front = tt }; never_falls = going.never_falls; failed = tt }) p)
 
--- the next piece failed
+-- the next piece of a text was not written, so neither is the whole
 pub going-stop : {U F : Type 0} (a b c : Option (List ℕ)) (f g h : ℕ) (all rest piece more : List ℕ) (s : Result U F)
     → Going a b f g all rest → rest ≡ piece ++ more → Prints b c g h piece s → IsErr s → Prints a c f h all s
 going-stop a b c f g h all rest piece more s going e p bad =
@@ -69,7 +69,7 @@ going-failed f xs i d x a b c k l m all e s less going p bad is =
     going-stop a b c k l m all _ (f (get_or xs i d)) (flat_map f (drop (i + 1) xs)) s going (flat-step f xs i d less)
     (subst (λ y. Prints b c l m (f y) s) is (prints-fail b c l m (f x) e s p bad)) bad
 
--- all were written
+-- the texts of all elements were written in a loop over a list
 pub going-done : {A T E : Type 0} (f : A → List ℕ) (xs : List A) (i : ℕ) (a b : Option (List ℕ)) (k l : ℕ) (all : List ℕ) (t : T)
     → length xs ≤ i → Going a b k l all (flat_map f (drop i xs)) → Prints {T = T} {E = E} a b k l all (Ok t)
 going-done {A} {T} {E} f xs i a b k l all t past going =

@@ -59,7 +59,7 @@ laid-none window border screen row = record {
   rows = refl;
 }
 
--- all rows are painted
+-- all rows of a window are painted
 pub laid-whole : (window : Placed) (border : Cell) (old new : Picture) (row i : ℕ) (texts : List (List Cell)) → length texts ≤ i → IsLaid window border old new row (take i texts)
     → new ≡ record old { rows = laid_from row window.rect.x (map (bordered (width_of old.rows) window border) texts) old.rows }
 laid-whole window border old new row i texts whole laid =

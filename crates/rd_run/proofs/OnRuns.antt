@@ -12,12 +12,12 @@ use Rattle.rd_tree.specs.Calls.{margins_tree, mode_tree, resize_tree, split_tree
 use Rattle.rd_layout.specs.Screens.{laid_out}
 use Rattle.rd_run.specs.Runs.{dump_lines, effect}
 
--- runs of ops
+-- one name for what is unfolded where runs of ops are computed
 unfoldable pub on_ops : ⊤
 unfolding char_width digits encode_utf8 effect_of step laid_out margins_tree mode_tree resize_tree split_tree dump_lines
 on_ops = tt
 
--- runs of lines
+-- one name for what is unfolded where runs of lines are computed
 unfoldable pub on_lines : ⊤
 unfolding on_ops serde_json_on_literals chars is_utf8 reading effect
 on_lines = tt

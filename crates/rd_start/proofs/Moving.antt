@@ -66,7 +66,7 @@ module _ (m : SourceValues) (win : Window) (moves : IsUnsuited m win) (new : Str
       → AsksAt Bottom (near_of m win.strip.sweep win.wanted) m new (new.home + win.wanted.conservatively + win.wanted.height + 1)
   asks-end h = λ k from to. let home = h.home in let inside = h.inside in near-home k (omega arith) (omega arith)
 
-  -- round point's row
+  -- what is asked of a strip round point's row
   pub asks-point : Between (near_of m win.strip.sweep win.wanted) (point_row m new.sweep - win.wanted.height) (point_row m new.sweep + 1)
   asks-point = λ k from to.
       let point = point-is m win.wanted win.strip.sweep moves.laid.of.point in
@@ -92,7 +92,7 @@ asks-forced m sweep s w start h e of forced inside place = λ k from to.
     let same = ap (home_row m) e in
     forced-near w (places_of m sweep.shape w) k forced (omega arith) (omega arith)
 
--- what is chosen
+-- what is chosen for a window whose start is forced
 pub value-forced : (m : SourceValues) (sweep : Sweep) (s : Strip) (w : Wanted) (start p : ℕ) (anchor : Anchor) → s.sweep ≡ sweep → IsFor w sweep → w.forced ≡ true
     → first_row m s + start ≡ moved_row m sweep w.pending
     → anchor ≡ anchor_at (all_rows (rows_in m s.sweep) m.blocks) (first_row m s + start)

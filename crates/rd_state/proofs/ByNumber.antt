@@ -114,7 +114,7 @@ under-past n m f (e ∷ rest) ne = elim (cases_eq e.0 n) [
 pub under-other : {X : Type 0} (n m : ℕ) (f : X → X) (es : List (ℕ × X)) → m ≢ n → under m (changed_under n f es) ≡ under m es
 under-other n m f es ne = under-past n m (λ x. Some (f x)) es (λ s. absurd (ne s))
 
--- none comes
+-- no window comes to live as another becomes something else
 pub none-past : (n m : ℕ) (f : WindowState → Option WindowState) (ws : List NumberedWindow) → window_of m ws ≡ None → window_of m (becoming n f ws) ≡ None
 none-past n m f ws h = under-past n m f ws (λ s. h) ∙ h
 

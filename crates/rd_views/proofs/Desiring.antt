@@ -131,7 +131,7 @@ module _ (v : SessionValue) where
         | inr other ↦ under-there n e es (λ q. other (sym same ∙ q)) ∙ left (sym (placed-there n p ps other) ∙ none)
       ])
 
-  -- the numbers stand once
+  -- no two layouts have one number
   pub once : (ps : List Placed) (xs : List LaidWindow) (es : List Last) → AreDesired v ps xs es → AreApart ps → AreOnce es
   once = each-desired (λ ps xs es. AreApart ps → AreOnce es) (λ apart. tt) (λ p x e ps xs es own rest more apart.
       let same = number-by p (window_of p.number v.state.windows) x e own in
