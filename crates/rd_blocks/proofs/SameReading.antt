@@ -14,7 +14,7 @@ use Rattle.rd_reuse.specs.declared.change.Change.{Change}
 
 -- ---- two readings
 
--- the same is seen from two positions on, before a block ends with the position before another
+-- from two positions on the same is seen, before a block ends with the position before another
 pub record SeenAlike (old : BufferValue) (made : ObjectLists) (new : BufferValue) (objects : ObjectLists) (x y to : ℕ) : Type 0 where
   pub same : (p q : ℕ) → x ≤ p → p + y ≡ q + x → q < to → IsSame old made p new objects q
   pub goes : (q : ℕ) → y ≤ q → suc q < to → ends_block new q ≡ false

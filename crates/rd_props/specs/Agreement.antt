@@ -8,7 +8,7 @@ use Rattle.rd_props.specs.Seen.{Agree}
 abbrev pub IsInReach : BufferValue → ℕ → BufferValue → ℕ → Type 0
 IsInReach s x t y = (x ≤ s.text.end) ⊎ (y ≤ t.text.end)
 
--- the same is seen at a position of one buffer and at a position of another, and neither stands behind the end
+-- a position of one buffer and a position of another look the same, and neither stands behind the end
 pub record IsSame (s : BufferValue) (objects : ObjectLists) (x : ℕ) (t : BufferValue) (things : ObjectLists) (y : ℕ) : Type 0 where
   pub old_within : x ≤ s.text.end
   pub new_within : y ≤ t.text.end

@@ -15,7 +15,7 @@ abbrev pub AreToldAlike : (List ℕ → Option (List ℕ)) → (List ℕ → Opt
 AreToldAlike one other names = (one names.class_file ≡ other names.class_file) × (one names.mirror_file ≡ other names.mirror_file)
     × (told_or_empty one names.bracket_file ≡ told_or_empty other names.bracket_file)
 
--- the same words are given, and what is known of the files that they name is the same
+-- two runs are given the same words, and what is known of the files that these name is the same
 abbrev pub AreGivenAlike : Given → Given → Type 0
 AreGivenAlike a b = (a.words ≡ b.words) × ((w : WordValues) → a.words ≡ Some w → AreToldAlike a.contents b.contents (names_of w))
 

@@ -29,7 +29,7 @@ pub record IsMode (given : Given) (mode : Mode) : Type 0 where
   pub dumps : mode.dumps ≡ words.dumps
   pub generated : mode.generated ≡ words.generate
 
--- this is the first fault of the files that the words name
+-- a file, a line of it and a kind are the first fault of the files that the words name
 pub record IsBadData (given : Given) (file : DataFile) (number : ℕ) (kind : DataKind) : Type 0 where
   pub words : WordValues
   pub said : given.words ≡ Some words
