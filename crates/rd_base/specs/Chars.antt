@@ -2,6 +2,7 @@
 use Rattle.std.specs.Prelude.{ℕ, ◌+◌, Bool, false, nat_lt, nat_le, ◌&&◌, ◌||◌, if◌then◌else◌, List, [], Option, None}
 use Rattle.std.specs.Char.{encode_utf8}
 use Rattle.unicode_width.specs.Width.{char_width}
+use Rattle.rd_base.specs.Lists.{is_between}
 use Rattle.rd_base.specs.declared.limits.TheConstants.{CODE_POINTS}
 
 -- a scalar value: a code point that is no surrogate
@@ -14,7 +15,7 @@ raw_code byte = CODE_POINTS + byte
 
 -- a raw byte of 128 to 255
 abbrev pub is_raw : ℕ → Bool
-is_raw n = nat_le (raw_code 128) n && nat_lt n (raw_code 256)
+is_raw n = is_between (raw_code 128) (raw_code 256) n
 
 abbrev pub is_code : ℕ → Bool
 is_code n = is_scalar n || is_raw n

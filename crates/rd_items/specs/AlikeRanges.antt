@@ -1,5 +1,6 @@
 -- Ranges of text that is shown alike.
-use Rattle.std.specs.Prelude.{◌≡◌, ◌⊎◌, ℕ, ◌+◌, ◌<◌, ◌≤◌, nat_le, nat_lt, Bool, ◌&&◌, []}
+use Rattle.std.specs.Prelude.{◌≡◌, ◌⊎◌, ℕ, ◌+◌, ◌<◌, ◌≤◌, Bool, []}
+use Rattle.rd_base.specs.Lists.{is_between}
 use Rattle.rd_objects.specs.Things.{ObjectLists}
 use Rattle.rd_props.specs.Buffers.{BufferValue}
 use Rattle.rd_props.specs.Stops.{IsNextStop}
@@ -20,4 +21,4 @@ IsStopBehind s p stop = IsNextStop s p stop ⊎ ((p ≡ s.text.end) × (stop ≡
 
 -- a position of a range
 abbrev pub holds : AlikeRange → ℕ → Bool
-holds range p = nat_le range.from p && nat_lt p range.until
+holds range p = is_between range.from range.until p

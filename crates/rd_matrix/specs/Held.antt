@@ -1,6 +1,7 @@
 -- Blocks with their lines.
-use Rattle.std.specs.Prelude.{◌≡◌, ℕ, zero, suc, ◌-◌, ◌^◌, ◌<◌, ◌≤◌, ◌==◌, ◌&&◌, nat_le, nat_lt, Bool, true, if◌then◌else◌, IsTrue, List, [], ◌∷◌, map, count_by, All, None}
+use Rattle.std.specs.Prelude.{◌≡◌, ℕ, zero, suc, ◌-◌, ◌^◌, ◌<◌, ◌≤◌, ◌==◌, ◌&&◌, nat_le, Bool, true, if◌then◌else◌, IsTrue, List, [], ◌∷◌, map, count_by, All, None}
 use Rattle.rd_base.specs.Elements.{AreSound, ends_once, columns_at_most}
+use Rattle.rd_base.specs.Lists.{is_between}
 use Rattle.rd_matrix.specs.Blocks.{StandFrom, first_start}
 use Rattle.rd_matrix.specs.Sources.{SourceValues, source_by_itself}
 use Rattle.rd_matrix.specs.declared.block.Block.{Block}
@@ -28,7 +29,7 @@ source_of hs =
     source_by_itself (blocks_held hs) (λ b shape. seen_rows (laid_from shape b.start hs)) (λ b shape. weight_of (laid_from shape b.start hs))
 
 abbrev pub in_range : ℕ → ℕ × ℕ → Bool
-in_range offset r = nat_le r.0 offset && nat_lt offset r.1
+in_range offset r = is_between r.0 r.1 offset
 
 -- whether each offset below a number is in exactly one of these ranges
 abbrev pub covers_each : ℕ → List (ℕ × ℕ) → Bool

@@ -2,6 +2,7 @@
 use Rattle.std.specs.Prelude.{◌≡◌, ℕ, suc, ◌+◌, ◌-◌, ◌<◌, ◌≤◌, min, max, ℤ, nat_le, nat_lt, ◌==◌, Bool, ◌&&◌, ◌||◌, if◌then◌else◌, is_some, List, [], ◌∷◌, ◌++◌, length, map, replicate, slice_get, slice_set, Option, None, Some, Result, Ok, Err, ⊤}
 use Rattle.std.specs.Option.{option_map, unwrap_or}
 use Rattle.std.specs.Ordering.{is_lt, ordering_then, int_cmp, nat_cmp}
+use Rattle.rd_base.specs.Lists.{is_between}
 use Rattle.rd_base.specs.declared.limits.TheConstants.{OVERLAYS}
 use Rattle.rd_overlays.specs.declared.fault.OverlayFault.{OverlayFault}
 use Rattle.rd_overlays.specs.declared.fault.OverlayFault.TheVariants.{NoOverlay, OutOfRange, TooMany, Memory}
@@ -80,7 +81,7 @@ abbrev pub given : List (Option Overlay) → ℕ → Kind → Option ℕ → Lis
 given slots number kind value = changed (λ overlay. record overlay { values = slice_set overlay.values (place_of kind) value }) slots number
 
 abbrev pub covers : ℕ → Overlay → Bool
-covers pos overlay = nat_le overlay.from pos && nat_lt pos overlay.to
+covers pos overlay = is_between overlay.from overlay.to pos
 
 abbrev pub starts : ℕ → Overlay → Bool
 starts pos overlay = overlay.from == pos

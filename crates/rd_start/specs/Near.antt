@@ -1,5 +1,6 @@
 -- The rows near a window's old start, its new start and point, and the blocks that have such a row.
-use Rattle.std.specs.Prelude.{ℕ, ◌+◌, min, max, nat_lt, nat_le, Bool, ◌&&◌, ◌||◌, if◌then◌else◌}
+use Rattle.std.specs.Prelude.{ℕ, ◌+◌, min, max, nat_le, Bool, ◌&&◌, ◌||◌, if◌then◌else◌}
+use Rattle.rd_base.specs.Lists.{is_between}
 use Rattle.rd_matrix.specs.Rows.{blocks_with}
 use Rattle.rd_matrix.specs.Sources.{SourceValues, costs_of}
 use Rattle.rd_rows.specs.Shapes.{ShapeValues}
@@ -17,9 +18,9 @@ is_within above below row k = nat_le row (k + above) && nat_le k (row + below)
 abbrev pub is_near : Wanted → Places → ℕ → Bool
 is_near w at k =
     if w.forced
-    then nat_le (min at.old (scrolled w at)) k && nat_lt k (max at.old (scrolled w at) + w.height)
+    then is_between (min at.old (scrolled w at)) (max at.old (scrolled w at) + w.height) k
     else if suits w at at.old
-    then nat_le at.old k && nat_lt k (at.old + w.height)
+    then is_between at.old (at.old + w.height) k
     else is_within w.conservatively (w.conservatively + w.height) at.old k || is_within w.height w.height at.point k
 
 -- the sum of the costs of a source's blocks that have a row near a window
