@@ -11,7 +11,7 @@ use Rattle.rd_update.proofs.Dressing.{by-colour, face-worn}
 use Rattle.rd_dump.specs.Dumps.{numbers_behind, numbers_text}
 use Rattle.rd_audit.specs.Cuts.{pieces}
 use Rattle.rd_audit.specs.Numbers.{pair_of}
-use Rattle.rd_audit.specs.Runs.{place_of, comes_behind, face_from, face_of, run_by, run_of}
+use Rattle.rd_audit.specs.FaceRuns.{place_of, comes_behind, face_from, face_of, run_by, face_run}
 use Rattle.rd_audit.proofs.Decimals.{number-read, pair-read}
 use Rattle.rd_audit.proofs.Lacking.{lacks, lacks-append, lacks-decimal, is_no_digit, cut-seam, pieces-seam, pieces-one}
 
@@ -141,9 +141,9 @@ piece-lacks byte first last face h =
 
 -- the run that its text says
 pub run-read : (first last : ℕ) (face : Attributes) → first < 1000 → last < 1000 → HasColours face → same_face face plain ≡ false
-    → run_of (run_piece first last face) ≡ Some (record { first = first; last = last; face = face })
+    → face_run (run_piece first last face) ≡ Some (record { first = first; last = last; face = face })
 run-read first last face p q range other =
     let h = numbers-read face range other in
-    ap (λ l. run_of (span_text first last ++ l)) h.1
+    ap (λ l. face_run (span_text first last ++ l)) h.1
     ∙ ap (option_and_then (λ (parts : List ℕ × List ℕ). run_by (pair_of 45 parts.0) (face_of parts.1))) (cut-seam 58 (span_text first last) h.0 (span-lacks 58 first last refl refl))
     ∙ ap₂ run_by (pair-read 45 first last refl p q) h.2

@@ -5,7 +5,7 @@ use Rattle.std.proofs.lemmas.List.{drop-set-lt}
 use Rattle.rd_base.proofs.Lists.{drop-at, written}
 use Rattle.rd_base.specs.Faces.{Attributes}
 use Rattle.rd_base.specs.declared.cell.Cell.{Cell}
-use Rattle.rd_audit.specs.Runs.{with_face, faced}
+use Rattle.rd_audit.specs.FaceRuns.{with_face, faced}
 
 -- a walk over the columns of a run keeps what the whole is when it paints the next one
 pub paint-on : (k end : ℕ) (face : Attributes) (cell : Cell) (cells next whole : List Cell) → k < end → end ≤ length cells → slice_get cells k ≡ Some cell → next ≡ slice_set cells k (with_face face cell)

@@ -17,7 +17,7 @@ use Rattle.rd_audit.specs.Cuts.{stripped, cut_last}
 use Rattle.rd_audit.specs.Dumps.{last_group, ended_by, picture_from, picture_of, dump_in}
 use Rattle.rd_audit.specs.Printed.{HasDump, HasNoCursor}
 use Rattle.rd_audit.specs.Rows.{is_row, is_cursor, row_text, row_cells, is_as_wide, next_row, place_in, cursor_place}
-use Rattle.rd_audit.specs.Runs.{runs_over}
+use Rattle.rd_audit.specs.FaceRuns.{runs_over}
 use Rattle.rd_audit.specs.Texts.{text_cells}
 use Rattle.rd_audit.proofs.Covering.{runs-lack, runs-read}
 use Rattle.rd_audit.proofs.Cutting.{stripped-behind}

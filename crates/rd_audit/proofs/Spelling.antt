@@ -19,7 +19,7 @@ use Rattle.rd_base.specs.declared.cell.Cell.{Cell}
 use Rattle.rd_base.specs.declared.cell.Cell.TheVariants.{Blank, First, Rest}
 use Rattle.rd_term.proofs.Measured.{space-columns, base-columns, mark-columns, no-control}
 use Rattle.rd_dump.specs.Dumps.{cells_text}
-use Rattle.rd_audit.specs.Runs.{with_face}
+use Rattle.rd_audit.specs.FaceRuns.{with_face}
 use Rattle.rd_audit.specs.Texts.{cells_of, taken, cells_from, text_cells}
 use Rattle.rd_audit.proofs.Lacking.{lacks, lacks-append}
 

@@ -37,8 +37,8 @@ run_by (Some span) (Some face) = Some (record { first = span.0; last = span.1; f
 run_by span face = None
 
 -- `A-B:CODES`, where `A` is the first column and `B` the last
-abbrev pub run_of : List ℕ → Option SaidFaceRun
-run_of bytes = option_and_then (λ parts. run_by (pair_of 45 parts.0) (face_of parts.1)) (cut 58 bytes)
+abbrev pub face_run : List ℕ → Option SaidFaceRun
+face_run bytes = option_and_then (λ parts. run_by (pair_of 45 parts.0) (face_of parts.1)) (cut 58 bytes)
 
 -- whether no character goes on in a column from the one before
 abbrev pub is_edge : List Cell → ℕ → Bool
@@ -65,13 +65,13 @@ abbrev pub painted_by : SaidFaceRun → List Cell → List Cell
 painted_by run cells = take run.first cells ++ faced (run.last + 1 - run.first) run.face (drop run.first cells)
 
 -- the next run, which stands from this column on: the column behind it, and the cells with it
-abbrev pub with_run : ℕ → List Cell → List ℕ → Option (ℕ × List Cell)
-with_run from cells text = option_and_then (λ run. if fits from cells run then Some (run.last + 1, painted_by run cells) else None) (run_of text)
+abbrev pub with_face_run : ℕ → List Cell → List ℕ → Option (ℕ × List Cell)
+with_face_run from cells text = option_and_then (λ run. if fits from cells run then Some (run.last + 1, painted_by run cells) else None) (face_run text)
 
 -- cells with these runs, which stand from this column on, in order
 abbrev pub painted : ℕ → List Cell → List (List ℕ) → Option (List Cell)
 painted from cells [] = Some cells
-painted from cells (text ∷ texts) = option_and_then (λ next. painted next.0 next.1 texts) (with_run from cells text)
+painted from cells (text ∷ texts) = option_and_then (λ next. painted next.0 next.1 texts) (with_face_run from cells text)
 
 -- cells with the runs of a text, each behind a space, which stand from the first column on, in order
 abbrev pub runs_over : List ℕ → List Cell → Option (List Cell)

@@ -1,11 +1,11 @@
 pub mod Cuts
 pub mod Dumps
 pub mod Examples
+pub mod FaceRuns
 pub mod Numbers
 pub mod Printed
 pub mod Recorded
 pub mod Results
 pub mod Rows
-pub mod Runs
 pub mod Texts
 pub mod Verdicts

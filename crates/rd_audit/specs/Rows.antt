@@ -6,7 +6,7 @@ use Rattle.rd_base.specs.declared.limits.TheConstants.{FRAME_COLUMNS, FRAME_ROWS
 use Rattle.rd_term.specs.Pictures.{width_of}
 use Rattle.rd_audit.specs.Cuts.{stripped, cut_last}
 use Rattle.rd_audit.specs.Numbers.{pair_of}
-use Rattle.rd_audit.specs.Runs.{runs_over}
+use Rattle.rd_audit.specs.FaceRuns.{runs_over}
 use Rattle.rd_audit.specs.Texts.{text_cells}
 
 -- what the line of a row begins with, and that of a cursor

@@ -11,7 +11,7 @@ ghost use Rattle.rd_audit.specs.Examples.{report_without_dumps, short_end, short
 ghost use Rattle.rd_audit.specs.Numbers.{number_of};
 ghost use Rattle.rd_audit.specs.Recorded.{IsRecording};
 ghost use Rattle.rd_audit.specs.Rows.{place_in};
-ghost use Rattle.rd_audit.specs.Runs.{face_of, run_of};
+ghost use Rattle.rd_audit.specs.FaceRuns.{face_of, face_run};
 
 /// A dump of two rows, of which the last in the file counts, and files whose dump is bad or missing.
 #[tactic(auto, unfolding(crate::proofs::OnDumps::on_dumps))]
@@ -41,7 +41,7 @@ fn worked_cuts()
 
 /// Runs with their faces, and numbers.
 fn worked_runs()
-    ensures run { run_of (codes "1-11:1;31") ≡ Some (record { first = 1; last = 11; face = record plain { bold = true; fg = 1 } }) }
+    ensures run { face_run (codes "1-11:1;31") ≡ Some (record { first = 1; last = 11; face = record plain { bold = true; fg = 1 } }) }
     ensures order { face_of (codes "31;1") ≡ None }
     ensures twice { face_of (codes "31;32") ≡ None }
     ensures none { face_of [] ≡ None }

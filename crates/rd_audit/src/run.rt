@@ -2,7 +2,7 @@
 ghost use Rattle.std.specs.Prelude.{◌≡◌, ◌<◌, ◌≤◌, IfSome, option_map, true, length};
 ghost use Rattle.rd_term.specs.Pens.{is_rendition};
 ghost use Rattle.rd_audit.specs.Cuts.{pieces};
-ghost use Rattle.rd_audit.specs.Runs.{painted, place_of, comes_behind, with_number, face_of, run_of, is_edge, fits, with_face, painted_by, with_run, runs_over};
+ghost use Rattle.rd_audit.specs.FaceRuns.{painted, place_of, comes_behind, with_number, face_of, face_run, is_edge, fits, with_face, painted_by, with_face_run, runs_over};
 
 use crate::number::{number_of, pair_of};
 use rd_base::{Cell, Face, ListOf, cut};
@@ -37,16 +37,16 @@ fn painted(cells: ListOf<Cell>, runs: &[u8]) -> Option<ListOf<Cell>>
     let mut cells = cells;
     let mut from = 0;
     for text in runs.split(|b| *b == b' ') {
-        from = with_run(from, &mut cells, text)?;
+        from = with_face_run(from, &mut cells, text)?;
     }
     Some(cells)
 }
 
 /// Gives cells the run that a text says, which stands from a column on, and answers the column behind it.
-fn with_run(from: u32, cells: &mut ListOf<Cell>, text: &[u8]) -> Option<u32>
-    ensures { option_map (λ next. (next, cells.new)) result ≡ with_run from cells.old text.now }
+fn with_face_run(from: u32, cells: &mut ListOf<Cell>, text: &[u8]) -> Option<u32>
+    ensures { option_map (λ next. (next, cells.new)) result ≡ with_face_run from cells.old text.now }
 {
-    let run = run_of(text)?;
+    let run = face_run(text)?;
     if fits(from, cells.as_slice(), &run) {
         paint(cells, &run);
         Some(run.last + 1)
@@ -56,8 +56,8 @@ fn with_run(from: u32, cells: &mut ListOf<Cell>, text: &[u8]) -> Option<u32>
 }
 
 /// The run of a text.
-fn run_of(text: &[u8]) -> Option<SaidFaceRun>
-    ensures value { result ≡ run_of text.now }
+fn face_run(text: &[u8]) -> Option<SaidFaceRun>
+    ensures value { result ≡ face_run text.now }
     ensures bound { IfSome result (λ run. run.last < 1000) }
 {
     let (span, codes) = cut(b':', text)?;

@@ -18,7 +18,7 @@ use Rattle.rd_objects.specs.Tables.{TableValue}
 use Rattle.rd_objects.specs.Texts.{TextValue}
 use Rattle.rd_objects.specs.declared.run.Spec.TheVariants.{Text}
 use Rattle.rd_text.specs.Texts.{is_newline}
-use Rattle.rd_glyphs.specs.Characters.{PartValues, glyph_elements, entry_of, elements_by, elements_of, shown_as}
+use Rattle.rd_glyphs.specs.Characters.{PartValues, glyph_elements, glyphs_for, elements_by, elements_of, shown_as}
 use Rattle.rd_glyphs.specs.MarkRoles.{is_empty_entry, base_of, mark_of, mark_role_by}
 use Rattle.rd_glyphs.proofs.Joined.{Grows, joined-by}
 use Rattle.rd_glyphs.specs.Marks.{marked_glyph, marks_joined}
@@ -41,11 +41,11 @@ use Rattle.rd_stack.specs.declared.part.Shown.{Shown}
 
 -- the law of characters that give an element
 abbrev CharactersGive : Type 0
-CharactersGive = (parts : PartValues) (ch : ℕ) (odd : Bool) (face : Attributes) (origin : Origin) → is_empty_entry (entry_of parts.table ch) ≡ false → 1 ≤ length (elements_of parts ch odd face origin)
+CharactersGive = (parts : PartValues) (ch : ℕ) (odd : Bool) (face : Attributes) (origin : Origin) → is_empty_entry (glyphs_for parts.table ch) ≡ false → 1 ≤ length (elements_of parts ch odd face origin)
 
 -- what a part shows gives an element: a character, with marks or without
 abbrev part_gives : Scene → ItemKind → Bool
-part_gives s (item.Char c) = not (is_empty_entry (entry_of s.parts.table c))
+part_gives s (item.Char c) = not (is_empty_entry (glyphs_for s.parts.table c))
 part_gives s (item.Marked g) = true
 part_gives s k = false
 
@@ -54,7 +54,7 @@ some_gives s xs = list_any (λ (x : Part). part_gives s x.kind) xs
 
 part-some : CharactersGive → (s : Scene) (origin : Origin) (k : ItemKind) (face : Attributes) (odd : Bool) → part_gives s k ≡ true
     → 1 ≤ length (display_part_elements s origin (record { kind = k; face = face; odd = odd }))
-part-some law s origin (item.Char c) face odd h = law s.parts c odd face origin (not-true (is_empty_entry (entry_of s.parts.table c)) h)
+part-some law s origin (item.Char c) face odd h = law s.parts c odd face origin (not-true (is_empty_entry (glyphs_for s.parts.table c)) h)
 part-some law s origin (item.Marked g) face odd h = omega arith
 part-some law s origin (item.Text n) face odd h = absurd (let q : false ≡ true = h in cc)
 part-some law s origin (item.Space spec) face odd h = absurd (let q : false ≡ true = h in cc)
@@ -138,8 +138,8 @@ go-by : (s : Scene) (xs : List Part) (text : TextValue) (under : Attributes) (i 
     → (gives_element s.parts.table (get_or text.chars i 0) ≡ true) ⊎ (char_gives s text is ≡ true) → (some_gives s (xs ++ part_of s (bare_place text under i) ∷ []) ≡ true) ⊎ (char_gives s text is ≡ true)
 go-by s xs text under i is e (inr h) = inr h
 go-by s xs text under i is e (inl h) =
-    inl (gives-append s xs (part_of s (bare_place text under i) ∷ []) (inr (or_left (not (is_empty_entry (entry_of s.parts.table (get_or text.chars i 0)))) false
-    (second-holds (is_newline (get_or text.chars i 0)) (not (is_empty_entry (entry_of s.parts.table (get_or text.chars i 0)))) e h))))
+    inl (gives-append s xs (part_of s (bare_place text under i) ∷ []) (inr (or_left (not (is_empty_entry (glyphs_for s.parts.table (get_or text.chars i 0)))) false
+    (second-holds (is_newline (get_or text.chars i 0)) (not (is_empty_entry (glyphs_for s.parts.table (get_or text.chars i 0)))) e h))))
 
 -- a place that ends no row goes to the parts
 go-on : (s : Scene) (xs : List Part) (text : TextValue) (under : Attributes) (i : ℕ) (is : List ℕ) → ends_row (bare_place text under i) ≡ false
@@ -198,18 +198,18 @@ empty-entry None h = absurd (let q : true ≡ false = h in cc)
 empty-entry (Some []) h = refl
 empty-entry (Some (g ∷ gs)) h = absurd (let q : true ≡ false = h in cc)
 
-character-none : (parts : PartValues) (ch : ℕ) (odd : Bool) (face : Attributes) (origin : Origin) → not (is_empty_entry (entry_of parts.table ch)) ≡ false → elements_of parts ch odd face origin ≡ []
-character-none parts ch odd face origin h = ap (λ entry. elements_by entry parts ch odd face origin) (empty-entry (entry_of parts.table ch) h)
+character-none : (parts : PartValues) (ch : ℕ) (odd : Bool) (face : Attributes) (origin : Origin) → not (is_empty_entry (glyphs_for parts.table ch)) ≡ false → elements_of parts ch odd face origin ≡ []
+character-none parts ch odd face origin h = ap (λ entry. elements_by entry parts ch odd face origin) (empty-entry (glyphs_for parts.table ch) h)
 
 -- a part without elements that no mark joins
 record IsEmptyPart (s : Scene) (x : Part) : Type 0 where
   none : (face : Attributes) (odd : Bool) (origin : Origin) → display_part_elements s origin (record { kind = x.kind; face = face; odd = odd }) ≡ []
   alone : base_of x.role ≡ None
 
-char-empty : (s : Scene) (p : Place) → not (is_empty_entry (entry_of s.parts.table p.ch)) ≡ false → IsEmptyPart s (part_by s None p)
+char-empty : (s : Scene) (p : Place) → not (is_empty_entry (glyphs_for s.parts.table p.ch)) ≡ false → IsEmptyPart s (part_by s None p)
 char-empty s p h = record {
   none = λ face odd origin. character-none s.parts p.ch odd face origin h;
-  alone = ap (λ entry. base_of (mark_role_by entry (shown_as s.parts.settings.ctl_arrow (class_of s.parts.classes p.ch) p.ch))) (empty-entry (entry_of s.parts.table p.ch) h);
+  alone = ap (λ entry. base_of (mark_role_by entry (shown_as s.parts.settings.ctl_arrow (class_of s.parts.classes p.ch) p.ch))) (empty-entry (glyphs_for s.parts.table p.ch) h);
 }
 
 grows-none : (s : Scene) → Grows part_joins (IsEmptyPart s)
@@ -223,12 +223,12 @@ GivesNone s p = (p.spec ≡ None) × (gives_element s.parts.table p.ch ≡ false
 
 place-empty : (s : Scene) (p : Place) → GivesNone s p → IsEmptyPart s (part_of s p)
 place-empty s p none =
-    let own = or_parts (is_newline p.ch) (not (is_empty_entry (entry_of s.parts.table p.ch))) none.1 in
+    let own = or_parts (is_newline p.ch) (not (is_empty_entry (glyphs_for s.parts.table p.ch))) none.1 in
     rw none.0 (char-empty s p own.1)
 
 not-end : (s : Scene) (p : Place) → GivesNone s p → ends_row p ≡ true → ⊥
 not-end s p none ends =
-    let own = or_parts (is_newline p.ch) (not (is_empty_entry (entry_of s.parts.table p.ch))) none.1 in
+    let own = or_parts (is_newline p.ch) (not (is_empty_entry (glyphs_for s.parts.table p.ch))) none.1 in
     both_ways (is_newline p.ch) own.0 (and_parts (not (is_some p.spec)) (is_newline p.ch) ends).1
 
 flat-none : {X : Type 0} (f : X → List Element) (xs : List X) → AllByRecursion (λ (x : X). f x ≡ []) xs → flat_map f xs ≡ []
@@ -252,7 +252,7 @@ pub item-gives : CharactersGive → (s : Scene) (base : ℕ) (k : ItemKind) (odd
     → let shown = put_kind kind_elements s base k false odd face origin in
     (kind_gives s k ≡ true → 1 ≤ length shown) × (kind_gives s k ≡ false → shown ≡ [])
 item-gives law s base (item.Char c) odd face origin =
-    (λ h. law s.parts c odd face origin (not-true (is_empty_entry (entry_of s.parts.table c)) h), character-none s.parts c odd face origin)
+    (λ h. law s.parts c odd face origin (not-true (is_empty_entry (glyphs_for s.parts.table c)) h), character-none s.parts c odd face origin)
 item-gives law s base (item.Text n) odd face origin =
     let text = slice_get s.objects.strings n in (string-some law s base origin face text, string-none s base origin face text)
 item-gives law s base (item.Space (Text n)) odd face origin = (λ h. absurd (let q : false ≡ true = h in cc), λ h. refl)

@@ -78,8 +78,8 @@ impl Links {
         Ok(None)
     }
 
-    /// For BD13, the follower where a sequence begins there; from then on none begins there.
-    fn join(&mut self, follower: Option<u32>) -> Option<u32>
+    /// For BD13, leads on to the follower, where a sequence begins there; from then on none begins there.
+    fn bd13_lead_on(&mut self, follower: Option<u32>) -> Option<u32>
         requires { IfSome follower (λ f. f < length self.old.begins) }
         ensures next { result ≡ beginning follower self.old.begins }
         ensures begins { self.new.begins ≡ without_beginning follower self.old.begins }
@@ -115,7 +115,7 @@ impl Links {
             self.begins.set(i, false);
             return Ok(());
         }
-        let next = self.join(bd13_follower(self.first, level, partner));
+        let next = self.bd13_lead_on(bd13_follower(self.first, level, partner));
         let after = x10_level_behind(self.first, line.base, is_unmatched(class, partner));
         self.begins.set(i, true);
         self.links.set(

@@ -21,7 +21,7 @@ use Rattle.rd_ucd.specs.Codes.{code_of}
 use Rattle.rd_ucd.specs.Names.{named}
 use Rattle.rd_ucd.specs.Results.{Answers, behind}
 use Rattle.rd_ucd.specs.Lines.{entries_in, fields_of}
-use Rattle.rd_ucd.specs.ClassFile.{classes_of, closes, coded, ended, entry_of, is_empty_line, kind_of_name, opened_by, span_by, spans_from, unless}
+use Rattle.rd_ucd.specs.ClassFile.{classes_of, closes, coded, ended, line_entry, is_empty_line, kind_of_name, opened_by, span_by, spans_from, unless}
 use Rattle.rd_ucd.specs.ListFile.{ascending_from, both, codes_of, counting, is_blank_line, listed_in, trimmed_field}
 use Rattle.rd_ucd.specs.MirrorFile.{mirrors_of, pair_by, pair_of}
 use Rattle.rd_ucd.specs.BracketFile.{bracket_by, bracket_named, bracket_of, bracket_with, brackets_of}
@@ -69,7 +69,7 @@ coded-within most n None kind class h = h
 coded-within most n (Some code) kind None h = h
 coded-within most n (Some code) kind (Some class) h = tt
 
-entry-within : (most n : ℕ) (line : List ℕ) → IsLine most n → IsWithin most (entry_of n line)
+entry-within : (most n : ℕ) (line : List ℕ) → IsLine most n → IsWithin most (line_entry n line)
 entry-within most n line h =
     let fields = fields_of (strip_carriage_return line) in
     either (IsWithin most) (nat_lt 4 (length fields)) (coded n (code_of (slice_index_or fields 0 [])) (kind_of_name (slice_index_or fields 1 [])) (named (slice_index_or fields 4 []))) (Err (ucd.BadLine n))
@@ -144,7 +144,7 @@ few_lines bytes =
 pub classes-within : (bytes : List ℕ) → IsWithin (suc (length bytes)) (classes_of bytes)
 classes-within bytes =
     spans-within (suc (length bytes)) 0 None _
-    (entries-within (suc (length bytes)) is_empty_line entry_of (entry-within (suc (length bytes))) 1 (slice_split (λ b. b == 10) bytes) (omega arith) (few_lines bytes)) tt
+    (entries-within (suc (length bytes)) is_empty_line line_entry (entry-within (suc (length bytes))) 1 (slice_split (λ b. b == 10) bytes) (omega arith) (few_lines bytes)) tt
 
 listed-within : {T : Type 0} (key : T → ℕ) (of_fields : ℕ → List (List ℕ) → Result T UcdFault) (bytes : List ℕ)
     → ((most n : ℕ) (fields : List (List ℕ)) → IsLine most n → IsWithin most (of_fields n fields)) → IsWithin (suc (length bytes)) (listed_in key of_fields bytes)

@@ -25,7 +25,7 @@ use Rattle.rd_objects.proofs.Widths.{few-columns}
 use Rattle.rd_objects.specs.declared.run.Slot.TheVariants.{Escape, Control}
 use Rattle.rd_glyphs.specs.declared.shown.Shown.{Shown}
 use Rattle.rd_glyphs.specs.declared.shown.Shown.TheVariants.{Caret, Octal, Space, Mark, Itself}
-use Rattle.rd_glyphs.specs.Characters.{PartValues, AreSoundParts, HasOrigin, AreOfCharacter, TakesColumns, ShowsColumns, IsShort, IsShortElement, is_control, is_formatting, shown_as, looks_of, element_of, glyph_elements, entry_of, own_looks, elements_by, elements_of, tab_of}
+use Rattle.rd_glyphs.specs.Characters.{PartValues, AreSoundParts, HasOrigin, AreOfCharacter, TakesColumns, ShowsColumns, IsShort, IsShortElement, is_control, is_formatting, shown_as, looks_of, element_of, glyph_elements, glyphs_for, own_looks, elements_by, elements_of, tab_of}
 use Rattle.rd_glyphs.specs.MarkRoles.{is_empty_entry}
 use Rattle.rd_glyphs.proofs.Measures.{ShowsMeasured, character-measured, slot_or-is, shown-by, shown_as-measured, mirror-measured, mirrored-keeps, looks_of-each, looks-measured}
 
@@ -117,13 +117,13 @@ of-glyphs face origin text is =
     (λ k d inside. character-measured (slice_index_or text k d) (AllPass-from_list_all is_glyph_character text each k d inside))
     (grind (arith, nat_tests))
 
-entry-sound : (table : Option TableValue) (code : ℕ) → IfSome table (λ t. IsTable t) → IfSome (entry_of table code) (λ text. IsTrue (is_glyph_text text))
+entry-sound : (table : Option TableValue) (code : ℕ) → IfSome table (λ t. IsTable t) → IfSome (glyphs_for table code) (λ text. IsTrue (is_glyph_text text))
 entry-sound None code is = tt
 entry-sound (Some t) code is = entry-text t.entries code is.entries
 
 -- the elements of a character
 pub of-character : (parts : PartValues) (ch : ℕ) (odd : Bool) (face : Attributes) (origin : Origin) → AreSoundParts parts → IsTrue (is_code ch) → AreOfCharacter face origin (elements_of parts ch odd face origin)
-of-character parts ch odd face origin is code = by-entry (entry_of parts.table ch) (entry-sound parts.table ch is.table) where
+of-character parts ch odd face origin is code = by-entry (glyphs_for parts.table ch) (entry-sound parts.table ch is.table) where
   by-tab : (tab : Bool) → AreOfCharacter face origin (if tab then tab_of parts.settings.tab_width face origin ∷ [] else map (element_of face origin) (own_looks parts ch odd))
   by-tab true =
       let tab = tab_of parts.settings.tab_width face origin in
@@ -144,13 +144,13 @@ of-character parts ch odd face origin is code = by-entry (entry_of parts.table c
   by-entry None own = by-tab (ch == 9)
 
 -- the elements of a character are at most four where the table does not show it
-pub few-elements : (parts : PartValues) (ch : ℕ) (odd : Bool) (face : Attributes) (origin : Origin) → entry_of parts.table ch ≡ None → length (elements_of parts ch odd face origin) ≤ 4
+pub few-elements : (parts : PartValues) (ch : ℕ) (odd : Bool) (face : Attributes) (origin : Origin) → glyphs_for parts.table ch ≡ None → length (elements_of parts ch odd face origin) ≤ 4
 few-elements parts ch odd face origin none =
     rw none (either (λ (es : List Element). length es ≤ 4) (ch == 9) _ _ (omega arith) (rw (length-map (own_looks parts ch odd) (element_of face origin)) (looks-count _ _ _).1))
 
 -- a character that the table does not show as nothing has an element
-pub some-element : (parts : PartValues) (ch : ℕ) (odd : Bool) (face : Attributes) (origin : Origin) → is_empty_entry (entry_of parts.table ch) ≡ false → 1 ≤ length (elements_of parts ch odd face origin)
-some-element parts ch odd face origin some = by-entry (entry_of parts.table ch) some where
+pub some-element : (parts : PartValues) (ch : ℕ) (odd : Bool) (face : Attributes) (origin : Origin) → is_empty_entry (glyphs_for parts.table ch) ≡ false → 1 ≤ length (elements_of parts ch odd face origin)
+some-element parts ch odd face origin some = by-entry (glyphs_for parts.table ch) some where
   by-entry : (entry : Option (List Glyph)) → is_empty_entry entry ≡ false → 1 ≤ length (elements_by entry parts ch odd face origin)
   by-entry None some =
       either (λ (es : List Element). 1 ≤ length es) (ch == 9) _ _ (omega arith) (rw (length-map (own_looks parts ch odd) (element_of face origin)) (looks-count _ _ _).0)

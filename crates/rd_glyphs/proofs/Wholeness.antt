@@ -23,7 +23,7 @@ use Rattle.rd_glyphs.specs.declared.mark_role.MarkRole.{MarkRole}
 use Rattle.rd_glyphs.specs.declared.mark_role.MarkRole.TheVariants as role
 use Rattle.rd_glyphs.specs.declared.shown.Shown.{Shown}
 use Rattle.rd_glyphs.specs.declared.shown.Shown.TheVariants.{Caret, Octal, Space, Mark, Itself}
-use Rattle.rd_glyphs.specs.Characters.{PartValues, TakesColumns, ShowsColumns, shown_as, look_columns, entry_of}
+use Rattle.rd_glyphs.specs.Characters.{PartValues, TakesColumns, ShowsColumns, shown_as, look_columns, glyphs_for}
 use Rattle.rd_glyphs.specs.MarkRoles.{mark_role_by, mark_role_of, base_of, mark_of, IsMark, IsMeasuredRole}
 use Rattle.rd_glyphs.specs.Marks.{marked_glyph}
 use Rattle.rd_glyphs.specs.Lines.{PlainPart, shown_part, plain_part, plain_joins, looks_of_parts, plain_looks, cells_of, fitted, plain_cells}
@@ -77,7 +77,7 @@ mark-measured (role.Mark code) is = is
 
 -- how any character stands towards marks
 pub mark_role_of-measured : (parts : PartValues) (ch : ℕ) → IsTrue (is_code ch) → IsMeasuredRole (mark_role_of parts ch)
-mark_role_of-measured parts ch code = by-entry (entry_of parts.table ch) where
+mark_role_of-measured parts ch code = by-entry (glyphs_for parts.table ch) where
   by-entry : (entry : Option (List Glyph)) → IsMeasuredRole (mark_role_by entry (shown_as parts.settings.ctl_arrow (class_of parts.classes ch) ch))
   by-entry None = role-measured _ (shown_as-measured parts.settings.ctl_arrow (class_of parts.classes ch) ch code)
   by-entry (Some []) = tt

@@ -21,7 +21,7 @@ use Rattle.rd_ucd.specs.declared.spans.Pair.{Pair}
 use Rattle.rd_ucd.specs.Lookup.{class_of, mirror_in}
 use Rattle.rd_objects.specs.declared.run.Slot.{Slot}
 use Rattle.rd_objects.specs.declared.run.Slot.TheVariants.{Escape, Control}
-use Rattle.rd_objects.specs.Tables.{TableValue, IsTable, entry_in, slot_of}
+use Rattle.rd_objects.specs.Tables.{TableValue, IsTable, entry_glyphs, slot_of}
 use Rattle.rd_objects.specs.Widths.{columns}
 use Rattle.rd_glyphs.specs.declared.shown.Shown.{Shown}
 use Rattle.rd_glyphs.specs.declared.shown.Shown.TheVariants.{Caret, Octal, Space, Mark, Itself}
@@ -105,9 +105,9 @@ abbrev pub glyph_elements : Attributes → Origin → List Glyph → List Elemen
 glyph_elements face origin text = map (λ g. element_of face origin (look.Glyph g)) text
 
 -- what a table puts for a code
-abbrev pub entry_of : Option TableValue → ℕ → Option (List Glyph)
-entry_of None code = None
-entry_of (Some table) code = entry_in table.entries code
+abbrev pub glyphs_for : Option TableValue → ℕ → Option (List Glyph)
+glyphs_for None code = None
+glyphs_for (Some table) code = entry_glyphs table.entries code
 
 -- the glyph of a slot, and a glyph of one column where there is none
 abbrev pub slot_or : Slot → Option TableValue → ℕ → Glyph
@@ -131,7 +131,7 @@ elements_by None parts ch odd face origin =
 
 -- the elements of a character, at an odd level or not
 abbrev pub elements_of : PartValues → ℕ → Bool → Attributes → Origin → List Element
-elements_of parts ch odd face origin = elements_by (entry_of parts.table ch) parts ch odd face origin
+elements_of parts ch odd face origin = elements_by (glyphs_for parts.table ch) parts ch odd face origin
 
 -- a look of 1 to 3 columns
 abbrev pub TakesColumns : Look → Type 0

@@ -10,7 +10,7 @@ use Rattle.rd_glyphs.specs.declared.mark_role.MarkRole.{MarkRole}
 use Rattle.rd_glyphs.specs.declared.mark_role.MarkRole.TheVariants as role
 use Rattle.rd_glyphs.specs.declared.shown.Shown.{Shown}
 use Rattle.rd_glyphs.specs.declared.shown.Shown.TheVariants.{Mark, Itself}
-use Rattle.rd_glyphs.specs.Characters.{PartValues, shown_as, entry_of, on_blank}
+use Rattle.rd_glyphs.specs.Characters.{PartValues, shown_as, glyphs_for, on_blank}
 use Rattle.rd_glyphs.specs.Marks.{marked_glyph}
 
 -- an entry that shows nothing
@@ -28,7 +28,7 @@ mark_role_by None shown = role.Alone
 
 -- how a character stands towards marks
 abbrev pub mark_role_of : PartValues → ℕ → MarkRole
-mark_role_of parts ch = mark_role_by (entry_of parts.table ch) (shown_as parts.settings.ctl_arrow (class_of parts.classes ch) ch)
+mark_role_of parts ch = mark_role_by (glyphs_for parts.table ch) (shown_as parts.settings.ctl_arrow (class_of parts.classes ch) ch)
 
 -- the glyph that marks may join: the character, or the blank that it stands on as a mark
 abbrev pub base_of : MarkRole → Option Glyph

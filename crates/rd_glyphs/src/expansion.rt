@@ -31,7 +31,7 @@ impl Expansion {
 
 impl<'a> Parts<'a> {
     ghost use Rattle.std.specs.Prelude.{◌≡◌, None, IsOk, IfOk};
-    ghost use Rattle.rd_glyphs.specs.Characters.{elements_of, entry_of};
+    ghost use Rattle.rd_glyphs.specs.Characters.{elements_of, glyphs_for};
     ghost use Rattle.rd_glyphs.specs.Looks.{expanded};
 
     /// What a character expands to, at an odd embedding level or not: the elements that `expand` lists, with its costs. Where no table's
@@ -45,9 +45,9 @@ impl<'a> Parts<'a> {
         origin: Origin,
     ) -> Result<Expansion, Memory>
         ensures value { IfOk result (λ expansion. expanded expansion ≡ elements_of self.now ch odd face origin) }
-        ensures inline { entry_of self.now.table ch ≡ None → IsOk result }
+        ensures inline { glyphs_for self.now.table ch ≡ None → IsOk result }
     {
-        if let Some(text) = self.entry(ch.code()) {
+        if let Some(text) = self.glyphs_for(ch.code()) {
             return Ok(Expansion::Several(of_glyphs(alloc, text, face, origin)?));
         }
         if ch.code() == 9 {

@@ -8,7 +8,7 @@ ghost use Rattle.rd_base.specs.declared.cell.Glyph.{Glyph};
 ghost use Rattle.rd_base.specs.declared.element.Origin.{Origin};
 ghost use Rattle.rd_ucd.specs.declared.spans.Span.{Span};
 ghost use Rattle.rd_objects.specs.Tables.{is_glyph_text};
-ghost use Rattle.rd_glyphs.specs.Characters.{PartValues, AreSoundParts, elements_of, entry_of, glyph_elements, AreOfCharacter};
+ghost use Rattle.rd_glyphs.specs.Characters.{PartValues, AreSoundParts, elements_of, glyphs_for, glyph_elements, AreOfCharacter};
 ghost use Rattle.rd_glyphs.specs.MarkRoles.{is_empty_entry, MarkLaws};
 ghost use Rattle.rd_glyphs.specs.Lines.{plain_cells};
 
@@ -17,7 +17,7 @@ ghost use Rattle.rd_glyphs.specs.Lines.{plain_cells};
 /// table does not show the character as nothing. The call does nothing.
 pub fn elements_are_sound()
     ensures elements { (parts : PartValues) (ch : ℕ) (odd : Bool) (face : Attributes) (origin : Origin) → AreSoundParts parts → IsTrue (is_code ch) → AreOfCharacter face origin (elements_of parts ch odd face origin) }
-    ensures some { (parts : PartValues) (ch : ℕ) (odd : Bool) (face : Attributes) (origin : Origin) → is_empty_entry (entry_of parts.table ch) ≡ false → 1 ≤ length (elements_of parts ch odd face origin) }
+    ensures some { (parts : PartValues) (ch : ℕ) (odd : Bool) (face : Attributes) (origin : Origin) → is_empty_entry (glyphs_for parts.table ch) ≡ false → 1 ≤ length (elements_of parts ch odd face origin) }
 {}
 
 /// The elements of at most 16 glyph characters, as an entry of a table and an ellipsis have them, are sound, measured and of the face

@@ -59,14 +59,14 @@ pub fn marked_glyph(base: Option<Glyph>, mark: Option<u32>) -> Option<Glyph>
 
 impl<'a> Parts<'a> {
     ghost use Rattle.std.specs.Prelude.{◌≡◌};
-    ghost use Rattle.rd_glyphs.specs.Characters.{entry_of};
+    ghost use Rattle.rd_glyphs.specs.Characters.{glyphs_for};
     ghost use Rattle.rd_glyphs.specs.MarkRoles.{is_empty_entry, mark_role_of, IsMeasuredRole};
 
     /// Whether a table shows nothing for a character, so that it has no element. It costs a look at each entry of the table.
     pub fn is_empty(&self, ch: Ch) -> bool
-        ensures { result ≡ is_empty_entry (entry_of self.now.table ch) }
+        ensures { result ≡ is_empty_entry (glyphs_for self.now.table ch) }
     {
-        match self.entry(ch.code()) {
+        match self.glyphs_for(ch.code()) {
             Some(text) => text.is_empty(),
             None => false,
         }
@@ -78,7 +78,7 @@ impl<'a> Parts<'a> {
         ensures value { result ≡ mark_role_of self.now ch }
         ensures measured { IsMeasuredRole result }
     {
-        if let Some(text) = self.entry(ch.code()) {
+        if let Some(text) = self.glyphs_for(ch.code()) {
             return if text.is_empty() {
                 MarkRole::Empty
             } else {

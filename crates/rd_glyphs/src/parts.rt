@@ -3,7 +3,7 @@ ghost use Rattle.std.specs.Prelude.{◌≡◌, ◌≤◌, map, length, All, None
 ghost use Rattle.rd_base.specs.declared.limits.TheConstants.{ENTRY_GLYPHS};
 ghost use Rattle.rd_base.specs.Elements.{AreSound};
 ghost use Rattle.rd_base.specs.Glyphs.{AreMeasured};
-ghost use Rattle.rd_glyphs.specs.Characters.{element_of, glyph_elements, tab_of, entry_of, elements_of, IsShort};
+ghost use Rattle.rd_glyphs.specs.Characters.{element_of, glyph_elements, tab_of, glyphs_for, elements_of, IsShort};
 
 use crate::looks::{Looks, look_columns, looks_of};
 use crate::shown::{Shown, mirrored, shown_as};
@@ -40,7 +40,7 @@ impl<'a> Model for Parts<'a> {
 
 impl<'a> Parts<'a> {
     ghost use Rattle.std.specs.Prelude.{◌≡◌, ◌≤◌, length, MatchOption, None, Some};
-    ghost use Rattle.rd_glyphs.specs.Characters.{AreSoundParts, entry_of, slot_or, own_shown, own_looks};
+    ghost use Rattle.rd_glyphs.specs.Characters.{AreSoundParts, glyphs_for, slot_or, own_shown, own_looks};
     ghost use Rattle.rd_glyphs.specs.Looks.{list_of};
 
     /// The table holds glyph characters, and a tab has 1 to 32 columns. The call does nothing.
@@ -55,8 +55,8 @@ impl<'a> Parts<'a> {
     }
 
     /// What the table puts for a code, and None where it puts nothing.
-    pub(crate) fn entry(&self, code: u32) -> Option<&[Glyph]>
-        ensures { MatchOption result (entry_of self.now.table code ≡ None) (λ text. entry_of self.now.table code ≡ Some text.now) }
+    pub(crate) fn glyphs_for(&self, code: u32) -> Option<&[Glyph]>
+        ensures { MatchOption result (glyphs_for self.now.table code ≡ None) (λ text. glyphs_for self.now.table code ≡ Some text.now) }
     {
         self.table?.entry(code)
     }
@@ -120,8 +120,8 @@ pub fn expand(
     ensures columns { IfOk result (λ elements. All (λ e. IsShort e.extent) elements.items) }
     ensures measured { IfOk result (λ elements. AreMeasured elements.items) }
     ensures count { IfOk result (λ elements. length elements.items ≤ ENTRY_GLYPHS) }
-    ensures few { entry_of parts.now.table ch ≡ None → IfOk result (λ elements. length elements.items ≤ 4) }
-    ensures inline { entry_of parts.now.table ch ≡ None → IsOk result }
+    ensures few { glyphs_for parts.now.table ch ≡ None → IfOk result (λ elements. length elements.items ≤ 4) }
+    ensures inline { glyphs_for parts.now.table ch ≡ None → IsOk result }
 {
     parts.parts_are_sound();
     let expansion = parts.expansion(alloc, ch, odd, face, origin)?;

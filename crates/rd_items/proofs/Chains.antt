@@ -9,7 +9,7 @@ use Rattle.rd_base.specs.declared.settings.Invisible.{Invisible}
 use Rattle.rd_text.specs.Texts.{is_newline}
 use Rattle.rd_objects.specs.declared.run.Spec.{Spec}
 use Rattle.rd_objects.specs.declared.run.Spec.TheVariants.{Text, Width, Align}
-use Rattle.rd_glyphs.specs.Characters.{entry_of, shown_as}
+use Rattle.rd_glyphs.specs.Characters.{glyphs_for, shown_as}
 use Rattle.rd_glyphs.specs.MarkRoles.{mark_role_by, mark_role_of, base_of, is_empty_entry}
 use Rattle.rd_glyphs.specs.Marks.{marked_glyph, marks_joined_from, marks_joined}
 use Rattle.rd_glyphs.specs.declared.mark_role.MarkRole.{MarkRole}
@@ -152,7 +152,7 @@ own-char s face c p = record {
       at = refl;
       ordered = omega arith;
       some = λ e. omega arith;
-      gives = element-by (entry_of s.parts.table c) (shown_as s.parts.settings.ctl_arrow (class_of s.parts.classes c) c);
+      gives = element-by (glyphs_for s.parts.table c) (shown_as s.parts.settings.ctl_arrow (class_of s.parts.classes c) c);
       based = λ some. (base-element (mark_role_of s.parts c) some, refl);
     };
     no_ender = refl;

@@ -1,7 +1,7 @@
 -- The items of what is read of a block. Places are offsets in it.
 use Rattle.std.specs.Prelude.{ℕ, Bool, true, false, not, if◌then◌else◌, List, [], ◌∷◌, ◌++◌, slice_get, Option, None, Some, All}
 use Rattle.rd_objects.specs.declared.run.Spec.TheVariants.{Text}
-use Rattle.rd_glyphs.specs.Characters.{entry_of}
+use Rattle.rd_glyphs.specs.Characters.{glyphs_for}
 use Rattle.rd_glyphs.specs.MarkRoles.{is_empty_entry}
 use Rattle.rd_glyphs.specs.Marks.{Joins, marks_joined}
 use Rattle.rd_props.specs.Seen.{Seen}
@@ -48,7 +48,7 @@ items_of scene es = covering 0 (marks_joined piece_joins (pieces_from scene 0 0 
 
 -- whether what an item shows gives an element
 abbrev pub kind_gives : Scene → ItemKind → Bool
-kind_gives s (kind.Char c) = not (is_empty_entry (entry_of s.parts.table c))
+kind_gives s (kind.Char c) = not (is_empty_entry (glyphs_for s.parts.table c))
 kind_gives s (kind.Marked g) = true
 kind_gives s (kind.Text n) = string_gives s.parts.table (slice_get s.objects.strings n)
 kind_gives s (kind.Space (Text n)) = false

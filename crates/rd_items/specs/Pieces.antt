@@ -17,7 +17,7 @@ use Rattle.rd_objects.specs.declared.run.Spec.TheVariants.{Text, Width, Align}
 use Rattle.rd_objects.specs.Tables.{TableValue}
 use Rattle.rd_objects.specs.Texts.{TextValue}
 use Rattle.rd_objects.specs.Things.{ObjectLists}
-use Rattle.rd_glyphs.specs.Characters.{PartValues, entry_of}
+use Rattle.rd_glyphs.specs.Characters.{PartValues, glyphs_for}
 use Rattle.rd_glyphs.specs.MarkRoles.{is_empty_entry, mark_role_of, base_of, mark_of}
 use Rattle.rd_glyphs.specs.declared.mark_role.MarkRole.{MarkRole}
 use Rattle.rd_glyphs.specs.declared.mark_role.MarkRole.TheVariants as role
@@ -60,7 +60,7 @@ spec_in objects number = unwrap_or (slice_get objects.specs number) (Width 0)
 
 -- a character of a string that gives an element: a newline ends a row, and any other has those of its entry in the table
 abbrev pub gives_element : Option TableValue → ℕ → Bool
-gives_element table c = is_newline c || not (is_empty_entry (entry_of table c))
+gives_element table c = is_newline c || not (is_empty_entry (glyphs_for table c))
 
 -- whether characters give any element
 abbrev pub give_elements : Option TableValue → List ℕ → Bool

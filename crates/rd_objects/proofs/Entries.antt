@@ -5,7 +5,7 @@ use Rattle.std.specs.List.{All, find}
 use Rattle.std.specs.Prelude.{IfSome, option_map, reverse}
 use Rattle.rd_base.proofs.Lists.{found-each}
 use Rattle.rd_objects.specs.declared.table.TableEntry.{TableEntry}
-use Rattle.rd_objects.specs.Tables.{entry_in, is_glyph_text}
+use Rattle.rd_objects.specs.Tables.{entry_glyphs, is_glyph_text}
 
 -- what holds of what each element gives holds of what the last that passes gives
 pub last-gives : {X Y : Type 0} (P : Y → Type 0) (f : X → Y) (p : X → Bool) (xs : List X) → All (λ x. P (f x)) xs
@@ -18,5 +18,5 @@ last-gives {X} P f p xs all =
       mapped (Some x) h = h
 
 -- an entry shows glyph characters
-pub entry-text : (entries : List TableEntry) (code : ℕ) → All (λ e. IsTrue (is_glyph_text e.text)) entries → IfSome (entry_in entries code) (λ text. IsTrue (is_glyph_text text))
+pub entry-text : (entries : List TableEntry) (code : ℕ) → All (λ e. IsTrue (is_glyph_text e.text)) entries → IfSome (entry_glyphs entries code) (λ text. IsTrue (is_glyph_text text))
 entry-text entries code = last-gives (λ text. IsTrue (is_glyph_text text)) (λ e. e.text) (λ e. e.code == code) entries

@@ -46,8 +46,8 @@ abbrev pub is_slot_glyph : Glyph → Bool
 is_slot_glyph g = is_glyph_character g && (g.width == 1)
 
 -- what the entry that was put last for a code shows
-abbrev pub entry_in : List TableEntry → ℕ → Option (List Glyph)
-entry_in entries code = option_map (λ e. e.text) (find (λ e. e.code == code) (reverse entries))
+abbrev pub entry_glyphs : List TableEntry → ℕ → Option (List Glyph)
+entry_glyphs entries code = option_map (λ e. e.text) (find (λ e. e.code == code) (reverse entries))
 
 abbrev pub slot_of : Slot → TableValue → Option Glyph
 slot_of Truncation table = table.truncation

@@ -43,7 +43,7 @@ impl Model for Table {
 impl Table {
     ghost use Rattle.std.specs.Prelude.{◌≡◌, ◌<◌, ◌++◌, ◌∷◌, [], Some, None, IsTrue, IfOk, OnOk, OnErr, MatchOption, IfSome};
     ghost use Rattle.rd_base.specs.declared.limits.TheConstants.{CODE_POINTS};
-    ghost use Rattle.rd_objects.specs.Tables.{empty_table, entry_in, slot_of, with_slot, is_glyph_text, is_slot_glyph, IsTable};
+    ghost use Rattle.rd_objects.specs.Tables.{empty_table, entry_glyphs, slot_of, with_slot, is_glyph_text, is_slot_glyph, IsTable};
 
     /// A table that holds nothing. It takes no memory.
     pub fn new(alloc: Global) -> Result<Table, Memory>
@@ -99,7 +99,7 @@ impl Table {
 
     /// What a code shows, and None exactly where nothing was put. It costs a look at each entry.
     pub fn entry(&self, code: u32) -> Option<&[Glyph]>
-        ensures value { MatchOption result (entry_in self.now.entries code ≡ None) (λ text. entry_in self.now.entries code ≡ Some text.now) }
+        ensures value { MatchOption result (entry_glyphs self.now.entries code ≡ None) (λ text. entry_glyphs self.now.entries code ≡ Some text.now) }
         ensures text { IfSome result (λ text. IsTrue (is_glyph_text text.now)) }
     {
         self.tables_are_valid();

@@ -171,7 +171,7 @@ impl Draft {
             spot,
             ..
         } = self;
-        let mut cells = behind_mark(alloc, cutting, spot.used, cells)?;
+        let mut cells = with_front_mark(alloc, cutting, spot.used, cells)?;
         let room = cutting.shape.room();
         let missing = room.saturating_sub(cells.len() as u64);
         cells.push_copies(missing, Cell::Blank(Face::PLAIN))?;
@@ -182,7 +182,7 @@ impl Draft {
 }
 
 /// The cells behind the mark of a row that is scrolled sideways.
-fn behind_mark(
+fn with_front_mark(
     alloc: Global,
     cutting: &Cutting,
     used: u64,

@@ -20,8 +20,8 @@
 //!    Where lines are wrapped between words the row ends behind its last break instead, without a mark, and all elements behind that break
 //!    wait.
 //! 5. `draft`: blanks fill the row. Into the last column `last_cell` puts the continuation mark where the row asks for it, or in a
-//!    truncated row the truncation mark where columns are left behind it. Whatever stands in the last column, `behind_mark` puts the
-//!    truncation mark into the first column of each row that has any column, where the window is scrolled sideways.
+//!    truncated row the truncation mark where columns are left behind it. Whatever stands in the last column, `with_front_mark` puts
+//!    the truncation mark into the first column of each row that has any column, where the window is scrolled sideways.
 //! 6. `mirror`: until then columns count from the reading edge. A row of base level 1 is turned round, glyph by glyph.
 //!
 //! In Emacs `display_line` (xdisp.c) does all this: it asks the iterator for elements, `produce_glyphs` (term.c) puts them in the row,

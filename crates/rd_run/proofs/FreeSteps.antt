@@ -15,7 +15,7 @@ use Rattle.rd_script.specs.declared.op.Op.{Op}
 use Rattle.rd_script.specs.declared.op.Op.TheVariants as ops
 use Rattle.rd_script.specs.declared.setting.Setting.{Setting}
 use Rattle.rd_state.specs.Edits.{deletion, is_accessible, insertion, margin_putting, narrowing, overlay_dropping, overlay_making, overlay_moving, overlay_putting, property_putting, setting_putting, widening}
-use Rattle.rd_state.specs.Making.{refused_object, run_of, spec_of, unless_fault}
+use Rattle.rd_state.specs.Making.{refused_object, object_run, spec_of, unless_fault}
 use Rattle.rd_state.specs.States.{BufferValue, ContentValue, StateValue, number_of}
 use Rattle.rd_state.specs.Steps.{changing, edited, edited_moving, in_window, in_buffer, in_shown, making, moving, on_tree, placing, raw_text, refused_tree, content_replaced, setting, showing, step, typed, typing, unless_bad, with_found, with_objects}
 use Rattle.rd_state.proofs.Free.{refused-free}
@@ -167,7 +167,7 @@ session-free v (ops.OverlayMove name overlay from to) = edited-free v.state name
 session-free v (ops.OverlayDrop name overlay) = edited-free v.state name (overlay_dropping overlay) (λ c. one-free _ _ NoOverlay (λ e. cc))
 session-free v (ops.OverlayPut name overlay kind value) = edited-free v.state name (overlay_putting v.state.objects overlay kind value) (λ c. both-free _ _ _ NoObject NoOverlay (λ e. cc) (λ e. cc))
 session-free v (ops.Setting name value) = edited-free v.state name (setting_putting v.state.objects value) (λ c. one-free _ _ NoObject (λ e. cc))
-session-free v (ops.AddString text runs) = made-free v.state _ _ (string-free v.state.objects text (map run_of runs))
+session-free v (ops.AddString text runs) = made-free v.state _ _ (string-free v.state.objects text (map object_run runs))
 session-free v (ops.AddSpec spec) = made-free v.state _ _ (spec-free v.state.objects (spec_of spec))
 session-free v (ops.AddFace face) = made-free v.state _ _ (full-free FACES (length v.state.objects.faces))
 session-free v (ops.AddTable entries truncation continuation escape control ellipsis border) = made-free v.state _ _ (full-free TABLES (length v.state.objects.tables))

@@ -37,7 +37,7 @@ use Rattle.rd_overlays.specs.declared.overlay.Kind.TheVariants as kinds
 use Rattle.rd_script.specs.Forms.{is_buffer_name, is_text, is_plain_text, is_text_kind, IsRawByte, IsFormat, IsPropertyValue, is_glyph_text, is_slot, IsWhole, IsStop, IsNumber, IsInvisible, IsSettingInForm, IsSpecInForm, IsRunInForm, IsEntryInForm, IsSlot, IsEllipsis, IsInForm}
 use Rattle.rd_script.specs.Fields.{Fields, kept_if, within, whole, signed, text, plain_text, items_of, buffer_name, word, consed, each_item, list_of, two_items_of, two_items, four_items_of, four_items, or_bad, required_of, present, optional_of, required, optional, defaulted, and_then, both, made, then_by, value_key}
 use Rattle.rd_script.specs.Numbers.{is_near_zero}
-use Rattle.rd_script.specs.Objects.{run_kinds, run_of, run, spec_names as spec_words, spec_value, face_of, glyph_text, only, slot, entry_of, entry, slot_field}
+use Rattle.rd_script.specs.Objects.{run_kinds, op_run, run_form, spec_names as spec_words, spec_value, face_of, glyph_text, only, slot, op_entry, entry_form, slot_field}
 use Rattle.rd_script.specs.Settings.{setting_names as setting_words, direction_names, invisible_by, invisible, value_of as value_of_setting}
 use Rattle.rd_script.specs.Properties.{overlay_kind, text_kind, greatest_value, property_value, property}
 use Rattle.rd_script.specs.Reading.{op_key, reading, reading_name, reading_row, reading_members, object_of, closed, extra_key, unless_extra}
@@ -213,8 +213,8 @@ run-some (item a (item b (item c (item d no_items)))) x e =
     (whole-finds.found a x.0 first.0, whole-finds.found b x.1.0 second.0, whole-finds.found d x.1.1.1 third.1)
 run-some ds x e = absurd (none-some x e)
 
-run-finds : Finds run IsRunInForm
-run-finds = mapped-finds run_of (four_items whole whole (word run_kinds) whole) (λ x. IsWhole x.0 × IsWhole x.1.0 × IsWhole x.1.1.1) IsRunInForm
+run-finds : Finds run_form IsRunInForm
+run-finds = mapped-finds op_run (four_items whole whole (word run_kinds) whole) (λ x. IsWhole x.0 × IsWhole x.1.0 × IsWhole x.1.1.1) IsRunInForm
     (record { found = λ d x e. let ds = bound (four_items_of whole whole (word run_kinds) whole) (as_array d) x e in run-some ds.0 x ds.2 })
     (λ x h. record { from = h.0; to = h.1; value = h.2 })
 
@@ -244,8 +244,8 @@ list-finds most kind P finds = record {
 
 -- ---- settings and objects
 
-entry-finds : Finds entry IsEntryInForm
-entry-finds = mapped-finds entry_of (two_items (within 0 (CODE_POINTS - 1)) glyph_text) (λ x. ((0 ≤ x.0) × (x.0 ≤ CODE_POINTS - 1)) × IsTrue (is_glyph_text x.1)) IsEntryInForm
+entry-finds : Finds entry_form IsEntryInForm
+entry-finds = mapped-finds op_entry (two_items (within 0 (CODE_POINTS - 1)) glyph_text) (λ x. ((0 ≤ x.0) × (x.0 ≤ CODE_POINTS - 1)) × IsTrue (is_glyph_text x.1)) IsEntryInForm
     (two-finds (within 0 (CODE_POINTS - 1)) glyph_text _ _ (within-finds 0 (CODE_POINTS - 1)) (kept-finds is_glyph_text (λ d. option_map chars (as_str d)))) (λ x h. record { code = let most = h.0.1 in omega arith; text = h.1 })
 
 slot-gives : {key : List ℕ} → Gives (slot_field key) IsSlot
@@ -363,7 +363,7 @@ properties-give properties.Setting = made-gives _ _ _
 
 object-gives : (op : ObjectOp) → Gives (object_row op) IsInForm
 object-gives objects.String = made-gives _ _ _
-    (both-gives _ _ _ _ text_field-gives (defaulted-gives [] _ (list_of STRING_RUNS run) _ (list-finds STRING_RUNS run IsRunInForm run-finds) (omega arith, All-nil _)))
+    (both-gives _ _ _ _ text_field-gives (defaulted-gives [] _ (list_of STRING_RUNS run_form) _ (list-finds STRING_RUNS run_form IsRunInForm run-finds) (omega arith, All-nil _)))
     (λ x h. (h.0, h.1.0, h.1.1))
 object-gives objects.Spec = made-gives _ _ _ (then_by-gives _ _ (λ n. spec_value n value_key) _ IsSpecInForm (any-gives (word spec_words)) (λ n any. spec-gives n value_key)) (λ x h. h)
 object-gives objects.Face = made-gives _ _ _
@@ -371,7 +371,7 @@ object-gives objects.Face = made-gives _ _ _
     (both-gives _ _ _ _ flag-gives (both-gives _ _ _ _ flag-gives flag-gives))))
     (λ x h. (h.0, h.1.0))) (λ x h. h)
 object-gives objects.Table = made-gives _ _ _
-    (both-gives _ _ _ _ (defaulted-gives [] _ (list_of TABLE_ENTRIES entry) _ (list-finds TABLE_ENTRIES entry IsEntryInForm entry-finds) (omega arith, All-nil _))
+    (both-gives _ _ _ _ (defaulted-gives [] _ (list_of TABLE_ENTRIES entry_form) _ (list-finds TABLE_ENTRIES entry_form IsEntryInForm entry-finds) (omega arith, All-nil _))
     (both-gives _ _ _ _ slot-gives (both-gives _ _ _ _ slot-gives (both-gives _ _ _ _ slot-gives (both-gives _ _ _ _ slot-gives
     (both-gives _ _ _ _ (optional-gives _ glyph_text _ IsEllipsis (kept-finds is_glyph_text (λ d. option_map chars (as_str d))) tt (λ t h. h)) slot-gives))))))
     (λ x h. (h.0.0, h.0.1, h.1.0, h.1.1.0, h.1.1.1.0, h.1.1.1.1.0, h.1.1.1.1.1.0, h.1.1.1.1.1.1))

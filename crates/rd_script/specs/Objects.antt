@@ -21,12 +21,12 @@ use Rattle.rd_script.specs.Forms.{is_glyph_text, is_slot}
 abbrev pub run_kinds : List (List ℕ × RunKind)
 run_kinds = (codes "face", kinds.Face) ∷ (codes "display", kinds.Display) ∷ []
 
-abbrev pub run_of : ℕ × (ℕ × (RunKind × ℕ)) → OpRun
-run_of parts = record { from = parts.0; to = parts.1.0; kind = parts.1.1.0; value = parts.1.1.1 }
+abbrev pub op_run : ℕ × (ℕ × (RunKind × ℕ)) → OpRun
+op_run parts = record { from = parts.0; to = parts.1.0; kind = parts.1.1.0; value = parts.1.1.1 }
 
 -- where a run begins and ends, its kind, and the number of its face or display spec
-abbrev pub run : Data → Option OpRun
-run d = option_map run_of (four_items whole whole (word run_kinds) whole d)
+abbrev pub run_form : Data → Option OpRun
+run_form d = option_map op_run (four_items whole whole (word run_kinds) whole d)
 
 -- ---- display specs
 
@@ -68,12 +68,12 @@ only (c ∷ d ∷ cs) = None
 abbrev pub slot : Data → Option ℕ
 slot d = option_and_then (kept_if is_slot) (option_and_then only (option_map chars (as_str d)))
 
-abbrev pub entry_of : ℕ × List ℕ → OpEntry
-entry_of parts = record { code = parts.0; text = parts.1 }
+abbrev pub op_entry : ℕ × List ℕ → OpEntry
+op_entry parts = record { code = parts.0; text = parts.1 }
 
 -- a code and what is shown in its place
-abbrev pub entry : Data → Option OpEntry
-entry d = option_map entry_of (two_items (within 0 (CODE_POINTS - 1)) glyph_text d)
+abbrev pub entry_form : Data → Option OpEntry
+entry_form d = option_map op_entry (two_items (within 0 (CODE_POINTS - 1)) glyph_text d)
 
 abbrev pub slot_field : List ℕ → Fields (Option ℕ)
 slot_field key = optional key slot

@@ -22,7 +22,7 @@ use Rattle.rd_script.specs.declared.op.Op.{Op}
 use Rattle.rd_script.specs.declared.op.Op.TheVariants as ops
 use Rattle.rd_script.specs.declared.word.Way.{Way}
 use Rattle.rd_script.specs.Fields.{Fields, whole, within, signed, text, plain_text, buffer_name, beside, word, list_of, items_of, required, optional, defaulted, both, made, name_key, row_key, side_key, text_key}
-use Rattle.rd_script.specs.Objects.{run, spec, face, entry, glyph_text, slot_field}
+use Rattle.rd_script.specs.Objects.{run_form, spec, face, entry_form, glyph_text, slot_field}
 use Rattle.rd_script.specs.Properties.{text_kind, overlay_kind, property}
 use Rattle.rd_script.specs.Settings.{setting}
 
@@ -135,11 +135,11 @@ property_row properties.Setting = made (λ f. ops.Setting f.0 f.1) (both buffer_
 
 -- the ops that make objects
 abbrev pub object_row : ObjectOp → Fields Op
-object_row objects.String = made (λ f. ops.AddString f.0 f.1) (both text_field (defaulted [] (codes "runs") (list_of STRING_RUNS run)))
+object_row objects.String = made (λ f. ops.AddString f.0 f.1) (both text_field (defaulted [] (codes "runs") (list_of STRING_RUNS run_form)))
 object_row objects.Spec = made ops.AddSpec spec
 object_row objects.Face = made ops.AddFace face
 object_row objects.Table = made (λ f. ops.AddTable f.0 f.1.0 f.1.1.0 f.1.1.1.0 f.1.1.1.1.0 f.1.1.1.1.1.0 f.1.1.1.1.1.1)
-    (both (defaulted [] (codes "entries") (list_of TABLE_ENTRIES entry)) (both (slot_field (codes "truncation")) (both (slot_field (codes "continuation"))
+    (both (defaulted [] (codes "entries") (list_of TABLE_ENTRIES entry_form)) (both (slot_field (codes "truncation")) (both (slot_field (codes "continuation"))
     (both (slot_field (codes "escape")) (both (slot_field (codes "control")) (both (optional (codes "ellipsis") glyph_text) (slot_field (codes "border"))))))))
 
 -- the ops about windows

@@ -2,7 +2,7 @@
 ghost use Rattle.std.specs.Prelude.{◌≡◌, option_map};
 ghost use Rattle.serde_json.specs.View.{view, items_view};
 ghost use Rattle.rd_script.specs.Fields.{whole, word, four_items_of};
-ghost use Rattle.rd_script.specs.Objects.{run_of, run_kinds, entry_of};
+ghost use Rattle.rd_script.specs.Objects.{op_run, run_kinds, op_entry};
 
 use crate::form::{Form, Within};
 use crate::item::Two;
@@ -20,23 +20,23 @@ use std::alloc::Global;
 pub struct RunForm;
 
 impl Form for RunForm {
-    ghost use Rattle.rd_script.specs.Objects.{run};
+    ghost use Rattle.rd_script.specs.Objects.{run_form};
 
     type Said = OpRun;
 
-    ghost kind = { λ _. run };
+    ghost kind = { λ _. run_form };
 
     fn read(&self, _alloc: Global, value: &Value) -> Result<Option<OpRun>, Memory> {
         match value.as_array() {
-            Some(items) => Ok(run_of(items.as_slice())),
+            Some(items) => Ok(op_run(items.as_slice())),
             None => Ok(None),
         }
     }
 }
 
 /// The run that items say.
-fn run_of(items: &[Value]) -> Option<OpRun>
-    ensures { result ≡ option_map run_of (four_items_of whole whole (word run_kinds) whole (items_view items.now)) }
+fn op_run(items: &[Value]) -> Option<OpRun>
+    ensures { result ≡ option_map op_run (four_items_of whole whole (word run_kinds) whole (items_view items.now)) }
 {
     match items {
         [from, to, kind, value] => Some(OpRun {
@@ -61,11 +61,11 @@ fn run_kind(value: &Value) -> Option<RunKind>
 pub struct EntryForm;
 
 impl Form for EntryForm {
-    ghost use Rattle.rd_script.specs.Objects.{entry};
+    ghost use Rattle.rd_script.specs.Objects.{entry_form};
 
     type Said = OpEntry;
 
-    ghost kind = { λ _. entry };
+    ghost kind = { λ _. entry_form };
 
     fn read(&self, alloc: Global, value: &Value) -> Result<Option<OpEntry>, Memory> {
         let pair = Two {
@@ -75,13 +75,13 @@ impl Form for EntryForm {
             },
             second: GlyphText,
         };
-        Ok(entry_of(pair.read(alloc, value)?))
+        Ok(op_entry(pair.read(alloc, value)?))
     }
 }
 
 /// The entry of a code and a text, where there are both.
-fn entry_of(pair: Option<(u32, ListOf<Ch>)>) -> Option<OpEntry>
-    ensures { result ≡ option_map entry_of pair }
+fn op_entry(pair: Option<(u32, ListOf<Ch>)>) -> Option<OpEntry>
+    ensures { result ≡ option_map op_entry pair }
 {
     let (code, text) = pair?;
     Some(OpEntry { code, text })

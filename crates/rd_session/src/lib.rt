@@ -26,8 +26,8 @@
 //! Here all is prepared, then sent, then kept. What an op can have changed is joined to the last layouts (`rd_views`), so that a
 //! redisplay after it can use their other rows again, and it places no more elements than its allowance.
 //!
-//! The rules are in docs/RULES.md: "Scripts" and "State" for the ops, "The screen", "Line shifts" and "Update bytes" for the redisplay.
-//! `redisplay` says the whole in one contract, by the definitions of rd_layout.
+//! The rules are in docs/RULES.md: "Scripts", "State" and "Hits and motion" for the ops, "Rows that are used again", "The screen", "Line
+//! shifts" and "Update bytes" for the redisplay. `redisplay` says the whole in one contract, by the definitions of rd_layout.
 #![tactic(auto)]
 
 mod bands;

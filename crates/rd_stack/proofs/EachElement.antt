@@ -18,7 +18,7 @@ use Rattle.rd_objects.specs.declared.run.Slot.TheVariants.{Escape, Control}
 use Rattle.rd_objects.specs.declared.run.Spec.{Spec}
 use Rattle.rd_objects.specs.declared.run.Spec.TheVariants.{Text, Width, Align}
 use Rattle.rd_glyphs.specs.declared.shown.Shown.{Shown}
-use Rattle.rd_glyphs.specs.Characters.{element_of, look_columns, glyph_elements, tab_of, looks_of, own_shown, own_looks, slot_or, entry_of, elements_by, elements_of}
+use Rattle.rd_glyphs.specs.Characters.{element_of, look_columns, glyph_elements, tab_of, looks_of, own_shown, own_looks, slot_or, glyphs_for, elements_by, elements_of}
 use Rattle.rd_glyphs.proofs.Measures.{looks_of-each}
 use Rattle.rd_items.specs.Covers.{is_ender_kind}
 use Rattle.rd_items.specs.Pieces.{Scene}
@@ -69,7 +69,7 @@ module _ (s : Scene) (base : ℕ) (origin : Origin) (F : Attributes → Type 0) 
       (λ none. looks-each face looks h (looks-open (slot_or Escape s.parts.table 92) (slot_or Control s.parts.table 94) (own_shown s.parts ch odd)))
 
   character-each : (ch : ℕ) (odd : Bool) (face : Attributes) → F face → Each (elements_of s.parts ch odd face origin)
-  character-each ch odd face h = by-entry (entry_of s.parts.table ch) ch odd face h
+  character-each ch odd face h = by-entry (glyphs_for s.parts.table ch) ch odd face h
 
   space-each : (spec : Spec) (face : Attributes) → F face → Each (space_elements spec face origin)
   space-each (Width n) face h = (element (Fixed n) look.Blank face refl h, tt)

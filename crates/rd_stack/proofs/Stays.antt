@@ -16,7 +16,7 @@ use Rattle.rd_objects.specs.Sound.{IsClosed}
 use Rattle.rd_objects.specs.Tables.{TableValue}
 use Rattle.rd_objects.specs.Texts.{TextValue, spec_of}
 use Rattle.rd_objects.proofs.Soundness.{goes_kept, named_specs, named_strings}
-use Rattle.rd_glyphs.specs.Characters.{entry_of, elements_by, elements_of}
+use Rattle.rd_glyphs.specs.Characters.{glyphs_for, elements_by, elements_of}
 use Rattle.rd_glyphs.proofs.Joined.{Grows}
 use Rattle.rd_props.specs.Seen.{Seen}
 use Rattle.rd_items.proofs.Growing.{same-arrow, same-items}
@@ -90,7 +90,7 @@ module _ (old new : Scene) (goes : GoesOnFrom old new) (closed : IsClosed old.ob
 
   same-elements : (c : ℕ) (odd : Bool) (face : Attributes) (origin : Origin) → elements_of new.parts c odd face origin ≡ elements_of old.parts c odd face origin
   same-elements c odd face origin =
-      ap (λ (t : Option TableValue). elements_by (entry_of t c) new.parts c odd face origin) goes.table ∙ elements-by (entry_of old.parts.table c) c odd face origin
+      ap (λ (t : Option TableValue). elements_by (glyphs_for t c) new.parts c odd face origin) goes.table ∙ elements-by (glyphs_for old.parts.table c) c odd face origin
 
   -- what is shown stays, where a string that it shows does
   same-kind : (end : Look) (f g : Option TextValue → List Element) (k : ItemKind) (odd : Bool) (face : Attributes) (origin : Origin)

@@ -11,7 +11,7 @@
 //!    stands, whether point is in it, and the least and the greatest position at which its items begin. What the window wants and its
 //!    strip are a `Window`.
 //! 2. `choice::forced`: a start that was set by command is scrolled by the rows that wait, and held to the rows that there are. If point is
-//!    not in view it moves to the first position that begins there, or to the last if its row is below.
+//!    not in view it moves to the first item that begins there, or to the last if its row is below.
 //! 3. `choice::following`: else the old start stays if it suits (`view`): point's row is in view and as far from its first and last row as
 //!    the margin asks, which is at most a quarter of the height. No margin is asked where the text begins or ends.
 //! 4. `choice::moving`: else the nearest row that suits is the start, at most `conservatively` rows away; of two the lesser.

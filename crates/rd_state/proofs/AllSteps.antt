@@ -26,7 +26,7 @@ use Rattle.rd_state.proofs.ByNumber.{window-each}
 use Rattle.rd_state.proofs.Keeping.{holding, window-still}
 use Rattle.rd_state.specs.Valid.{IsContent, IsWindow, IsValid}
 use Rattle.rd_state.specs.Edits.{insertion, deletion, narrowing, widening, property_putting, overlay_making, overlay_moving, overlay_dropping, overlay_putting, margin_putting, setting_putting}
-use Rattle.rd_state.specs.Making.{run_of, spec_of, table_of}
+use Rattle.rd_state.specs.Making.{object_run, spec_of, table_of}
 use Rattle.rd_state.specs.Moves.{moved, moved_by, moved_in}
 use Rattle.rd_state.specs.Steps.{typing, raw_text, held, step, settled, settled_window}
 use Rattle.rd_state.proofs.Naming.{setting-keeps, margin-keeps, objects-valid, small-spec, making-valid, new-valid}
@@ -114,7 +114,7 @@ step-valid s (ops.OverlayPut name overlay kind value) v form =
     edited-valid s name (overlay_putting s.objects overlay kind value) v (giving-keeps s.objects overlay kind value)
 step-valid s (ops.Setting name value) v form = edited-valid s name (setting_putting s.objects value) v (setting-keeps s.objects value form.1)
 step-valid s (ops.AddString text runs) v form =
-    let rs = map run_of runs in
+    let rs = map object_run runs in
     objects-valid s _ _ v (string_right s.objects text rs (text-codes text form.0)) (string_extends s.objects text rs)
 step-valid s (ops.AddSpec spec) v form =
     let x = spec_of spec in

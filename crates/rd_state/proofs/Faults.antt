@@ -14,7 +14,7 @@ use Rattle.rd_objects.specs.declared.run.RunKind.{RunKind}
 use Rattle.rd_objects.specs.declared.run.RunKind.TheVariants.{Face, Display}
 use Rattle.rd_script.specs.declared.object.OpRun.{OpRun}
 use Rattle.rd_state.specs.Held.{capped_run}
-use Rattle.rd_state.specs.Making.{unless_fault, run_of, string_making}
+use Rattle.rd_state.specs.Making.{unless_fault, object_run, string_making}
 
 no-fault : (a b c d : Bool) → ◌≡◌ {A = Option ObjectFault} (if not a then Some NoObject else (if not b then Some OutOfRange else (if c then Some TooLong else (if d then Some TooMany else None)))) None
     → (a ≡ true) × (b ≡ true) × (c ≡ false)
@@ -33,15 +33,15 @@ module _ (o : ObjectLists) (sound : AreObjects o) where
   few-specs : length o.specs ≤ STRINGS
   few-specs = let few = sound.few_specs in omega arith
 
-  made-same : (size : ℕ) (run : OpRun) → is_made o (capped_run size run) ≡ is_made o (run_of run)
+  made-same : (size : ℕ) (run : OpRun) → is_made o (capped_run size run) ≡ is_made o (object_run run)
   made-same size run = by run.kind where
     by : (kind : RunKind) → is_numbered kind (length o.faces) (length o.specs) (min run.value STRINGS) ≡ is_numbered kind (length o.faces) (length o.specs) run.value
     by Face = below (length o.faces) run.value few-faces
     by Display = below (length o.specs) run.value few-specs
 
-  inside-same : (size : ℕ) (run : OpRun) → is_inside size (capped_run size run) ≡ is_inside size (run_of run)
-  inside-same size run = by (is_inside size (run_of run)) refl where
-    by : (t : Bool) → is_inside size (run_of run) ≡ t → (nat_le (if t then min run.from 4294967295 else 1) (if t then min run.to 4294967295 else 0) && nat_le (if t then min run.to 4294967295 else 0) size) ≡ t
+  inside-same : (size : ℕ) (run : OpRun) → is_inside size (capped_run size run) ≡ is_inside size (object_run run)
+  inside-same size run = by (is_inside size (object_run run)) refl where
+    by : (t : Bool) → is_inside size (object_run run) ≡ t → (nat_le (if t then min run.from 4294967295 else 1) (if t then min run.to 4294967295 else 0) && nat_le (if t then min run.to 4294967295 else 0) size) ≡ t
     by true h =
         let parts = and_parts (nat_le run.from run.to) (nat_le run.to size) h in
         let ordered = leb-true run.from run.to parts.0 in
@@ -50,7 +50,7 @@ module _ (o : ObjectLists) (sound : AreObjects o) where
     by false h = refl
 
   -- a run that is as it must be has its own numbers
-  run-same : (size : ℕ) (run : OpRun) → size ≤ STRING_CHARACTERS → is_made o (run_of run) ≡ true → is_inside size (run_of run) ≡ true → capped_run size run ≡ run_of run
+  run-same : (size : ℕ) (run : OpRun) → size ≤ STRING_CHARACTERS → is_made o (object_run run) ≡ true → is_inside size (object_run run) ≡ true → capped_run size run ≡ object_run run
   run-same size run short made inside =
       let parts = and_parts (nat_le run.from run.to) (nat_le run.to size) inside in
       let ordered = leb-true run.from run.to parts.0 in
@@ -59,20 +59,20 @@ module _ (o : ObjectLists) (sound : AreObjects o) where
       let high : min run.to 4294967295 ≡ run.to = omega arith in
       let numbered = by run.kind made in
       let value : min run.value STRINGS ≡ run.value = omega (arith, numbered) in
-      let from = cond-true (is_inside size (run_of run)) (min run.from 4294967295) 1 inside ∙ low in
-      let to = cond-true (is_inside size (run_of run)) (min run.to 4294967295) 0 inside ∙ high in
+      let from = cond-true (is_inside size (object_run run)) (min run.from 4294967295) 1 inside ∙ low in
+      let to = cond-true (is_inside size (object_run run)) (min run.to 4294967295) 0 inside ∙ high in
       λ i. record { from = from i; to = to i; kind = run.kind; value = value i }
     where
       by : (kind : RunKind) → is_numbered kind (length o.faces) (length o.specs) run.value ≡ true → run.value < STRINGS
       by Face h = let less = ltb-true run.value (length o.faces) h in let few = few-faces in omega arith
       by Display h = let less = ltb-true run.value (length o.specs) h in let few = few-specs in omega arith
 
-  runs-same : (size : ℕ) (runs : List OpRun) → size ≤ STRING_CHARACTERS → list_all (λ run. is_made o (run_of run)) runs ≡ true → list_all (λ run. is_inside size (run_of run)) runs ≡ true
-      → map (capped_run size) runs ≡ map run_of runs
+  runs-same : (size : ℕ) (runs : List OpRun) → size ≤ STRING_CHARACTERS → list_all (λ run. is_made o (object_run run)) runs ≡ true → list_all (λ run. is_inside size (object_run run)) runs ≡ true
+      → map (capped_run size) runs ≡ map object_run runs
   runs-same size [] short made inside = refl
   runs-same size (run ∷ runs) short made inside =
-      let m = and_parts (is_made o (run_of run)) (list_all (λ r. is_made o (run_of r)) runs) made in
-      let n = and_parts (is_inside size (run_of run)) (list_all (λ r. is_inside size (run_of r)) runs) inside in
+      let m = and_parts (is_made o (object_run run)) (list_all (λ r. is_made o (object_run r)) runs) made in
+      let n = and_parts (is_inside size (object_run run)) (list_all (λ r. is_inside size (object_run r)) runs) inside in
       let one = run-same size run short m.0 n.0 in
       let rest = runs-same size runs short m.1 n.1 in
       λ i. one i ∷ rest i
@@ -80,26 +80,26 @@ module _ (o : ObjectLists) (sound : AreObjects o) where
   pub string-capped : (text : List ℕ) (runs : List OpRun)
       → string_making o text runs ≡ unless_fault (string_fault o text (map (capped_run (length text)) runs)) (string_added o text (map (capped_run (length text)) runs))
   string-capped text runs =
-      by (string_fault o text (map run_of runs)) refl
+      by (string_fault o text (map object_run runs)) refl
       ∙ ap (λ (f : Option ObjectFault). unless_fault f (string_added o text (map (capped_run (length text)) runs)))
       (λ i. if not (made i) then Some NoObject else (if not (inside i) then Some OutOfRange else (if nat_lt STRING_CHARACTERS (length text) then Some TooLong else (if nat_le STRINGS (length o.strings) then Some TooMany else None))))
     where
-      made-of : list_all (is_made o) (map run_of runs) ≡ list_all (λ run. is_made o (run_of run)) runs
-      made-of = list_all-map (is_made o) run_of runs
+      made-of : list_all (is_made o) (map object_run runs) ≡ list_all (λ run. is_made o (object_run run)) runs
+      made-of = list_all-map (is_made o) object_run runs
 
-      inside-of : list_all (is_inside (length text)) (map run_of runs) ≡ list_all (λ run. is_inside (length text) (run_of run)) runs
-      inside-of = list_all-map (is_inside (length text)) run_of runs
+      inside-of : list_all (is_inside (length text)) (map object_run runs) ≡ list_all (λ run. is_inside (length text) (object_run run)) runs
+      inside-of = list_all-map (is_inside (length text)) object_run runs
 
-      made : list_all (is_made o) (map run_of runs) ≡ list_all (is_made o) (map (capped_run (length text)) runs)
+      made : list_all (is_made o) (map object_run runs) ≡ list_all (is_made o) (map (capped_run (length text)) runs)
       made = made-of ∙ ((λ i. list_all (λ run. sym (made-same (length text) run) i) runs) ∙ sym (list_all-map (is_made o) (capped_run (length text)) runs))
 
-      inside : list_all (is_inside (length text)) (map run_of runs) ≡ list_all (is_inside (length text)) (map (capped_run (length text)) runs)
+      inside : list_all (is_inside (length text)) (map object_run runs) ≡ list_all (is_inside (length text)) (map (capped_run (length text)) runs)
       inside = inside-of ∙ ((λ i. list_all (λ run. sym (inside-same (length text) run) i) runs) ∙ sym (list_all-map (is_inside (length text)) (capped_run (length text)) runs))
 
-      by : (fault : Option ObjectFault) → string_fault o text (map run_of runs) ≡ fault
-          → unless_fault fault (string_added o text (map run_of runs)) ≡ unless_fault fault (string_added o text (map (capped_run (length text)) runs))
+      by : (fault : Option ObjectFault) → string_fault o text (map object_run runs) ≡ fault
+          → unless_fault fault (string_added o text (map object_run runs)) ≡ unless_fault fault (string_added o text (map (capped_run (length text)) runs))
       by (Some fault) h = refl
       by None h =
-          let none = no-fault (list_all (is_made o) (map run_of runs)) (list_all (is_inside (length text)) (map run_of runs)) (nat_lt STRING_CHARACTERS (length text)) (nat_le STRINGS (length o.strings)) h in
+          let none = no-fault (list_all (is_made o) (map object_run runs)) (list_all (is_inside (length text)) (map object_run runs)) (nat_lt STRING_CHARACTERS (length text)) (nat_le STRINGS (length o.strings)) h in
           let short = ltb-false STRING_CHARACTERS (length text) none.2 in
           ap (λ (rs : List Run). Ok (string_added o text rs)) (sym (runs-same (length text) runs short (sym made-of ∙ none.0) (sym inside-of ∙ none.1)))

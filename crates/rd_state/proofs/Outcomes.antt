@@ -30,7 +30,7 @@ use Rattle.rd_state.specs.Windows.{window_of, changed_under, selected_window, Nu
 use Rattle.rd_state.specs.Changes.{Stays, StaysWhole, Leaves, LeavesTheRest}
 use Rattle.rd_state.specs.Edits.{insertion, deletion, narrowing, widening, property_putting, overlay_making, overlay_moving, overlay_dropping, overlay_putting, margin_putting, setting_putting}
 use Rattle.rd_state.specs.Effects.{overlay_in, inserted_effect, covered_effect, moved_effect, effect_of}
-use Rattle.rd_state.specs.Making.{unless_fault, run_of, spec_of, table_of}
+use Rattle.rd_state.specs.Making.{unless_fault, object_run, spec_of, table_of}
 use Rattle.rd_state.specs.Moves.{moved_by, moved_in}
 use Rattle.rd_state.specs.Steps.{with_objects, changing, inserting, typing, on_tree, edited, edited_moving, format_fault, making, raw_text, step}
 use Rattle.rd_state.proofs.AllSteps.{moved-buffer}
@@ -302,7 +302,7 @@ outcome s (ops.Setting name value) v form =
     let i = number_of name s.buffers in
     let edit = setting_putting s.objects value in
     IfOk-weaker _ _ _ (λ t e. all-outcome s t i edit e.0 (show-same s t (All i) e.1)) (edited-is s name edit)
-outcome s (ops.AddString text runs) v form = objects-outcome s _ _ v (string_extends s.objects text (map run_of runs))
+outcome s (ops.AddString text runs) v form = objects-outcome s _ _ v (string_extends s.objects text (map object_run runs))
 outcome s (ops.AddSpec spec) v form = objects-outcome s _ _ v (spec_extends s.objects (spec_of spec))
 outcome s (ops.AddFace face) v form = objects-outcome s _ _ v (face_extends s.objects face)
 outcome s (ops.AddTable entries truncation continuation escape control ellipsis border) v form =

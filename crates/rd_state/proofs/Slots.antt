@@ -16,7 +16,7 @@ use Rattle.rd_objects.proofs.Widths.{few-columns}
 use Rattle.rd_objects.specs.declared.table.TableEntry.{TableEntry}
 use Rattle.rd_script.specs.Forms.{is_glyph, is_glyph_text, is_slot, IsSlot, IsEllipsis, IsEntryInForm}
 use Rattle.rd_script.specs.declared.object.OpEntry.{OpEntry}
-use Rattle.rd_state.specs.Making.{glyph_of, entry_of, table_of}
+use Rattle.rd_state.specs.Making.{glyph_of, table_entry, table_of}
 
 neither : (a b : Bool) → not (a || b) ≡ true → (not a ≡ true) × (b ≡ false)
 neither true b h = absurd (cc)
@@ -63,8 +63,8 @@ pub table-right : (entries : List OpEntry) (truncation continuation escape contr
     → IsSlot truncation → IsSlot continuation → IsSlot escape → IsSlot control → IsEllipsis ellipsis → IsSlot border
     → IsTable (table_of entries truncation continuation escape control ellipsis border)
 table-right entries truncation continuation escape control ellipsis border e t n s c l b = record {
-  entries = All-map (λ (x : TableEntry). IsTrue (tables.is_glyph_text x.text)) entry_of entries
-      (All-weaker IsEntryInForm (λ x. IsTrue (tables.is_glyph_text (entry_of x).text)) (λ x form. text-right x.text form.text) entries e);
+  entries = All-map (λ (x : TableEntry). IsTrue (tables.is_glyph_text x.text)) table_entry entries
+      (All-weaker IsEntryInForm (λ x. IsTrue (tables.is_glyph_text (table_entry x).text)) (λ x form. text-right x.text form.text) entries e);
   truncation = slot-holds truncation t;
   continuation = slot-holds continuation n;
   escape = slot-holds escape s;

@@ -9,7 +9,7 @@ use Rattle.rd_margins.specs.Marks.{MarkValues}
 use Rattle.rd_script.specs.declared.object.OpRun.{OpRun}
 use Rattle.rd_script.specs.declared.setting.Setting.{Setting}
 use Rattle.rd_script.specs.declared.setting.Setting.TheVariants.{Table, LinePrefix, WrapPrefix}
-use Rattle.rd_state.specs.Making.{run_of}
+use Rattle.rd_state.specs.Making.{object_run}
 use Rattle.rd_state.specs.States.{ContentValue, values_on}
 
 -- what a buffer with its margin strings holds
@@ -32,8 +32,8 @@ IsFitting setting = Unit {0}
 -- a run in 32 bits: one that does not lie in a string of this length lies in none, and one of an object that was not made is of none
 abbrev pub capped_run : ℕ → OpRun → Run
 capped_run size run = record {
-  from = if is_inside size (run_of run) then min run.from 4294967295 else 1;
-  to = if is_inside size (run_of run) then min run.to 4294967295 else 0;
+  from = if is_inside size (object_run run) then min run.from 4294967295 else 1;
+  to = if is_inside size (object_run run) then min run.to 4294967295 else 0;
   kind = run.kind;
   value = min run.value STRINGS;
 }

@@ -33,11 +33,11 @@ abbrev pub unless_fault : Option ObjectFault → ObjectLists → Result ObjectLi
 unless_fault None made = Ok made
 unless_fault (Some fault) made = Err (refused_object fault)
 
-abbrev pub run_of : OpRun → Run
-run_of run = record { from = run.from; to = run.to; kind = run.kind; value = run.value }
+abbrev pub object_run : OpRun → Run
+object_run run = record { from = run.from; to = run.to; kind = run.kind; value = run.value }
 
 abbrev pub string_making : ObjectLists → List ℕ → List OpRun → Result ObjectLists Refused
-string_making o text runs = unless_fault (string_fault o text (map run_of runs)) (string_added o text (map run_of runs))
+string_making o text runs = unless_fault (string_fault o text (map object_run runs)) (string_added o text (map object_run runs))
 
 abbrev pub spec_of : OpSpec → Spec
 spec_of (ops.Text n) = Text n
@@ -54,15 +54,15 @@ face_making o face = unless_fault (full_fault FACES (length o.faces)) (face_adde
 abbrev pub glyph_of : ℕ → Glyph
 glyph_of c = single c (columns c)
 
-abbrev pub entry_of : OpEntry → TableEntry
-entry_of entry = record { code = entry.code; text = map glyph_of entry.text }
+abbrev pub table_entry : OpEntry → TableEntry
+table_entry entry = record { code = entry.code; text = map glyph_of entry.text }
 
 abbrev pub table_making : ObjectLists → TableValue → Result ObjectLists Refused
 table_making o table = unless_fault (full_fault TABLES (length o.tables)) (table_added o table)
 
 abbrev pub table_of : List OpEntry → Option ℕ → Option ℕ → Option ℕ → Option ℕ → Option (List ℕ) → Option ℕ → TableValue
 table_of entries truncation continuation escape control ellipsis border = record {
-  entries = map entry_of entries;
+  entries = map table_entry entries;
   truncation = option_map glyph_of truncation;
   continuation = option_map glyph_of continuation;
   escape = option_map glyph_of escape;

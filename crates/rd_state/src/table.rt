@@ -2,7 +2,7 @@
 ghost use Rattle.std.specs.Prelude.{◌≡◌, ◌++◌, ◌∷◌, [], All, IsTrue, Some, IfOk, OnOk, map, option_map};
 ghost use Rattle.rd_objects.specs.Tables.{is_glyph_character, is_glyph_text as are_glyph_characters, with_slot};
 ghost use Rattle.rd_script.specs.Forms.{is_glyph, is_glyph_text, IsSlot, IsEllipsis, IsEntryInForm};
-ghost use Rattle.rd_state.specs.Making.{glyph_of, entry_of, table_of};
+ghost use Rattle.rd_state.specs.Making.{glyph_of, table_entry, table_of};
 
 use rd_base::{Ch, Glyph, ListOf, Memory, mapped};
 use rd_objects::{Slot, Table, glyph_character};
@@ -48,7 +48,7 @@ pub(crate) fn make_table(alloc: Global, parts: &TableParts) -> Result<Table, Mem
 /// Puts entries, one after the other.
 fn put_entries(alloc: Global, table: &mut Table, entries: &[OpEntry]) -> Result<(), Memory>
     requires { All IsEntryInForm entries.now }
-    ensures { OnOk result (table.new ≡ record table.old { entries = table.old.entries ++ map entry_of entries.now }) }
+    ensures { OnOk result (table.new ≡ record table.old { entries = table.old.entries ++ map table_entry entries.now }) }
 {
     for entry in entries {
         put_entry(alloc, table, entry)?;
@@ -59,7 +59,7 @@ fn put_entries(alloc: Global, table: &mut Table, entries: &[OpEntry]) -> Result<
 /// Puts an entry of an op behind those of a display table.
 fn put_entry(alloc: Global, table: &mut Table, entry: &OpEntry) -> Result<(), Memory>
     requires { IsEntryInForm entry.now }
-    ensures { OnOk result (table.new ≡ record table.old { entries = table.old.entries ++ entry_of entry.now ∷ [] }) }
+    ensures { OnOk result (table.new ≡ record table.old { entries = table.old.entries ++ table_entry entry.now ∷ [] }) }
 {
     let text = glyphs(alloc, entry.text.as_slice())?;
     table.put_entry(entry.code, text.as_slice())

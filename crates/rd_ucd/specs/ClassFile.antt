@@ -36,8 +36,8 @@ abbrev pub is_empty_line : List ℕ → Bool
 is_empty_line line = length (strip_carriage_return line) == 0
 
 -- the entry of line n
-abbrev pub entry_of : ℕ → List ℕ → Result DataEntry UcdFault
-entry_of n line = entry_of_fields n (fields_of (strip_carriage_return line))
+abbrev pub line_entry : ℕ → List ℕ → Result DataEntry UcdFault
+line_entry n line = entry_of_fields n (fields_of (strip_carriage_return line))
 
 abbrev pub is_last : EntryKind → Bool
 is_last Last = true
@@ -82,4 +82,4 @@ spans_from least opened ((n, Ok e) ∷ entries) =
 
 -- the ranges that a class file stands for, or its first fault
 abbrev pub classes_of : List ℕ → Result (List Span) UcdFault
-classes_of bytes = spans_from 0 None (entries_in is_empty_line entry_of (lines_of bytes))
+classes_of bytes = spans_from 0 None (entries_in is_empty_line line_entry (lines_of bytes))

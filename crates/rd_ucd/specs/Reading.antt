@@ -7,7 +7,7 @@ use Rattle.rd_ucd.specs.declared.entries.DataEntry.{DataEntry}
 use Rattle.rd_ucd.specs.declared.reader.Reader.{Reader}
 use Rattle.rd_ucd.specs.Lookup.{IsAscending, AreBelow}
 use Rattle.rd_ucd.specs.Lines.{entries_in}
-use Rattle.rd_ucd.specs.ClassFile.{is_empty_line, entry_of, spans_from}
+use Rattle.rd_ucd.specs.ClassFile.{is_empty_line, line_entry, spans_from}
 use Rattle.rd_ucd.specs.Results.{behind}
 
 -- the ranges that were read ascend, below the code of a First that waits and below `least`
@@ -21,7 +21,7 @@ abbrev pub whole : Reader → List (ℕ × Result DataEntry UcdFault) → Result
 whole reader entries = behind reader.spans (spans_from reader.least reader.opened entries)
 
 abbrev pub whole_lines : Reader → List (ℕ × List ℕ) → Result (List Span) UcdFault
-whole_lines reader lines = whole reader (entries_in is_empty_line entry_of lines)
+whole_lines reader lines = whole reader (entries_in is_empty_line line_entry lines)
 
 -- taking an entry changes nothing in the whole, whatever follows
 abbrev pub TakesEntry : {T : Type 0} → Result T UcdFault → Reader → Reader → ℕ → DataEntry → Type 0

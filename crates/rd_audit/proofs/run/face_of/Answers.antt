@@ -3,7 +3,7 @@ use Rattle.std.proofs.lemmas.Iterator.Consumers.{YieldsList-at}
 use Rattle.std.proofs.lemmas.Iterator.Splits.{YieldsList-from_slice_split}
 use Rattle.rd_base.specs.Faces.{Attributes}
 use Rattle.rd_audit.specs.Cuts.{pieces}
-use Rattle.rd_audit.specs.Runs.{with_number, face_from, face_of}
+use Rattle.rd_audit.specs.FaceRuns.{with_number, face_from, face_of}
 use Rattle.rd_audit.proofs.Yielded.{Goes, goes}
 use Rattle.rd_audit.proofs.run.face_of.Goals.{After-next}
 use Rattle.rd_audit.proofs.run.face_of.Goals as goal

@@ -1,6 +1,6 @@
 use Rattle.std.proofs.Common.{◌≡◌, length, drop}
 use Rattle.rd_audit.specs.Cuts.{pieces}
-use Rattle.rd_audit.specs.Runs.{face_from, face_of}
+use Rattle.rd_audit.specs.FaceRuns.{face_from, face_of}
 use Rattle.rd_audit.proofs.run.face_of.Given as goal
 
 abbrev pub invariant-loop-text : goal.invariant-loop-text

@@ -1,7 +1,7 @@
 use Rattle.std.proofs.Common.{◌+◌, length, ap, ◌∙◌, arith}
 use Rattle.std.proofs.lemmas.List.{length-set}
 use Rattle.std.specs.Prelude.{slice_set}
-use Rattle.rd_audit.specs.Runs.{painted_by}
+use Rattle.rd_audit.specs.FaceRuns.{painted_by}
 use Rattle.rd_audit.proofs.Painting.{paint-on}
 use Rattle.rd_audit.proofs.run.paint.Goals as goal
 

@@ -1,5 +1,5 @@
 use Rattle.std.proofs.Common.{◌≡◌, ◌-◌, ◌≤◌, ◌++◌, length, take, drop}
-use Rattle.rd_audit.specs.Runs.{faced, painted_by}
+use Rattle.rd_audit.specs.FaceRuns.{faced, painted_by}
 use Rattle.rd_audit.proofs.run.paint.Given as goal
 
 abbrev pub invariant-loop-column : goal.invariant-loop-column

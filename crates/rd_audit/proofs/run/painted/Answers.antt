@@ -3,13 +3,13 @@ use Rattle.std.proofs.lemmas.Iterator.Consumers.{YieldsList-at}
 use Rattle.std.proofs.lemmas.Iterator.Splits.{YieldsList-from_slice_split}
 use Rattle.rd_base.specs.declared.cell.Cell.{Cell}
 use Rattle.rd_audit.specs.Cuts.{pieces}
-use Rattle.rd_audit.specs.Runs.{with_run, painted}
+use Rattle.rd_audit.specs.FaceRuns.{with_face_run, painted}
 use Rattle.rd_audit.proofs.Yielded.{Goes, goes}
 use Rattle.rd_audit.proofs.run.painted.Goals.{After-next}
 use Rattle.rd_audit.proofs.run.painted.Goals as goal
 
 -- the cells by the next run, or at the end
-left : (c : After-next) → Goes (λ x. x.now) (λ (a : ℕ × List Cell). painted a.0 a.1) (λ a. with_run a.0 a.1) (pieces 32 c.args.runs.now) c.loop-text.yielded (c.loop-text.from, c.loop-text.cells) c.next.result (painted 0 c.args.cells (pieces 32 c.args.runs.now))
+left : (c : After-next) → Goes (λ x. x.now) (λ (a : ℕ × List Cell). painted a.0 a.1) (λ a. with_face_run a.0 a.1) (pieces 32 c.args.runs.now) c.loop-text.yielded (c.loop-text.from, c.loop-text.cells) c.next.result (painted 0 c.args.cells (pieces 32 c.args.runs.now))
 left c =
     goes (λ b x xs. refl)
     (YieldsList-at c.into_iter-text-iterator.ensures.into_iter_gives

@@ -1,6 +1,6 @@
 use Rattle.std.proofs.Common.{◌≡◌, length, drop}
 use Rattle.rd_audit.specs.Cuts.{pieces}
-use Rattle.rd_audit.specs.Runs.{painted}
+use Rattle.rd_audit.specs.FaceRuns.{painted}
 use Rattle.rd_audit.proofs.run.painted.Given as goal
 
 abbrev pub invariant-loop-text : goal.invariant-loop-text

@@ -4,7 +4,7 @@ use Rattle.rd_base.specs.declared.limits.TheConstants.{TABLE_ENTRIES}
 use Rattle.rd_script.specs.declared.name.ObjectOp.TheVariants as objects
 use Rattle.rd_script.specs.declared.op.Op.TheVariants as ops
 use Rattle.rd_script.specs.Fields.{list_of, optional, defaulted, both}
-use Rattle.rd_script.specs.Objects.{entry, glyph_text, slot_field}
+use Rattle.rd_script.specs.Objects.{entry_form, glyph_text, slot_field}
 use Rattle.rd_script.specs.Table.{object_row}
 use Rattle.rd_script.proofs.Taking.{Left, all-left, taken, last-taken, first-refused, last-refused}
 use Rattle.rd_script.proofs.object_row.read_table.Goals as goal
@@ -20,7 +20,7 @@ left c =
 
 pub returns-in_err-slot : goal.returns-in_err-slot
 returns-in_err-slot c =
-    let behind = taken (defaulted [] (codes "entries") (list_of TABLE_ENTRIES entry)) _ (all-left (object_row objects.Table) c.args.asked.now _ _ refl) c.in_ok-some_items.ensures in
+    let behind = taken (defaulted [] (codes "entries") (list_of TABLE_ENTRIES entry_form)) _ (all-left (object_row objects.Table) c.args.asked.now _ _ refl) c.in_ok-some_items.ensures in
     first-refused (slot_field (codes "truncation")) _ _ _ _ c.from_residual-in_err-slot.ensures.1 behind c.in_err-slot.ensures
 
 pub returns-in_err-slot-4 : goal.returns-in_err-slot-4
