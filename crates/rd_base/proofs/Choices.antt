@@ -127,9 +127,18 @@ both-ok t u made e f x h =
     let second = made-ok u made e x first.1 in
     (first.0, second.0, second.1)
 
--- neither a value nor another fault is this fault
-pub ok-free : {A E : Type 0} {fault : E} (x : A) → ◌≢◌ {A = Result A E} (Ok x) (Err fault)
+-- what is said is not this fault, as neither a value nor another fault is
+abbrev pub IsFreeOf : {T F : Type 0} → F → Result T F → Type 0
+IsFreeOf fault r = r ≢ Err fault
+
+pub ok-free : {T F : Type 0} {fault : F} (x : T) → IsFreeOf fault (Ok x)
 ok-free x = λ e. cc
 
-pub no-free : {A E : Type 0} {fault : E} (other : E) → other ≢ fault → ◌≢◌ {A = Result A E} (Err other) (Err fault)
+pub no-free : {T F : Type 0} {fault : F} (other : F) → other ≢ fault → IsFreeOf {T = T} fault (Err other)
 no-free other h = λ e. h (cc)
+
+-- a part that goes on from an answer, and hands faults on
+pub goes-on-free : {A B F : Type 0} {fault : F} (part : Result A F → Result B F) (r : Result A F)
+    → ((e : F) → part (Err e) ≡ Err e) → ((a : A) → r ≡ Ok a → IsFreeOf fault (part (Ok a))) → IsFreeOf fault r → IsFreeOf fault (part r)
+goes-on-free part (Err other) same made h = let on = same other in λ e. h (cc)
+goes-on-free part (Ok a) same made h = made a refl
