@@ -8,7 +8,7 @@ use Rattle.std.specs.Prelude.{All}
 use Rattle.serde_json.specs.Data.{Data, Items, no_items, item, Members}
 use Rattle.serde_json.specs.Events.{items_len}
 use Rattle.serde_json.specs.Find.{get_member, as_number, as_u64, as_i64, as_bool, as_str, as_array}
-use Rattle.rd_base.proofs.Choices.{kept-some, map-some, no-free, ok-free}
+use Rattle.rd_base.proofs.Choices.{IsFreeOf, goes-on-free, kept-some, map-some, no-free, ok-free}
 use Rattle.rd_base.specs.declared.limits.TheConstants.{ATOMS, CODE_POINTS, COLOURS, HSCROLL_COLUMNS, INVISIBLE_ATOMS, NUMBER_COLUMNS, SCROLL_CONSERVATIVELY, SCROLL_MARGIN, SCROLL_ROWS, START_ROW, STRING_COLUMNS, FRAME_COLUMNS, FRAME_ROWS, LEAST_FRAME_COLUMNS, LEAST_FRAME_ROWS, PRIORITY, STRING_RUNS, TABLE_ENTRIES, SPACE_COLUMNS, TAB_COLUMNS}
 use Rattle.rd_base.specs.declared.settings.Invisible.{Invisible}
 use Rattle.rd_base.specs.declared.settings.Invisible.TheVariants.{Every, Listed}
@@ -43,14 +43,10 @@ use Rattle.rd_script.specs.Properties.{overlay_kind, text_kind, greatest_value, 
 use Rattle.rd_script.specs.Reading.{op_key, reading, reading_name, reading_row, reading_members, object_of, closed, extra_key, unless_extra}
 use Rattle.rd_script.specs.Table.{row, text_row, property_row, object_row, window_row, screen_row, stretch_fields, text_field, overlay_manner, split_sides, ways, wrap_modes}
 
--- what is said is no want of memory
-abbrev pub IsFree : {T : Type 0} → Result T OpFault → Type 0
-IsFree r = r ≢ Err Memory
-
 -- what fields give has this, and none of them is refused for want of memory
 pub record Gives {T : Type 0} (fields : Fields T) (P : T → Type 0) : Type 0 where
   pub given : (ms : Members) (x : T) → fields.taken ms ≡ Ok x → P x
-  pub free : (ms : Members) → IsFree (fields.taken ms)
+  pub free : (ms : Members) → IsFreeOf Memory (fields.taken ms)
 
 -- what a kind of value gives has this
 record Finds {T : Type 0} (kind : Data → Option T) (P : T → Type 0) : Type 0 where
@@ -61,22 +57,18 @@ ok-same x y e = cc
 
 -- ---- readings of which no fault is want of memory
 
-pub and_then-free : {A B : Type 0} (f : A → Result B OpFault) (r : Result A OpFault) → ((a : A) → r ≡ Ok a → IsFree (f a)) → IsFree r → IsFree (and_then f r)
-and_then-free f (Ok a) h g = h a refl
-and_then-free f (Err fault) h g = λ e. g (cc)
-
-pub ok_or-free : {T : Type 0} (fault : OpFault) (o : Option T) → (fault ≡ Memory → ⊥) → IsFree (ok_or o fault)
+pub ok_or-free : {T : Type 0} (fault : OpFault) (o : Option T) → fault ≢ Memory → IsFreeOf Memory (ok_or o fault)
 ok_or-free fault None h = no-free fault h
 ok_or-free fault (Some x) h = ok-free x
 
-or_bad-free : {T : Type 0} (key : List ℕ) (o : Option T) → IsFree (or_bad key o)
+or_bad-free : {T : Type 0} (key : List ℕ) (o : Option T) → IsFreeOf Memory (or_bad key o)
 or_bad-free key o = ok_or-free (BadField (chars key)) o (λ e. cc)
 
-pub required_of-free : {T : Type 0} (key : List ℕ) (kind : Data → Option T) (o : Option Data) → IsFree (required_of key kind o)
+pub required_of-free : {T : Type 0} (key : List ℕ) (kind : Data → Option T) (o : Option Data) → IsFreeOf Memory (required_of key kind o)
 required_of-free key kind None = λ e. cc
 required_of-free key kind (Some d) = or_bad-free key (kind d)
 
-optional_of-free : {T : Type 0} (key : List ℕ) (kind : Data → Option T) (o : Option Data) → IsFree (optional_of key kind o)
+optional_of-free : {T : Type 0} (key : List ℕ) (kind : Data → Option T) (o : Option Data) → IsFreeOf Memory (optional_of key kind o)
 optional_of-free key kind None = λ e. cc
 optional_of-free key kind (Some d) = or_bad-free key _
 
@@ -120,7 +112,7 @@ made-as f fields P Q h so = record {
   given = λ ms x e.
       let of = and_then-ok (λ a. Ok (f a)) (fields.taken ms) x e in
       subst Q (ok-same (f of.0) x of.2) (so of.0 (h.given ms of.0 of.1));
-  free = λ ms. and_then-free (λ a. Ok (f a)) (fields.taken ms) (λ a e. ok-free (f a)) (h.free ms);
+  free = λ ms. goes-on-free (and_then (λ a. Ok (f a))) (fields.taken ms) (λ e. refl) (λ a e. ok-free (f a)) (h.free ms);
 }
 
 made-gives : {A : Type 0} (f : A → Op) (fields : Fields A) (P : A → Type 0) → Gives fields P → ((a : A) → P a → IsInForm (f a)) → Gives (made f fields) IsInForm
@@ -154,7 +146,7 @@ then_by-gives first keys second P Q h so = record {
   given = λ ms x e.
       let of = and_then-ok (λ a. (second a).taken ms) (first.taken ms) x e in
       (so of.0 (h.given ms of.0 of.1)).given ms x of.2;
-  free = λ ms. and_then-free (λ a. (second a).taken ms) (first.taken ms) (λ a e. (so a (h.given ms a e)).free ms) (h.free ms);
+  free = λ ms. goes-on-free (and_then (λ a. (second a).taken ms)) (first.taken ms) (λ e. refl) (λ a e. (so a (h.given ms a e)).free ms) (h.free ms);
 }
 
 -- both of two fields are what is made behind the first of what the second gives
