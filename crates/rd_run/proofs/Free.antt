@@ -1,6 +1,6 @@
 -- No status but its own has want of memory in it.
 use Rattle.std.proofs.Common.{◌≡◌, ◌≢◌, ℕ, inl, inr, List, [], ◌∷◌, Option, None, Some, is_some, Result, Err, ap, ◌∙◌}
-use Rattle.rd_base.proofs.Choices.{either}
+use Rattle.rd_base.proofs.Choices.{IsFreeOf, either}
 use Rattle.rd_files.specs.declared.fault.BadFile.{BadFile}
 use Rattle.rd_files.specs.declared.fault.DataFile.{DataFile}
 use Rattle.rd_files.specs.declared.fault.DataKind.{DataKind}
@@ -24,7 +24,7 @@ use Rattle.rd_run.specs.declared.status.ScriptFault.TheVariants.{Op as NoOp, Ref
 use Rattle.rd_run.specs.declared.status.Status.{Status}
 use Rattle.rd_run.specs.declared.status.Status.TheVariants.{BadData, BadScript}
 use Rattle.rd_run.proofs.FreeFiles.{data-free}
-use Rattle.rd_run.proofs.FreeSteps.{AnswersFree, session-free}
+use Rattle.rd_run.proofs.FreeSteps.{session-free}
 use Rattle.rd_run.proofs.Effects.{effect-is}
 
 -- ---- runs
@@ -39,7 +39,7 @@ none-free = (λ e. cc, λ e. cc)
 unread-free : (r : Result Op OpFault) (fault : OpFault) → r ≡ Err fault → r ≢ Err op_faults.Memory → IsFreeFault (Some (NoOp fault))
 unread-free r fault is h = (λ e. h (cc), λ e. cc)
 
-refused-free : (r : Result StateValue Refusal) (cause : Refusal) → r ≡ Err cause → AnswersFree r → IsFreeFault (Some (Refused cause))
+refused-free : (r : Result StateValue Refusal) (cause : Refusal) → r ≡ Err cause → IsFreeOf refusals.Memory r → IsFreeFault (Some (Refused cause))
 refused-free r cause is h = (λ e. cc, λ e. h (cc))
 
 effect-free : (now : Standing) (t : Input) → IsFreeFault (effect now t).fault

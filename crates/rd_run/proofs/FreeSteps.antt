@@ -1,10 +1,10 @@
 -- No op is refused for want of memory, by the definitions.
-use Rattle.std.proofs.Common.{◌≡◌, ◌≢◌, ℕ, ◌+◌, ◌-◌, Bool, false, if◌then◌else◌, is_some, length, map, nat_le, slice_get, List, Option, None, Some, Result, Ok, Err, refl, ap}
+use Rattle.std.proofs.Common.{◌≢◌, ℕ, ◌+◌, ◌-◌, Bool, false, if◌then◌else◌, is_some, length, map, nat_le, slice_get, List, Option, None, Some, Result, Ok, Err, refl, ap}
 use Rattle.std.specs.Prelude.{ℤ, pos}
 use Rattle.rd_layout.specs.Pointing.{hitting_by, stepped_to}
 use Rattle.rd_layout.specs.Sessions.{SessionValue, layout_of, session_step}
 use Rattle.rd_layout.specs.Windows.{place_of}
-use Rattle.rd_base.proofs.Choices.{either, no-free, ok-free}
+use Rattle.rd_base.proofs.Choices.{IsFreeOf, either, goes-on-free, no-free, ok-free}
 use Rattle.rd_base.specs.declared.limits.TheConstants.{FACES, SPECS, STRINGS, TABLES}
 use Rattle.rd_objects.specs.Things.{ObjectLists, full_fault, spec_fault, string_fault}
 use Rattle.rd_objects.specs.declared.run.Run.{Run}
@@ -31,63 +31,54 @@ use Rattle.rd_tree.specs.declared.fault.TreeFault.TheVariants as trees
 use Rattle.rd_tree.specs.declared.placed.Placed.{Placed}
 use Rattle.rd_window.specs.declared.layout.Layout.{Layout}
 
--- what is answered is no want of memory
-abbrev pub AnswersFree : {T : Type 0} → Result T Refused → Type 0
-AnswersFree r = r ≢ Err Memory
-
-found-free : {A B : Type 0} (refusal : Refused) (o : Option A) (f : A → Result B Refused) → refusal ≢ Memory → ((a : A) → AnswersFree (f a)) → AnswersFree (with_found refusal o f)
+found-free : {A B : Type 0} (refusal : Refused) (o : Option A) (f : A → Result B Refused) → refusal ≢ Memory → ((a : A) → IsFreeOf Memory (f a)) → IsFreeOf Memory (with_found refusal o f)
 found-free refusal None f p h = λ e. p (cc)
 found-free refusal (Some a) f p h = h a
 
 -- what is done to a window that lives
-lives-free : (s : StateValue) (window : ℕ) (f : WindowState → Result StateValue Refused) → ((w : WindowState) → AnswersFree (f w)) → AnswersFree (in_window s window f)
+lives-free : (s : StateValue) (window : ℕ) (f : WindowState → Result StateValue Refused) → ((w : WindowState) → IsFreeOf Memory (f w)) → IsFreeOf Memory (in_window s window f)
 lives-free s window f h = found-free NoWindow _ f (λ e. cc) h
 
 -- what is done to the buffer with a name, and to the one that a window shows
-named-free : (s : StateValue) (name : List ℕ) (f : ℕ → BufferValue → Result StateValue Refused) → ((i : ℕ) (b : BufferValue) → AnswersFree (f i b)) → AnswersFree (in_buffer s name f)
+named-free : (s : StateValue) (name : List ℕ) (f : ℕ → BufferValue → Result StateValue Refused) → ((i : ℕ) (b : BufferValue) → IsFreeOf Memory (f i b)) → IsFreeOf Memory (in_buffer s name f)
 named-free s name f h = found-free NoBuffer _ (f (number_of name s.buffers)) (λ e. cc) (h (number_of name s.buffers))
 
-shown-free : (s : StateValue) (w : WindowState) (f : BufferValue → Result StateValue Refused) → ((b : BufferValue) → AnswersFree (f b)) → AnswersFree (in_shown s w f)
+shown-free : (s : StateValue) (w : WindowState) (f : BufferValue → Result StateValue Refused) → ((b : BufferValue) → IsFreeOf Memory (f b)) → IsFreeOf Memory (in_shown s w f)
 shown-free s w f h = found-free NoBuffer (slice_get s.buffers w.buffer) f (λ e. cc) h
 
 -- ---- buffers
 
--- a part of a step that goes on from an answer, and hands refusals on
-goes-on-free : {A B : Type 0} (part : Result A Refused → Result B Refused) (r : Result A Refused) → ((e : Refused) → part (Err e) ≡ Err e) → ((a : A) → AnswersFree (part (Ok a))) → AnswersFree r → AnswersFree (part r)
-goes-on-free part (Err refusal) same made h = let on = same refusal in λ e. h (cc)
-goes-on-free part (Ok a) same made h = made a
+edited-free : (s : StateValue) (name : List ℕ) (edit : ContentValue → Result ContentValue Refused) → ((c : ContentValue) → IsFreeOf Memory (edit c)) → IsFreeOf Memory (edited s name edit)
+edited-free s name edit h = named-free s name (λ i b. content_replaced s i b (edit b.content)) (λ i b. goes-on-free (content_replaced s i b) (edit b.content) (λ e. refl) (λ d is. ok-free _) (h b.content))
 
-edited-free : (s : StateValue) (name : List ℕ) (edit : ContentValue → Result ContentValue Refused) → ((c : ContentValue) → AnswersFree (edit c)) → AnswersFree (edited s name edit)
-edited-free s name edit h = named-free s name (λ i b. content_replaced s i b (edit b.content)) (λ i b. goes-on-free (content_replaced s i b) (edit b.content) (λ e. refl) (λ d. ok-free _) (h b.content))
-
-moved-free : (s : StateValue) (name : List ℕ) (how : Move) (edit : ContentValue → Result ContentValue Refused) → ((c : ContentValue) → AnswersFree (edit c)) → AnswersFree (edited_moving s name how edit)
+moved-free : (s : StateValue) (name : List ℕ) (how : Move) (edit : ContentValue → Result ContentValue Refused) → ((c : ContentValue) → IsFreeOf Memory (edit c)) → IsFreeOf Memory (edited_moving s name how edit)
 moved-free s name how edit h =
     named-free s name (λ i b. moving i how (content_replaced s i b (edit b.content)))
-    (λ i b. goes-on-free (λ r. moving i how (content_replaced s i b r)) (edit b.content) (λ e. refl) (λ d. ok-free _) (h b.content))
+    (λ i b. goes-on-free (λ r. moving i how (content_replaced s i b r)) (edit b.content) (λ e. refl) (λ d is. ok-free _) (h b.content))
 
 -- an edit behind one test, and behind two
-one-free : {A : Type 0} (t : Bool) (made : A) (e : Refused) → e ≢ Memory → AnswersFree (if t then Ok made else Err e)
-one-free t made e p = either AnswersFree t _ _ (ok-free made) (no-free e p)
+one-free : {A : Type 0} (t : Bool) (made : A) (e : Refused) → e ≢ Memory → IsFreeOf Memory (if t then Ok made else Err e)
+one-free t made e p = either (IsFreeOf Memory) t _ _ (ok-free made) (no-free e p)
 
-both-free : {A : Type 0} (t u : Bool) (made : A) (e f : Refused) → e ≢ Memory → f ≢ Memory → AnswersFree (if t then (if u then Ok made else Err e) else Err f)
-both-free t u made e f p q = either AnswersFree t _ _ (one-free u made e p) (no-free f q)
+both-free : {A : Type 0} (t u : Bool) (made : A) (e f : Refused) → e ≢ Memory → f ≢ Memory → IsFreeOf Memory (if t then (if u then Ok made else Err e) else Err f)
+both-free t u made e f p q = either (IsFreeOf Memory) t _ _ (one-free u made e p) (no-free f q)
 
-insertion-free : (place : ℕ) (new : List ℕ) (c : ContentValue) → AnswersFree (insertion place new c)
+insertion-free : (place : ℕ) (new : List ℕ) (c : ContentValue) → IsFreeOf Memory (insertion place new c)
 insertion-free place new c = both-free _ _ _ TextTooLarge OutOfRange (λ e. cc) (λ e. cc)
 
-overlay_making-free : (from to : ℕ) (priority : ℤ) (front rear : Bool) (c : ContentValue) → AnswersFree (overlay_making from to priority front rear c)
-overlay_making-free from to priority front rear c = either AnswersFree _ _ _ (either AnswersFree _ _ _ (no-free TooManyOverlays (λ e. cc)) (ok-free _)) (no-free OutOfRange (λ e. cc))
+overlay_making-free : (from to : ℕ) (priority : ℤ) (front rear : Bool) (c : ContentValue) → IsFreeOf Memory (overlay_making from to priority front rear c)
+overlay_making-free from to priority front rear c = either (IsFreeOf Memory) _ _ _ (either (IsFreeOf Memory) _ _ _ (no-free TooManyOverlays (λ e. cc)) (ok-free _)) (no-free OutOfRange (λ e. cc))
 
-making-free : (s : StateValue) (name : List ℕ) → AnswersFree (making s name)
-making-free s name = either AnswersFree _ _ _ (no-free NameTaken (λ e. cc)) (either AnswersFree _ _ _ (no-free TooManyBuffers (λ e. cc)) (ok-free _))
+making-free : (s : StateValue) (name : List ℕ) → IsFreeOf Memory (making s name)
+making-free s name = either (IsFreeOf Memory) _ _ _ (no-free NameTaken (λ e. cc)) (either (IsFreeOf Memory) _ _ _ (no-free TooManyBuffers (λ e. cc)) (ok-free _))
 
-typing-free : (s : StateValue) (new : List ℕ) → AnswersFree (typing s new)
+typing-free : (s : StateValue) (new : List ℕ) → IsFreeOf Memory (typing s new)
 typing-free s new =
     let done : WindowState → BufferValue → Result ContentValue Refused → Result StateValue Refused = λ w b r.
     changing s.selected (λ old. record old { point = w.point + length new }) (moving w.buffer (Inserted w.point (length new)) (content_replaced s w.buffer b r)) in
     let put : WindowState → BufferValue → Result StateValue Refused = λ w b. done w b (insertion w.point new b.content) in
     lives-free s s.selected (typed s new)
-    (λ w. shown-free s w (put w) (λ b. goes-on-free (done w b) (insertion w.point new b.content) (λ e. refl) (λ d. ok-free _) (insertion-free w.point new b.content)))
+    (λ w. shown-free s w (put w) (λ b. goes-on-free (done w b) (insertion w.point new b.content) (λ e. refl) (λ d is. ok-free _) (insertion-free w.point new b.content)))
 
 -- ---- objects
 
@@ -95,7 +86,7 @@ object-free : (fault : ObjectFault) → fault ≢ faults.Memory → refused_obje
 object-free faults.Memory h = λ e. h refl
 object-free fault h = λ e. cc
 
-made-free : (s : StateValue) (o : Option ObjectFault) (made : ObjectLists) → o ≢ Some faults.Memory → AnswersFree (with_objects s (unless_fault o made))
+made-free : (s : StateValue) (o : Option ObjectFault) (made : ObjectLists) → o ≢ Some faults.Memory → IsFreeOf Memory (with_objects s (unless_fault o made))
 made-free s None made h = ok-free _
 made-free s (Some fault) made h = no-free (refused_object fault) (object-free fault (λ e. h (ap (λ f. Some f) e)))
 
@@ -116,42 +107,42 @@ spec-free o spec = choice-free _ (Some faults.NoObject) _ (λ e. cc) (full-free 
 
 -- ---- windows
 
-tree-free : (r : Result Configuration TreeFault) (f : Configuration → StateValue) → r ≢ Err trees.Memory → AnswersFree (on_tree r f)
+tree-free : (r : Result Configuration TreeFault) (f : Configuration → StateValue) → r ≢ Err trees.Memory → IsFreeOf Memory (on_tree r f)
 tree-free (Ok tree) f h = ok-free (f tree)
 tree-free (Err fault) f h = no-free (refused_tree fault) (refused-free fault (λ e. h (ap (λ x. Err x) e)))
 
-bad-free : (o : Option ℕ) (r : Result StateValue Refused) → AnswersFree r → AnswersFree (unless_bad o r)
+bad-free : (o : Option ℕ) (r : Result StateValue Refused) → IsFreeOf Memory r → IsFreeOf Memory (unless_bad o r)
 bad-free None r h = h
 bad-free (Some column) r h = λ e. cc
 
-setting-free : (s : StateValue) (window : ℕ) (f : WindowState → WindowState) → AnswersFree (setting s window f)
+setting-free : (s : StateValue) (window : ℕ) (f : WindowState → WindowState) → IsFreeOf Memory (setting s window f)
 setting-free s window f = lives-free s window _ (λ w. ok-free _)
 
-placing-free : (s : StateValue) (window place : ℕ) (f : WindowState → WindowState) → AnswersFree (placing s window place f)
+placing-free : (s : StateValue) (window place : ℕ) (f : WindowState → WindowState) → IsFreeOf Memory (placing s window place f)
 placing-free s window place f =
     let put : BufferValue → Result StateValue Refused = λ b. if is_accessible b.content.text place then changing window f (Ok s) else Err OutOfRange in
     lives-free s window (λ w. in_shown s w put)
-    (λ w. shown-free s w put (λ b. either AnswersFree (is_accessible b.content.text place) (changing window f (Ok s)) (Err OutOfRange) (ok-free _) (no-free OutOfRange (λ e. cc))))
+    (λ w. shown-free s w put (λ b. either (IsFreeOf Memory) (is_accessible b.content.text place) (changing window f (Ok s)) (Err OutOfRange) (ok-free _) (no-free OutOfRange (λ e. cc))))
 
-showing-free : (s : StateValue) (window : ℕ) (name : List ℕ) → AnswersFree (showing s window name)
+showing-free : (s : StateValue) (window : ℕ) (name : List ℕ) → IsFreeOf Memory (showing s window name)
 showing-free s window name =
     let put : ℕ → BufferValue → Result StateValue Refused = λ i b.
     let begin = b.content.text.begin in
     changing window (λ old. record old { buffer = i; point = begin; anchor = record { pos = begin; row = 0 }; forced = false; pending = pos 0 }) (Ok s) in
     lives-free s window (λ w. in_buffer s name put) (λ w. named-free s name put (λ i b. ok-free _))
 
-point-free : (s : StateValue) (window place : ℕ) → AnswersFree (step s (ops.Point window place))
+point-free : (s : StateValue) (window place : ℕ) → IsFreeOf Memory (step s (ops.Point window place))
 unfolding step
 point-free s window place = placing-free s window place _
 
-hit-free : (s : StateValue) (window : ℕ) (w : WindowState) (last : Option Layout) (place : Option Placed) (row column : ℕ) → AnswersFree (hitting_by s window w last place row column)
+hit-free : (s : StateValue) (window : ℕ) (w : WindowState) (last : Option Layout) (place : Option Placed) (row column : ℕ) → IsFreeOf Memory (hitting_by s window w last place row column)
 hit-free s window w None place row column = λ e. cc
 hit-free s window w (Some l) None row column = λ e. cc
-hit-free s window w (Some l) (Some place) row column = either AnswersFree _ _ _ (point-free s window _) (no-free NotShown (λ e. cc))
+hit-free s window w (Some l) (Some place) row column = either (IsFreeOf Memory) _ _ _ (point-free s window _) (no-free NotShown (λ e. cc))
 
 -- ---- all ops
 
-pub session-free : (v : SessionValue) (op : Op) → AnswersFree (session_step v op)
+pub session-free : (v : SessionValue) (op : Op) → IsFreeOf Memory (session_step v op)
 unfolding step
 session-free v (ops.Frame width height) = tree-free _ _ (resize-free v.state.tree width (height - 1))
 session-free v (ops.Buffer name) = making-free v.state name
@@ -180,9 +171,9 @@ session-free v (ops.Start window place row) = placing-free v.state window place 
 session-free v (ops.Scroll window rows) = setting-free v.state window _
 session-free v (ops.Hscroll window columns) = setting-free v.state window _
 session-free v (ops.Wrap window mode) = setting-free v.state window _
-session-free v (ops.ModeLine window format) = lives-free v.state window _ (λ w. bad-free _ _ (goes-on-free (changing window _) _ (λ e. refl) (λ t. ok-free _) (tree-free _ _ (mode-free v.state.tree window (is_some format)))))
+session-free v (ops.ModeLine window format) = lives-free v.state window _ (λ w. bad-free _ _ (goes-on-free (changing window _) _ (λ e. refl) (λ t is. ok-free _) (tree-free _ _ (mode-free v.state.tree window (is_some format)))))
 session-free v (ops.Go window right) = lives-free v.state window _ (λ w. point-free v.state window (stepped_to v.files v.state w right))
 session-free v (ops.Hit window row column) = lives-free v.state window _ (λ w. hit-free v.state window w (layout_of window v.layouts) (place_of window v.state) row column)
-session-free v (ops.Margin window numbers strings) = lives-free v.state window _ (λ w. goes-on-free (changing window _) _ (λ e. refl) (λ t. ok-free _) (tree-free _ _ (margins-free v.state.tree window (numbers + strings))))
+session-free v (ops.Margin window numbers strings) = lives-free v.state window _ (λ w. goes-on-free (changing window _) _ (λ e. refl) (λ t is. ok-free _) (tree-free _ _ (margins-free v.state.tree window (numbers + strings))))
 session-free v (ops.MarginPut name overlay string) = edited-free v.state name (margin_putting v.state.objects overlay string) (λ c. both-free _ _ _ NoObject NoOverlay (λ e. cc) (λ e. cc))
 session-free v op = λ e. cc
