@@ -1,5 +1,5 @@
 -- The types of paired brackets (UAX 9, rule N0), over the types of one isolating run sequence.
-use Rattle.std.specs.Prelude.{ℕ, suc, ◌-◌, Bool, true, false, if◌then◌else◌, List, [], ◌∷◌, length, take, drop, slice_index, slice_set, fold, Option, None, Some, unwrap_or}
+use Rattle.std.specs.Prelude.{ℕ, suc, Bool, true, false, if◌then◌else◌, List, [], ◌∷◌, length, take, slice_index, slice_set, slice_range, fold, Option, None, Some, unwrap_or}
 use Rattle.std.specs.List.{list_any}
 use Rattle.rd_base.specs.Classes.{direction_of}
 use Rattle.rd_base.specs.declared.class.Class.{Class}
@@ -40,10 +40,6 @@ n0_pair_side embedding before between =
     then Some (if counts_as (opposite embedding) before then opposite embedding else embedding)
     else None)
 
--- for N0, the types between two places
-abbrev pub between : ℕ → ℕ → List Class → List Class
-between opening closing ts = take (closing - suc opening) (drop (suc opening) ts)
-
 -- for N0, the types once both brackets of a pair took a direction, if there is one
 abbrev pub put_both : Option Class → ℕ → ℕ → List Class → List Class
 put_both None opening closing ts = ts
@@ -52,7 +48,7 @@ put_both (Some side) opening closing ts = slice_set (slice_set ts opening side) 
 -- N0: the types once one pair was taken
 abbrev pub n0_with_pair : Class → Class → ℕ → ℕ → List Class → List Class
 n0_with_pair embedding sos opening closing ts =
-    put_both (n0_pair_side embedding (last_side sos (take opening ts)) (between opening closing ts)) opening closing ts
+    put_both (n0_pair_side embedding (last_side sos (take opening ts)) (slice_range ts (suc opening) closing)) opening closing ts
 
 -- N0: the types once each pair was taken, in the order of the opening brackets, of which the next may stand at this place
 abbrev pub n0_with_pairs : Class → Class → ℕ → List (Option ℕ) → List Class → List Class

@@ -1,6 +1,6 @@
 //! The directions that the pairs of a sequence take (UAX 9 N0).
-ghost use Rattle.std.specs.Prelude.{◌≡◌, ◌<◌, take, length, All, IfSome};
-ghost use Rattle.rd_brackets.specs.Sides.{counts_as, holds, opposite, last_side, n0_pair_side, between, n0_with_pair, n0_with_pairs, became, followed, side_taken};
+ghost use Rattle.std.specs.Prelude.{◌≡◌, ◌<◌, suc, take, length, slice_range, All, IfSome};
+ghost use Rattle.rd_brackets.specs.Sides.{counts_as, holds, opposite, last_side, n0_pair_side, n0_with_pair, n0_with_pairs, became, followed, side_taken};
 
 use rd_base::{Class, ListOf};
 
@@ -56,7 +56,7 @@ fn n0_pair_side(
 ) -> Option<Class>
     requires opening { opening < length types.now }
     requires closing { closing < length types.now }
-    ensures { result ≡ n0_pair_side embedding (last_side sos (take opening types.now)) (between opening closing types.now) }
+    ensures { result ≡ n0_pair_side embedding (last_side sos (take opening types.now)) (slice_range types.now (suc opening) closing) }
 {
     let inside = between(opening, closing, types);
     // N0 b: the embedding direction stands inside.
@@ -79,7 +79,7 @@ fn n0_pair_side(
 fn between(opening: usize, closing: usize, types: &[Class]) -> &[Class]
     requires opening { opening < length types.now }
     requires closing { closing < length types.now }
-    ensures { result.now ≡ between opening closing types.now }
+    ensures { result.now ≡ slice_range types.now (suc opening) closing }
 {
     &types[closing.min(opening + 1)..closing]
 }

@@ -1,7 +1,7 @@
 -- The weak rules (W1 to W7), N0, and the neutral rules (N1, N2) over a sequence at level 0 without anything that is read from the right.
 use Rattle.std.proofs.Common.{◌≡◌, ℕ, zero, suc, ◌-◌, Bool, true, false, ◌||◌, List, [], ◌∷◌, length, take, drop, set, replicate, Option, None, Some, IfSome, refl, sym, ap, ap₂, subst, ◌∙◌}
 use Rattle.std.specs.List.{AllByRecursion as Each}
-use Rattle.std.specs.Prelude.{if◌then◌else◌}
+use Rattle.std.specs.Prelude.{slice_range, if◌then◌else◌}
 use Rattle.std.proofs.lemmas.List.{length-set}
 use Rattle.rd_base.proofs.Choices.{either, if-else}
 use Rattle.rd_base.proofs.Lists.{each-take, each-drop}
@@ -175,8 +175,8 @@ n0_with_pairs-calm sos place [] ts ps = (refl, ps)
 n0_with_pairs-calm sos place (None ∷ cs) ts ps = n0_with_pairs-calm sos (suc place) cs ts ps
 n0_with_pairs-calm sos place (Some closing ∷ cs) ts ps =
     let within = each-take IsCalm (closing - suc place) (drop (suc place) ts) (each-drop IsCalm (suc place) ts ps) in
-    let side = n0_pair_side-calm (sides.last_side sos (take place ts)) (sides.between place closing ts) within in
-    let both = both-calm (sides.n0_pair_side L (sides.last_side sos (take place ts)) (sides.between place closing ts)) place closing ts side ps in
+    let side = n0_pair_side-calm (sides.last_side sos (take place ts)) (slice_range ts (suc place) closing) within in
+    let both = both-calm (sides.n0_pair_side L (sides.last_side sos (take place ts)) (slice_range ts (suc place) closing)) place closing ts side ps in
     let rest = n0_with_pairs-calm sos (suc place) cs (sides.n0_with_pair L sos place closing ts) both.1 in
     (rest.0 ∙ both.0, rest.1)
 
