@@ -9,9 +9,6 @@ use Rattle.rd_base.specs.declared.class.Class.TheVariants.{LRI, RLI, FSI, PDI}
 use Rattle.rd_explicit.specs.Isolates.{inside}
 use Rattle.rd_explicit.specs.Links.{unmatched}
 
-abbrev pub closing : ℕ → ℕ → List Class → Option ℕ
-closing i depth cs = if nat_lt (length (inside cs depth)) (length cs) then Some (i + length (inside cs depth)) else None
-
 shifted : (a b i : ℕ) → (if nat_lt a b then Some ((i + 1) + a) else None) ≡ (if nat_lt (suc a) (suc b) then Some (i + suc a) else None)
 shifted a b i = elim (cases_Bool (nat_lt a b)) [
   | inl t ↦ let less : suc a < suc b = omega (arith, ltb-true a b t) in
@@ -20,7 +17,7 @@ shifted a b i = elim (cases_Bool (nat_lt a b)) [
   | inr n ↦ let more : suc b ≤ suc a = omega (arith, ltb-false a b n) in rw (n, le-ltb (suc a) (suc b) more)
 ]
 
-pub get-unmatched : (cs : List Class) (i depth : ℕ) → slice_get (unmatched i cs) depth ≡ closing i depth cs
+pub get-unmatched : (cs : List Class) (i depth : ℕ) → slice_get (unmatched i cs) depth ≡ (if nat_lt (length (inside cs depth)) (length cs) then Some (i + length (inside cs depth)) else None)
 get-unmatched [] i depth = refl
 get-unmatched (PDI ∷ cs) i zero = let some : 0 < suc (length cs) = omega arith in rw (lt-ltb 0 (suc (length cs)) some, add-zero) refl
 get-unmatched (PDI ∷ cs) i (suc depth) = get-unmatched cs (i + 1) depth ∙ shifted _ _ i
