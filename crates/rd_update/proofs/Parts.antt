@@ -1,5 +1,5 @@
 -- Rows put in place one after another, and the parts of a plan.
-use Rattle.std.proofs.Common.{◌≡◌, if◌then◌else◌, ℕ, zero, suc, ◌+◌, ◌-◌, ◌<◌, ◌≤◌, Bool, true, false, not, nat_lt, nat_le, min, List, [], ◌∷◌, ◌++◌, length, get_or, set, take, drop, map, replicate, Option, None, Some, refl, sym, ap, ◌∙◌, arith, append_assoc, append-nil}
+use Rattle.std.proofs.Common.{◌≡◌, if◌then◌else◌, ℕ, zero, suc, ◌+◌, ◌-◌, ◌<◌, ◌≤◌, Bool, true, false, not, nat_lt, nat_le, min, List, [], ◌∷◌, ◌++◌, length, get_or, set, take, drop, map, replicate, Option, None, Some, refl, sym, ap, ap₂, ◌∙◌, arith, append_assoc, append-nil}
 use Rattle.std.specs.List.{AllByRecursion}
 use Rattle.std.proofs.lemmas.List.Elements.{recursion_from_All, All-from_recursion}
 use Rattle.std.proofs.lemmas.Bool.Decides.{nat_tests}
@@ -347,9 +347,6 @@ stopped-less current target sent limit e done =
 
 -- ---- what is prepared
 
-prepared-same : (a b : List ℕ) (c d : List ChangedRow) → a ≡ b → c ≡ d → let x : Prepared = record { bytes = a; parts = c } in let y : Prepared = record { bytes = b; parts = d } in x ≡ y
-prepared-same a b c d e f = cc
-
 pub planned-made : (current : Option Picture) (target : Picture) (begun more bytes : List ℕ) (none parts : List ChangedRow) (row column : ℕ)
     → begun ≡ opening current → more ≡ begun ++ rows_bytes 0 None (start current target).rows target.rows
     → none ≡ [] → parts ≡ none ++ parts_from 0 (length begun) (start current target).rows target.rows
@@ -358,6 +355,7 @@ pub planned-made : (current : Option Picture) (target : Picture) (begun more byt
 planned-made current target begun more bytes none parts row column b m n p r c e =
     let old = start current target in
     let rows = rows_bytes 0 None old.rows target.rows in
-    prepared-same bytes (planned current target).bytes parts (planned current target).parts
+    let Made : List ℕ → List ChangedRow → Prepared = λ xs ps. record { bytes = xs; parts = ps } in
+    ap₂ Made
     (e ∙ ap (λ xs. xs ++ move row column) (m ∙ ap (λ xs. xs ++ rows) b) ∙ ap (λ j. opening current ++ rows ++ move j column) r ∙ ap (λ j. opening current ++ rows ++ move target.row j) c)
     (p ∙ ap (λ xs. xs ++ parts_from 0 (length begun) old.rows target.rows) n ∙ ap (λ xs. parts_from 0 (length xs) old.rows target.rows) b)
