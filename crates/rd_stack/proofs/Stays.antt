@@ -36,7 +36,6 @@ use Rattle.rd_stack.specs.declared.part.Place.{Place}
 use Rattle.rd_stack.specs.declared.part.Shown.{Shown}
 use Rattle.rd_stack.proofs.EachPart.{places-each, string-each}
 use Rattle.rd_stack.proofs.Good.{found}
-use Rattle.rd_stack.proofs.Lists.{each-any}
 
 -- ---- lists
 
@@ -45,9 +44,6 @@ flat-same : {X A : Type 0} (P : X → Type 0) (f g : X → List A) (xs : List X)
 flat-same P f g [] same all = refl
 flat-same {X} {A} P f g (x ∷ xs) same all =
     ap (λ (ys : List A). ys ++ flat_map f xs) (same x all.0) ∙ ap (λ (ys : List A). g x ++ ys) (flat-same P f g xs same all.1)
-
-flat-each : {X A : Type 0} (f g : X → List A) (xs : List X) → ((x : X) → f x ≡ g x) → flat_map f xs ≡ flat_map g xs
-flat-each {X} f g xs same = flat-same (λ (x : X). Unit {0}) f g xs (λ x any. same x) (each-any xs)
 
 -- ---- what the parts of strings name
 
@@ -192,8 +188,7 @@ module _ (old new : Scene) (goes : GoesOnFrom old new) (closed : IsClosed old.ob
   same-line : (base : ℕ) (items : List Item) → ShowMade old.objects items → line_of_items new base items ≡ line_of_items old base items
   same-line base items made =
       ap (λ (turns : List Turn). flat_map (put_item kind_elements new base items) turns) (same-turns base items)
-      ∙ flat-each (put_item kind_elements new base items) (put_item kind_elements old base items) (item_turns old base items)
-      (λ turn. same-item base turn (slice_get items turn.index) (found (λ (i : Item). ShowsMade old.objects i.kind) items turn.index made))
+      ∙ (λ k. flat_map (λ turn. same-item base turn (slice_get items turn.index) (found (λ (i : Item). ShowsMade old.objects i.kind) items turn.index made) k) (item_turns old base items))
 
   -- the line of what names made objects alone
   pub line-stays : (base : ℕ) (es : List Seen) → ReadsMade old.objects es → line_elements new base es ≡ line_elements old base es
