@@ -46,15 +46,11 @@ with_windows s c ws n v w wide high = with_parts s s.buffers s.objects c ws n s.
   rows = ap (λ (x : ℕ). x + 1) high ∙ v.frame.rows;
 })
 
-option-same : {X Y : Type 0} (f g : X → Y) (o : Option X) → ((x : X) → f x ≡ g x) → option_map f o ≡ option_map g o
-option-same f g None h = refl
-option-same f g (Some x) h = ap (λ y. Some y) (h x)
-
 -- one window becomes another, and the tree stays
 windows-set : (bs : List BufferValue) (c : Configuration) (ws : List NumberedWindow) (n number : ℕ) (f : WindowState → WindowState) → ((w : WindowState) → leaf_of (f w) ≡ leaf_of w)
     → ((w : WindowState) → window_of number ws ≡ Some w → IsWindow bs w → IsWindow bs (f w)) → AreWindows bs c ws n → AreWindows bs c (changed_under number f ws) n
 windows-set bs c ws n number f same keep v =
-    windows-changed bs c c ws n number f v.tree (v.leaves number ∙ option-same leaf_of (λ w. leaf_of (f w)) (window_of number ws) (λ w. sym (same w))) (λ k q. refl) keep v
+    windows-changed bs c c ws n number f v.tree (v.leaves number ∙ (λ i. option_map (λ w. sym (same w) i) (window_of number ws))) (λ k q. refl) keep v
 
 pub set-valid : (s : StateValue) (number : ℕ) (f : WindowState → WindowState) → IsValid s → ((w : WindowState) → leaf_of (f w) ≡ leaf_of w)
     → ((w : WindowState) → window_of number s.windows ≡ Some w → IsWindow s.buffers w → IsWindow s.buffers (f w)) → IsValid (record s { windows = changed_under number f s.windows })
