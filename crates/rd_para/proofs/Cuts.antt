@@ -1,5 +1,5 @@
 -- Lines of a text, as the code finds them.
-use Rattle.std.proofs.Common.{◌≡◌, ℕ, ◌+◌, ◌-◌, ◌<◌, ◌≤◌, inl, inr, Bool, not, if◌then◌else◌, List, [], ◌∷◌, length, get_or, take, drop, replicate, Option, None, sym, ap, ◌∙◌, arith}
+use Rattle.std.proofs.Common.{◌≡◌, ℕ, ◌+◌, ◌-◌, ◌<◌, ◌≤◌, inl, inr, Bool, true, not, if◌then◌else◌, List, [], ◌∷◌, length, get_or, take, drop, replicate, Option, None, refl, sym, ap, subst, ◌∙◌, arith}
 use Rattle.std.specs.List.{slice_split, position_or_len}
 use Rattle.std.proofs.lemmas.List.Sums.{prefix_len-le-length, fails_before_first}
 use Rattle.std.proofs.lemmas.Bool.{cases_lt}
@@ -47,6 +47,9 @@ line_cut t from right begin end =
           cut ∙ ap (λ (xs : List ℕ). xs ∷ slice_split is_newline (drop (i + 1) all)) (sym line) ∙ ap (λ (xs : List ℕ). between t from (from + i) ∷ slice_split is_newline xs) behind;
     }
 
+pub line_cut_to : (t : TextValue) (from to : ℕ) → IsText t → t.begin ≤ from → from ≤ t.end → to ≡ next_newline t from → IsCut t from to
+line_cut_to t from to right begin end is = subst (IsCut t from) (sym is) (line_cut t from right begin end)
+
 -- the level of a line is that at each of its places
 pub levels_here : (classes : List Span) (last : ℕ) (inside : Bool) (line : List ℕ) (lines pieces : List (List ℕ)) (n : ℕ) → pieces ≡ line ∷ lines
     → n ≤ length line → get_or (levels_of classes last inside pieces) n 0 ≡ level_by classes last inside line lines
@@ -78,3 +81,11 @@ some_line t from to cut = elim (cases_lt to t.end) [
   | inl less ↦ (slice_split is_newline (between t (to + 1) t.end), cut.more less)
   | inr past ↦ let within = cut.within in ([], cut.last (omega arith))
 ]
+
+-- a separator that comes first decides no level
+pub decided_none : (classes : List Span) (t : TextValue) (from to : ℕ) → IsCut t from to → is_separator (between t from to) ≡ true
+    → decided classes (slice_split is_newline (between t from t.end)) ≡ None
+decided_none classes t from to cut blank =
+    let some = some_line t from to cut in
+    let line = between t from to in
+    decided_from classes line some.0 (slice_split is_newline (between t from t.end)) true (p2_p3_level_of_line classes line) some.1 blank refl

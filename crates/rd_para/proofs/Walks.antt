@@ -334,9 +334,9 @@ paragraph_is classes t right pos ink place start low high ink_is place_is begins
 
 -- the level of the line behind one that ends at `end`, by the level there and by what the two lines are
 pub record NextLine (classes : List Span) (t : TextValue) (end : ℕ) : Type 0 where
-  pub kept : (p : ℕ) → end + 1 ≤ p → p ≤ next_newline t (end + 1) → (prev_ink t (next_newline t (end + 1)) ≤ end + 1) ⊎ (prev_newline t end < prev_ink t end)
-      → text_level classes t p ≡ text_level classes t end
-  pub fresh : (p : ℕ) → end + 1 ≤ p → p ≤ next_newline t (end + 1) → end + 1 < prev_ink t (next_newline t (end + 1)) → prev_ink t end ≤ prev_newline t end
+  pub kept : (p : ℕ) → end + 1 ≤ p → p ≤ next_newline t (end + 1)
+      → (is_separator (between t (end + 1) (next_newline t (end + 1))) ≡ true) ⊎ (prev_newline t end < prev_ink t end) → text_level classes t p ≡ text_level classes t end
+  pub fresh : (p : ℕ) → end + 1 ≤ p → p ≤ next_newline t (end + 1) → is_separator (between t (end + 1) (next_newline t (end + 1))) ≡ false → prev_ink t end ≤ prev_newline t end
       → text_level classes t p ≡ unwrap_or (decided classes (rows t (end + 1))) 0
 
 -- where a line begins, as a search finds it
@@ -389,16 +389,14 @@ next_line_is classes t right end low more newline =
     record {
       kept = λ p at within kind. level p at within ∙ elim kind [
         | inl blank ↦
-            ap (λ (v : Bool). if v || b.reached.inside then b.reached.last else unwrap_or (decided classes (text ∷ some.0)) 0)
-            (line_blank t right from to (omega arith) c_order c_within (λ k lo hi. next_before t right from k (omega arith) (omega arith) lo hi (omega arith)) blank) ∙ last
+            ap (λ (v : Bool). if v || b.reached.inside then b.reached.last else unwrap_or (decided classes (text ∷ some.0)) 0) blank ∙ last
         | inr ink ↦
             ap (λ (v : Bool). if is_separator text || v then b.reached.last else unwrap_or (decided classes (text ∷ some.0)) 0)
             (inside ∙ ap not (line_ink t right b.start end first (omega arith) (omega arith) (omega arith)))
             ∙ ap (λ (v : Bool). if v then b.reached.last else unwrap_or (decided classes (text ∷ some.0)) 0) (or_right (is_separator text) true refl) ∙ last
       ];
-      fresh = λ p at within ink blank. level p at within
-          ∙ ap (λ (v : Bool). if v || b.reached.inside then b.reached.last else unwrap_or (decided classes (text ∷ some.0)) 0)
-          (line_ink t right from to (omega arith) c_order c_within ink)
+      fresh = λ p at within other blank. level p at within
+          ∙ ap (λ (v : Bool). if v || b.reached.inside then b.reached.last else unwrap_or (decided classes (text ∷ some.0)) 0) other
           ∙ ap (λ (v : Bool). if v then b.reached.last else unwrap_or (decided classes (text ∷ some.0)) 0)
           (inside ∙ ap not (line_blank t right b.start end first (omega arith) (omega arith) (λ k lo hi. b.clear k lo (omega arith)) (omega arith)))
           ∙ ap (λ (ls : List (List ℕ)). unwrap_or (decided classes ls) 0) (sym some.1);

@@ -1,7 +1,7 @@
 //! Base levels.
-ghost use Rattle.std.specs.Prelude.{◌≡◌, ◌+◌, ◌<◌, ◌≤◌, unwrap_or};
+ghost use Rattle.std.specs.Prelude.{◌≡◌, ◌+◌, ◌<◌, ◌≤◌, false, unwrap_or};
 ghost use Rattle.std.specs.List.{slice_split};
-ghost use Rattle.rd_text.specs.Texts.{IsAccessible, between, is_newline, next_newline};
+ghost use Rattle.rd_text.specs.Texts.{IsAccessible, between, is_newline, is_separator, next_newline};
 ghost use Rattle.rd_para.specs.Paragraphs.{base_at, decided};
 ghost use Rattle.rd_para.specs.Known.{IsKnown, IsParagraph};
 
@@ -60,14 +60,14 @@ pub fn next_line(text: &Buffer, classes: &Classes, known: &Paragraph) -> Paragra
     let begin = text.begin();
     let from = known.to + 1;
     let to = text.next_newline(from);
-    if text.prev_ink(to) <= from || text.prev_newline(known.to) < text.prev_ink(known.to) {
+    if is_blank_line(text, from, to) || text.prev_newline(known.to) < text.prev_ink(known.to) {
         return Paragraph {
             from: known.from,
             to,
             base: known.base,
         };
     }
-    let base = p2_p3_level_of_paragraph(text, classes, from);
+    let base = p2_p3_level_from_line(text, classes, from, to);
     Paragraph { from, to, base }
 }
 
@@ -76,13 +76,26 @@ fn p2_p3_level_of_paragraph(text: &Buffer, classes: &Classes, from: Pos) -> u8
     requires { IsAccessible text.now from }
     ensures { result ≡ unwrap_or (decided classes.now (slice_split is_newline (between text.now from text.now.end))) 0 }
 {
+    let _end = text.end();
+    let to = text.next_newline(from);
+    if is_blank_line(text, from, to) {
+        0
+    } else {
+        p2_p3_level_from_line(text, classes, from, to)
+    }
+}
+
+/// The level of a paragraph (P2, P3) by its first line, which is no separator, and the lines behind it.
+fn p2_p3_level_from_line(text: &Buffer, classes: &Classes, from: Pos, to: Pos) -> u8
+    requires place { IsAccessible text.now from }
+    requires end { to ≡ next_newline text.now from }
+    requires text { is_separator (between text.now from to) ≡ false }
+    ensures { result ≡ unwrap_or (decided classes.now (slice_split is_newline (between text.now from text.now.end))) 0 }
+{
     let end = text.end();
     let mut from = from;
+    let mut to = to;
     'lines: loop {
-        let to = text.next_newline(from);
-        if is_blank_line(text, from, to) {
-            return 0;
-        }
         if let Some(level) = p2_p3_level_of_line(text, classes, from, to) {
             return level;
         }
@@ -90,5 +103,9 @@ fn p2_p3_level_of_paragraph(text: &Buffer, classes: &Classes, from: Pos) -> u8
             return 0;
         }
         from = to + 1;
+        to = text.next_newline(from);
+        if is_blank_line(text, from, to) {
+            return 0;
+        }
     }
 }
