@@ -123,6 +123,7 @@ fn paint_mode_line(screen: &mut Screen, window: Placed, cells: &[Cell])
 {
     let _width = screen.width();
     if window.mode {
-        screen.set_cells(window.rect.y + body_height(window), window.rect.x, cells);
+        let row = window.rect.y + window.rect.height - 1;
+        screen.set_cells(row, window.rect.x, cells);
     }
 }
