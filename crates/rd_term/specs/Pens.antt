@@ -2,6 +2,7 @@
 use Rattle.std.specs.Prelude.{ℕ, zero, suc, ◌+◌, ◌-◌, ◌==◌, nat_lt, nat_le, Bool, true, if◌then◌else◌, ◌&&◌, ◌||◌, List, [], ◌∷◌, Option, None, Some}
 use Rattle.std.specs.List.{list_all}
 use Rattle.rd_base.specs.Faces.{Attributes, plain}
+use Rattle.rd_base.specs.declared.limits.TheConstants.{COLOURS}
 
 -- 0 plain, 1 bold, 4 underline, 7 inverse, 30 to 37 the colour of characters, 40 to 47 the colour behind them
 abbrev pub is_rendition : ℕ → Bool
@@ -26,7 +27,7 @@ flag_number flag number = if flag then Some number else None
 
 -- the number of a colour that is not the terminal's own
 abbrev pub colour_number : ℕ → ℕ → Option ℕ
-colour_number colour base = if colour == 8 then None else Some (base + colour)
+colour_number colour base = if colour == COLOURS then None else Some (base + colour)
 
 -- the numbers that make a plain face this one
 abbrev pub numbers_of_face : Attributes → List (Option ℕ)

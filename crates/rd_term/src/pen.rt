@@ -3,6 +3,7 @@ ghost use Rattle.std.specs.Prelude.{◌≡◌, true};
 ghost use Rattle.rd_term.specs.Pens.{is_rendition, are_renditions, dressed, pen_after, pen_by, numbers_of_face};
 
 use rd_base::Face;
+use rd_base::limits::COLOURS;
 
 /// Whether a number changes a pen: 0 makes it plain, 1 bold, 4 underlined and 7 inverse, 30 to 37 give the colour of characters
 /// and 40 to 47 the colour behind them.
@@ -55,8 +56,8 @@ pub fn numbers_of_face(face: Face) -> [Option<u32>; 5]
         face.bold.then_some(1),
         face.underline.then_some(4),
         face.inverse.then_some(7),
-        (face.fg != 8).then_some(30 + face.fg as u32),
-        (face.bg != 8).then_some(40 + face.bg as u32),
+        (face.fg != COLOURS).then_some(30 + face.fg as u32),
+        (face.bg != COLOURS).then_some(40 + face.bg as u32),
     ]
 }
 
