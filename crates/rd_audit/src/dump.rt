@@ -24,7 +24,7 @@ pub struct Dump {
 pub enum DumpFault {
     /// The line of this number is bad; 0 where there is no dump.
     Bad(u32),
-    /// Memory was wanting.
+    /// Want of memory, which may be answered at any time.
     Memory,
 }
 

@@ -16,8 +16,8 @@ pub struct SaidFaceRun {
     pub face: Face,
 }
 
-/// Cells with the runs that a text says, each behind a space; None where one has a bad form, stands before the one before it, or cuts
-/// a character.
+/// Cells with the runs that a text says, each behind a space; None where one has a bad form, begins before
+/// the end of the one before it, ends before it begins or behind the row, or cuts a character.
 pub fn runs_over(text: &[u8], cells: ListOf<Cell>) -> Option<ListOf<Cell>>
     ensures { result ≡ runs_over text.now cells }
 {

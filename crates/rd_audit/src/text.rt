@@ -6,7 +6,8 @@ ghost use Rattle.rd_audit.specs.Texts.{cells_of, taken, cells_from, text_cells};
 use rd_base::{Cell, Ch, Face, Glyph, ListOf, Memory, characters, columns_of, push_glyph};
 use std::alloc::Global;
 
-/// The plain cells of a text in UTF-8, and None where it has a control or begins with a character of no column.
+/// The plain cells of a text in UTF-8. None where the bytes are no UTF-8, and where the text has a control, begins with a character of
+/// no column or has a seventh mark on one character.
 pub fn text_cells(alloc: Global, bytes: &[u8]) -> Result<Option<ListOf<Cell>>, Memory>
     ensures { IfOk result (λ found. found ≡ text_cells bytes.now) }
 {

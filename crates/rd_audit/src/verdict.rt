@@ -31,7 +31,7 @@ pub enum Verdict {
     ReadFault,
     /// The report could not be written.
     WriteFault,
-    /// Memory was wanting.
+    /// Want of memory, which may be answered at any time where the command line has one word.
     NoMemory,
 }
 

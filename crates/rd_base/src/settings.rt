@@ -78,7 +78,8 @@ impl Settings {
     }
 }
 
-/// Where a window's view begins: the first position of a block, and the number of a row in it, from 0.
+/// Where a window's view begins: a position, and the number, from 0, of a row of the block that starts there. An edit, `narrow` or
+/// `start` may leave it at any accessible position, also where no block starts.
 #[derive(Clone, Copy, Debug, PartialEq, Eq)]
 pub struct Anchor {
     pub pos: u32,

@@ -42,7 +42,7 @@ pub enum DataFault {
     /// A file failed, or there is none of its name.
     #[error("a data file failed")]
     Read,
-    /// Memory was wanting.
+    /// Want of memory, which may be answered at any time.
     #[error("no memory")]
     Memory,
 }

@@ -17,7 +17,7 @@ pub enum FileFault {
     /// The file has more than 8,388,608 bytes.
     #[error("the file is too large")]
     TooLarge,
-    /// Memory was wanting.
+    /// Want of memory, which may be answered at any time.
     #[error("no memory")]
     Memory,
 }

@@ -27,6 +27,7 @@ pub enum LineFault {
     /// The source has more than 1,000,000 lines.
     #[error("there are too many lines")]
     TooMany,
+    /// Want of memory, which may be answered at any time.
     #[error("no memory")]
     Memory,
 }

@@ -8,7 +8,7 @@ pub enum FormatFault {
     /// At this place of the format, counted from 0 in characters, stands a `%` that no code follows. It is the first such place.
     #[error("column {0}: no code of a mode line")]
     BadFormat(u64),
-    /// Memory was wanting.
+    /// Want of memory, which may be answered at any time where cells are made; the check of a format never answers it.
     #[error("no memory")]
     Memory,
 }

@@ -28,7 +28,7 @@ const INVERSE: Face = Face {
 /// before a value give its least width in columns; blanks fill it, before the line's number and behind any other value.
 ///
 /// # Errors
-/// `BadFormat` exactly where `check` answers it, with the same place. Else want of memory alone.
+/// `BadFormat` comes only where `check` answers it, with the same place. Want of memory may be answered at any time; nothing else comes.
 pub fn format(
     alloc: Global,
     text: &[Ch],

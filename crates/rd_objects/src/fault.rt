@@ -17,6 +17,7 @@ pub enum ObjectFault {
     /// A run doesn't lie in its string.
     #[error("a run out of range")]
     OutOfRange,
+    /// Want of memory, which may be answered at any time; then nothing has changed.
     #[error("no memory")]
     Memory,
 }

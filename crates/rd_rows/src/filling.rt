@@ -55,7 +55,7 @@ impl Filling {
         })
     }
 
-    /// Whether an element can stand in the row: the first of the line can in any case.
+    /// Whether an element can stand in the row: the first in the row behind its prefix can in any case.
     pub fn has_room(&self, shape: Shape, element: &Element) -> bool
         requires column { self.now.draft.spot.column + width_at_most element.now.extent < 2 ^ 63 }
         requires used { self.now.draft.spot.used ≤ self.now.draft.spot.column + PREFIX_COLUMNS }

@@ -20,7 +20,7 @@ pub struct RowMaker {
     pub(crate) cutting: Cutting,
     /// Where the next row begins.
     pub(crate) spot: Spot,
-    /// Whether that row goes on with the line behind no row end.
+    /// Whether the next row goes on with the line behind no row end.
     pub(crate) continued: bool,
     /// The elements that wait, of which those before `next` were taken.
     pub(crate) held: ListOf<Element>,

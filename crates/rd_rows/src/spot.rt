@@ -162,7 +162,7 @@ impl Spot {
         }
     }
 
-    /// How an element comes to stand here.
+    /// How an element comes to stand at this spot.
     pub fn place(self, shape: Shape, element: &Element) -> Placed
         requires { width_at_most element.now.extent < 2 ^ 63 }
         ensures placed { result ≡ placed_at shape self element.now }
@@ -176,7 +176,7 @@ impl Spot {
         }
     }
 
-    /// Where the element behind that one comes.
+    /// Where the element behind a placed one comes.
     pub fn behind(self, placed: &Placed) -> Spot
         requires column { self.column + placed.now.columns < 2 ^ 63 }
         requires used { self.used ≤ self.column + PREFIX_COLUMNS }

@@ -56,15 +56,15 @@ abbrev pub IsStop : Option ℕ → Type 0
 IsStop None = Unit {0}
 IsStop (Some n) = n ≤ FRAME_ROWS
 
--- a glyph character: a scalar value that is no control and has columns
+-- whether a code is that of a glyph character: a scalar value that is no control and has columns
 abbrev pub is_glyph : ℕ → Bool
 is_glyph c = is_scalar c && not (has_no_glyph c)
 
--- glyph characters, at most so many as an entry of a display table shows
+-- whether a text has glyph characters alone, and no more than an entry of a display table may show
 abbrev pub is_glyph_text : List ℕ → Bool
 is_glyph_text text = nat_le (length text) ENTRY_GLYPHS && list_all is_glyph text
 
--- a glyph character of one column, which a slot of a display table may show
+-- whether a character is a glyph character of one column, which a slot of a display table may show
 abbrev pub is_slot : ℕ → Bool
 is_slot c = is_glyph c && (columns c == 1)
 

@@ -24,7 +24,7 @@ pub enum OpFault {
     /// The first key in byte order that the op does not have.
     #[error("a field too many")]
     Extra(ListOf<Ch>),
-    /// Memory was wanting, which may be at any time.
+    /// Want of memory, which may be answered at any time, whatever the line says.
     #[error("no memory")]
     Memory,
 }

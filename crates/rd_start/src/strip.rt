@@ -109,7 +109,7 @@ impl Strip {
         self.strip_rows.len()
     }
 
-    /// The first of its blocks.
+    /// The first of the blocks whose rows the strip has.
     pub(crate) fn first(&self) -> Block
         requires { 0 < length self.now.blocks.items }
         ensures { slice_get self.now.blocks.items 0 ≡ Some result }
@@ -117,7 +117,7 @@ impl Strip {
         self.blocks[0]
     }
 
-    /// The last of its blocks.
+    /// The last of the blocks whose rows the strip has.
     pub(crate) fn last(&self) -> Block
         requires { 0 < length self.now.blocks.items }
         ensures { slice_get self.now.blocks.items (length self.now.blocks.items - 1) ≡ Some result }

@@ -92,7 +92,8 @@ impl Content {
         Ok(living.overlay)
     }
 
-    /// Gives an overlay another margin string, or takes its string away. A margin string is named as one before an overlay is.
+    /// Gives an overlay another margin string, or takes its string away. Its number is refused as
+    /// that of a before-string is.
     pub(crate) fn put_margin_string(
         &mut self,
         objects: &Objects,

@@ -16,7 +16,8 @@ use rd_modeline::check;
 use rd_tree::Side;
 
 impl StateParts {
-    /// Splits a window, which keeps so many rows or columns. The new window has all of the old one but what waits to be scrolled.
+    /// Splits a window, which keeps so many rows or columns. The new window has all of the old one, but
+    /// its start is not forced and no rows wait to be scrolled.
     #[tactic(auto, unfolding(crate::specs::Steps::step, crate::specs::Effects::effect_of))]
     pub(crate) fn split(&mut self, window: u64, side: Side, size: u64) -> Result<Effect, Refused>
         requires valid { IsValid self.old }

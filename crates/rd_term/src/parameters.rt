@@ -30,7 +30,7 @@ impl Numbers {
         }
     }
 
-    /// How many there are.
+    /// How many numbers there are.
     fn len(&self) -> usize
         ensures value { result ≡ length self.now }
         ensures most { length self.now ≤ SEQUENCE_NUMBERS }
@@ -38,7 +38,7 @@ impl Numbers {
         self.items.len()
     }
 
-    /// One more at the end.
+    /// Adds one more number at the end.
     fn push(&mut self, n: u32)
         requires { length self.old < SEQUENCE_NUMBERS }
         ensures { self.new ≡ self.old ++ n ∷ [] }
@@ -84,7 +84,7 @@ impl Parameters {
         }
     }
 
-    /// The numbers with one more digit. None where it follows a leading zero, or would begin a seventeenth number.
+    /// The parameters with one more digit. None where the digit follows a leading zero, or would begin a seventeenth number.
     pub(crate) fn with_digit(self, digit: u8) -> Option<Parameters>
         requires { digit < 10 }
         ensures { result ≡ with_digit self digit }
@@ -106,7 +106,7 @@ impl Parameters {
         })
     }
 
-    /// After a semicolon.
+    /// The parameters behind a semicolon: the number that was read is ended, and where there was none a gap is noted.
     pub(crate) fn separated(self) -> Parameters
         ensures { result ≡ separated self }
     {

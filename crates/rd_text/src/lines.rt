@@ -60,7 +60,7 @@ fn after_ink(codes: &[u32]) -> usize
         .count()
 }
 
-/// A character that is neither newline nor blank.
+/// Whether a code is that of a character that is neither newline nor blank.
 fn is_ink(code: u32) -> bool
     ensures { result ≡ is_ink code }
 {

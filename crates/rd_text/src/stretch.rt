@@ -110,7 +110,7 @@ impl Stretch {
     }
 }
 
-/// A space, a tab or a form feed.
+/// Whether a code is that of a space, a tab or a form feed.
 pub(crate) fn is_blank(code: u32) -> bool
     ensures { result ≡ is_blank code }
 {

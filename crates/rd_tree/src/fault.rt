@@ -17,6 +17,7 @@ pub enum TreeFault {
     /// The window is the only one that lives.
     #[error("last window")]
     LastWindow,
+    /// Want of memory, which a split may answer at any time; then nothing has changed.
     #[error("no memory")]
     Memory,
 }

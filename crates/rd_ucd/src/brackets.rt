@@ -14,7 +14,8 @@ impl Brackets {
     ghost use Rattle.std.specs.Prelude.{◌≡◌};
     ghost use Rattle.rd_ucd.specs.Lookup.{bracket_in};
 
-    /// The bracket of a code, and None exactly for a code that the file doesn't list. It costs the logarithm of their number.
+    /// The bracket of a code, and None exactly for a code that the file doesn't list. It costs the logarithm of the
+    /// number of entries.
     pub fn bracket(&self, code: u32) -> Option<Bracket>
         ensures { result ≡ bracket_in self.now code }
     {

@@ -20,7 +20,7 @@ pub enum UcdFault {
     /// The first line of a range without its last, a last without its first, or two of different classes.
     #[error("line {0}: no whole range")]
     BadRange(u64),
-    /// Memory was wanting, which may be at any line.
+    /// Want of memory, which may be answered at any time.
     #[error("no memory")]
     Memory,
 }

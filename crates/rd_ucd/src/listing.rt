@@ -91,7 +91,7 @@ impl<E: Covers + Copy> Listing<E> {
         Listing { entries }
     }
 
-    /// The entry that covers a code, if there is one. It costs the logarithm of their number.
+    /// The entry that covers a code, if there is one. It costs the logarithm of the number of entries.
     pub(crate) fn entry(&self, code: u32) -> Option<E>
         ensures { result ≡ entry_in E.first E.last self.now code }
     {

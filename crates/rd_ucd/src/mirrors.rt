@@ -13,7 +13,7 @@ impl Mirrors {
     ghost use Rattle.rd_ucd.specs.Lookup.{mirror_in};
 
     /// The code of the mirrored character, and None exactly for a code that the file doesn't list. It costs the logarithm of
-    /// their number.
+    /// the number of entries.
     pub fn mirror(&self, code: u32) -> Option<u32>
         ensures { result ≡ mirror_in self.now code }
     {

@@ -82,7 +82,7 @@ fn blanks_behind(bytes: &[u8]) -> usize
         .count()
 }
 
-/// A space or a tab.
+/// Whether a byte is a space or a tab.
 fn is_blank(byte: u8) -> bool
     ensures { result ≡ is_blank byte }
 {

@@ -19,7 +19,7 @@ pub trait Covers {
         ensures { result ≡ last self.now };
 }
 
-/// The entry that covers a code, if there is one. It costs the logarithm of their number.
+/// The entry that covers a code, if there is one. It costs the logarithm of the number of entries.
 pub fn entry_at<T: Covers + Copy>(entries: &[T], code: u32) -> Option<T>
     requires { IsAscending T.first T.last entries.now }
     ensures { result ≡ entry_in T.first T.last entries.now code }

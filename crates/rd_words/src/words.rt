@@ -43,7 +43,7 @@ pub enum WordsFault {
     /// The words are faulty.
     #[error("the words are faulty")]
     Usage,
-    /// Memory was wanting.
+    /// Want of memory, which may be answered at any time, whatever the words are.
     #[error("no memory")]
     Memory,
 }
