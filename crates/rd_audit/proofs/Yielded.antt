@@ -10,7 +10,7 @@ pub record Goes {A B T : Type 0} (v : A → List ℕ) (made : T → List (List �
   pub on : (x : A) → r ≡ Some x → option_and_then (λ b. made b (drop (length (xs ++ x ∷ [])) texts)) (step a (v x)) ≡ whole
   pub out : r ≡ None → made a [] ≡ whole
 
--- a walk makes the whole by its next step, or at the end, where it has made the whole of what it has met so far
+-- a walk makes the whole by its next step, or at the end, where what it holds so far and the texts that are left make the whole
 pub goes : {S A B T : Type 0} {steps : S → Option A → S → Type 0} {v : A → List ℕ} {s : S} {made : T → List (List ℕ) → Option B} {step : T → List ℕ → Option T} {texts : List (List ℕ)} {a : T} {whole : Option B}
     → ((b : T) (x : List ℕ) (xs : List (List ℕ)) → made b (x ∷ xs) ≡ option_and_then (λ n. made n xs) (step b x))
     → YieldsList steps v s texts → (xs : List A) (t : S) → Yields steps s xs t → (r : Option A) (u : S) → steps t r u

@@ -5,7 +5,8 @@ use Rattle.std.specs.List.{AllByRecursion}
 use Rattle.std.proofs.lemmas.Bool.{eqb-true, eqb-false}
 use Rattle.rd_base.specs.Cuts.{cut}
 
--- bytes, cut at one: where there is no cut none of them is that; else none of the front is, and they are the front, that and the rest
+-- bytes that were cut at a byte: without a cut none of them is that byte; else none of the front is, and they are the front, that byte
+-- and the rest
 abbrev pub IsCut : ℕ → List ℕ → Option (List ℕ × List ℕ) → Type 0
 IsCut byte bytes o = MatchOption o (AllByRecursion (λ b. b ≢ byte) bytes) (λ parts. AllByRecursion (λ b. b ≢ byte) parts.0 × (bytes ≡ parts.0 ++ byte ∷ parts.1))
 

@@ -96,6 +96,7 @@ zeros zero (x ∷ xs) e all = absurd (omega (arith, e))
 zeros (suc n) [] e all = absurd (omega (arith, e))
 zeros (suc n) (x ∷ xs) e all = ap₂ (λ y ys. y ∷ ys) (all 0 (omega arith)) (zeros n xs (omega (arith, e)) (λ k lt. all (suc k) (omega (arith, lt))))
 
+-- the marks of a measured glyph behind those that count are zeros
 pub spare-marks : (g : Glyph) → IsMeasured g → drop g.count g.marks ≡ replicate (6 - g.count) 0
 spare-marks g h =
     let size : length (drop g.count g.marks) ≡ 6 - g.count = omega (arith, length-drop g.count g.marks, h.places) in

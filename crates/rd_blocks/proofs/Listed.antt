@@ -68,7 +68,7 @@ module _ (classes : List Span) (s : BufferValue) (are : AreListed s) where
         end-is classes s s.text.begin (s.text.end + 1) 0 (blocks_of s) are.adjoin less,
       )
 
-  -- the positions of the list's blocks are accessible
+  -- the positions of the list's blocks are exactly the accessible ones
   pub within-accessible : s.text.begin ≤ s.text.end → (pos : ℕ) → IsWithin pos (blocks_in classes s) → IsAccessible s.text pos
   within-accessible order pos within = let is = ends-of order in (omega (arith, is.0, within.0), omega (arith, is.1, within.1))
 

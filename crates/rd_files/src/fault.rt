@@ -18,7 +18,7 @@ pub enum DataFile {
 pub enum DataKind {
     /// The file has more than 8,388,608 bytes.
     TooLarge,
-    /// A line of it is bad. This is the first one.
+    /// A line of the file is bad. This is the file's first fault.
     Bad(UcdFault),
 }
 

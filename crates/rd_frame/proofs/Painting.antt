@@ -114,7 +114,7 @@ at-below (suc y) zero column tops rests rows e = absurd (omega arith)
 at-below (suc y) (suc at) column tops rests [] e = refl
 at-below {C = C} (suc y) (suc at) column tops rests (row ∷ rows) e = ap (λ (xs : List (List C)). row ∷ xs) (at-below y at column tops rests rows (omega arith))
 
--- one row that is laid over others is put among them with its cells
+-- to lay one row over others is to put its cells into one of these
 pub at-row : {C : Type 0} (y column : ℕ) (new : List C) (rows : List (List C)) → laid_at y column (new ∷ []) rows ≡ with_cells rows y column new
 at-row zero column new [] = refl
 at-row zero column new (row ∷ rows) = refl

@@ -188,7 +188,7 @@ module _ (P : Class → Type 0) (default : P L) where
   put-covers (i ∷ is) (v ∷ vs) ts few ps j (inr (inl same)) = put-covers is vs (set ts i v) (omega arith) ps.1 j (inl (set-gives ts i v j ps.0 same))
   put-covers (i ∷ is) (v ∷ vs) ts few ps j (inr (inr member)) = put-covers is vs (set ts i v) (omega arith) ps.1 j (inr member)
 
-  -- what is known of the places that none of the indexes names stays so
+  -- a write at indexes of a list leaves what is known of the types at all places but those of the list
   put-stays : (js is : List ℕ) (vs ts : List Class) → Each (λ i. In i js) is → (j : ℕ) → P (get_or ts j L) ⊎ In j js → P (get_or (put_at is vs ts) j L) ⊎ In j js
   put-stays js [] vs ts members j known = known
   put-stays js (i ∷ is) [] ts members j known = known

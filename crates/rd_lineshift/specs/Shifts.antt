@@ -11,7 +11,7 @@ abbrev pub moved : {A : Type 0} → ℤ → A → List A → List A
 moved (pos up) free rows = drop up rows ++ replicate up free
 moved (negsuc n) free rows = replicate (suc n) free ++ take (length rows - suc n) rows
 
--- rows after a shift: those of its band are moved, with this row where one comes in; all other rows stay
+-- rows after a shift: those of its band are moved within it, with this row where one comes in; all other rows stay
 abbrev pub shifted_rows : {A : Type 0} → Shift → A → List A → List A
 shifted_rows s free rows = changed_between s.top (s.top + s.height) (moved s.by free) rows
 

@@ -279,7 +279,7 @@ pub place-found : (hs : List HeldBlock) (n : ℕ) (g b : Block) → AreHeld hs �
 place-found hs n g b held among there holds =
     ap (slice_get (blocks_held hs)) (same-holder (first_start (blocks_held hs)) n among.0 (blocks_held hs) g b held.stand there among.1 holds.from holds.below) ∙ among.1
 
--- held blocks among which there is a block are one or more
+-- held blocks among which some block is, or that hold some position, are one or more
 
 pub among-some : (hs : List HeldBlock) (b : Block) → IsAmong (blocks_held hs) b → 0 < length hs
 among-some hs b among = let found = get-map (λ (h : HeldBlock). h.block) hs among.0 b among.1 in let below = slice_get_within hs among.0 found.0 found.1 in omega (arith, below)

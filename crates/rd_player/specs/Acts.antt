@@ -110,7 +110,7 @@ ComesTo endings.ReportBroke given (Some mode) inputs bytes source screen report 
     (t : Input) × IsInHand given mode inputs t.line bytes source.left × Took screen ((run (opened mode) inputs).sent ++ (effect (run (opened mode) inputs).now t).sent)
     × Broke report (run (opened mode) inputs).told (effect (run (opened mode) inputs).now t).told × IsToldOf mode.generated t.starved
 
--- how many elements were placed once a run came to this ending
+-- once a run came to this ending, the count of placed elements rose by no more than is allowed for its lines, the one in hand among them
 abbrev pub SpentBy : Ending → Given → Option Mode → List Input → List ℕ → Option (List ℕ) → ℕ → ℕ → Type 0
 SpentBy (endings.Ends status lines) given mode inputs bytes left before after = after ≤ before + allowed_in mode inputs
 SpentBy (endings.Sums s) given mode inputs bytes left before after = after ≤ before + allowed_in mode inputs

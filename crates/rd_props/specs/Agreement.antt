@@ -23,7 +23,8 @@ pub record Unchanged (old : BufferValue) (old_objects : ObjectLists) (new : Buff
   pub behind : (x y : ℕ) → new.text.begin ≤ y → tail ≤ y → pos x +ℤ added ≡ pos y → IsInReach old x new y → IsSame old old_objects x new new_objects y
 
 -- two states of a buffer, before and behind an edit that takes so many positions away from a place on, and puts so many others there:
--- the position just behind those that were put there counts as changed, since the strings of overlays can move to it
+-- the same is seen in both but where the edit was. The position just behind those that were put there counts as changed, since the
+-- strings of overlays can move to it
 abbrev pub IsEdited : BufferValue → ObjectLists → BufferValue → ObjectLists → ℕ → ℕ → ℕ → Type 0
 IsEdited old old_objects new new_objects from removed added =
     Unchanged old old_objects new new_objects from (from + added + 1) (pos added -ℤ pos removed)

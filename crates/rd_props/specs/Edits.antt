@@ -45,7 +45,7 @@ pub record HasParts (s parts : BufferValue) : Type 0 where
   pub properties : (kind p : ℕ) → s.properties kind p ≡ parts.properties kind p
   pub overlays : s.overlays ≡ parts.overlays
 
--- characters were put in a buffer at a place
+-- characters were put into a buffer at a place
 abbrev pub IsInsertion : BufferValue → BufferValue → ℕ → List ℕ → Type 0
 IsInsertion old new place chars = HasParts new (with_more old place chars)
 

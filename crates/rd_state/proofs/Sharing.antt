@@ -101,7 +101,7 @@ too-small : (n size new margins : ℕ) (side : Side) (mode : Bool) (rect : Rect)
 too-small n size new margins Right mode rect wide high = and_right _ _ (and_left _ _ (no-columns margins rect.width size wide))
 too-small n size new margins Below mode rect wide high = and_right _ _ (and_right _ _ (no-rows mode rect.height size high))
 
--- a split by a size that no frame has leaves no room
+-- a split in which the old window keeps 400 columns or rows, or more, leaves no room for a new one
 never-fits : (c : Configuration) (n size new : ℕ) (side : Side) → tree.IsValid c → 400 ≤ size → holds n c.windows ≡ true
     → fits (split_at n side size new c.windows) (frame_of c) ≡ false
 never-fits c n size new side valid large held =

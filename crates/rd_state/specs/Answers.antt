@@ -65,7 +65,8 @@ abbrev pub Answers : {X T : Type 0} → Result X Refused → Result T Refused �
 Answers (Ok _) said old new = said ≡ Ok new
 Answers (Err refused) said old new = (new ≡ old) × (refused ≢ Memory → said ≡ Err refused)
 
--- what the call that applies an op answers: the step's effect; a refusal is the step's or want of memory, and leaves the state
+-- what the call that applies an op answers and leaves: the effect of the op, and the state to which the step leads; a refusal is the
+-- step's or want of memory, and leaves the state as it was
 abbrev pub Applies : Result Effect Refused → Op → StateValue → StateValue → Type 0
 Applies (Ok effect) op old new = (step old op ≡ Ok new) × (effect ≡ effect_of old op)
 Applies (Err refused) op old new = (new ≡ old) × (refused ≢ Memory → step old op ≡ Err refused)

@@ -49,7 +49,7 @@ pub record IsContent (objects : ObjectLists) (c : ContentValue) : Type 0 where
 abbrev pub AreToldByName : List BufferValue → Type 0
 AreToldByName buffers = (j k : ℕ) (a b : BufferValue) → slice_get buffers j ≡ Some a → slice_get buffers k ≡ Some b → a.name ≡ b.name → j ≡ k
 
--- at most 64 buffers, each with a name of its own, and with sound contents
+-- at most 64 buffers, each with a name that a buffer may have and no other one has, and with sound contents
 pub record AreBuffers (objects : ObjectLists) (buffers : List BufferValue) : Type 0 where
   pub few : length buffers ≤ BUFFERS
   pub told : AreToldByName buffers

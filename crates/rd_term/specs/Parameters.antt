@@ -41,7 +41,7 @@ numbers_from (n ∷ ended) None = None
 abbrev pub numbers_of : ParametersRead → Option (List ℕ)
 numbers_of p = if p.gap then None else numbers_from p.ended p.last
 
--- a sequence has room for the number that is being read, and that is no greater than the greatest
+-- a sequence has no more numbers than it may have, the one that is being read among them, and that one is no greater than it may be
 abbrev pub HasRoom : List ℕ → Option ℕ → Type 0
 HasRoom ended None = length ended ≤ SEQUENCE_NUMBERS
 HasRoom ended (Some n) = (length ended < SEQUENCE_NUMBERS) × (n ≤ SEQUENCE_VALUE)

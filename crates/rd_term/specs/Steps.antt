@@ -16,7 +16,7 @@ abbrev pub after_first : Option CharacterRead → Step
 after_first None = Fails
 after_first (Some c) = GoesOn (Character c)
 
--- a digit of a sequence, which fails where no digit may stand
+-- a digit of a sequence, which fails where that digit may not stand
 abbrev pub after_digit : Option ParametersRead → Step
 after_digit None = Fails
 after_digit (Some parameters) = GoesOn (Sequence parameters)

@@ -142,7 +142,8 @@ put_at code columns face row column t =
       latest = Some (row, column);
     }
 
--- a character of so many columns needs that the cursor and the pen are known, that no wait stands, and room for its columns
+-- a character of so many columns is put at the cursor where cursor and pen are known, no wait stands and the row has room for it; else
+-- the terminal is confused
 abbrev pub put : ℕ → ℕ → Option Attributes → Option (ℕ × ℕ) → Tty → Tty
 put code columns (Some face) (Some place) t =
     if t.wait || nat_lt (length (row_at t.rows place.0)) (place.1 + columns) then confuse t

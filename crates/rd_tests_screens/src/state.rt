@@ -148,7 +148,8 @@ fn points_move_with_the_text(rt: HostRuntime) {
     }
 }
 
-/// Whether a buffer has a position that is accessible.
+/// Whether there is a buffer with this number, and a position is accessible in it. The contract tells of the position, where there is
+/// such a buffer, but not that there is one: to settle a window asks no more.
 fn has_position(state: &State, number: u32, pos: u32) -> bool
     ensures { result ≡ true → HasPosition state.now number pos }
 {

@@ -76,7 +76,7 @@ is_blank c = (c == 32) || (c == 9) || (c == 12)
 abbrev pub is_separator : List ℕ → Bool
 is_separator line = list_all is_blank line
 
--- a character that keeps its line from being one of those
+-- whether a character keeps its line from being a separator: it is neither a newline nor a blank
 abbrev pub is_ink : ℕ → Bool
 is_ink c = not (is_newline c || is_blank c)
 

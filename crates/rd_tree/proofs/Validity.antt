@@ -64,7 +64,8 @@ split_valid c window side size valid held fit full =
       known = λ v p. omega (arith, more v, none_above v c.made false 0 (omega (arith, p)), valid.known v (omega (arith, p)));
     }
 
--- a valid configuration stays so with other windows that have room in a frame of any size, and none of another number or more often
+-- a valid configuration stays so in another frame of at most 400 columns and 200 rows, with other windows that have room there: no more
+-- of them than before, and none of another number or more often
 with_windows : (c : Configuration) (windows : Windows) (width height : ℕ) → IsValid c → width ≤ 400 → height ≤ 200 → HasRoom windows (frame width height) → count windows ≤ count c.windows
     → ((v : ℕ) → times v windows ≤ times v c.windows) → IsValid (record c { windows = windows; width = width; height = height })
 unfolding count

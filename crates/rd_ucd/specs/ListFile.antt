@@ -43,6 +43,6 @@ ascending_from key least ((n, Ok e) ∷ entries) =
 abbrev pub listed_from : {E : Type 0} → (E → ℕ) → (ℕ → List (List ℕ) → Result E UcdFault) → ℕ → List (ℕ × List ℕ) → Result (List E) UcdFault
 listed_from key of_fields least lines = ascending_from key least (entries_in is_blank_line (λ n line. of_fields n (fields_of (counting line))) lines)
 
--- what a file stands for, each line of which gives an entry and whose codes ascend, or its first fault
+-- what a file stands for, where each line that is not passed over gives an entry and the codes of these ascend; else its first fault
 abbrev pub listed_in : {E : Type 0} → (E → ℕ) → (ℕ → List (List ℕ) → Result E UcdFault) → List ℕ → Result (List E) UcdFault
 listed_in key of_fields bytes = listed_from key of_fields 0 (lines_of bytes)
