@@ -41,7 +41,7 @@ pub record IsFaultless (script : List ℕ) (e : End) : Type 0 where
   pub sent : ¬ Rose e.screen.faults_before e.screen.faults_after
   pub told : ¬ Rose e.report.faults_before e.report.faults_after
 
--- a run over the bytes of a script in which no device failed, and that no want of memory ended
+-- a run over the bytes of a script as `IsFaultless` says it, in which no device failed, and that no want of memory ended
 pub record IsUndisturbed (script : List ℕ) (e : End) : Type 0 where
   pub faultless : IsFaultless script e
   pub found : e.status ≢ NoMemory
