@@ -12,6 +12,7 @@ use Rattle.std.proofs.lemmas.List.Sorted.{All-permutation}
 use Rattle.std.proofs.lemmas.Option.{slice_get_within, slice_get-get_or, get_or_from_slice_get}
 use Rattle.std.proofs.Math.Nat.{le-min}
 use Rattle.rd_base.proofs.Lists.{all-at, get-first, get-map, range-below, read-set}
+use Rattle.rd_base.specs.declared.limits.TheConstants.{LAST_POSITION}
 use Rattle.rd_overlays.specs.declared.overlay.Overlay.{Overlay}
 use Rattle.rd_overlays.specs.declared.overlay.Meeting.{Meeting}
 use Rattle.rd_overlays.specs.declared.overlay.Meeting.TheVariants.{Covers, Starts, Ends}
@@ -23,19 +24,19 @@ use Rattle.rd_overlays.specs.declared.moves.Edit.TheVariants.{Insertion, Deletio
 use Rattle.rd_overlays.proofs.Slots.{overlay_at-map}
 use Rattle.rd_overlays.specs.Bounds.{Holds, SlotHolds, IsBounded, IsBoundedTo, IsWidened, IsIndex, IsAway, whole_order, bounds_grown, bounds_shrunk}
 
-low-after : (pos n low v : ℕ) (m : Bool) → low ≤ v → (if nat_lt pos low then min (low + n) 4294967295 else low) ≤ after_insertion pos n m v
+low-after : (pos n low v : ℕ) (m : Bool) → low ≤ v → (if nat_lt pos low then min (low + n) LAST_POSITION else low) ≤ after_insertion pos n m v
 low-after pos n low v true p = grind (arith, nat_tests)
 low-after pos n low v false p = grind (arith, nat_tests)
 
-high-after : (pos n high v : ℕ) (m : Bool) → pos < 4294967296 → v ≤ high → Fits pos n v
-    → after_insertion pos n m v ≤ (if nat_lt high pos then high else min (high + n) 4294967295)
+high-after : (pos n high v : ℕ) (m : Bool) → pos ≤ LAST_POSITION → v ≤ high → Fits pos n v
+    → after_insertion pos n m v ≤ (if nat_lt high pos then high else min (high + n) LAST_POSITION)
 high-after pos n high v true small p fits = grind (arith, nat_tests)
 high-after pos n high v false small p fits = grind (arith, nat_tests)
 
 min-le : (a b c : ℕ) → a ≤ c → min a b ≤ c
 min-le a b c p = grind arith
 
-pub grown-holds : (pos n : ℕ) (b : Bounds) (slot : Option Overlay) → pos < 4294967296 → SlotFits pos n slot → SlotHolds b slot
+pub grown-holds : (pos n : ℕ) (b : Bounds) (slot : Option Overlay) → pos ≤ LAST_POSITION → SlotFits pos n slot → SlotHolds b slot
     → SlotHolds (bounds_grown pos n b) (slot_grown pos n slot)
 grown-holds pos n b None small fits h = tt
 grown-holds pos n b (Some o) small fits h =

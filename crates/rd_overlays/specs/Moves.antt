@@ -1,6 +1,7 @@
 -- How the overlays of a buffer, and bounds of their edges, move with an edit of the text.
-use Rattle.std.specs.Prelude.{◌≡◌, ℕ, ◌<◌, ◌≤◌, List, Option, Some, slice_get, ⊤}
+use Rattle.std.specs.Prelude.{◌≡◌, ℕ, ◌≤◌, List, Option, Some, slice_get, ⊤}
 use Rattle.std.specs.Option.{option_map}
+use Rattle.rd_base.specs.declared.limits.TheConstants.{LAST_POSITION}
 use Rattle.rd_overlays.specs.declared.overlay.Overlay.{Overlay}
 use Rattle.rd_overlays.specs.declared.bounds.Bounds.{Bounds}
 use Rattle.rd_overlays.specs.declared.moves.Edit.{Edit}
@@ -21,7 +22,7 @@ bounds_moved (Deletion from to) = bounds_shrunk from to
 
 -- an insertion at a position, or a deletion that does not end before it begins
 abbrev pub IsEdit : Edit → Type 0
-IsEdit (Insertion pos n) = pos < 4294967296
+IsEdit (Insertion pos n) = pos ≤ LAST_POSITION
 IsEdit (Deletion from to) = from ≤ to
 
 -- what an insertion moves can move on

@@ -3,7 +3,7 @@ use Rattle.std.specs.Prelude.{◌≡◌, ℕ, suc, ◌+◌, ◌-◌, ◌<◌, �
 use Rattle.std.specs.Option.{option_map, unwrap_or}
 use Rattle.std.specs.Ordering.{is_lt, ordering_then, int_cmp, nat_cmp}
 use Rattle.rd_base.specs.Lists.{is_between}
-use Rattle.rd_base.specs.declared.limits.TheConstants.{OVERLAYS}
+use Rattle.rd_base.specs.declared.limits.TheConstants.{LAST_POSITION, OVERLAYS}
 use Rattle.rd_overlays.specs.declared.fault.OverlayFault.{OverlayFault}
 use Rattle.rd_overlays.specs.declared.fault.OverlayFault.TheVariants.{NoOverlay, OutOfRange, TooMany, Memory}
 use Rattle.rd_overlays.specs.declared.overlay.Overlay.{Overlay}
@@ -195,7 +195,7 @@ slot_shrunk from to slot = option_map (shrunk from to) slot
 
 -- a start or an end at the position or behind it can move on by n
 abbrev pub Fits : ℕ → ℕ → ℕ → Type 0
-Fits pos n place = pos ≤ place → place + n < 4294967296
+Fits pos n place = pos ≤ place → place + n ≤ LAST_POSITION
 
 abbrev pub SlotFits : ℕ → ℕ → Option Overlay → Type 0
 SlotFits pos n None = ⊤

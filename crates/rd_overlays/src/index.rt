@@ -10,7 +10,7 @@ ghost use Rattle.rd_overlays.specs.Bounds.{SlotHolds, IsBounded, IsBoundedTo, Is
 use crate::bounds::{Bounds, has_no_nearer_edge, widened};
 use crate::overlay::{Overlay, overlay_at};
 use crate::way::Way;
-use rd_base::limits::OVERLAYS;
+use rd_base::limits::{LAST_POSITION, OVERLAYS};
 use rd_base::{ListOf, Memory, Pos};
 use std::alloc::{AllocError, Global};
 
@@ -115,7 +115,7 @@ fn numbers_below(alloc: Global, count: usize) -> Result<Vec<u32>, AllocError>
 /// The start of the overlay of a number. A number whose overlay does not live comes last.
 fn start_of(slots: &[Option<Overlay>], number: u32) -> Pos {
     match overlay_at(slots, number) {
-        None => Pos::MAX,
+        None => LAST_POSITION,
         Some(overlay) => overlay.from,
     }
 }
@@ -138,7 +138,7 @@ fn make_room(bounds: &mut ListOf<Bounds>, size: usize) -> Result<(), Memory>
         return Ok(());
     }
     bounds.push(Bounds {
-        low: u32::MAX,
+        low: LAST_POSITION,
         high: 0,
     })?;
     Ok(())
