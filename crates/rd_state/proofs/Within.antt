@@ -9,6 +9,7 @@ use Rattle.rd_text.specs.Answers.{IsAccessibleRange}
 use Rattle.rd_text.proofs.Keeping.{length-grown}
 use Rattle.rd_text.proofs.Ranges.{length-gap}
 use Rattle.rd_spans.proofs.Beside.{opened-from, closed-from}
+use Rattle.rd_base.specs.declared.limits.TheConstants.{LAST_POSITION}
 use Rattle.rd_overlays.proofs.Bounding.{deletion-rises, deletion-within}
 use Rattle.rd_overlays.proofs.Slots.{slot-each, changed-each, after-set, after-end}
 use Rattle.rd_overlays.specs.declared.overlay.Kind.{Kind}
@@ -27,7 +28,7 @@ use Rattle.rd_props.specs.Edits.{opened, closed}
 abbrev pub AreIn : ℕ → List (Option Overlay) → Type 0
 AreIn size slots = (number : ℕ) (o : Overlay) → overlay_at slots number ≡ Some o → IsOverlayIn size o
 
-slot-fits : (size pos n : ℕ) (slot : Option Overlay) → size + 1 + n < 4294967296 → ((o : Overlay) → slot ≡ Some o → IsOverlayIn size o) → SlotFits pos n slot
+slot-fits : (size pos n : ℕ) (slot : Option Overlay) → size + 1 + n ≤ LAST_POSITION → ((o : Overlay) → slot ≡ Some o → IsOverlayIn size o) → SlotFits pos n slot
 slot-fits size pos n None room h = tt
 slot-fits size pos n (Some o) room h =
     let in_text = h o refl in
@@ -35,7 +36,7 @@ slot-fits size pos n (Some o) room h =
     let last = in_text.last in
     (λ _. omega arith, λ _. omega arith)
 
-pub all-fit : (slots : List (Option Overlay)) (size pos n : ℕ) → size + 1 + n < 4294967296 → AreIn size slots → AllFit pos n slots
+pub all-fit : (slots : List (Option Overlay)) (size pos n : ℕ) → size + 1 + n ≤ LAST_POSITION → AreIn size slots → AllFit pos n slots
 all-fit slots size pos n room h number slot at = slot-fits size pos n slot room (λ o is. h number o (ap (λ s. unwrap_or s None) at ∙ is))
 
 pub place-moves : (t : Bool) (p n : ℕ) → (p ≤ (if t then p + n else p)) × ((if t then p + n else p) ≤ p + n)

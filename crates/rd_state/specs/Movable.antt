@@ -1,12 +1,13 @@
 -- What the code asks of windows that move.
-use Rattle.std.specs.Prelude.{◌≡◌, ℕ, ◌+◌, ◌<◌, ◌≤◌}
+use Rattle.std.specs.Prelude.{◌≡◌, ℕ, ◌+◌, ◌≤◌}
+use Rattle.rd_base.specs.declared.limits.TheConstants.{LAST_POSITION}
 use Rattle.rd_state.specs.declared.moves.Move.{Move}
 use Rattle.rd_state.specs.declared.moves.Move.TheVariants.{Inserted, Deleted, Narrowed}
 use Rattle.rd_state.specs.Windows.{NumberedWindow}
 
--- a position stays one of 32 bits when it moves
+-- what moves stays a position
 abbrev pub IsMovable : Move → ℕ → Type 0
-IsMovable (Inserted pos count) p = p + count < 4294967296
+IsMovable (Inserted pos count) p = p + count ≤ LAST_POSITION
 IsMovable (Deleted from to) p = from ≤ to
 IsMovable (Narrowed from to) p = Unit {0}
 

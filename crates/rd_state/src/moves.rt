@@ -1,5 +1,6 @@
 //! Where the points and the views of windows move when the text that they show changes.
-ghost use Rattle.std.specs.Prelude.{◌≡◌, ℕ, ◌+◌, ◌<◌, Some, map, slice_get};
+ghost use Rattle.std.specs.Prelude.{◌≡◌, ℕ, ◌+◌, ◌≤◌, Some, map, slice_get};
+ghost use Rattle.rd_base.specs.declared.limits.TheConstants.{LAST_POSITION};
 ghost use Rattle.rd_state.specs.Moves.{point_after_insertion, place_after, moved, moved_in};
 ghost use Rattle.rd_state.specs.Movable.{IsMovable, CanMove};
 ghost use Rattle.rd_state.specs.Windows.{NumberedWindow};
@@ -61,7 +62,7 @@ fn place_after(how: Move, p: Pos) -> Pos
 
 /// Where a point or an anchor stands after an insertion of so many characters.
 fn point_after_insertion(pos: Pos, count: u32, p: Pos) -> Pos
-    requires { p + count < 4294967296 }
+    requires { p + count ≤ LAST_POSITION }
     ensures { result ≡ point_after_insertion pos count p }
 {
     if pos < p { p + count } else { p }

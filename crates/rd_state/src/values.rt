@@ -1,5 +1,6 @@
 //! The values of a buffer's text properties, opened and closed as its text changes.
-ghost use Rattle.std.specs.Prelude.{◌≡◌, ◌+◌, ◌<◌, ◌≤◌, ℕ, nat_lt, Some, OnOk, OnErr, length, if◌then◌else◌};
+ghost use Rattle.std.specs.Prelude.{◌≡◌, ◌+◌, ◌≤◌, ℕ, nat_lt, Some, OnOk, OnErr, length, if◌then◌else◌};
+ghost use Rattle.rd_base.specs.declared.limits.TheConstants.{LAST_POSITION};
 ghost use Rattle.rd_props.specs.Buffers.{values_of};
 ghost use Rattle.rd_props.specs.Edits.{opened, closed};
 
@@ -8,8 +9,8 @@ use rd_spans::Spans;
 
 /// Opens positions without a value in the values of each kind. Where there is no memory, those that were opened are closed again.
 pub(crate) fn open(spans: &mut [Spans], pos: Pos, n: u32) -> Result<(), Memory>
-    requires place { pos + n < 4294967296 }
-    requires room { (kind p value : ℕ) → values_of spans.old kind p ≡ Some value → p + n < 4294967296 }
+    requires place { pos + n ≤ LAST_POSITION }
+    requires room { (kind p value : ℕ) → values_of spans.old kind p ≡ Some value → p + n ≤ LAST_POSITION }
     ensures ok { OnOk result ((kind p : ℕ) → values_of spans.new kind p ≡ opened (values_of spans.old) pos n kind p) }
     ensures err { OnErr result ((kind p : ℕ) → values_of spans.new kind p ≡ values_of spans.old kind p) }
 {

@@ -5,8 +5,10 @@ use Rattle.rd_state.proofs.Opening.{one-more, all-edited, none-opened, undone, u
 use Rattle.rd_state.proofs.values.open.Goals as goal
 
 pub inserted-requires : goal.inserted-requires
-inserted-requires c = λ p v h. c.requires.room c.loop-kind.kind p v
-    (sym (not-yet (λ f. values_opened f c.args.pos c.args.n) c.loop-kind.spans (values_of c.args.spans.now) c.loop-kind.kind c.index-spans-kind.result (omega arith) c.loop-kind.invariant p) ∙ h)
+inserted-requires c = λ p v h.
+    let room = c.requires.room c.loop-kind.kind p v
+    (sym (not-yet (λ f. values_opened f c.args.pos c.args.n) c.loop-kind.spans (values_of c.args.spans.now) c.loop-kind.kind c.index-spans-kind.result (omega arith) c.loop-kind.invariant p) ∙ h) in
+    omega arith
 
 pub loop-kind-preserved : goal.loop-kind-preserved
 loop-kind-preserved c = one-more (λ f. values_opened f c.args.pos c.args.n) c.loop-kind.spans (values_of c.args.spans.now) c.loop-kind.kind c.index-spans-kind.result c.inserted.new.self

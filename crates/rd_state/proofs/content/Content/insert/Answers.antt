@@ -1,4 +1,5 @@
-use Rattle.std.proofs.Common.{◌≡◌, ◌+◌, ◌<◌, nat_lt, length, ap, sym, ◌∙◌, arith}
+use Rattle.std.proofs.Common.{◌≡◌, ◌+◌, ◌≤◌, nat_lt, length, ap, sym, ◌∙◌, arith}
+use Rattle.rd_base.specs.declared.limits.TheConstants.{LAST_POSITION}
 use Rattle.rd_props.specs.Buffers.{meaning}
 use Rattle.rd_props.specs.declared.state.BufferState.{BufferState}
 use Rattle.rd_state.specs.Edits.{insertion, marked_modified}
@@ -10,7 +11,7 @@ pub inserted-requires : goal.inserted-requires
 inserted-requires c =
     let b = c.self.inside.state in
     let room = c.in_ok-put_in.ensures.text.1 in
-    let bound : length b.text.text + 1 + length c.args.new.now < 4294967296 = omega (arith, room) in
+    let bound : length b.text.text + 1 + length c.args.new.now ≤ LAST_POSITION = omega (arith, room) in
     all-fit b.overlays (length b.text.text) c.args.pos (length c.args.new.now) bound c.self.invariant.overlays
 
 pub invariant_of-self-2 : goal.invariant_of-self-2
