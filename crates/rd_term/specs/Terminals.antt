@@ -1,8 +1,8 @@
 -- The terminal: a function from what it is and the bytes that it reads to what it then is.
-use Rattle.std.specs.Prelude.{◌≡◌, ℕ, zero, suc, ◌+◌, ◌-◌, ◌<◌, ◌≤◌, ◌==◌, nat_lt, nat_le, min, Bool, true, false, if◌then◌else◌, ◌&&◌, ◌||◌, not, List, [], ◌∷◌, length, replicate, map, Option, None, Some, IfSome, slice_set, slice_index_or, fold}
+use Rattle.std.specs.Prelude.{◌≡◌, ℕ, zero, suc, ◌+◌, ◌-◌, ◌<◌, ◌≤◌, ◌==◌, nat_lt, nat_le, min, Bool, true, false, if◌then◌else◌, ◌&&◌, ◌||◌, not, List, [], ◌∷◌, length, replicate, map, Option, None, Some, IfSome, option_map, slice_set, slice_index_or, fold}
 use Rattle.rd_base.specs.Chars.{columns_of}
 use Rattle.rd_base.specs.declared.limits.TheConstants.{FRAME_COLUMNS, FRAME_ROWS}
-use Rattle.rd_base.specs.Cells.{single, with_mark, takes_mark, row_at}
+use Rattle.rd_base.specs.Cells.{single, joined_glyph, row_at}
 use Rattle.rd_base.specs.Equals.{same_face}
 use Rattle.rd_base.specs.Faces.{Attributes, plain}
 use Rattle.rd_base.specs.Glyphs.{glyph_cells}
@@ -153,7 +153,7 @@ put code columns None place t = confuse t
 
 -- the cell of a glyph with one more mark
 abbrev pub joined_cell : ℕ → Glyph → Attributes → Option Cell
-joined_cell code g face = if takes_mark g then Some (First (with_mark g code) face) else None
+joined_cell code g face = option_map (λ more. First more face) (joined_glyph g code)
 
 -- a cell with one more mark: a blank counts as a space
 abbrev pub marked : ℕ → Option Cell → Option Cell
