@@ -24,6 +24,7 @@ use Rattle.rd_glyphs.specs.declared.mark_role.MarkRole.TheVariants as role
 use Rattle.rd_glyphs.specs.declared.shown.Shown.{Shown}
 use Rattle.rd_glyphs.specs.declared.shown.Shown.TheVariants.{Caret, Octal, Space, Mark, Itself}
 use Rattle.rd_glyphs.specs.Characters.{PartValues, TakesColumns, ShowsColumns, shown_as, look_columns, glyphs_for}
+use Rattle.rd_glyphs.specs.Held.{HoldsColumns}
 use Rattle.rd_glyphs.specs.MarkRoles.{mark_role_by, mark_role_of, base_of, mark_of, IsMark, IsMeasuredRole}
 use Rattle.rd_glyphs.specs.Marks.{marked_glyph}
 use Rattle.rd_glyphs.specs.Lines.{PlainPart, shown_part, plain_part, plain_joins, looks_of_parts, plain_looks, cells_of, fitted, plain_cells}
@@ -138,7 +139,7 @@ plain-whole classes face width text codes =
 -- ---- columns
 
 abbrev HasNarrowBase : MarkRole → Type 0
-HasNarrowBase j = IfSome (base_of j) (λ g. TakesColumns (look.Glyph g))
+HasNarrowBase j = HoldsColumns (base_of j)
 
 part-narrow : (shown : Shown) → ShowsColumns shown → Has TakesColumns HasNarrowBase (shown_part shown)
 part-narrow shown is = record { looks = looks-columns (single 92 1) (single 94 1) shown refl refl is; role = base shown is } where

@@ -1,6 +1,6 @@
 -- How the code reads a plain line: character by character, with one glyph held for the marks behind it. These are its steps, and no
 -- part of what a plain line is.
-use Rattle.std.specs.Prelude.{ℕ, ◌≤◌, Bool, true, false, if◌then◌else◌, List, [], ◌∷◌, ◌++◌, Option, None, Some, unwrap_or}
+use Rattle.std.specs.Prelude.{ℕ, Bool, true, false, if◌then◌else◌, List, [], ◌∷◌, ◌++◌, Option, None, Some, IfSome, unwrap_or}
 use Rattle.rd_base.specs.Cells.{single, takes_mark}
 use Rattle.rd_base.specs.declared.cell.Glyph.{Glyph}
 use Rattle.rd_base.specs.declared.element.Look.{Look}
@@ -9,7 +9,7 @@ use Rattle.rd_ucd.specs.declared.spans.Span.{Span}
 use Rattle.rd_ucd.specs.Lookup.{class_of}
 use Rattle.rd_glyphs.specs.declared.shown.Shown.{Shown}
 use Rattle.rd_glyphs.specs.declared.shown.Shown.TheVariants.{Mark, Itself}
-use Rattle.rd_glyphs.specs.Characters.{shown_as, looks_of, on_blank}
+use Rattle.rd_glyphs.specs.Characters.{TakesColumns, shown_as, looks_of, on_blank}
 use Rattle.rd_glyphs.specs.Marks.{marked_glyph}
 use Rattle.rd_glyphs.specs.Lines.{columns_of_looks}
 
@@ -25,8 +25,7 @@ has_room (Some g) = takes_mark g
 
 -- a glyph that is held takes 1 to 3 columns
 abbrev pub HoldsColumns : Option Glyph → Type 0
-HoldsColumns None = Unit {0}
-HoldsColumns (Some g) = (1 ≤ g.width) × (g.width ≤ 3)
+HoldsColumns held = IfSome held (λ g. TakesColumns (look.Glyph g))
 
 -- what comes out when a character is read behind a glyph that is held for its marks: nothing where the character joins it
 abbrev pub given : Option Glyph → Shown → List Look
