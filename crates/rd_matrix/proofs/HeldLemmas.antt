@@ -11,10 +11,10 @@ use Rattle.rd_base.specs.Elements.{ends_once}
 use Rattle.rd_base.specs.declared.cell.Glyph.{Glyph}
 use Rattle.rd_base.specs.declared.element.Element.{Element}
 use Rattle.rd_base.proofs.Lists.{all-at, count-cons, get-map}
-use Rattle.rd_matrix.specs.Blocks.{IsAmong, IsWithin, HoldsPosition, StandFrom, first_start, end_from, block_before}
+use Rattle.rd_matrix.specs.Blocks.{IsAmong, IsWithin, MayBeAsked, HoldsPosition, StandFrom, first_start, end_from, block_before}
 use Rattle.rd_matrix.specs.Columns.{covers}
 use Rattle.rd_matrix.specs.Held.{blocks_held, laid_at, laid_from, source_of, in_range, covers_each, are_inside, IsHeld, AreHeld}
-use Rattle.rd_matrix.specs.Sources.{IsSource, AreRowsOf, IsInBlock}
+use Rattle.rd_matrix.specs.Sources.{SourceValues, IsSource, AreRowsOf, IsInBlock}
 use Rattle.rd_matrix.specs.declared.block.Block.{Block}
 use Rattle.rd_matrix.specs.declared.held.HeldBlock.{HeldBlock}
 use Rattle.rd_rows.specs.declared.begin.Begin.{Begin}
@@ -275,6 +275,11 @@ among-within bs b p stand among low high =
 pub start-within : (bs : List Block) (b : Block) → StandFrom (first_start bs) bs → IsAmong bs b → IsWithin b.start bs
 start-within bs b stand among = among-within bs b b.start stand among (omega arith) (later-start (first_start bs) among.0 bs b stand among.1).1
 
+-- a position of which a source is asked is one of its blocks
+pub asked-within : (m : SourceValues) (pos : ℕ) → IsSource m → MayBeAsked pos m.blocks → IsWithin pos m.blocks
+asked-within m pos source (inl within) = within
+asked-within m pos source (inr starts) = subst (λ (p : ℕ). IsWithin p m.blocks) starts.2 (start-within m.blocks starts.0 source.blocks.stand starts.1)
+
 pub place-found : (hs : List HeldBlock) (n : ℕ) (g b : Block) → AreHeld hs → IsAmong (blocks_held hs) b → slice_get (blocks_held hs) n ≡ Some g → HoldsPosition b.start (blocks_held hs) g → slice_get (blocks_held hs) n ≡ Some b
 place-found hs n g b held among there holds =
     ap (slice_get (blocks_held hs)) (same-holder (first_start (blocks_held hs)) n among.0 (blocks_held hs) g b held.stand there among.1 holds.from holds.below) ∙ among.1
@@ -284,9 +289,13 @@ place-found hs n g b held among there holds =
 pub among-some : (hs : List HeldBlock) (b : Block) → IsAmong (blocks_held hs) b → 0 < length hs
 among-some hs b among = let found = get-map (λ (h : HeldBlock). h.block) hs among.0 b among.1 in let below = slice_get_within hs among.0 found.0 found.1 in omega (arith, below)
 
-pub within-some : (hs : List HeldBlock) (pos : ℕ) → IsWithin pos (blocks_held hs) → 0 < length hs
+within-some : (hs : List HeldBlock) (pos : ℕ) → IsWithin pos (blocks_held hs) → 0 < length hs
 within-some [] pos within = let high = within.1 in absurd (omega (arith, high))
 within-some (h ∷ hs) pos within = omega arith
+
+pub asked-some : (hs : List HeldBlock) (pos : ℕ) → MayBeAsked pos (blocks_held hs) → 0 < length hs
+asked-some hs pos (inl within) = within-some hs pos within
+asked-some hs pos (inr starts) = among-some hs starts.0 starts.1
 
 pub rows-there : (b : Block) (shape : ShapeValues) (now items : List HeldBlock) (n : ℕ) (h : HeldBlock) → AreHeld now → items ≡ now → slice_get (blocks_held now) n ≡ Some b → n < length now → h ≡ get_or items n h
     → laid_from shape b.start now ≡ laid_at shape h

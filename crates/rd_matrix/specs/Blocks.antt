@@ -1,5 +1,5 @@
 -- Blocks of a text, in order.
-use Rattle.std.specs.Prelude.{◌≡◌, ℕ, zero, suc, ◌<◌, ◌≤◌, List, [], ◌∷◌, length, All, fold, slice_get, Option, None, Some}
+use Rattle.std.specs.Prelude.{◌≡◌, ◌⊎◌, ℕ, zero, suc, ◌<◌, ◌≤◌, List, [], ◌∷◌, length, All, fold, slice_get, Option, None, Some}
 use Rattle.rd_matrix.specs.declared.block.Block.{Block}
 
 -- a block of the list
@@ -34,6 +34,14 @@ pub record AreBlocks (bs : List Block) : Type 0 where
 -- a position of one of the blocks
 abbrev pub IsWithin : ℕ → List Block → Type 0
 IsWithin pos bs = (first_start bs ≤ pos) × (pos < end_from 0 bs)
+
+-- a position at which one of the blocks starts
+abbrev pub StartsBlock : ℕ → List Block → Type 0
+StartsBlock pos bs = (b : Block) × IsAmong bs b × (b.start ≡ pos)
+
+-- a position of which a source is asked for its block; where the blocks stand one behind the other it is a position of one of them
+abbrev pub MayBeAsked : ℕ → List Block → Type 0
+MayBeAsked pos bs = IsWithin pos bs ⊎ StartsBlock pos bs
 
 -- the block of the list that holds a position
 pub record HoldsPosition (pos : ℕ) (bs : List Block) (b : Block) : Type 0 where

@@ -41,7 +41,7 @@ impl Model for MemBlocks {
 
 impl MemBlocks {
     ghost use Rattle.std.specs.Prelude.{◌≡◌, ◌+◌, ◌^◌, ◌<◌, ◌++◌, ◌∷◌, [], length, slice_get, Some, OnOk, OnErr};
-    ghost use Rattle.rd_matrix.specs.Blocks.{IsAmong, IsWithin, HoldsPosition, end_from, block_before};
+    ghost use Rattle.rd_matrix.specs.Blocks.{IsAmong, IsWithin, MayBeAsked, HoldsPosition, end_from, block_before};
     ghost use Rattle.rd_matrix.specs.Held.{IsHeld, AreHeld, blocks_held, source_of};
     ghost use Rattle.rd_matrix.specs.declared.block.Block.{Block};
     ghost use Rattle.rd_matrix.specs.Sources.{IsSource};
@@ -70,7 +70,7 @@ impl MemBlocks {
     /// Blocks in memory are a source, where there is a block. The call does nothing.
     fn rules(&self)
         ensures among { (block : Block) → IsAmong (blocks_held self.now) block → IsSource (source_of self.now) }
-        ensures within { (pos : _) → IsWithin pos (blocks_held self.now) → IsSource (source_of self.now) }
+        ensures asked { (pos : _) → MayBeAsked pos (blocks_held self.now) → IsSource (source_of self.now) }
     {
         rows_of_every_line();
         prefixes_stand_before_lines();

@@ -13,16 +13,17 @@ use std::sync::ledger::Ledger;
 /// that begins in its rows. After want of memory a source is to be made anew.
 pub trait BlockSource {
     ghost use Rattle.std.specs.Prelude.{◌≡◌, ℕ, ◌+◌, ◌^◌, ◌<◌, ◌≤◌, length, slice_get, Some, IfOk};
-    ghost use Rattle.rd_matrix.specs.Blocks.{IsAmong, IsWithin, HoldsPosition, block_before};
+    ghost use Rattle.rd_matrix.specs.Blocks.{IsAmong, MayBeAsked, HoldsPosition, block_before};
     ghost use Rattle.rd_matrix.specs.Sources.{SourceValues, IsSource};
     ghost use Rattle.rd_rows.specs.Copies.{shown_rows};
 
     // the blocks, their rows and what the rows cost, here and in the source beneath
     ghost meaning: { Self → SourceValues };
 
-    /// The block that holds a position, which is not before the first block and below the last block's end.
+    /// The block that holds a position, which is not before the first block and below the last block's end, or at which one of the
+    /// blocks starts.
     fn block_of(&mut self, alloc: Global, pos: Pos) -> Result<Block, Memory>
-        requires { IsWithin pos (meaning self.old).blocks }
+        requires { MayBeAsked pos (meaning self.old).blocks }
         ensures found { IfOk result (λ block. HoldsPosition pos (meaning self.old).blocks block) }
         ensures source { IsSource (meaning self.old) }
         ensures stays { meaning self.new ≡ meaning self.old };

@@ -6,10 +6,10 @@ use Rattle.std.specs.List.{slice_get}
 use Rattle.rd_base.proofs.Choices.{map-some}
 use Rattle.rd_base.proofs.Lists.{get-first, get-second, at-seam}
 use Rattle.rd_base.specs.declared.settings.Anchor.{Anchor}
-use Rattle.rd_matrix.proofs.HeldLemmas.{same-holder, start-within}
+use Rattle.rd_matrix.proofs.HeldLemmas.{same-holder, asked-within}
 use Rattle.rd_matrix.proofs.Counting.{count-cons, length-numbered}
 use Rattle.rd_matrix.proofs.EachRow.{numbered-at}
-use Rattle.rd_matrix.specs.Blocks.{IsAmong, IsWithin, StandFrom}
+use Rattle.rd_matrix.specs.Blocks.{IsWithin, StandFrom, StartsBlock}
 use Rattle.rd_matrix.specs.Entries.{EntryMeaning, all_rows, entries_of, numbered}
 use Rattle.rd_matrix.specs.Sources.{SourceValues, IsSource, rows_at}
 use Rattle.rd_matrix.specs.declared.block.Block.{Block}
@@ -79,10 +79,12 @@ holding from place before after b d j stand starts at low high =
     let same = same-holder from j (length before) (before ++ b ∷ after) d b stand at seam (omega (arith, starts, low)) (omega (arith, starts, high)) in
     same_Some _ _ (sym at ∙ ap (slice_get (before ++ b ∷ after)) same ∙ seam)
 
+-- at the position of an anchor that names a row the row's block starts
+pub named-starts : (m : SourceValues) (shape : ShapeValues) (anchor : Anchor) (k : ℕ) → Names anchor (rows_at m shape) k → StartsBlock anchor.pos m.blocks
+named-starts m shape anchor k is =
+    let found = anchor-found (λ b. m.rows_of b shape) m.blocks k anchor is in
+    (found.block, (length found.before, ap (λ bs. slice_get bs (length found.before)) found.pieces ∙ at-seam found.before found.block found.after), found.starts)
+
 -- the position of an anchor that names a row is one of its source's
 pub within : (m : SourceValues) (shape : ShapeValues) (anchor : Anchor) (k : ℕ) → IsSource m → Names anchor (rows_at m shape) k → IsWithin anchor.pos m.blocks
-within m shape anchor k source is =
-    let found = anchor-found (λ b. m.rows_of b shape) m.blocks k anchor is in
-    let among : IsAmong m.blocks found.block =
-    (length found.before, ap (λ bs. slice_get bs (length found.before)) found.pieces ∙ at-seam found.before found.block found.after) in
-    subst (λ (p : ℕ). IsWithin p m.blocks) found.starts (start-within m.blocks found.block source.blocks.stand among)
+within m shape anchor k source is = asked-within m anchor.pos source (inr (named-starts m shape anchor k is))

@@ -1,14 +1,12 @@
 //! Laws of changes and of rows that are kept, over all changes and sources. The calls do nothing.
 ghost use Rattle.std.specs.Prelude.{◌≡◌, ℕ, ◌^◌, ◌<◌, ◌≤◌, false, List};
 ghost use Rattle.rd_base.specs.Lists.{moved};
-ghost use Rattle.rd_base.specs.declared.settings.Anchor.{Anchor};
-ghost use Rattle.rd_matrix.specs.Blocks.{IsAmong, IsWithin};
-ghost use Rattle.rd_matrix.specs.Sources.{SourceValues, IsSource, rows_at};
+ghost use Rattle.rd_matrix.specs.Blocks.{IsAmong};
+ghost use Rattle.rd_matrix.specs.Sources.{SourceValues, IsSource};
 ghost use Rattle.rd_matrix.specs.declared.block.Block.{Block};
 ghost use Rattle.rd_matrix.specs.declared.matrix.Entry.{Entry};
 ghost use Rattle.rd_reuse.specs.Changes.{IsChange, all, edit, join, none};
 ghost use Rattle.rd_reuse.specs.Keeping.{AreRight, fresh_cost, is_kept, kept_source};
-ghost use Rattle.rd_reuse.specs.Views.{Names};
 ghost use Rattle.rd_reuse.specs.declared.change.Change.{Change};
 ghost use Rattle.rd_rows.specs.Shapes.{ShapeValues};
 
@@ -34,11 +32,6 @@ pub fn edits_add_less_than_stands_before()
 pub fn all_keeps_no_block()
     ensures block { (old : List Entry) (b : Block) → b.start < b.end → b.end < 2 ^ 32 → is_kept old all b ≡ false }
     ensures source { (m : SourceValues) (old : List Entry) (shape : ShapeValues) → IsSource m → ((b : Block) → IsAmong m.blocks b → b.end < 2 ^ 32) → AreRight m old all shape }
-{}
-
-/// The position of an anchor that names a row of a source is a position of its blocks.
-pub fn an_anchor_of_a_row_is_within()
-    ensures { (m : SourceValues) (shape : ShapeValues) (anchor : Anchor) (place : ℕ) → IsSource m → Names anchor (rows_at m shape) place → IsWithin anchor.pos m.blocks }
 {}
 
 /// At the shape of its kept rows a source with such rows costs what its blocks cost that do not keep them.

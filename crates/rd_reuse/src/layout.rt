@@ -1,6 +1,5 @@
 //! The rows of a window, laid out again where they changed.
 ghost use Rattle.std.specs.Prelude.{◌≡◌, ℕ, ◌+◌, ◌-◌, ◌^◌, ◌<◌, ◌≤◌, ◌++◌, All, length, take, drop, OnOk, IfOk};
-ghost use Rattle.rd_matrix.specs.Blocks.{IsWithin};
 ghost use Rattle.rd_matrix.specs.Entries.{shown_entries};
 ghost use Rattle.rd_matrix.specs.Sources.{IsSource, rows_at};
 ghost use Rattle.rd_reuse.specs.Keeping.{AreRight};
@@ -33,7 +32,6 @@ pub fn relay<B: BlockSource, L: Ledger>(
     steps: &mut Steps<L>,
 ) -> Result<Matrix, Memory>
     requires right { AreRight (B.meaning source.old) old.now change shape }
-    requires within { IsWithin anchor.pos (B.meaning source.old).blocks }
     requires row { (place : ℕ) × Names anchor (rows_at (B.meaning source.old) shape) place }
     ensures rows { (place : ℕ) → Names anchor (rows_at (B.meaning source.old) shape) place
         → IfOk result (λ rows. shown_entries rows ≡ take height (drop place (rows_at (B.meaning source.old) shape))) }

@@ -34,7 +34,7 @@ mod layout;
 pub use change::Change;
 pub use kept::Kept;
 pub use laws::{
-    all_keeps_no_block, an_anchor_of_a_row_is_within, combined_with_all, combined_with_none,
-    edits_add_less_than_stands_before, kept_rows_cost_nothing,
+    all_keeps_no_block, combined_with_all, combined_with_none, edits_add_less_than_stands_before,
+    kept_rows_cost_nothing,
 };
 pub use layout::relay;

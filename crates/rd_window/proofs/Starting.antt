@@ -1,7 +1,6 @@
 -- The row at which a window starts, and the rows in view from there.
 use Rattle.std.proofs.Common.{◌≡◌, ℕ, zero, suc, ◌+◌, ◌*◌, ◌<◌, ◌≤◌, List, [], ◌∷◌, length, take, drop, slice_get, option_map, Some, refl, sym, ap, ◌∙◌, subst, arith}
 use Rattle.std.proofs.lemmas.List.{length-drop, length-map, length-take}
-use Rattle.rd_matrix.specs.Blocks.{IsWithin}
 use Rattle.rd_matrix.specs.Entries.{EntryMeaning, shown_entries, shown_entry}
 use Rattle.rd_matrix.specs.Sources.{SourceValues, rows_at}
 use Rattle.rd_matrix.specs.declared.matrix.Entry.{Entry}
@@ -34,7 +33,6 @@ pub record IsStart (given now : SourceValues) (shape : ShapeValues) (w : Wanted)
   pub shaped : IsShape shape
   pub low : start_row given shape w < length (rows_at given shape)
   pub named : Names chosen.anchor (rows_at given shape) (start_row given shape w)
-  pub within : IsWithin chosen.anchor.pos given.blocks
 
 -- the start that was chosen names its row
 pub chosen-named : (m : SourceValues) (shape : ShapeValues) (w : Wanted) (chosen : Chosen) → start_row m shape w < length (rows_at m shape) → chosen ≡ chosen_of m shape w

@@ -1,6 +1,6 @@
 //! The layout of one window.
 ghost use Rattle.std.specs.Prelude.{◌≡◌, ◌+◌, ◌*◌, ◌==◌, ◌<◌, ◌≤◌, ℕ, All, length, nat_le, take, drop, IfOk};
-ghost use Rattle.rd_matrix.specs.Blocks.{IsWithin};
+ghost use Rattle.rd_matrix.specs.Blocks.{IsWithin, MayBeAsked};
 ghost use Rattle.rd_matrix.specs.Entries.{shown_entries};
 ghost use Rattle.rd_matrix.specs.Sources.{IsSource, rows_at};
 ghost use Rattle.rd_reuse.specs.Keeping.{AreRight, kept_source};
@@ -13,7 +13,7 @@ ghost use Rattle.rd_window.specs.Views.{has_first_row, has_last_row, rows_in_vie
 use crate::remembered::Remembered;
 use rd_base::{Anchor, Memory, Steps};
 use rd_matrix::{BlockSource, Matrix};
-use rd_reuse::{Change, Kept, an_anchor_of_a_row_is_within, relay};
+use rd_reuse::{Change, Kept, relay};
 use rd_rows::Shape;
 use rd_start::{Chosen, Wanted, a_start_is_a_row, choose};
 use std::alloc::Global;
@@ -56,7 +56,6 @@ pub fn lay_out<B: BlockSource + Drop, L: Ledger>(
     ensures steps { steps.new ≤ steps.old + 3 * near_costs (kept_source (B.meaning source) old.now change shape) shape wanted }
 {
     a_start_is_a_row();
-    an_anchor_of_a_row_is_within();
     let remembered = Remembered::new(alloc, source);
     let mut kept = Kept::new(remembered, old, change, shape);
     let chosen = choose(alloc, &mut kept, wanted, shape, steps)?;
@@ -88,7 +87,7 @@ fn is_first_row<B: BlockSource>(
     source: &mut B,
     anchor: Anchor,
 ) -> Result<bool, Memory>
-    requires { IsWithin anchor.pos (B.meaning source.old).blocks }
+    requires { MayBeAsked anchor.pos (B.meaning source.old).blocks }
     ensures value { IfOk result (λ first. (shape : ShapeValues) (place : ℕ) → IsShape shape → Names anchor (rows_at (B.meaning source.old) shape) place → first ≡ (place == 0)) }
     ensures stays { B.meaning source.new ≡ B.meaning source.old }
 {
@@ -114,7 +113,6 @@ fn has_last_row<B: BlockSource>(
         → shown_entries matrix.now ≡ take height (drop place (rows_at (B.meaning source.old) shape)) → last ≡ nat_le (length (rows_at (B.meaning source.old) shape)) (place + height)) }
     ensures stays { B.meaning source.new ≡ B.meaning source.old }
 {
-    an_anchor_of_a_row_is_within();
     if matrix.len() < height as usize {
         return Ok(true);
     }

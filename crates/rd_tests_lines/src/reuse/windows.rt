@@ -9,7 +9,7 @@ use crate::blocks::{Made, SHAPE, lines_of};
 use crate::starts::stands;
 use rd_base::{Anchor, Memory, Pos, Steps};
 use rd_matrix::{BlockSource, Entry, Matrix};
-use rd_reuse::{Change, an_anchor_of_a_row_is_within, relay};
+use rd_reuse::{Change, relay};
 use rd_rows::Shape;
 use rd_start::{Wanted, a_start_is_a_row, choose};
 use rd_window::no_rows_are_kept;
@@ -52,7 +52,6 @@ pub fn laid<B: BlockSource, L: Ledger>(
     requires height { 1 ≤ wanted.height }
 {
     a_start_is_a_row();
-    an_anchor_of_a_row_is_within();
     let chosen = choose(alloc, source, wanted, shape, steps)?;
     relay(
         alloc,

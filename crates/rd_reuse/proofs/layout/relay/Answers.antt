@@ -1,13 +1,19 @@
-use Rattle.std.proofs.Common.{ℕ, ◌+◌, ◌<◌, ◌≤◌, length, All, Some, None, subst, sym, ap, ◌∙◌, arith}
+use Rattle.std.proofs.Common.{ℕ, ◌+◌, ◌<◌, ◌≤◌, length, All, inr, Some, None, subst, sym, ap, ◌∙◌, arith}
 use Rattle.rd_matrix.specs.Blocks.{IsAmong}
 use Rattle.rd_matrix.specs.Sources.{SourceValues, rows_at}
 use Rattle.rd_reuse.specs.Keeping.{fresh_cost}
 use Rattle.rd_reuse.specs.Views.{IsCopied, Names, fresh_costs}
+use Rattle.rd_reuse.proofs.Places.{named-starts}
 use Rattle.rd_reuse.proofs.Walking.{Walk, among, begins, copies-grown, ends, enough, goes-on, grows, same-next, spends}
 use Rattle.rd_rows.specs.Shapes.{IsShape}
 use Rattle.rd_reuse.proofs.layout.relay.Given as given
 use Rattle.rd_reuse.proofs.layout.relay.Goals as goal
 use Rattle.rd_reuse.proofs.layout.relay.Goals.{After-rows_of}
+
+pub block_of-requires : goal.block_of-requires
+block_of-requires g c =
+    let named = c.requires.row in
+    inr (named-starts (g.B.BlockSource.meaning c.args.source.now) c.args.shape c.args.anchor named.0 named.1)
 
 pub loop-alloc-init : goal.loop-alloc-init
 loop-alloc-init g c =

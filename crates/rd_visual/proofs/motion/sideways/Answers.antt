@@ -1,4 +1,4 @@
-use Rattle.std.proofs.Common.{◌∙◌, sym, subst}
+use Rattle.std.proofs.Common.{inl, ◌∙◌, sym, subst}
 use Rattle.std.proofs.lemmas.Result.{IfOk-weaker}
 use Rattle.rd_matrix.specs.Blocks.{HoldsPosition, IsWithin, StandFrom, first_start}
 use Rattle.rd_matrix.specs.Sources.{SourceValues}
@@ -10,8 +10,8 @@ use Rattle.rd_visual.proofs.motion.sideways.Goals as goal
 pub block_of-requires : goal.block_of-requires
 block_of-requires c =
     let v = c.args.view.now in
-    subst (λ (m : SourceValues). IsWithin c.args.pos m.blocks) (sym c.new-source.ensures)
-    (c.accessible_positions_lie_in_blocks.ensures (meaning v.state.now) v.objects.now (files_of v) c.args.pos c.requires)
+    inl (subst (λ (m : SourceValues). IsWithin c.args.pos m.blocks) (sym c.new-source.ensures)
+    (c.accessible_positions_lie_in_blocks.ensures (meaning v.state.now) v.objects.now (files_of v) c.args.pos c.requires))
 
 pub returns : goal.returns
 returns c =

@@ -1,8 +1,9 @@
-use Rattle.std.proofs.Common.{◌≡◌, ℕ, is_some, suc, ◌+◌, ◌-◌, leb, Some, slice_get, length, sym, ap, subst, ◌∙◌, arith}
+use Rattle.std.proofs.Common.{◌≡◌, ℕ, inr, is_some, suc, ◌+◌, ◌-◌, leb, Some, slice_get, length, sym, ap, subst, ◌∙◌, arith}
 use Rattle.std.proofs.lemmas.Bool.{lt-leb}
 use Rattle.rd_base.proofs.Choices.{opposite}
 use Rattle.rd_matrix.specs.Entries.{shown_entry}
 use Rattle.rd_matrix.specs.Sources.{SourceValues, rows_at}
+use Rattle.rd_reuse.proofs.Places.{named-starts}
 use Rattle.rd_reuse.specs.Views.{anchor_of}
 use Rattle.rd_window.proofs.Ends.{entry-named, going-on, last-row, view-end, view-size}
 use Rattle.rd_window.proofs.window.has_last_row.Goals as goal
@@ -26,7 +27,7 @@ block_of-requires g c =
     let e = c.entry-entry.result.now in
     let size = view-size c.args.matrix.now (rows_at m shape) place c.args.height same in
     let row = view-end c.args.matrix.now (rows_at m shape) place c.args.height e same c.entry-entry.ensures (omega (arith, size)) in
-    c.an_anchor_of_a_row_is_within.ensures m shape (anchor_of (shown_entry e)) (place + (c.args.height - 1)) c.requires.source (entry-named (rows_at m shape) (place + (c.args.height - 1)) (shown_entry e) row)
+    inr (named-starts m shape (anchor_of (shown_entry e)) (place + (c.args.height - 1)) (entry-named (rows_at m shape) (place + (c.args.height - 1)) (shown_entry e) row))
 
 pub returns-clause-value : goal.returns-clause-value
 returns-clause-value g c = λ shape place is same.

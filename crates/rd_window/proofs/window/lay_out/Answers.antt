@@ -1,7 +1,8 @@
-use Rattle.std.proofs.Common.{◌≡◌, ℕ, ◌+◌, ◌*◌, ◌≤◌, leb, All, length, take, drop, ap, ◌∙◌, arith}
-use Rattle.rd_matrix.specs.Blocks.{IsWithin}
+use Rattle.std.proofs.Common.{◌≡◌, ℕ, ◌+◌, ◌*◌, ◌≤◌, inr, leb, All, length, take, drop, ap, ◌∙◌, arith}
+use Rattle.rd_matrix.specs.Blocks.{IsWithin, MayBeAsked}
 use Rattle.rd_matrix.specs.Entries.{shown_entries}
 use Rattle.rd_matrix.specs.Sources.{IsSource, SourceValues, rows_at}
+use Rattle.rd_reuse.proofs.Places.{named-starts}
 use Rattle.rd_reuse.specs.Keeping.{AreRight, kept_source}
 use Rattle.rd_reuse.specs.Views.{IsCopied, Names}
 use Rattle.rd_rows.specs.Shapes.{IsShape, ShapeValues}
@@ -38,7 +39,6 @@ start g c =
       shaped = shaped;
       low = low;
       named = named;
-      within = c.an_anchor_of_a_row_is_within.ensures m c.args.shape c.in_ok-chosen.chosen.anchor (start_row m c.args.shape w) source named;
     }
 
 -- the steps until the rows are laid out
@@ -72,7 +72,6 @@ relay-requires g c =
     let begun = start g (goal.at.relay-requires g c).After-hand_out in
     record {
       right = back-at-source (λ (x : SourceValues). AreRight x c.args.old.now c.args.change c.args.shape) _ _ begun.same c.requires.right;
-      within = back-at-source (λ (x : SourceValues). IsWithin c.in_ok-chosen.chosen.anchor.pos x.blocks) _ _ begun.same begun.within;
       row = back-at-source (λ (x : SourceValues). (place : ℕ) × Names c.in_ok-chosen.chosen.anchor (rows_at x c.args.shape) place) _ _ begun.same
           (start_row (kept_source (g.B.BlockSource.meaning c.args.source) c.args.old.now c.args.change c.args.shape) c.args.shape c.args.wanted, begun.named);
     }
@@ -82,8 +81,10 @@ returns-in_err-matrix-clause-steps g c = let at = goal.at.returns-in_err-matrix-
 
 pub is_first_row-requires : goal.is_first_row-requires
 is_first_row-requires g c =
+    let m = kept_source (g.B.BlockSource.meaning c.args.source) c.args.old.now c.args.change c.args.shape in
     let begun = start g (goal.at.is_first_row-requires g c).After-hand_out in
-    back-at-source (λ (x : SourceValues). IsWithin c.in_ok-chosen.chosen.anchor.pos x.blocks) _ _ (ap (λ (x : SourceValues). kept_source x c.args.old.now c.args.change c.args.shape) c.relay.ensures.stays ∙ begun.same) begun.within
+    back-at-source (λ (x : SourceValues). MayBeAsked c.in_ok-chosen.chosen.anchor.pos x.blocks) _ _ (ap (λ (x : SourceValues). kept_source x c.args.old.now c.args.change c.args.shape) c.relay.ensures.stays ∙ begun.same)
+    (inr (named-starts m c.args.shape c.in_ok-chosen.chosen.anchor (start_row m c.args.shape c.args.wanted) begun.named))
 
 pub returns-in_err-top-clause-steps : goal.returns-in_err-top-clause-steps
 returns-in_err-top-clause-steps g c = let at = goal.at.returns-in_err-top-clause-steps g c in steps g at.After-relay (start g at.After-hand_out)

@@ -1,8 +1,8 @@
 use Rattle.std.proofs.Common.{◌<◌, length, subst, sym}
-use Rattle.rd_matrix.specs.Blocks.{IsAmong, IsWithin}
+use Rattle.rd_matrix.specs.Blocks.{IsAmong, MayBeAsked}
 use Rattle.rd_matrix.specs.Held.{blocks_held, source_of}
 use Rattle.rd_matrix.specs.Sources.{IsSource}
-use Rattle.rd_matrix.proofs.HeldLemmas.{source-right, among-some, within-some}
+use Rattle.rd_matrix.proofs.HeldLemmas.{source-right, among-some, asked-some}
 use Rattle.rd_matrix.proofs.held.MemBlocks.rules.Goals as goal
 
 pub returns : goal.returns
@@ -14,5 +14,5 @@ returns c =
     (source-right hs c.self.invariant some c.rows_of_every_line.ensures.last c.rows_of_every_line.ensures.begun c.prefixes_stand_before_lines.ensures) in
     record {
       among = λ block among. source (among-some hs block (subst (λ xs. IsAmong (blocks_held xs) block) (sym v) among));
-      within = λ pos within. source (within-some hs pos (subst (λ xs. IsWithin pos (blocks_held xs)) (sym v) within));
+      asked = λ pos asked. source (asked-some hs pos (subst (λ xs. MayBeAsked pos (blocks_held xs)) (sym v) asked));
     }

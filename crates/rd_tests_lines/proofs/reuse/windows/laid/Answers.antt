@@ -1,5 +1,4 @@
 use Rattle.std.proofs.Common.{ℕ, sym, subst, arith}
-use Rattle.rd_matrix.specs.Blocks.{IsWithin}
 use Rattle.rd_matrix.specs.Sources.{SourceValues, rows_at}
 use Rattle.rd_reuse.specs.Views.{Names}
 use Rattle.rd_rows.specs.Shapes.{IsShape}
@@ -16,13 +15,6 @@ named g c =
     let m = g.B.BlockSource.meaning c.args.source.now in
     let shaped : IsShape c.args.shape = record { least = omega arith; most = omega arith } in
     chosen-named m c.args.shape c.args.wanted c.in_ok-chosen.chosen (c.a_start_is_a_row.ensures m c.args.shape c.args.wanted c.choose.ensures.source shaped c.requires.point) c.in_ok-chosen.ensures.value
-
-pub relay-requires-clause-within : goal.relay-requires-clause-within
-relay-requires-clause-within g c =
-    let m = g.B.BlockSource.meaning c.args.source.now in
-    subst (λ (x : SourceValues). IsWithin c.in_ok-chosen.chosen.anchor.pos x.blocks) (sym c.choose.ensures.stays)
-    (c.an_anchor_of_a_row_is_within.ensures m c.args.shape c.in_ok-chosen.chosen.anchor (start_row m c.args.shape c.args.wanted) c.choose.ensures.source
-    (named g (goal.at.relay-requires-clause-within g c).In_ok-chosen))
 
 pub relay-requires-clause-row : goal.relay-requires-clause-row
 relay-requires-clause-row g c =
