@@ -5,10 +5,10 @@ ghost use Rattle.rd_io.specs.Devices.{Prints};
 ghost use Rattle.rd_dump.specs.Dumps.{dump_text, windows_text, window_line, place_text, rows_text, row_line, cells_text, cell_text};
 
 use crate::at_once::{Printed, print_at_once};
-use crate::print::{Token, print_between, print_character, print_each, print_tokens};
+use crate::print::{Token, print_between, print_each, print_tokens};
 use crate::runs::print_runs;
 use rd_base::{Anchor, Cell, Glyph, Pos};
-use rd_io::{Failed, Sink};
+use rd_io::{Failed, Sink, write_character};
 use rd_term::Screen;
 use rd_tree::Rect;
 
@@ -168,6 +168,8 @@ fn print_cell<K: Sink>(sink: &mut K, cell: &Cell) -> Result<(), Failed>
 fn print_glyph<K: Sink>(sink: &mut K, glyph: &Glyph) -> Result<(), Failed>
     ensures { Prints (K.written sink.old) (K.written sink.new) (K.faults sink.old) (K.faults sink.new) (glyph_bytes glyph.now) result }
 {
-    print_character(sink, &glyph.base)?;
-    print_each(sink, glyph.joining(), print_character)
+    write_character(sink, glyph.base)?;
+    print_each(sink, glyph.joining(), |sink, mark| {
+        write_character(sink, *mark)
+    })
 }

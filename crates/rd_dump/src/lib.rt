@@ -11,4 +11,4 @@ mod runs;
 
 pub use at_once::{Printed, TokenLine, print_at_once};
 pub use dump::{WindowFacts, print_dump, print_placed};
-pub use print::{Token, print_between, print_character, print_each, print_tokens};
+pub use print::{Token, print_between, print_each, print_tokens};

@@ -1,13 +1,12 @@
 //! Writing texts and numbers to a sink, without taking memory.
 ghost use Rattle.std.specs.Prelude.{ℕ, List, [], ◌∷◌};
 ghost use Rattle.std.specs.List.{flat_map};
-ghost use Rattle.rd_base.specs.Chars.{encoded};
 ghost use Rattle.rd_io.specs.Devices.{Prints};
 ghost use Rattle.rd_dump.specs.Dumps.{token_text, tokens_text};
 ghost use Rattle.rd_dump.specs.Prints.{PrintsItems};
 
 use itoa::Buffer;
-use rd_io::{Failed, Sink, write_character, write_whole};
+use rd_io::{Failed, Sink, write_whole};
 
 /// A token of a line: a text, or a number in decimal.
 #[derive(Clone, Copy)]
@@ -63,11 +62,4 @@ fn print_token<K: Sink>(sink: &mut K, token: &Token) -> Result<(), Failed>
         Token::Text(text) => write_whole(sink, text.as_bytes()),
         Token::Number(number) => write_whole(sink, Buffer::new().format(*number).as_bytes()),
     }
-}
-
-/// Writes a character's code as UTF-8.
-pub fn print_character<K: Sink>(sink: &mut K, code: &u32) -> Result<(), Failed>
-    ensures { Prints (K.written sink.old) (K.written sink.new) (K.faults sink.old) (K.faults sink.new) (encoded code.now) result }
-{
-    write_character(sink, *code)
 }

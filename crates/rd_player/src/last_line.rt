@@ -6,9 +6,9 @@ ghost use Rattle.rd_run.specs.Reports.{named_key, last_line, located, behind_kin
 
 use crate::names::{data_kind, file_word, kind_of, op_key};
 use rd_base::Ch;
-use rd_dump::{Printed, Token, print_between, print_character, print_each, print_tokens};
+use rd_dump::{Printed, Token, print_between, print_each, print_tokens};
 use rd_files::{DataFile, DataKind};
-use rd_io::{Failed, Sink, write_whole};
+use rd_io::{Failed, Sink, write_character, write_whole};
 use rd_run::{ScriptFault, Status};
 use rd_state::Refused;
 
@@ -134,5 +134,5 @@ fn print_key<K: Sink>(sink: &mut K, key: Option<&[Ch]>) -> Result<(), Failed>
 fn print_ch<K: Sink>(sink: &mut K, ch: &Ch) -> Result<(), Failed>
     ensures { Prints (K.written sink.old) (K.written sink.new) (K.faults sink.old) (K.faults sink.new) (encoded ch.now) result }
 {
-    print_character(sink, &ch.code())
+    write_character(sink, ch.code())
 }
