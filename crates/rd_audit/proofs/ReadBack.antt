@@ -24,18 +24,22 @@ use Rattle.rd_audit.proofs.Cutting.{stripped-behind}
 use Rattle.rd_audit.proofs.Decimals.{pair-read}
 use Rattle.rd_audit.proofs.Faces.{piece-lacks}
 use Rattle.rd_audit.proofs.Lacking.{last-seam}
-use Rattle.rd_audit.proofs.Lines.{row_body, row_bodies, cursor_body, window_body, AreWhole, line-first, cursor-line, rows-lines, windows-lines}
+use Rattle.rd_audit.proofs.Lines.{row_bodies, cursor_body, window_body, AreWhole, line-first, cursor-line, rows-lines, windows-lines}
 use Rattle.rd_audit.proofs.Spelling.{text-read}
 
 -- ---- the line of a row
 
-row-text_read : (row : ℕ) (cells : List Cell) → row_text row (row_body row cells) ≡ Some (cells_text cells ++ 124 ∷ runs_of_row cells)
+-- the line of a row behind its key
+abbrev behind_key : ℕ → List Cell → List ℕ
+behind_key row cells = (decimal row ++ codes " |") ++ (cells_text cells ++ 124 ∷ runs_of_row cells)
+
+row-text_read : (row : ℕ) (cells : List Cell) → row_text row (behind_key row cells) ≡ Some (cells_text cells ++ 124 ∷ runs_of_row cells)
 row-text_read row cells =
     let rest = cells_text cells ++ 124 ∷ runs_of_row cells in
     ap (option_and_then (stripped (codes " |")))
-    (sym (stripped-behind (decimal row) ((decimal row ++ codes " |") ++ rest) (codes " |" ++ rest) (append_assoc (decimal row) (codes " |") rest)))
+    (sym (stripped-behind (decimal row) (behind_key row cells) (codes " |" ++ rest) (append_assoc (decimal row) (codes " |") rest)))
 
-pub row-cells_read : (row : ℕ) (cells : List Cell) → IsRowAfter 0 cells → All IsColoured cells → length cells < 1000 → row_cells row (row_body row cells) ≡ Some cells
+pub row-cells_read : (row : ℕ) (cells : List Cell) → IsRowAfter 0 cells → All IsColoured cells → length cells < 1000 → row_cells row (behind_key row cells) ≡ Some cells
 row-cells_read row cells h colours small =
     let runs = runs_of_row cells in
     ap (λ o. option_and_then (λ (parts : List ℕ × List ℕ). option_and_then (runs_over parts.1) (text_cells parts.0)) (option_and_then (cut_last 124) o)) (row-text_read row cells)
@@ -58,10 +62,10 @@ more-wide width [] cells wide e other f = (Decides-eqb (length other) (length ce
 more-wide width (row ∷ rows) cells wide e other f = wide other f
 
 next-row_read : (width : ℕ) (rows : List (List Cell)) (cells : List Cell) → IsRowAfter 0 cells → All IsColoured cells → length rows < 200 → width ≤ 400 → length cells ≡ width → IsAsWide width rows
-    → next_row rows (row_body (length rows) cells) ≡ Some cells
+    → next_row rows (behind_key (length rows) cells) ≡ Some cells
 next-row_read width rows cells h colours few narrow size wide =
     let room : nat_lt (length rows) 200 ≡ true = grind (arith, nat_tests) in
-    ap (λ t. if t then option_and_then (λ x. if is_as_wide rows x then Some x else None) (row_cells (length rows) (row_body (length rows) cells)) else None) room
+    ap (λ t. if t then option_and_then (λ x. if is_as_wide rows x then Some x else None) (row_cells (length rows) (behind_key (length rows) cells)) else None) room
     ∙ ap (option_and_then (λ x. if is_as_wide rows x then Some x else None)) (row-cells_read (length rows) cells h colours (omega (arith, size, narrow)))
     ∙ ap (λ t. if t then Some cells else None) (wide cells size)
 

@@ -6,9 +6,10 @@ use Rattle.std.proofs.lemmas.Option.{none-some}
 use Rattle.rd_base.proofs.Choices.{kept-some}
 use Rattle.rd_base.specs.declared.cell.Cell.{Cell}
 use Rattle.rd_term.specs.Pictures.{Picture}
+use Rattle.rd_audit.specs.Cuts.{stripped}
 use Rattle.rd_audit.specs.Dumps.{picture_from, ended_by}
 use Rattle.rd_audit.specs.Results.{IsShape}
-use Rattle.rd_audit.specs.Rows.{is_row, is_as_wide, next_row, row_cells, cursor_place}
+use Rattle.rd_audit.specs.Rows.{row_key, is_as_wide, next_row, row_cells, cursor_place}
 
 if_some : {T : Type 0} (b : Bool) (o : Option T) (x : T) → (if b then o else None) ≡ Some x → (b ≡ true) × (o ≡ Some x)
 if_some true o x e = (refl, e)
@@ -29,21 +30,21 @@ push-by (row ∷ rows) cells shape few wide =
     }
 
 -- rows with the next one behind them
-pub push-row : (rows : List (List Cell)) (line : List ℕ) (cells : List Cell) → IsShape rows → next_row rows line ≡ Some cells → IsShape (rows ++ cells ∷ [])
-push-row rows line cells shape e =
-    let h = if_some (nat_lt (length rows) 200) (option_and_then (λ x. if is_as_wide rows x then Some x else None) (row_cells (length rows) line)) cells e in
-    push-by rows cells shape (let small = h.0 in grind (arith, nat_tests)) (kept-some (is_as_wide rows) (row_cells (length rows) line) cells h.1)
+pub push-row : (rows : List (List Cell)) (behind : List ℕ) (cells : List Cell) → IsShape rows → next_row rows behind ≡ Some cells → IsShape (rows ++ cells ∷ [])
+push-row rows behind cells shape e =
+    let h = if_some (nat_lt (length rows) 200) (option_and_then (λ x. if is_as_wide rows x then Some x else None) (row_cells (length rows) behind)) cells e in
+    push-by rows cells shape (let small = h.0 in grind (arith, nat_tests)) (kept-some (is_as_wide rows) (row_cells (length rows) behind) cells h.1)
 
 -- the next line of a group says the next row
-pub picture-on : (first : ℕ) (rows next : List (List Cell)) (cells : List Cell) (lines more : List (List ℕ)) (line : List ℕ) (whole : Result Picture ℕ) → lines ≡ line ∷ more
-    → is_row line ≡ true → next_row rows line ≡ Some cells → next ≡ rows ++ cells ∷ [] → picture_from (first + length rows) rows lines ≡ whole
+pub picture-on : (first : ℕ) (rows next : List (List Cell)) (cells : List Cell) (lines more : List (List ℕ)) (line behind : List ℕ) (whole : Result Picture ℕ) → lines ≡ line ∷ more
+    → Some behind ≡ stripped row_key line → next_row rows behind ≡ Some cells → next ≡ rows ++ cells ∷ [] → picture_from (first + length rows) rows lines ≡ whole
     → picture_from (first + length next) next more ≡ whole
-picture-on first rows next cells lines more line whole split row found push inv =
+picture-on first rows next cells lines more line behind whole split row found push inv =
     let size : first + length (rows ++ cells ∷ []) ≡ first + length rows + 1 = omega (arith, length-append rows (cells ∷ [])) in
     let n = first + length rows in
     ap (λ r. picture_from (first + length r) r more) push
     ∙ ap (λ k. picture_from k (rows ++ cells ∷ []) more) size
     ∙ sym (ap (picture_from n rows) split
-    ∙ ap (λ t. if t then unwrap_or (option_map (λ x. picture_from (n + 1) (rows ++ x ∷ []) more) (next_row rows line)) (Err n) else ended_by n rows (cursor_place rows line)) row
+    ∙ ap (λ o. unwrap_or (option_map (λ b. unwrap_or (option_map (λ x. picture_from (n + 1) (rows ++ x ∷ []) more) (next_row rows b)) (Err n)) o) (ended_by n rows (cursor_place rows line))) (sym row)
     ∙ ap (λ o. unwrap_or (option_map (λ x. picture_from (n + 1) (rows ++ x ∷ []) more) o) (Err n)) found)
     ∙ inv

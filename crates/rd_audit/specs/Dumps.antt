@@ -4,7 +4,8 @@ use Rattle.std.specs.Option.{option_or}
 use Rattle.rd_base.specs.declared.cell.Cell.{Cell}
 use Rattle.rd_io.specs.Lines.{lines_of}
 use Rattle.rd_term.specs.Pictures.{Picture}
-use Rattle.rd_audit.specs.Rows.{is_row, is_cursor, next_row, cursor_place}
+use Rattle.rd_audit.specs.Cuts.{stripped}
+use Rattle.rd_audit.specs.Rows.{row_key, is_row, is_cursor, next_row, cursor_place}
 
 -- Where the last group of adjacent row lines begins that the line of a cursor follows: the number of its first line, counted on from
 -- this one, and the lines from there on. `begun` is where a group began that goes on at these lines, `found` the last one before.
@@ -25,9 +26,9 @@ ended_by number rows (Some place) = Ok (record { rows = rows; row = place.0; col
 abbrev pub picture_from : ℕ → List (List Cell) → List (List ℕ) → Result Picture ℕ
 picture_from number rows [] = Err number
 picture_from number rows (line ∷ lines) =
-    if is_row line then
-    unwrap_or (option_map (λ cells. picture_from (number + 1) (rows ++ cells ∷ []) lines) (next_row rows line)) (Err number)
-    else ended_by number rows (cursor_place rows line)
+    unwrap_or
+    (option_map (λ behind. unwrap_or (option_map (λ cells. picture_from (number + 1) (rows ++ cells ∷ []) lines) (next_row rows behind)) (Err number)) (stripped row_key line))
+    (ended_by number rows (cursor_place rows line))
 
 abbrev pub picture_of : Option (ℕ × List (List ℕ)) → Result Picture ℕ
 picture_of None = Err 0

@@ -22,25 +22,25 @@ is_row line = starts_with nat_eq line row_key
 abbrev pub is_cursor : List ℕ → Bool
 is_cursor line = starts_with nat_eq line cursor_key
 
--- `row N |`, and what stands behind it
+-- `N |` behind a row's key, and what stands behind it
 abbrev pub row_text : ℕ → List ℕ → Option (List ℕ)
-row_text number line = option_and_then (stripped (codes " |")) (option_and_then (stripped (decimal number)) (stripped row_key line))
+row_text number behind = option_and_then (stripped (codes " |")) (stripped (decimal number) behind)
 
--- the cells of a row's line: its text up to the last `|`, and the runs of its faces behind that
+-- the cells that a line says behind a row's key: its text up to the last `|`, and the runs of its faces behind that
 abbrev pub row_cells : ℕ → List ℕ → Option (List Cell)
-row_cells number line =
-    option_and_then (λ parts. option_and_then (runs_over parts.1) (text_cells parts.0)) (option_and_then (cut_last 124) (row_text number line))
+row_cells number behind =
+    option_and_then (λ parts. option_and_then (runs_over parts.1) (text_cells parts.0)) (option_and_then (cut_last 124) (row_text number behind))
 
 -- whether a row is as wide as those before it, and the first one as wide as a frame may be
 abbrev pub is_as_wide : List (List Cell) → List Cell → Bool
 is_as_wide [] cells = nat_le LEAST_FRAME_COLUMNS (length cells) && nat_le (length cells) FRAME_COLUMNS
 is_as_wide (row ∷ rows) cells = length cells == length row
 
--- the cells of the line of the next row, which is not one too many
+-- the cells that the line of the next row, which is not one too many, says behind its key
 abbrev pub next_row : List (List Cell) → List ℕ → Option (List Cell)
-next_row rows line =
+next_row rows behind =
     if nat_lt (length rows) FRAME_ROWS then
-    option_and_then (λ cells. if is_as_wide rows cells then Some cells else None) (row_cells (length rows) line)
+    option_and_then (λ cells. if is_as_wide rows cells then Some cells else None) (row_cells (length rows) behind)
     else None
 
 -- `cursor R,C`

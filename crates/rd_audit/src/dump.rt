@@ -6,8 +6,8 @@ ghost use Rattle.rd_audit.specs.Dumps.{last_group, picture_from, ended_by, dump_
 ghost use Rattle.rd_audit.specs.Results.{IsReadAs, IsShape, lines_from};
 ghost use Rattle.rd_audit.specs.Rows.{cursor_place};
 
-use crate::cuts::next_line;
-use crate::row::{cursor_place, is_cursor, is_row, next_row};
+use crate::cuts::{next_line, stripped};
+use crate::row::{ROW, cursor_place, is_cursor, is_row, next_row};
 use rd_base::{Cell, ListOf, Memory};
 use std::alloc::Global;
 
@@ -131,10 +131,10 @@ fn read_group(alloc: Global, number: u32, lines: &[u8]) -> Result<Dump, DumpFaul
         let Some((line, more)) = next_line(rest) else {
             return Err(DumpFault::Bad(line_number));
         };
-        if !is_row(line) {
+        let Some(behind) = stripped(ROW, line) else {
             return ended(line_number, rows, line);
-        }
-        match next_row(alloc, rows.as_slice(), line)? {
+        };
+        match next_row(alloc, rows.as_slice(), behind)? {
             Some(cells) => rows.push(cells)?,
             None => return Err(DumpFault::Bad(line_number)),
         }

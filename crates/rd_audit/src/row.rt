@@ -13,7 +13,7 @@ use rd_base::{Cell, ListOf, Memory};
 use std::alloc::Global;
 
 /// What the line of a row begins with.
-const ROW: &[u8] = b"row ";
+pub const ROW: &[u8] = b"row ";
 
 /// What the line of a cursor begins with.
 const CURSOR: &[u8] = b"cursor ";
@@ -32,19 +32,19 @@ pub fn is_cursor(line: &[u8]) -> bool
     line.starts_with(CURSOR)
 }
 
-/// The cells of the line of the next row, behind those that were read. None where it has a bad form, another number or another width,
-/// or is one too many.
+/// The cells that the line of the next row, behind those that were read, says behind its key. None where it has a bad form, another
+/// number or another width, or is one too many.
 pub fn next_row(
     alloc: Global,
     rows: &[ListOf<Cell>],
-    line: &[u8],
+    behind: &[u8],
 ) -> Result<Option<ListOf<Cell>>, Memory>
-    ensures value { IfOk result (λ found. found ≡ next_row rows.now line.now) }
+    ensures value { IfOk result (λ found. found ≡ next_row rows.now behind.now) }
 {
     if rows.len() >= FRAME_ROWS as usize {
         return Ok(None);
     }
-    match row_cells(alloc, rows.len() as u32, line)? {
+    match row_cells(alloc, rows.len() as u32, behind)? {
         Some(cells) if is_as_wide(rows, cells.as_slice()) => Ok(Some(cells)),
         _ => Ok(None),
     }
@@ -61,14 +61,14 @@ fn is_as_wide(rows: &[ListOf<Cell>], cells: &[Cell]) -> bool
     }
 }
 
-/// The cells of a row's line.
-fn row_cells(alloc: Global, number: u32, line: &[u8]) -> Result<Option<ListOf<Cell>>, Memory>
-    ensures { IfOk result (λ found. found ≡ row_cells number line.now) }
+/// The cells that the line of a row says behind its key.
+fn row_cells(alloc: Global, number: u32, behind: &[u8]) -> Result<Option<ListOf<Cell>>, Memory>
+    ensures { IfOk result (λ found. found ≡ row_cells number behind.now) }
 {
-    let Some(behind) = row_text(number, line) else {
+    let Some(shown) = row_text(number, behind) else {
         return Ok(None);
     };
-    let Some((text, runs)) = cut_last(b'|', behind) else {
+    let Some((text, runs)) = cut_last(b'|', shown) else {
         return Ok(None);
     };
     match text_cells(alloc, text)? {
@@ -78,10 +78,9 @@ fn row_cells(alloc: Global, number: u32, line: &[u8]) -> Result<Option<ListOf<Ce
 }
 
 /// What stands behind a row's number and the first `|`.
-fn row_text(number: u32, line: &[u8]) -> Option<&[u8]>
-    ensures { option_map (λ text. text.now) result ≡ row_text number line.now }
+fn row_text(number: u32, behind: &[u8]) -> Option<&[u8]>
+    ensures { option_map (λ text. text.now) result ≡ row_text number behind.now }
 {
-    let behind = stripped(ROW, line)?;
     let mut buffer = Buffer::new();
     let behind = stripped(buffer.format(number).as_bytes(), behind)?;
     stripped(b" |", behind)
