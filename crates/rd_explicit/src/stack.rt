@@ -60,11 +60,15 @@ impl Stack {
     }
 
     /// Adds an entry.
-    pub fn push(&mut self, entry: DirectionalStatus)
+    pub fn push(&mut self, level: u8, override_status: Option<Class>, isolate: bool)
         requires { length self.old < STACK_ENTRIES }
-        ensures { self.new ≡ entry ∷ self.old }
+        ensures { self.new ≡ record { level = level; override_status = override_status; isolate = isolate } ∷ self.old }
     {
-        self.entries[self.depth] = entry;
+        self.entries[self.depth] = DirectionalStatus {
+            level,
+            override_status,
+            isolate,
+        };
         self.depth += 1;
     }
 

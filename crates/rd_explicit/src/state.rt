@@ -1,7 +1,7 @@
 //! Rules X1 to X8 of UAX 9, each a method of the state that the rules keep, a function, or an arm of the step that says which rule a
 //! class takes.
-ghost use Rattle.std.specs.Prelude.{◌≡◌, ◌<◌, ◌≤◌, ◌^◌, ◌∷◌, length, if◌then◌else◌};
-ghost use Rattle.rd_explicit.specs.Explicit.{x1_start, top, level_above, is_valid, x2_to_x5_embed, x5a_to_x5c_isolate, x5c_first_strong_isolate, x6_level_and_override, x6a_pop_directional_isolate, x7_pop_directional_format, x8_paragraph_separator, x9_removed, after, given, Rises, IsReady, GoesOn};
+ghost use Rattle.std.specs.Prelude.{◌≡◌, ◌==◌, ◌&&◌, ◌<◌, ◌≤◌, ◌^◌, length};
+ghost use Rattle.rd_explicit.specs.Explicit.{x1_start, top, level_above, x2_to_x5_embed, x5a_to_x5c_isolate, x5c_first_strong_isolate, x6_level_and_override, x6a_pop_directional_isolate, x7_pop_directional_format, x8_paragraph_separator, x9_removed, after, given, Rises, IsReady, GoesOn};
 
 use crate::isolate::x5c_starts_right;
 use crate::stack::{DirectionalStatus, Stack};
@@ -43,46 +43,42 @@ impl State {
         }
     }
 
-    /// For X2 to X5c, adds an entry at a level above the last entry's, and says whether it did: not where the level is too deep (BD2), or
-    /// in what has overflowed.
-    fn push_valid(&mut self, level: u8, override_status: Option<Class>, isolate: bool) -> bool
-        requires above { (top self.old.stack).level < level }
-        requires rises { Rises self.old.stack }
-        ensures valid { result ≡ is_valid level self.old }
-        ensures state { self.new ≡ (if is_valid level self.old then record self.old { stack = record { level = level; override_status = override_status; isolate = isolate } ∷ self.old.stack } else self.old) }
-        ensures rises { Rises self.new.stack }
+    /// For X5a to X5c, whether nothing has overflowed.
+    fn is_free(&self) -> bool
+        ensures { result ≡ (self.now.overflow_isolates == 0 && self.now.overflow_embeddings == 0) }
     {
-        if level > MAX_DEPTH || self.overflow_isolates > 0 || self.overflow_embeddings > 0 {
-            return false;
-        }
-        self.stack.push(DirectionalStatus {
-            level,
-            override_status,
-            isolate,
-        });
-        true
+        self.overflow_isolates == 0 && self.overflow_embeddings == 0
     }
 
-    /// For X2 to X5, an embedding, or an override, at a level above the last entry's. What can't be added overflows.
+    /// For X2 to X5, an embedding, or an override, at a level above the last entry's. It overflows where the level is too deep (BD2), or
+    /// in an embedding that has overflowed, and in an isolate that has overflowed it counts for nothing.
     fn x2_to_x5_embed(&mut self, level: u8, override_status: Option<Class>)
         requires above { (top self.old.stack).level < level }
         requires ready { IsReady 4294967294 self.old }
         ensures state { self.new ≡ x2_to_x5_embed level override_status self.old }
         ensures leaves { GoesOn self.old self.new }
     {
-        if !self.push_valid(level, override_status, false) && self.overflow_isolates == 0 {
+        if self.overflow_isolates > 0 {
+            return;
+        }
+        if level > MAX_DEPTH || self.overflow_embeddings > 0 {
             self.overflow_embeddings += 1;
+        } else {
+            self.stack.push(level, override_status, false);
         }
     }
 
-    /// For X5a to X5c, an isolate at a level above the last entry's. What can't be added overflows.
-    fn x5a_to_x5c_isolate(&mut self, level: u8)
+    /// For X5a to X5c, an isolate at a level above the last entry's. It overflows where the level is too deep (BD2), or something has
+    /// overflowed; `free` says that nothing has.
+    fn x5a_to_x5c_isolate(&mut self, free: bool, level: u8)
+        requires free { free ≡ (self.old.overflow_isolates == 0 && self.old.overflow_embeddings == 0) }
         requires above { (top self.old.stack).level < level }
         requires ready { IsReady 4294967294 self.old }
         ensures state { self.new ≡ x5a_to_x5c_isolate level self.old }
         ensures leaves { GoesOn self.old self.new }
     {
-        if self.push_valid(level, None, true) {
+        if free && level <= MAX_DEPTH {
+            self.stack.push(level, None, true);
             self.valid_isolates += 1;
         } else {
             self.overflow_isolates += 1;
@@ -98,11 +94,9 @@ impl State {
         ensures leaves { GoesOn self.old self.new }
     {
         let level = self.stack.top().level;
-        if self.overflow_isolates == 0 && self.overflow_embeddings == 0 && x5c_starts_right(rest) {
-            self.x5a_to_x5c_isolate(level_above(1, level));
-        } else {
-            self.x5a_to_x5c_isolate(level_above(0, level));
-        }
+        let free = self.is_free();
+        let parity = u8::from(free && x5c_starts_right(rest));
+        self.x5a_to_x5c_isolate(free, level_above(parity, level));
     }
 
     /// X6a: a PDI closes the overflow isolate that was opened last, else the isolate that was opened last and all embeddings in it.
@@ -158,9 +152,9 @@ impl State {
             // X5: an LRO opens an override to L at the next even level.
             Class::LRO => self.x2_to_x5_embed(level_above(0, entry.level), Some(Class::L)),
             // X5a: an RLI opens an isolate at the next odd level.
-            Class::RLI => self.x5a_to_x5c_isolate(level_above(1, entry.level)),
+            Class::RLI => self.x5a_to_x5c_isolate(self.is_free(), level_above(1, entry.level)),
             // X5b: an LRI opens an isolate at the next even level.
-            Class::LRI => self.x5a_to_x5c_isolate(level_above(0, entry.level)),
+            Class::LRI => self.x5a_to_x5c_isolate(self.is_free(), level_above(0, entry.level)),
             Class::FSI => self.x5c_first_strong_isolate(rest),
             Class::PDI => {
                 self.x6a_pop_directional_isolate();
