@@ -3,7 +3,8 @@ ghost use Rattle.std.specs.Prelude.{◌≡◌};
 ghost use Rattle.rd_ucd.specs.BracketFile.{bracket_named};
 
 use crate::fault::UcdFault;
-use crate::listing::{Listed, Listing, read_codes, trimmed_field};
+use crate::listing::{Listed, Listing, read_codes};
+use crate::pieces::{field, trim};
 use crate::spans::{Bracket, BracketEntry};
 
 /// The brackets that a file in the form of `BidiBrackets.txt` gives: as a mirror file, but with a third field, `o` for a bracket that
@@ -29,8 +30,16 @@ impl Listed for BracketEntry {
     ghost of_fields = { bracket_of };
 
     fn read(line: &[u8], number: u64) -> Result<BracketEntry, UcdFault> {
-        let both = read_codes(line, 3, number)?;
-        match bracket_named(both.other, trimmed_field(line, 2)) {
+        let (Some(code), Some(partner), Some(kind), None) = (
+            field(line, 0),
+            field(line, 1),
+            field(line, 2),
+            field(line, 3),
+        ) else {
+            return Err(UcdFault::BadLine(number));
+        };
+        let both = read_codes(code, partner, number)?;
+        match bracket_named(both.other, trim(kind)) {
             Some(bracket) => Ok(BracketEntry {
                 code: both.code,
                 bracket,

@@ -1,13 +1,14 @@
 //! Files that list codes with something each.
-ghost use Rattle.std.specs.Prelude.{◌≡◌, IfOk, ◌≤◌, ◌<◌};
+ghost use Rattle.std.specs.Prelude.{◌≡◌, IfOk, ◌<◌};
 ghost use Rattle.rd_base.specs.declared.limits.TheConstants.{CODE_POINTS};
-ghost use Rattle.rd_ucd.specs.Lines.{fields_of};
-ghost use Rattle.rd_ucd.specs.ListFile.{codes_of, trimmed_field};
+ghost use Rattle.rd_ucd.specs.Codes.{code_of};
+ghost use Rattle.rd_ucd.specs.ListFile.{both};
+ghost use Rattle.rd_ucd.specs.Pieces.{trimmed};
 
 use crate::codes::read_code;
 use crate::fault::UcdFault;
 use crate::lines::{LineReader, read_lines};
-use crate::pieces::{before_comment, field, trim, without_return};
+use crate::pieces::{before_comment, trim, without_return};
 use crate::search::{Covers, entry_at};
 use rd_base::ListOf;
 use std::alloc::Global;
@@ -134,26 +135,12 @@ pub struct Codes {
     pub other: u32,
 }
 
-/// Reads the two codes that a line of just so many fields begins with.
-pub fn read_codes(line: &[u8], count: usize, number: u64) -> Result<Codes, UcdFault>
-    requires { 2 ≤ count }
-    ensures value { result ≡ codes_of count number (fields_of line.now) }
+/// Reads the two codes that the first two fields of a line are.
+pub fn read_codes(first: &[u8], second: &[u8], number: u64) -> Result<Codes, UcdFault>
+    ensures value { result ≡ both number (code_of (trimmed first.now)) (code_of (trimmed second.now)) }
     ensures bound { IfOk result (λ both. both.code < CODE_POINTS) }
 {
-    if field(line, count).is_some() || field(line, count - 1).is_none() {
-        return Err(UcdFault::BadLine(number));
-    }
-    let code = read_code(trimmed_field(line, 0)).ok_or(UcdFault::BadCode(number))?;
-    let other = read_code(trimmed_field(line, 1)).ok_or(UcdFault::BadCode(number))?;
+    let code = read_code(trim(first)).ok_or(UcdFault::BadCode(number))?;
+    let other = read_code(trim(second)).ok_or(UcdFault::BadCode(number))?;
     Ok(Codes { code, other })
-}
-
-/// The field at an index, from 0, without the spaces and tabs round it, and nothing where there are fewer fields.
-pub fn trimmed_field(line: &[u8], index: usize) -> &[u8]
-    ensures { result.now ≡ trimmed_field (fields_of line.now) index }
-{
-    match field(line, index) {
-        Some(field) => trim(field),
-        None => line.split_at(0).0,
-    }
 }

@@ -2,6 +2,7 @@
 
 use crate::fault::UcdFault;
 use crate::listing::{Listed, Listing, read_codes};
+use crate::pieces::field;
 use crate::spans::Pair;
 
 /// The mirrored characters that a file in the form of `BidiMirroring.txt` gives: its lines have two fields, a code and that of the
@@ -27,8 +28,11 @@ impl Listed for Pair {
     ghost of_fields = { pair_of };
 
     fn read(line: &[u8], number: u64) -> Result<Pair, UcdFault> {
-        let both = read_codes(line, 2, number)?;
-        Ok(Pair {
+        let (Some(code), Some(mirror), None) = (field(line, 0), field(line, 1), field(line, 2))
+        else {
+            return Err(UcdFault::BadLine(number));
+        };
+        read_codes(code, mirror, number).map(|both| Pair {
             code: both.code,
             mirror: both.other,
         })
