@@ -5,8 +5,8 @@ ghost use Rattle.rd_para.specs.Known.{IsKnown};
 ghost use Rattle.rd_props.specs.Buffers.{meaning};
 ghost use Rattle.rd_blocks.specs.Bases.{IsParagraphAt, block_base};
 
-use rd_base::{Direction, Pos};
-use rd_para::{Paragraph, next_line, paragraph_at};
+use rd_base::Pos;
+use rd_para::{Paragraph, next_line, own_level, paragraph_at};
 use rd_props::View;
 
 /// The base level of a block that starts at a position. Where the text decides it, it is that of the position's paragraph, which is
@@ -18,20 +18,14 @@ pub(crate) fn base_of(view: View, known: &mut Option<Paragraph>, near: Pos, star
     ensures known { IfSome known.new (λ p. IsKnown view.entry.classes.now view.entry.state.now.text p) }
     ensures base { result ≡ block_base view.entry.classes.now (meaning view.entry.state.now) start }
 {
-    let state = view.state;
-    let settings = &state.settings;
+    let settings = &view.state.settings;
     if !settings.reorder {
         return 0;
     }
-    match settings.direction {
-        Direction::Auto => {
-            let paragraph = paragraph_of(view, *known, near, start);
-            *known = Some(paragraph);
-            paragraph.base
-        }
-        Direction::Left => 0,
-        Direction::Right => 1,
+    if let Some(level) = own_level(settings.direction) {
+        return level;
     }
+    known.insert(paragraph_of(view, *known, near, start)).base
 }
 
 /// The paragraph of a position: gone on to from the known one where that reaches `near`, and else found in the text.

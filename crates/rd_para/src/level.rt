@@ -1,8 +1,9 @@
 //! Base levels.
-ghost use Rattle.std.specs.Prelude.{◌≡◌, ◌+◌, ◌<◌, ◌≤◌, false, unwrap_or};
+ghost use Rattle.std.specs.Prelude.{◌≡◌, ◌+◌, ◌<◌, ◌≤◌, ℕ, false, List, unwrap_or};
 ghost use Rattle.std.specs.List.{slice_split};
-ghost use Rattle.rd_text.specs.Texts.{IsAccessible, between, is_newline, is_separator, next_newline};
-ghost use Rattle.rd_para.specs.Paragraphs.{base_at, decided};
+ghost use Rattle.rd_text.specs.Texts.{TextValue, IsAccessible, between, is_newline, is_separator, next_newline};
+ghost use Rattle.rd_ucd.specs.declared.spans.Span.{Span};
+ghost use Rattle.rd_para.specs.Paragraphs.{base_at, decided, text_level};
 ghost use Rattle.rd_para.specs.Known.{IsKnown, IsParagraph};
 
 use crate::line::{is_blank_line, p2_p3_level_of_line};
@@ -15,16 +16,22 @@ use rd_ucd::Classes;
 /// paragraph of the position's line. A line of only spaces, tabs and form feeds separates paragraphs and has the level of the line before,
 /// else 0. The first line of a paragraph in which UAX 9 P2 finds a strong character gives its level (P3), else it is 0.
 ///
-/// Where the text decides, the way back to the paragraph's start passes over stretches of the text, and then the paragraph is
-/// read from there up to its first strong character; else the cost is constant. It takes no memory.
+/// Where the text decides it costs what `paragraph_at` does, else the cost is constant. It takes no memory.
 pub fn base_level(text: &Buffer, classes: &Classes, direction: Direction, pos: Pos) -> u8
     requires { IsAccessible text.now pos }
     ensures { result ≡ base_at classes.now text.now direction pos }
 {
+    own_level(direction).unwrap_or_else(|| paragraph_at(text, classes, pos).base)
+}
+
+/// The base level that a direction gives by itself; None where the text decides.
+pub fn own_level(direction: Direction) -> Option<u8>
+    ensures { (classes : List Span) (t : TextValue) (pos : ℕ) → base_at classes t direction pos ≡ unwrap_or result (text_level classes t pos) }
+{
     match direction {
-        Direction::Auto => paragraph_at(text, classes, pos).base,
-        Direction::Left => 0,
-        Direction::Right => 1,
+        Direction::Auto => None,
+        Direction::Left => Some(0),
+        Direction::Right => Some(1),
     }
 }
 

@@ -8,5 +8,5 @@ mod level;
 mod line;
 mod paragraph;
 
-pub use level::{base_level, next_line, paragraph_at};
+pub use level::{base_level, next_line, own_level, paragraph_at};
 pub use paragraph::Paragraph;
