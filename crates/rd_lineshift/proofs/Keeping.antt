@@ -24,15 +24,17 @@ shifted-sized s screen p fits =
     let some = p.size.row in
     (size.rows, grid-width (width_of screen.rows) (shifted s screen).rows (omega (arith, size.rows, some)) size.each)
 
+-- what holds of the current screen, and of it shifted, holds of the screen after the shift that is taken
+after : (Q : Option Picture → Type 0) (taken : Option Shift) (current : Option Picture) (target : Picture) → HaveOneSize current target → IfSome taken (λ s. IsShift (length target.rows) s)
+    → Q current → ((s : Shift) → IfSome current (λ screen. IsShift (length screen.rows) s → Q (Some (shifted s screen)))) → Q (after_shift taken current)
+after Q (Some s) (Some screen) target h q stays moves = moves s (rw h.0 q)
+after Q taken current target h q stays moves = stays
+
 pub after-sized : (current : Option Picture) (target : Picture) (taken : Option Shift) → HaveOneSize current target → IfSome current (λ screen. IsScreen screen)
     → IfSome taken (λ s. IsShift (length target.rows) s) → HaveOneSize (after_shift taken current) target
-after-sized None target None h p q = h
-after-sized None target (Some s) h p q = h
-after-sized (Some screen) target None h p q = h
-after-sized (Some screen) target (Some s) h p q =
-    let fits : IsShift (length screen.rows) s = rw h.0 q in
-    let size = shifted-sized s screen p fits in
-    (size.0 ∙ h.0, size.1 ∙ h.1)
+after-sized None target taken h p q = after (λ o. HaveOneSize o target) taken None target h q h (λ s. tt)
+after-sized (Some screen) target taken h p q =
+    after (λ o. HaveOneSize o target) taken (Some screen) target h q h (λ s fits. let size = shifted-sized s screen p fits in (size.0 ∙ h.0, size.1 ∙ h.1))
 
 -- the screen that is kept
 pub moved-sized : (taken : Option Shift) (current : Option Picture) (target old moved : Picture) → current ≡ Some old → (shifting taken current target).screen ≡ Some moved
@@ -53,12 +55,9 @@ shifted-sound s screen p sound fits =
 
 pub after-sound : (current : Option Picture) (target : Picture) (taken : Option Shift) → HaveOneSize current target → IfSome current (λ screen. IsScreen screen × IsSound screen)
     → IfSome taken (λ s. IsShift (length target.rows) s) → IfSome (after_shift taken current) (λ screen. IsSound screen)
-after-sound None target None h p q = tt
-after-sound None target (Some s) h p q = tt
-after-sound (Some screen) target None h p q = p.1
-after-sound (Some screen) target (Some s) h p q =
-    let fits : IsShift (length screen.rows) s = rw h.0 q in
-    shifted-sound s screen p.0 p.1 fits
+after-sound current target taken h p q =
+    after (λ o. IfSome o (λ screen. IsSound screen)) taken current target h q (IfSome_then current p (λ screen here. here.1))
+    (λ s. IfSome_then current p (λ screen here fits. shifted-sound s screen here.0 here.1 fits))
 
 -- ---- by the laws of updates
 
