@@ -30,7 +30,7 @@ pub fn glyph_character(c: char) -> Option<Glyph>
 }
 
 /// Whether this code is below 32, or from 127 to 159.
-fn is_control(code: u32) -> bool
+pub fn is_control(code: u32) -> bool
     ensures { result ≡ is_control code }
 {
     code < 32 || 127 <= code && code <= 159

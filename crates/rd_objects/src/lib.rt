@@ -13,7 +13,7 @@ mod table;
 mod text;
 
 pub use fault::ObjectFault;
-pub use glyph::{columns, glyph_character};
+pub use glyph::{columns, glyph_character, is_control};
 pub use laws::{
     extensions_keep_objects, objects_stay_closed, objects_stay_sound, strings_have_colours,
 };

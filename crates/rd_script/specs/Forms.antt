@@ -1,12 +1,12 @@
 -- What is in form: the characters of names and texts, the ranges of numbers.
-use Rattle.std.specs.Prelude.{ℕ, ◌≤◌, ◌<◌, ◌&&◌, ◌||◌, ◌==◌, not, Bool, nat_lt, nat_le, IsTrue, All, List, length, true, false, pos, Option, None, Some}
+use Rattle.std.specs.Prelude.{ℕ, ◌≤◌, ◌<◌, ◌&&◌, ◌==◌, not, Bool, nat_le, IsTrue, All, List, length, true, false, pos, Option, None, Some}
 use Rattle.std.specs.List.{list_all}
 use Rattle.std.specs.Str.{chars}
 use Rattle.rd_base.specs.Chars.{is_scalar}
 use Rattle.rd_base.specs.declared.limits.TheConstants.{ATOMS, CODE_POINTS, COLOURS, ENTRY_GLYPHS, FRAME_COLUMNS, FRAME_ROWS, HSCROLL_COLUMNS, INVISIBLE_ATOMS, LEAST_FRAME_COLUMNS, LEAST_FRAME_ROWS, NAME_CHARACTERS, NUMBER_COLUMNS, PLAIN_CHARACTERS, PRIORITY, SCROLL_CONSERVATIVELY, SCROLL_MARGIN, SCROLL_ROWS, SPACE_COLUMNS, START_ROW, STRING_COLUMNS, STRING_RUNS, TAB_COLUMNS, TABLE_ENTRIES}
 use Rattle.rd_base.specs.declared.settings.Invisible.{Invisible}
 use Rattle.rd_base.specs.declared.settings.Invisible.TheVariants.{Every, Listed}
-use Rattle.rd_objects.specs.Tables.{has_no_glyph}
+use Rattle.rd_objects.specs.Tables.{has_no_glyph, is_control}
 use Rattle.rd_objects.specs.Widths.{columns}
 use Rattle.rd_overlays.specs.declared.overlay.Kind.{Kind}
 use Rattle.rd_overlays.specs.declared.overlay.Kind.TheVariants as kinds
@@ -20,9 +20,9 @@ use Rattle.rd_script.specs.declared.op.Op.TheVariants.{Frame, Buffer, Insert, In
 use Rattle.rd_script.specs.declared.setting.Setting.{Setting}
 use Rattle.rd_script.specs.declared.setting.Setting.TheVariants as settings
 
--- a character that a buffer's name may have: a scalar value, none below 32, none from 127 to 159
+-- a character that a buffer's name may have: a scalar value that is no control
 abbrev pub is_name_character : ℕ → Bool
-is_name_character c = is_scalar c && (nat_le 32 c && (nat_lt c 127 || nat_le 160 c))
+is_name_character c = is_scalar c && not (is_control c)
 
 -- how many characters a buffer's name may have
 abbrev pub is_name_length : ℕ → Bool

@@ -10,7 +10,7 @@ use crate::buffer_name::BufferName;
 use crate::form::Form;
 use rd_base::limits::{ENTRY_GLYPHS, NAME_CHARACTERS, PLAIN_CHARACTERS};
 use rd_base::{Ch, ListOf, Memory, characters};
-use rd_objects::{columns, glyph_character};
+use rd_objects::{columns, glyph_character, is_control};
 use serde_json::Value;
 use std::alloc::Global;
 
@@ -207,6 +207,5 @@ fn has_name_characters(text: &str) -> bool
 fn is_name_character(c: char) -> bool
     ensures { result ≡ is_name_character c }
 {
-    let code = c as u32;
-    32 <= code && (code < 127 || 160 <= code)
+    !is_control(c as u32)
 }
