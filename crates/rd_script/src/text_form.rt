@@ -1,7 +1,8 @@
 //! The forms of texts: those of a buffer, of a plain line, of glyph characters, and buffers' names.
-ghost use Rattle.std.specs.Prelude.{◌≡◌, IfOk, true, length, option_and_then};
+ghost use Rattle.std.specs.Prelude.{◌≡◌, ◌↔◌, IfOk, IfSome, IsNone, true, false, length, option_and_then};
 ghost use Rattle.std.specs.List.{list_all};
 ghost use Rattle.std.specs.Str.{chars};
+ghost use Rattle.rd_objects.specs.Widths.{columns};
 ghost use Rattle.rd_script.specs.Fields.{kept_if};
 ghost use Rattle.rd_script.specs.Forms.{is_text, is_plain_text, is_name_character, is_name_length, is_buffer_name, is_glyph, is_glyph_text, is_slot};
 ghost use Rattle.rd_script.specs.Objects.{only};
@@ -9,8 +10,8 @@ ghost use Rattle.rd_script.specs.Objects.{only};
 use crate::buffer_name::BufferName;
 use crate::form::Form;
 use rd_base::limits::{ENTRY_GLYPHS, NAME_CHARACTERS, PLAIN_CHARACTERS};
-use rd_base::{Ch, ListOf, Memory, characters};
-use rd_objects::{columns, glyph_character, is_control};
+use rd_base::{Ch, Glyph, ListOf, Memory, characters};
+use rd_objects::{glyph_character, is_control};
 use serde_json::Value;
 use std::alloc::Global;
 
@@ -158,21 +159,26 @@ fn are_glyphs(text: &[Ch]) -> bool
     text.iter().all(|ch| is_glyph(*ch))
 }
 
+/// The glyph of a character, where it is a glyph character.
+fn glyph(ch: Ch) -> Option<Glyph>
+    ensures none { IsNone result ↔ (is_glyph ch ≡ false) }
+    ensures width { IfSome result (λ glyph. glyph.width ≡ columns ch) }
+{
+    glyph_character(char::from_u32(ch.code())?)
+}
+
 /// Whether a character is a glyph character.
 fn is_glyph(ch: Ch) -> bool
     ensures { result ≡ is_glyph ch }
 {
-    match char::from_u32(ch.code()) {
-        Some(c) => glyph_character(c).is_some(),
-        None => false,
-    }
+    glyph(ch).is_some()
 }
 
 /// Whether a character may stand in a slot: a glyph character of one column.
 fn is_slot(ch: Ch) -> bool
     ensures { result ≡ is_slot ch }
 {
-    is_glyph(ch) && columns(ch.code()) == 1
+    glyph(ch).is_some_and(|glyph| glyph.width == 1)
 }
 
 /// Whether a text may be a buffer's name: 1 to 64 characters, none below 32, none from 127 to 159.
