@@ -4,6 +4,7 @@ ghost use Rattle.rd_base.specs.Chars.{raw_code};
 ghost use Rattle.rd_script.specs.Forms.{IsRawByte};
 ghost use Rattle.rd_state.specs.Steps.{raw_text};
 
+use rd_base::limits::CODE_POINTS;
 use rd_base::{Ch, ListOf, Memory, mapped};
 use std::alloc::Global;
 
@@ -20,8 +21,5 @@ fn raw_character(byte: u8) -> Ch
     requires { 128 ≤ byte }
     ensures { result ≡ raw_code byte }
 {
-    match Ch::raw(byte) {
-        Some(ch) => ch,
-        None => unreachable!(),
-    }
+    Ch::from_code(CODE_POINTS + byte as u32)
 }
