@@ -15,7 +15,7 @@ pub struct TableEntry {
 }
 
 /// A display table: entries, and slots for marks and for the ellipsis. They hold glyph characters: scalar values that have 1 to 3
-/// columns and no code below 32 or from 127 to 159, without marks and in their own columns. `glyph_character` makes them.
+/// columns and no code below 32 or from 127 to 159, without marks and in their own columns, as `glyph_character` makes them.
 #[derive(Drop)]
 pub struct Table {
     alloc: Global,

@@ -5,7 +5,7 @@ ghost use Rattle.rd_script.specs.Forms.{is_glyph, is_glyph_text, IsSlot, IsEllip
 ghost use Rattle.rd_state.specs.Making.{glyph_of, table_entry, table_of};
 
 use rd_base::{Ch, Glyph, ListOf, Memory, mapped};
-use rd_objects::{Slot, Table, glyph_character};
+use rd_objects::{Slot, Table, columns};
 use rd_script::OpEntry;
 use std::alloc::Global;
 
@@ -100,11 +100,6 @@ fn glyph(ch: Ch) -> Glyph
     ensures value { result ≡ glyph_of ch }
     ensures right { IsTrue (is_glyph_character result) }
 {
-    match char::from_u32(ch.code()) {
-        Some(c) => match glyph_character(c) {
-            Some(glyph) => glyph,
-            None => unreachable!(),
-        },
-        None => unreachable!(),
-    }
+    let code = ch.code();
+    Glyph::single(code, columns(code))
 }
