@@ -25,6 +25,12 @@ use rd_tree::Tree;
 use std::alloc::Global;
 use std::marker::Model;
 
+/// The columns of the frame in which a session begins.
+const WIDTH: u32 = 80;
+
+/// The rows of the frame in which a session begins, of which the last is the echo area.
+const HEIGHT: u32 = 24;
+
 /// The state of a session: the buffers in order of making; the objects that they name; the windows that show them, and how these share
 /// the frame's rows but the last; and what belongs to the whole frame. Each state is valid.
 #[derive(Drop)]
@@ -62,11 +68,11 @@ impl State {
             parts: StateParts {
                 buffers,
                 objects: Objects::new(alloc)?,
-                tree: Tree::new(alloc, 80, 23)?,
+                tree: Tree::new(alloc, WIDTH, HEIGHT - 1)?,
                 windows,
                 selected: 0,
-                width: 80,
-                height: 24,
+                width: WIDTH,
+                height: HEIGHT,
                 margin: 0,
                 conservatively: 0,
                 echo: ListOf::new(alloc),
