@@ -1,4 +1,4 @@
-mod ByNumber
+pub mod ByNumber
 mod Calm
 mod Chosen
 mod Copying

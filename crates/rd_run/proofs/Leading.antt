@@ -19,6 +19,7 @@ use Rattle.rd_layout.specs.Redisplays.{AreLaidOut, IsLaidOutBy, update_of}
 use Rattle.rd_layout.specs.Sessions.{SessionValue}
 use Rattle.rd_layout.specs.Since.{IsSession}
 use Rattle.rd_layout.specs.Windows.{of_place, of_window, place_of, places, view_in, wanted_of, window_shape, window_source}
+use Rattle.rd_layout.proofs.ByNumber.{Lives}
 use Rattle.rd_layout.proofs.Placed.{all-places}
 use Rattle.rd_layout.proofs.Sending.{sent-anew}
 
@@ -47,13 +48,9 @@ bare v = record v { layouts = [] }
 bare-session : (v : SessionValue) → IsSession v → IsSession (bare v)
 bare-session v h = record { state = h.state; screen = h.screen; made = λ number l at. absurd (cc); layouts = λ number w l lives at. absurd (cc) }
 
--- a window that lives
-abbrev Lives : StateValue → Placed → Type 0
-Lives s p = (w : WindowState) × (window_of p.number s.windows ≡ Some w)
-
-all-live : (s : StateValue) → IsValid s → AllByRecursion (Lives s) (places s)
-all-live s valid = recursion_from_All (Lives s) (places s) (all-places s valid (Lives s) lives) where
-  lives : (p : Placed) → place_of p.number s ≡ Some p → Lives s p
+all-live : (s : StateValue) → IsValid s → AllByRecursion (λ p. Lives p.number s.windows) (places s)
+all-live s valid = recursion_from_All _ (places s) (all-places s valid _ lives) where
+  lives : (p : Placed) → place_of p.number s ≡ Some p → Lives p.number s.windows
   lives p at =
       let w = placed-window s p.number p valid at in
       (w.0, w.1)
@@ -67,7 +64,7 @@ one-laid : (v : SessionValue) (p : Placed) (ps : List Placed) (es : List (ℕ ×
 one-laid v p ps es None w at lives h = absurd (let k : None ≡ Some w = lives in cc)
 one-laid v p ps es (Some x) w at lives h = (refl, laid-by v.files v.state p _ x _ at (fresh-laid v.files v.state x p), h)
 
-all-laid : (v : SessionValue) (ps : List Placed) → AllByRecursion (Lives v.state) ps → AreLaidOut (bare v) ps (flat_map (of_place (fresh_layout v.files v.state) v.state) ps)
+all-laid : (v : SessionValue) (ps : List Placed) → AllByRecursion (λ p. Lives p.number v.state.windows) ps → AreLaidOut (bare v) ps (flat_map (of_place (fresh_layout v.files v.state) v.state) ps)
 all-laid v [] h = tt
 all-laid v (p ∷ ps) h = one-laid v p ps (flat_map (of_place (fresh_layout v.files v.state) v.state) ps) (window_of p.number v.state.windows) h.0.0 refl h.0.1 (all-laid v ps h.1)
 
