@@ -2,7 +2,7 @@
 ghost use Rattle.std.specs.Prelude.{◌≡◌, ◌<◌, take};
 ghost use Rattle.rd_base.specs.Glyphs.{is_space};
 ghost use Rattle.rd_base.specs.Equals.{same_glyph, same_cell};
-ghost use Rattle.rd_base.specs.Cells.{single, takes_mark, joined_glyph, face_number, packed, glyph_number, words_of, AreOnlyOf};
+ghost use Rattle.rd_base.specs.Cells.{single, takes_mark, joined_glyph, face_number, packed, glyph_number, words_of, AreOnlyOf, HasColours, IsColoured};
 
 use crate::face::Face;
 use crate::limits::GLYPH_MARKS;
@@ -82,9 +82,11 @@ pub enum Cell {
 }
 
 impl Cell {
-    /// Three words that differ for different cells whose codes are below 2^21, with at most 6 marks and 3 columns.
+    /// Three words that differ for different cells whose codes are below 2^21, with at most 6 marks and 3 columns. The cell's colours are in
+    /// their range, as those of each `Face` are.
     pub fn words(&self) -> [u64; 3]
         ensures words { result ≡ words_of self.now }
+        ensures colours { IsColoured self.now }
         ensures differ { AreOnlyOf self.now result }
     {
         match self {
@@ -116,6 +118,7 @@ impl Cell {
 /// A face in 11 bits.
 fn number_of_face(face: Face) -> u64
     ensures value { result ≡ face_number face }
+    ensures colours { HasColours face }
     ensures bound { result < 2048 }
 {
     let flags = face.bold as u64 + 2 * (face.underline as u64 + 2 * (face.inverse as u64));

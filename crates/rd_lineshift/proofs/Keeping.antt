@@ -2,12 +2,12 @@
 use Rattle.std.proofs.Common.{◌≡◌, ℕ, List, length, Option, None, Some, subst, ◌∙◌, arith}
 use Rattle.std.specs.Prelude.{IfSome}
 use Rattle.std.proofs.lemmas.Option.{IfSome_then}
-use Rattle.rd_term.specs.Pictures.{Picture, IsScreen, blank_row, width_of}
+use Rattle.rd_term.specs.Pictures.{Picture, IsScreen, IsWellFormed, blank_row, width_of}
 use Rattle.rd_update.specs.Laws.{IsSound}
 use Rattle.rd_update.specs.Plans.{HaveOneSize}
 use Rattle.rd_update.specs.Updates.{update}
 use Rattle.rd_term.proofs.Shapes.{grid-width}
-use Rattle.rd_update.proofs.Soundness.{sound-again}
+use Rattle.rd_update.proofs.Soundness.{sound-again, whole-again}
 use Rattle.rd_lineshift.specs.Choices.{AreWithin, choice}
 use Rattle.rd_lineshift.specs.Laws.{IsShift}
 use Rattle.rd_lineshift.specs.Plans.{after_shift, shifted_update, shifting}
@@ -46,7 +46,15 @@ moved-sized (Some s) (Some screen) target old moved e f h p q =
     let here : IsScreen screen = subst IsScreen is p in
     subst (λ o. IfSome o (λ (m : Picture). HaveOneSize (Some m) target)) f (after-sized (Some screen) target (Some s) h here q)
 
-pub shifted-sound : (s : Shift) (screen : Picture) → IsScreen screen → IsSound screen → IsShift (length screen.rows) s → IsSound (shifted s screen)
+-- the rows of a shifted screen are its own and blank ones
+pub shifted-whole : (s : Shift) (screen : Picture) → IsScreen screen → IsWellFormed screen → IsShift (length screen.rows) s → IsWellFormed (shifted s screen)
+shifted-whole s screen p whole fits =
+    let v = width_of screen.rows in
+    let size = shifted-sized s screen p fits in
+    whole-again screen (shifted s screen) (λ P one. shifted-all P s (blank_row v) screen.rows (one v)) whole
+    (omega (arith, size.0, whole.row)) (omega (arith, size.1, whole.column))
+
+shifted-sound : (s : Shift) (screen : Picture) → IsScreen screen → IsSound screen → IsShift (length screen.rows) s → IsSound (shifted s screen)
 shifted-sound s screen p sound fits =
     let v = width_of screen.rows in
     let size = shifted-sized s screen p fits in

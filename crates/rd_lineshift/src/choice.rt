@@ -1,8 +1,7 @@
 //! Which shift is taken.
 ghost use Rattle.std.specs.Prelude.{◌≡◌, ◌+◌, ◌-◌, ◌<◌, ◌≤◌, length, map, pos, neg_ℤ, Some, IfSome, if◌then◌else◌};
 ghost use Rattle.std.specs.List.{flat_map};
-ghost use Rattle.rd_term.specs.Pictures.{blank_row, width_of};
-ghost use Rattle.rd_update.specs.Laws.{IsSound};
+ghost use Rattle.rd_term.specs.Pictures.{IsWellFormed, blank_row, width_of};
 ghost use Rattle.rd_update.specs.Plans.{HaveOneSize};
 ghost use Rattle.rd_lineshift.specs.Choices.{AreWithin, choice, cheapest, shift_by, shifts_of};
 ghost use Rattle.rd_lineshift.specs.Numbers.{gained, lesser, number_cost, number_in, priced, unlike_moved};
@@ -40,8 +39,8 @@ struct Numbered {
 /// only if their prints are equal, and at the numbers of all rows once for each shift.
 pub fn shift_of(current: &Screen, target: &Screen, bands: &[Band]) -> Option<Shift>
     requires size { HaveOneSize (Some current.now) target.now }
-    requires current { IsSound current.now }
-    requires target { IsSound target.now }
+    requires current { IsWellFormed current.now }
+    requires target { IsWellFormed target.now }
     requires bands { AreWithin (length target.now.rows) bands.now }
     ensures { result ≡ choice (Some current.now) target.now bands.now }
 {

@@ -1,8 +1,7 @@
 //! An update that may begin with a shift, prepared before any of it is sent, so that sending takes no memory.
 ghost use Rattle.std.specs.Prelude.{◌≡◌, ℕ, ◌≤◌, List, length, Option, None, Some, IfOk, IfSome, OnErr};
 ghost use Rattle.rd_io.specs.Devices.{Rose};
-ghost use Rattle.rd_term.specs.Pictures.{Picture};
-ghost use Rattle.rd_update.specs.Laws.{IsSound};
+ghost use Rattle.rd_term.specs.Pictures.{IsWellFormed, Picture};
 ghost use Rattle.rd_update.specs.Plans.{HaveOneSize, Sends, sent_of, shown};
 ghost use Rattle.rd_lineshift.specs.Choices.{AreWithin};
 ghost use Rattle.rd_lineshift.specs.Laws.{IsShift};
@@ -36,8 +35,8 @@ impl Model for Shifted {
 }
 
 /// Prepares the update from the current screen, None where nobody knows it, to the target. Both have one size, in both
-/// each glyph stands whole, their colours are in range, and the bands lie on them. Its one error is want of memory. Where
-/// a shift of one of the bands spares three rows or more it begins with that shift.
+/// each glyph stands whole, and the bands lie on them. Its one error is want of memory. Where a shift of one of the bands spares
+/// three rows or more it begins with that shift.
 pub fn shifted_plan(
     alloc: Global,
     current: Option<&Screen>,
@@ -45,8 +44,8 @@ pub fn shifted_plan(
     bands: &[Band],
 ) -> Result<Shifted, Memory>
     requires size { HaveOneSize (shown current) target.now }
-    requires current { IfSome (shown current) (λ screen. IsSound screen) }
-    requires target { IsSound target.now }
+    requires current { IfSome (shown current) (λ screen. IsWellFormed screen) }
+    requires target { IsWellFormed target.now }
     requires bands { AreWithin (length target.now.rows) bands.now }
     ensures { IfOk result (λ prepared. prepared ≡ shifted_planned (shown current.entry) target.now bands.now) }
 {
@@ -67,8 +66,8 @@ fn with_shift(
     shift: Shift,
 ) -> Result<Shifted, Memory>
     requires size { HaveOneSize (Some current.now) target.now }
-    requires current { IsSound current.now }
-    requires target { IsSound target.now }
+    requires current { IsWellFormed current.now }
+    requires target { IsWellFormed target.now }
     requires shift { IsShift (length target.now.rows) shift }
     ensures { IfOk result (λ prepared. prepared ≡ shifting (Some shift) (Some current.now) target.now) }
 {
@@ -91,8 +90,8 @@ fn without_shift(
     target: &Screen,
 ) -> Result<Shifted, Memory>
     requires size { HaveOneSize (shown current) target.now }
-    requires current { IfSome (shown current) (λ screen. IsSound screen) }
-    requires target { IsSound target.now }
+    requires current { IfSome (shown current) (λ screen. IsWellFormed screen) }
+    requires target { IsWellFormed target.now }
     ensures { IfOk result (λ prepared. prepared ≡ shifting None (shown current.entry) target.now) }
 {
     Ok(Shifted {

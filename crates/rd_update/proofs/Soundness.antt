@@ -11,7 +11,7 @@ use Rattle.rd_base.specs.Cells.{IsColoured}
 use Rattle.rd_base.specs.Faces.{plain}
 use Rattle.rd_base.specs.Glyphs.{IsRowAfter}
 use Rattle.rd_base.specs.declared.cell.Cell.{Cell}
-use Rattle.rd_term.specs.Pictures.{Picture, blank, blank_row, width_of}
+use Rattle.rd_term.specs.Pictures.{Picture, IsWellFormed, blank, blank_row, width_of}
 use Rattle.rd_update.specs.Laws.{IsSound}
 use Rattle.rd_update.specs.Plans.{HaveOneSize}
 use Rattle.rd_update.specs.Updates.{update, start, blank_like, rows_after, allows, less_one, differs, differing, is_done}
@@ -62,11 +62,17 @@ size-kept current target limit h =
 
 -- ---- soundness
 
+-- a picture of the rows of a well-formed one and of blank ones, with its cursor on them
+pub whole-again : (old new : Picture) → ((P : List Cell → Type 0) → ((n : ℕ) → P (blank_row n)) → All P old.rows → All P new.rows) → IsWellFormed old
+    → new.row < length new.rows → new.column < width_of new.rows → IsWellFormed new
+whole-again old new each whole row column =
+    record { glyphs = each (λ cells. IsRowAfter 0 cells) (λ n. blanks-whole n plain) whole.glyphs; row = row; column = column }
+
 -- a picture of the rows of a sound one and of blank ones, with its cursor on them
 pub sound-again : (old new : Picture) → ((P : List Cell → Type 0) → ((n : ℕ) → P (blank_row n)) → All P old.rows → All P new.rows) → IsSound old
     → new.row < length new.rows → new.column < width_of new.rows → IsSound new
 sound-again old new each sound row column = record {
-  whole = record { glyphs = each (λ cells. IsRowAfter 0 cells) (λ n. blanks-whole n plain) sound.whole.glyphs; row = row; column = column };
+  whole = whole-again old new each sound.whole row column;
   colours = each (λ cells. All IsColoured cells) (λ n. blanks-coloured n plain plain-coloured) sound.colours;
 }
 

@@ -13,7 +13,7 @@ use Rattle.std.proofs.lemmas.Option.{cond_some}
 use Rattle.std.proofs.lemmas.Slice.Zip.{get_or-zip, length-zip}
 use Rattle.rd_base.proofs.Choices.{none-chosen}
 use Rattle.rd_lanes.specs.Kernels.{differs as words_differ, first_difference as first_word, last_difference as last_word}
-use Rattle.rd_base.specs.Cells.{words_of, IsSmall, AreOnlyOf}
+use Rattle.rd_base.specs.Cells.{words_of, IsColoured, IsSmall, AreOnlyOf}
 use Rattle.rd_base.specs.Equals.{same_cell}
 use Rattle.rd_base.specs.declared.cell.Cell.{Cell}
 use Rattle.rd_base.specs.declared.cell.Cell.TheVariants.{Blank, First, Rest}
@@ -171,7 +171,7 @@ columns-chosen xs ys n p q None last f l = columns-none-first xs ys n p q f
 pub columns-told : (xs ys : List Cell) (olds news : List ℕ) → length xs ≡ length ys → olds ≡ row_words xs → news ≡ row_words ys
     → AreTold xs → All IsSmall xs → All IsSmall ys → columns_of_words olds news ≡ differing_columns xs ys
 columns-told xs ys olds news n a b told small other =
-    let each = recursion_from_All IsTold xs (λ k d lt. (small k d lt, told k d lt)) in
+    let each = recursion_from_All IsTold xs (λ k d lt. (small k d lt, (told k d lt).1)) in
     ap₂ columns_of_words a b
     ∙ columns-chosen xs ys n each (recursion_from_All IsSmall ys other) (first_word (row_words xs) (row_words ys)) (last_word (row_words xs) (row_words ys)) refl refl
 
@@ -189,7 +189,8 @@ read-more cells i x words before after lt here w b e =
     ∙ ap row_words (sym (take_more cells i x lt))
 
 -- one more cell that its words tell
-pub told-more : (cells : List Cell) (i : ℕ) (x : Cell) → i < length cells → x ≡ get_or cells i x → AreTold (take i cells) → AreOnlyOf x (words_of x) → AreTold (take (i + 1) cells)
+pub told-more : (cells : List Cell) (i : ℕ) (x : Cell) → i < length cells → x ≡ get_or cells i x → AreTold (take i cells) → IsColoured x × AreOnlyOf x (words_of x) → AreTold (take (i + 1) cells)
 told-more cells i x lt here before told =
-    let all = All-append (λ c. AreOnlyOf c (words_of c)) (take i cells) (x ∷ []) before (All-from_recursion (λ c. AreOnlyOf c (words_of c)) (x ∷ []) (told, tt)) in
+    let IsOwn : Cell → Type 0 = λ c. IsColoured c × AreOnlyOf c (words_of c) in
+    let all = All-append IsOwn (take i cells) (x ∷ []) before (All-from_recursion IsOwn (x ∷ []) (told, tt)) in
     subst (λ cs. AreTold cs) (ap (λ y. take i cells ++ y ∷ []) here ∙ sym (take_more cells i x lt)) all

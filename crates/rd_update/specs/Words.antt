@@ -2,7 +2,7 @@
 use Rattle.std.specs.Prelude.{ℕ, ◌+◌, ◌/◌, if◌then◌else◌, List, All, Option, None, Some}
 use Rattle.std.specs.List.{flat_map}
 use Rattle.rd_lanes.specs.Kernels.{first_difference as first_word, last_difference as last_word}
-use Rattle.rd_base.specs.Cells.{words_of, AreOnlyOf}
+use Rattle.rd_base.specs.Cells.{words_of, AreOnlyOf, IsColoured}
 use Rattle.rd_base.specs.declared.cell.Cell.{Cell}
 use Rattle.rd_update.specs.Updates.{first_difference, end_of_differences, differs}
 use Rattle.rd_update.specs.declared.span.Columns.{Columns}
@@ -11,9 +11,9 @@ use Rattle.rd_update.specs.declared.span.Columns.{Columns}
 abbrev pub row_words : List Cell → List ℕ
 row_words cells = flat_map words_of cells
 
--- cells that their words tell
+-- cells that their words tell, with colours in their range
 abbrev pub AreTold : List Cell → Type 0
-AreTold cells = All (λ cell. AreOnlyOf cell (words_of cell)) cells
+AreTold cells = All (λ cell. IsColoured cell × AreOnlyOf cell (words_of cell)) cells
 
 -- the columns from the first to the last one at which two rows differ
 abbrev pub differing_columns : List Cell → List Cell → Option Columns

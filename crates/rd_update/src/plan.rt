@@ -1,18 +1,18 @@
 //! An update that is prepared before any of it is sent, so that sending takes no memory.
-ghost use Rattle.std.specs.Prelude.{◌≡◌, ℕ, ◌<◌, ◌≤◌, ◌++◌, ◌-◌, length, Option, All, IfSome, IfOk, OnOk, OnErr, take, drop, replicate, slice_index_or};
-ghost use Rattle.rd_base.specs.Cells.{IsSmall, row_at};
+ghost use Rattle.std.specs.Prelude.{◌≡◌, ℕ, ◌<◌, ◌≤◌, ◌++◌, ◌-◌, length, Option, IfSome, IfOk, OnOk, OnErr, take, drop, replicate, slice_index_or};
+ghost use Rattle.rd_base.specs.Cells.{row_at};
+ghost use Rattle.rd_base.specs.Glyphs.{IsRowAfter};
 ghost use Rattle.rd_base.specs.declared.limits.TheConstants.{SEQUENCE_VALUE};
 ghost use Rattle.rd_io.specs.Devices.{Rose};
-ghost use Rattle.rd_term.specs.Pictures.{Picture, IsScreen, blank_row, width_of};
+ghost use Rattle.rd_term.specs.Pictures.{Picture, IsScreen, IsWellFormed, blank_row, width_of};
 ghost use Rattle.rd_update.specs.Updates.{Update, update, opening as opening_of, start, row_bytes, rows_bytes, blank_like, differs};
-ghost use Rattle.rd_update.specs.Laws.{IsSound};
 ghost use Rattle.rd_update.specs.Plans.{Prepared, planned, shown, HaveOneSize, Sends, sent_of, parts_from, old_row as old_row_of, IsRowOf, no_part, front_within, part_if, bytes_if};
 
 use crate::bytes::{push_move, push_row};
 use crate::span::differences;
 use crate::words::PairWords;
 use rd_base::limits::{FRAME_COLUMNS, FRAME_ROWS};
-use rd_base::{Cell, Face, ListOf, Memory, good_cells_are_small};
+use rd_base::{Cell, Face, ListOf, Memory};
 use rd_io::{Sink, write_whole};
 use rd_term::{Screen, first_blanks};
 use std::alloc::Global;
@@ -57,13 +57,12 @@ impl Model for Plan {
 }
 
 impl Plan {
-    /// Prepares the update from the current screen, None where nobody knows it, to the target. Both have one size, in
-    /// both each glyph stands whole, and their colours are in range. Its one error is want of memory. It looks at each
-    /// cell of both a fixed number of times.
+    /// Prepares the update from the current screen, None where nobody knows it, to the target. Both have one size, and in
+    /// both each glyph stands whole. Its one error is want of memory. It looks at each cell of both a fixed number of times.
     pub fn prepare(alloc: Global, current: Option<&Screen>, target: &Screen) -> Result<Plan, Memory>
         requires size { HaveOneSize (shown current) target.now }
-        requires current { IfSome (shown current) (λ screen. IsSound screen) }
-        requires target { IsSound target.now }
+        requires current { IfSome (shown current) (λ screen. IsWellFormed screen) }
+        requires target { IsWellFormed target.now }
         ensures { IfOk result (λ plan. plan ≡ planned (shown current.entry) target.now) }
     {
         let blank = ListOf::filled(alloc, target.width() as usize, Cell::Blank(Face::PLAIN))?;
@@ -161,16 +160,15 @@ fn opening(alloc: Global, current: Option<&Screen>) -> Result<ListOf<u8>, Memory
     }
 }
 
-/// The cells of a row of a sound screen, which their words tell apart.
-fn sound_cells_of(screen: &Screen, row: u32) -> &[Cell]
+/// The cells of a row of a screen in which each glyph stands whole.
+fn whole_cells_of(screen: &Screen, row: u32) -> &[Cell]
     requires row { row < length screen.now.rows }
-    requires sound { IsSound screen.now }
+    requires form { IsWellFormed screen.now }
     ensures cells { result.now ≡ row_at screen.now.rows row }
     ensures width { length result.now ≡ width_of screen.now.rows }
     ensures narrow { width_of screen.now.rows ≤ FRAME_COLUMNS }
-    ensures small { All IsSmall result.now }
+    ensures whole { IsRowAfter 0 result.now }
 {
-    good_cells_are_small();
     let _width = screen.width();
     screen.row(row)
 }
@@ -178,15 +176,15 @@ fn sound_cells_of(screen: &Screen, row: u32) -> &[Cell]
 /// The row of the current screen, where an unknown one has this row everywhere.
 fn old_row<'a>(current: Option<&'a Screen>, blank: &'a [Cell], row: u32) -> &'a [Cell]
     requires row { IsRowOf (shown current) (length blank.now) row }
-    requires sound { IfSome (shown current) (λ screen. IsSound screen) }
-    requires blank { All IsSmall blank.now }
+    requires form { IfSome (shown current) (λ screen. IsWellFormed screen) }
+    requires blank { IsRowAfter 0 blank.now }
     ensures cells { result.now ≡ old_row_of (shown current.entry) blank.now row }
     ensures width { length result.now ≡ length blank.now }
-    ensures small { All IsSmall result.now }
+    ensures whole { IsRowAfter 0 result.now }
 {
     match current {
         None => blank,
-        Some(screen) => sound_cells_of(screen, row),
+        Some(screen) => whole_cells_of(screen, row),
     }
 }
 
@@ -202,8 +200,8 @@ fn push_part(
     requires row { row < SEQUENCE_VALUE }
     requires width { length new.now ≤ FRAME_COLUMNS }
     requires length { length old.now ≡ length new.now }
-    requires old { All IsSmall old.now }
-    requires new { All IsSmall new.now }
+    requires old { IsRowAfter 0 old.now }
+    requires new { IsRowAfter 0 new.now }
     ensures bytes { OnOk result (bytes.new ≡ bytes.old ++ bytes_if (differs old.now new.now) (row_bytes row old.now new.now)) }
     ensures parts { OnOk result (parts.new ≡ parts.old ++ part_if (differs old.now new.now) row (length bytes.old)) }
 {
@@ -228,8 +226,8 @@ fn push_parts(
 ) -> Result<(), Memory>
     requires size { HaveOneSize (shown current) target.now }
     requires blank { blank.now ≡ blank_row (width_of target.now.rows) }
-    requires current { IfSome (shown current) (λ screen. IsSound screen) }
-    requires target { IsSound target.now }
+    requires current { IfSome (shown current) (λ screen. IsWellFormed screen) }
+    requires target { IsWellFormed target.now }
     ensures bytes { OnOk result (bytes.new ≡ bytes.old ++ rows_bytes 0 None (start (shown current.entry) target.now).rows target.now.rows) }
     ensures parts { OnOk result (parts.new ≡ parts.old ++ parts_from 0 (length bytes.old) (start (shown current.entry) target.now).rows target.now.rows) }
     ensures few { length target.now.rows ≤ FRAME_ROWS }
@@ -238,7 +236,7 @@ fn push_parts(
     let mut words = PairWords::none(alloc);
     for row in 0..target.height() {
         let old = old_row(current, blank, row);
-        let new = sound_cells_of(target, row);
+        let new = whole_cells_of(target, row);
         push_part(bytes, parts, &mut words, row, old, new)?;
     }
     Ok(())

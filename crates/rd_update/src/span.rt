@@ -1,13 +1,13 @@
 //! Where two rows differ.
-ghost use Rattle.std.specs.Prelude.{◌≡◌, ◌<◌, ◌≤◌, ◌-◌, All, IfOk, length, slice_index_or};
-ghost use Rattle.rd_base.specs.Cells.{IsSmall};
+ghost use Rattle.std.specs.Prelude.{◌≡◌, ◌<◌, ◌≤◌, ◌-◌, IfOk, length, slice_index_or};
+ghost use Rattle.rd_base.specs.Glyphs.{IsRowAfter};
 ghost use Rattle.rd_base.specs.Equals.{same_cell};
 ghost use Rattle.rd_term.specs.Pictures.{blank};
 ghost use Rattle.rd_update.specs.Updates.{first_difference as first_column, end_of_differences as end_column, used as used_of, differs, is_rest, goes_on, begin_of, end_of};
 ghost use Rattle.rd_update.specs.Words.{columns_of_words, differing_columns};
 
 use crate::words::{PairWords, read};
-use rd_base::{Cell, Face, Memory};
+use rd_base::{Cell, Face, Memory, good_cells_are_small};
 use rd_lanes::{first_diff, last_diff};
 use rd_term::{back_while, on_while};
 
@@ -26,7 +26,7 @@ pub fn differ(old: &[Cell], new: &[Cell]) -> bool
     old != new
 }
 
-/// The columns from the first to the last one at which two rows of one width differ. None exactly where they do not, and then no words
+/// The columns from the first to the last one at which two rows of one width differ, in which each glyph stands whole. None exactly where they do not, and then no words
 /// of them are read.
 pub(crate) fn differences(
     words: &mut PairWords,
@@ -34,13 +34,14 @@ pub(crate) fn differences(
     new: &[Cell],
 ) -> Result<Option<Columns>, Memory>
     requires length { length old.now ≡ length new.now }
-    requires old { All IsSmall old.now }
-    requires new { All IsSmall new.now }
+    requires old { IsRowAfter 0 old.now }
+    requires new { IsRowAfter 0 new.now }
     ensures { IfOk result (λ columns. columns ≡ differing_columns old.now new.now) }
 {
     if !differ(old, new) {
         return Ok(None);
     }
+    good_cells_are_small();
     read(&mut words.old, old)?;
     read(&mut words.new, new)?;
     Ok(columns_between(words.old.as_slice(), words.new.as_slice()))

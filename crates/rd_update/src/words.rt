@@ -22,7 +22,7 @@ impl PairWords {
     }
 }
 
-/// Makes words those of a row's cells.
+/// Makes words those of a row's cells, whose colours are in their range, as those of each `Face` are.
 pub(crate) fn read(words: &mut ListOf<u64>, cells: &[Cell]) -> Result<(), Memory>
     ensures words { OnOk result (words.new ≡ row_words cells.now) }
     ensures told { OnOk result (AreTold cells.now) }

@@ -1,8 +1,15 @@
-use Rattle.std.proofs.Common.{◌+◌, ◌<◌, ◌∙◌, length, drop, None, arith}
+use Rattle.std.proofs.Common.{◌+◌, ◌<◌, ◌∙◌, length, drop, None, subst, sym, arith}
+use Rattle.rd_base.specs.Faces.{plain}
+use Rattle.rd_base.specs.Glyphs.{IsRowAfter}
+use Rattle.rd_base.proofs.Rows.{blanks-whole}
+use Rattle.rd_term.specs.Pictures.{width_of}
 use Rattle.rd_update.specs.Updates.{differs, start, row_bytes, rows_bytes}
 use Rattle.rd_update.specs.Plans.{shown, parts_from}
 use Rattle.rd_update.proofs.Parts.{start-row, start-length, pushed, bytes-chosen, parts-chosen}
 use Rattle.rd_update.proofs.plan.push_parts.Goals as goal
+
+pub old_row-old-requires-clause-blank : goal.old_row-old-requires-clause-blank
+old_row-old-requires-clause-blank c = subst (IsRowAfter 0) (sym c.requires.blank) (blanks-whole (width_of c.args.target.now.rows) plain)
 
 pub loop-row-preserved : goal.loop-row-preserved
 loop-row-preserved c =
@@ -16,8 +23,8 @@ loop-row-preserved c =
     let there : c.loop-row.row < length olds = omega (arith, same) in
     let old = c.old_row-old.ensures.cells ∙ start-row current target c.args.blank.now row here c.requires.blank c.width-width.ensures.screen.size.each in
     let o = c.old_row-old.result.now in
-    let n = c.sound_cells_of-new.result.now in
-    let new = c.sound_cells_of-new.ensures.cells in
+    let n = c.whole_cells_of-new.result.now in
+    let new = c.whole_cells_of-new.ensures.cells in
     let os = drop (c.loop-row.row + 1) olds in
     let ns = drop (c.loop-row.row + 1) target.rows in
     let added = c.in_ok-push_part.ensures in (

@@ -13,7 +13,7 @@ loop-cell-preserved c =
     let x = c.cell-item.result in
     let words = c.words.ensures in record {
       same = read-more cells i x c.words.result c.loop-cell.words c.extend_from_slice.new.self c.loop-cell-test.true c.cell-item.is words.words h.same c.in_ok-extend_from_slice.ensures.ok;
-      told = told-more cells i x c.loop-cell-test.true c.cell-item.is h.told (subst (λ ws. AreOnlyOf x ws) words.words words.differ);
+      told = told-more cells i x c.loop-cell-test.true c.cell-item.is h.told (words.colours, subst (λ ws. AreOnlyOf x ws) words.words words.differ);
     }
 
 pub returns-clause-told : goal.returns-clause-told
