@@ -1,7 +1,6 @@
 -- The windows of a state in leaf order, and their views.
 use Rattle.std.proofs.Common.{◌≡◌, ℕ, ◌<◌, ◌≤◌, Option, None, Some, List, length, sym, ap, subst, ◌∙◌, arith}
 use Rattle.std.proofs.lemmas.Option.{none-some}
-use Rattle.std.specs.Option.{MatchOption}
 use Rattle.std.specs.Prelude.{option_map, slice_get}
 use Rattle.rd_base.proofs.Choices.{map-some}
 use Rattle.rd_base.proofs.Lists.{element-at}
@@ -21,11 +20,6 @@ use Rattle.rd_window.specs.Views.{WindowView}
 use Rattle.rd_layout.specs.Windows.{place_of, places, view_in, views_in}
 use Rattle.rd_layout.proofs.Placed.{shown-at, shown-count}
 use Rattle.rd_paint.specs.Shown.{IsLeaf, painted_of}
-
--- an answer that is nothing
-pub nothing : {A : Type 0} (o : Option A) (P : Type 0) (Q : A → Type 0) → o ≡ None → P → MatchOption o P Q
-nothing None P Q h p = p
-nothing (Some x) P Q h p = absurd (cc)
 
 -- what is asked of a tree that is the state's
 pub listed-of-tree : (s : StateValue) (t : Configuration) (i : ℕ) (o : Option Placed) → t ≡ s.tree → o ≡ slice_get (placed t.windows (frame_of t)) i → slice_get (places s) i ≡ o

@@ -1,13 +1,14 @@
 use Rattle.std.proofs.Common.{sym}
+use Rattle.std.proofs.option.Match.{at_none}
 use Rattle.rd_base.proofs.Lists.{ended}
 use Rattle.rd_layout.specs.Windows.{places}
-use Rattle.rd_paint.proofs.Leaves.{found-of-tree, is-leaf, listed-of-tree, lives, nothing, shows-buffer}
+use Rattle.rd_paint.proofs.Leaves.{found-of-tree, is-leaf, listed-of-tree, lives, shows-buffer}
 use Rattle.rd_paint.proofs.leaf.found_leaf.Goals as goal
 
 pub returns-in_err-place : goal.returns-in_err-place
 returns-in_err-place c =
     let s = c.args.state.now in
-    nothing c.from_residual.result _ _ c.from_residual.ensures (ended (places s) c.args.i (listed-of-tree s c.tree.result.now c.args.i _ c.tree.ensures c.in_err-place.ensures.place))
+    at_none c.from_residual.result _ _ c.from_residual.ensures (ended (places s) c.args.i (listed-of-tree s c.tree.result.now c.args.i _ c.tree.ensures c.in_err-place.ensures.place))
 
 pub returns-in_err-window : goal.returns-in_err-window
 returns-in_err-window c =
