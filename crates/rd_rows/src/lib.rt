@@ -53,5 +53,6 @@ pub use laws::{
     rows_of_every_line,
 };
 pub use maker::RowMaker;
+pub use rd_base::Wrap;
 pub use row::Row;
 pub use shape::Shape;

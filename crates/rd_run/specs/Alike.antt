@@ -52,7 +52,7 @@ AreStarvedAlike w [] us = Unit {0}
 AreStarvedAlike w (t ∷ ts) [] = Unit {0}
 AreStarvedAlike w (t ∷ ts) (u ∷ us) = (is_some (outcome_at w t) ≡ true → t.starved ≡ u.starved) × AreStarvedAlike (run_line w t) ts us
 
--- of two runs from their beginning, where they have begun: of the redisplays that both run the same find no memory
+-- of the redisplays that two runs both run the same find no memory: from their beginning on, where they have begun
 abbrev pub AreStarvedAlikeIn : Option Mode → List Input → List Input → Type 0
 AreStarvedAlikeIn None ts us = Unit {0}
 AreStarvedAlikeIn (Some mode) ts us = AreStarvedAlike (opened mode) ts us

@@ -26,8 +26,8 @@ pub fn differ(old: &[Cell], new: &[Cell]) -> bool
     old != new
 }
 
-/// The columns from the first to the last one at which two rows of one width differ, in which each glyph stands whole. None exactly where they do not, and then no words
-/// of them are read.
+/// Of two rows of one width, in which each glyph stands whole, the columns from the first to the last one at which they differ.
+/// None exactly where they do not, and then no words of them are read.
 pub(crate) fn differences(
     words: &mut PairWords,
     old: &[Cell],
