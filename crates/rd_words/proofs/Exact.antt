@@ -1,23 +1,28 @@
 -- The words as `clap` reads them are the words as the definition reads them.
 use Rattle.std.proofs.Common.{◌≡◌, ◌∙◌, Bool, true, false, List, [], ◌∷◌, ◌++◌, Option, None, Some, option_map, refl, sym, ap}
-use Rattle.std.specs.Prelude.{if◌then◌else◌, option_and_then, codes}
+use Rattle.std.specs.Prelude.{if◌then◌else◌, find, not, option_and_then, codes}
 use Rattle.std.specs.Option.{option_map_or}
 use Rattle.std.specs.Str.{bytes_eq}
 use Rattle.clap.proofs.FaultLemmas.{leaf_fault}
 use Rattle.clap.proofs.SimpleLemmas.{is_nil}
+use Rattle.clap.proofs.WalkLemmas.{both}
 use Rattle.clap.specs.Kinds.{Kinds}
 use Rattle.clap.specs.Lexer.{long_of}
 use Rattle.clap.specs.Walk.{Held, Row, Rule, arg_by_id, arg_by_long, is_empty, nothing_held, reacted, settled, used, walk_from}
 use Rattle.clap.specs.Simple.{built, matches_of}
 use Rattle.clap.specs.Faults.{fault_of, react_fault, settle_fault, use_fault}
-use Rattle.rd_words.specs.Words.{Text, Setting, dump, name_of, named, has_value, Use, with_use, begun, last, uses_from, fits, is_flag, WordValues, values_from, values_of}
+use Rattle.rd_words.specs.Words.{Text, Setting, generate, dump, name_of, named, has_value, Use, with_use, begun, last, uses_from, fits, is_flag, is_in_form, is_number, is_of, is_used, values_from, values_of}
 use Rattle.rd_words.specs.Command.{command, unless, values_of_rows}
-use Rattle.rd_words.proofs.WordByWord.{awaiting, at_end, held, later, met, outcome, outcome-is, outcome-word, rule, shape, unless-first, waits}
-use Rattle.rd_words.proofs.Uses.{ended-is, flag-fits, flag-used, named-is, rows, value-fits, value-used}
+use Rattle.rd_words.proofs.WordByWord.{awaiting, at_end, held, later, met, outcome, outcome-is, outcome-word, rows_unless, rule, shape, unless-first, waits}
+use Rattle.rd_words.proofs.Uses.{HaveNumber, Say, ended-is, ended_rows, ended-say, flag-fits, flag-used, named-is, rows, value-fits, value-used}
 
--- what uses say behind those that were met
-abbrev after : List Use → Option (List Use) → Option WordValues
-after us o = option_and_then (values_from us) o
+-- the rows that uses make behind those that were met
+abbrev rows_from : List Use → List Use → Option (List Row)
+rows_from us [] = ended_rows us
+rows_from us (v ∷ vs) = if fits us v then rows_from (us ++ v ∷ []) vs else None
+
+abbrev after : List Use → Option (List Use) → Option (List Row)
+after us o = option_and_then (rows_from us) o
 
 after-use : (us : List Use) (u : Use) (o : Option (List Use)) → after us (with_use u o) ≡ (if fits us u then after (us ++ u ∷ []) o else None)
 after-use us u None = go (fits us u)
@@ -28,7 +33,7 @@ after-use us u None = go (fits us u)
 after-use us u (Some vs) = refl
 
 -- where a use fits what is behind it counts, and nothing where it does not
-unless-fits : (k : Kinds) (b : Bool) (x y : Option WordValues) → is_empty k ≡ b → (b ≡ true → x ≡ y) → unless k x ≡ (if b then y else None)
+unless-fits : (k : Kinds) (b : Bool) (x y : Option (List Row)) → is_empty k ≡ b → (b ≡ true → x ≡ y) → rows_unless k x ≡ (if b then y else None)
 unless-fits k true x y e h = rw (is_nil k e) (h refl)
 unless-fits [] false x y e h = cc
 unless-fits (k ∷ ks) false x y e h = refl
@@ -51,10 +56,10 @@ pending-used : (us : List Use) (s : Setting) (v : Text) → has_value s ≡ true
     → settled shape.rules (held (rows us) (Some (name_of s, v ∷ []))) ≡ held (rows (us ++ (s, v) ∷ [])) None
 pending-used us s v e f = rw (by_name s) (ap (λ (rs : List Row). held rs None) (value-used us s v e f))
 
-abbrev start : List Use → List Text → Option WordValues
+abbrev start : List Use → List Text → Option (List Row)
 start us words = outcome (walk_from (held (rows us) None)) words
 
-abbrev wait : List Use → Setting → List Text → Option WordValues
+abbrev wait : List Use → Setting → List Text → Option (List Row)
 wait us s words = outcome (awaiting (held (rows us) None) (name_of s)) words
 
 -- what words make behind an option and its value, each a word
@@ -68,7 +73,7 @@ pending us s v words e =
 -- a use in one word
 used-once : (us : List Use) (a : Rule) (vs : List Text) (u : Use) (words : List Text) → is_empty (use_fault false a vs (rows us)) ≡ fits us u
     → (fits us u ≡ true → used a vs (rows us) ≡ rows (us ++ u ∷ []))
-    → unless (react_fault shape.rules false a vs (held (rows us) None)) (outcome (walk_from (reacted shape.rules a vs (held (rows us) None))) words)
+    → rows_unless (react_fault shape.rules false a vs (held (rows us) None)) (outcome (walk_from (reacted shape.rules a vs (held (rows us) None))) words)
     ≡ (if fits us u then start (us ++ u ∷ []) words else None)
 used-once us a vs u words fault row =
     unless-fits (use_fault false a vs (rows us)) (fits us u) _ _ fault (λ f. ap (λ (rs : List Row). outcome (walk_from (held rs None)) words) (row f))
@@ -77,7 +82,7 @@ used-once us a vs u words fault row =
 used-then : (us : List Use) (u : Use) (words : List Text) → ((vs : List Use) → start vs words ≡ after vs (uses_from None words))
     → (if fits us u then start (us ++ u ∷ []) words else None) ≡ after us (with_use u (uses_from None words))
 used-then us u words rest =
-    ap (λ (o : Option WordValues). if fits us u then o else None) (rest (us ++ u ∷ [])) ∙ sym (after-use us u (uses_from None words))
+    ap (λ (o : Option (List Row)). if fits us u then o else None) (rest (us ++ u ∷ [])) ∙ sym (after-use us u (uses_from None words))
 
 -- a word that begins with two hyphens
 met-is : (us : List Use) (words : List Text) (o : Option Setting) (v : Option Text)
@@ -124,8 +129,46 @@ mutual
   waits-is (word ∷ words) us dump e = cc
   waits-is (word ∷ words) us s e = waits (rows us) (name_of s) word words refl refl ∙ value-is us s word words (is_flag word) refl (starts words)
 
+-- the rows of the command are those of the uses that the words are, and it faults where there are none
+rows-are : (words : List Text) → rows_unless (fault_of command words) (Some (matches_of command words)) ≡ after [] (uses_from None words)
+rows-are words =
+    ap (λ (k : Kinds). rows_unless k (Some (matches_of command words))) (leaf_fault (built command) nothing_held words refl)
+    ∙ (outcome-is (walk_from nothing_held) words ∙ starts words [])
+
+-- ---- what the rows say
+
+number-more : (us : List Use) (u : Use) → HaveNumber us → is_in_form u ≡ true → HaveNumber (us ++ u ∷ [])
+number-more [] (generate, text) number form = form
+number-more [] u number form = refl
+number-more (v ∷ vs) u number form = go (is_of generate v) number (λ behind. number-more vs u behind form)
+  where
+    go : (b : Bool) → option_map_or is_number (option_map (λ u. u.1) (if b then Some v else find (is_of generate) vs)) true ≡ true
+        → (HaveNumber vs → HaveNumber (vs ++ u ∷ []))
+        → option_map_or is_number (option_map (λ u. u.1) (if b then Some v else find (is_of generate) (vs ++ u ∷ []))) true ≡ true
+    go true number rest = number
+    go false number rest = rest number
+
+say-from : (us vs : List Use) → HaveNumber us → Say (rows_from us vs) (values_from us vs)
+say-from us [] number = ended-say us number
+say-from us (v ∷ vs) number = go (fits us v) refl (λ f. say-from (us ++ v ∷ []) vs (number-more us v number (both (not (is_used v.0 us)) (is_in_form v) f).1))
+  where
+    go : (b : Bool) → fits us v ≡ b → (fits us v ≡ true → Say (rows_from (us ++ v ∷ []) vs) (values_from (us ++ v ∷ []) vs))
+        → Say (if b then rows_from (us ++ v ∷ []) vs else None) (if b then values_from (us ++ v ∷ []) vs else None)
+    go true f rest = rest f
+    go false f rest = refl
+
+say : (o : Option (List Use)) → Say (after [] o) (option_and_then (values_from []) o)
+say None = refl
+say (Some us) = say-from [] us refl
+
+-- where the command has no fault its rows are whole and say what the words do, and other words are faulty
+pub rows-say : (words : List Text) → Say (rows_unless (fault_of command words) (Some (matches_of command words))) (values_of words)
+rows-say words = rw (rows-are words) (say (uses_from None words))
+
 -- what the command faults, and what else it finds
 pub exact : (words : List Text) → unless (fault_of command words) (values_of_rows (matches_of command words)) ≡ values_of words
-exact words =
-    ap (λ (k : Kinds). unless k (values_of_rows (matches_of command words))) (leaf_fault (built command) nothing_held words refl)
-    ∙ (outcome-is (walk_from nothing_held) words ∙ starts words [])
+exact words = go (fault_of command words) (rows-say words)
+  where
+    go : (k : Kinds) → Say (rows_unless k (Some (matches_of command words))) (values_of words) → unless k (values_of_rows (matches_of command words)) ≡ values_of words
+    go [] s = s.0
+    go (k ∷ ks) s = sym s

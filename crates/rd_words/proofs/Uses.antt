@@ -18,9 +18,9 @@ use Rattle.clap.specs.declared.error.kind.ErrorKind.{ErrorKind}
 use Rattle.clap.specs.declared.error.kind.ErrorKind.TheVariants as kind
 use Rattle.clap.specs.declared.parser.matches.ValueSource.TheVariants.{CommandLine, DefaultValue}
 use Rattle.rd_base.proofs.Lists.{none-found}
-use Rattle.rd_words.specs.Words.{Text, Setting, class_file, mirror_file, bracket_file, generate, dump, settings, name_of, named, has_value, Use, is_of, is_true, is_used, is_in_form, is_number, value_of, fits, values_by, values_in}
-use Rattle.rd_words.specs.Command.{unless, values_of_rows}
-use Rattle.rd_words.proofs.WordByWord.{ended, held, rule, shape}
+use Rattle.rd_words.specs.Words.{Text, Setting, class_file, mirror_file, bracket_file, generate, dump, settings, name_of, named, has_value, Use, is_of, is_true, is_used, is_in_form, is_number, value_of, fits, WordValues, values_by, values_in}
+use Rattle.rd_words.specs.Command.{AreWhole, values_of_rows}
+use Rattle.rd_words.proofs.WordByWord.{ended, held, rows_unless, rule, shape}
 
 -- the row of a use
 abbrev pub row : Use → Row
@@ -183,20 +183,48 @@ unfolding defaults_fault
 defaults-pass [] rs = refl
 defaults-pass (s ∷ ss) rs = rw (default-passes rs s) (defaults-pass ss (with_default rs (rule s)))
 
--- the class file and the mirror file are there, or no values are read
-checked : (classes mirrors brackets number : Option Text) (dumps : Bool)
-    → unless (if (true && not (is_some classes)) || ((true && not (is_some mirrors)) || (false || (false || (false || false)))) then kind.MissingRequiredArgument ∷ [] else [])
-    (values_by classes mirrors brackets number dumps)
-    ≡ values_by classes mirrors brackets number dumps
-checked None mirrors brackets number dumps = refl
-checked (Some c) None brackets number dumps = refl
-checked (Some c) (Some m) brackets number dumps = refl
+-- the rows at the end of uses that name both data files
+abbrev pub ended_rows : List Use → Option (List Row)
+ended_rows us = if is_some (value_of class_file us) && is_some (value_of mirror_file us) then Some (rows_by (is_used dump us) us) else None
 
-check-is : (us : List Use) (rs : List Row) → rs ≡ rows_by (is_used dump us) us → unless (check_fault shape rs false) (values_of_rows rs) ≡ values_in us
+-- the class file and the mirror file are there, or there are no rows
+checked : (classes mirrors : Option Text) (rs : List Row)
+    → rows_unless (if (true && not (is_some classes)) || ((true && not (is_some mirrors)) || (false || (false || (false || false)))) then kind.MissingRequiredArgument ∷ [] else [])
+    (Some rs)
+    ≡ (if is_some classes && is_some mirrors then Some rs else None)
+checked None mirrors rs = refl
+checked (Some c) None rs = refl
+checked (Some c) (Some m) rs = refl
+
+check-is : (us : List Use) (rs : List Row) → rs ≡ rows_by (is_used dump us) us → rows_unless (check_fault shape rs false) (Some rs) ≡ ended_rows us
 check-is us rs e =
-    rw (e, values-is us, given-is us (is_used dump us) class_file refl, given-is us (is_used dump us) mirror_file refl)
-    (checked (value_of class_file us) (value_of mirror_file us) (value_of bracket_file us) (value_of generate us) (is_true (value_of dump us)))
+    rw (e, given-is us (is_used dump us) class_file refl, given-is us (is_used dump us) mirror_file refl)
+    (checked (value_of class_file us) (value_of mirror_file us) (rows_by (is_used dump us) us))
 
-pub ended-is : (us : List Use) → ended (held (rows us) None) ≡ values_in us
+pub ended-is : (us : List Use) → ended (held (rows us) None) ≡ ended_rows us
 ended-is us =
     rw (defaults-pass settings (rows us)) (check-is us (finished shape.rules (held (rows us) None)) (finished-is us))
+
+-- rows are whole and say this, or there are none and this is nothing
+abbrev pub Say : Option (List Row) → Option WordValues → Type 0
+Say (Some rs) said = (values_of_rows rs ≡ said) × AreWhole rs
+Say None said = said ≡ None
+
+-- the script that uses name, where they do, has a number that a script may have
+abbrev pub HaveNumber : List Use → Type 0
+HaveNumber us = option_map_or is_number (value_of generate us) true ≡ true
+
+pub ended-say : (us : List Use) → HaveNumber us → Say (ended_rows us) (values_in us)
+ended-say us number =
+    let last = is_used dump us in
+    go (rows_by last us) (value_of class_file us) (value_of mirror_file us) (values-is us) (first-is us last class_file refl) (first-is us last mirror_file refl)
+    (ap (λ (o : Option Text). option_map_or is_number o true) (first-is us last generate refl) ∙ number)
+  where
+    go : (rs : List Row) (classes mirrors : Option Text)
+        → values_of_rows rs ≡ values_by classes mirrors (value_of bracket_file us) (value_of generate us) (is_true (value_of dump us))
+        → first_of (name_of class_file) rs ≡ classes → first_of (name_of mirror_file) rs ≡ mirrors → option_map_or is_number (first_of (name_of generate) rs) true ≡ true
+        → Say (if is_some classes && is_some mirrors then Some rs else None)
+        (values_by classes mirrors (value_of bracket_file us) (value_of generate us) (is_true (value_of dump us)))
+    go rs None mirrors said c m n = refl
+    go rs (Some x) None said c m n = refl
+    go rs (Some x) (Some y) said c m n = (said, (ap is_some c, ap is_some m, n))

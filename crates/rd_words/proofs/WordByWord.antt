@@ -11,8 +11,8 @@ use Rattle.clap.specs.Walk.{arg_by_long}
 use Rattle.clap.specs.Simple.{Shape, built, filled}
 use Rattle.clap.specs.Faults.{bundle_fault, bundle_step_fault, check_fault, defaults_fault, flag_word_fault, flags_fault, long_fault, option_fault, react_fault, settle_fault, step_fault, turn_fault, walk_fault}
 use Rattle.clap.specs.declared.error.kind.ErrorKind.TheVariants as kind
-use Rattle.rd_words.specs.Words.{Text, Setting, WordValues, is_flag}
-use Rattle.rd_words.specs.Command.{asked, command, unless, values_of_rows}
+use Rattle.rd_words.specs.Words.{Text, Setting, is_flag}
+use Rattle.rd_words.specs.Command.{asked, command}
 
 -- the command as it is built
 abbrev pub shape : Shape
@@ -24,27 +24,32 @@ rule s = filled (asked s)
 abbrev pub held : List Row → Option (Text × List Text) → Held
 held rows pending = record { rows = rows; pending = pending; skip = 0 }
 
--- what the end of the words makes of what is held, and the values that are then read
+-- rows, where there is no fault to tell
+abbrev pub rows_unless : Kinds → Option (List Row) → Option (List Row)
+rows_unless [] rows = rows
+rows_unless (kind ∷ kinds) rows = None
+
+-- what the end of the words makes of what is held, and the rows that are then there
 abbrev pub ends : Held → Kinds
 ends h = or_else (settle_fault shape.rules false h) (or_else (defaults_fault (settled shape.rules h).rows shape.rules) (check_fault shape (finished shape.rules h) false))
 
-abbrev pub ended : Held → Option WordValues
-ended h = unless (ends h) (values_of_rows (finished shape.rules h))
+abbrev pub ended : Held → Option (List Row)
+ended h = rows_unless (ends h) (Some (finished shape.rules h))
 
 -- what words come to behind a walk, word by word
-abbrev pub outcome : Walk → List Text → Option WordValues
+abbrev pub outcome : Walk → List Text → Option (List Row)
 outcome w [] = ended w.held
-outcome w (word ∷ words) = unless (turn_fault shape [] w word) (outcome (walked shape.rules [] w word) words)
+outcome w (word ∷ words) = rows_unless (turn_fault shape [] w word) (outcome (walked shape.rules [] w word) words)
 
-pub unless-none : (a : Kinds) → unless a None ≡ None
+pub unless-none : (a : Kinds) → rows_unless a None ≡ None
 unless-none [] = refl
 unless-none (k ∷ ks) = refl
 
-pub unless-or : (a b : Kinds) (x : Option WordValues) → unless (or_else a b) x ≡ unless a (unless b x)
+pub unless-or : (a b : Kinds) (x : Option (List Row)) → rows_unless (or_else a b) x ≡ rows_unless a (rows_unless b x)
 unless-or [] b x = refl
 unless-or (k ∷ ks) b x = refl
 
-pub unless-first : (a b : Kinds) (x : Option WordValues) → is_empty a ≡ false → unless (or_else a b) x ≡ None
+pub unless-first : (a b : Kinds) (x : Option (List Row)) → is_empty a ≡ false → rows_unless (or_else a b) x ≡ None
 unless-first [] b x e = cc
 unless-first (k ∷ ks) b x e = refl
 
@@ -56,17 +61,17 @@ or_else-nil : (a : Kinds) → or_else a [] ≡ a
 or_else-nil [] = refl
 or_else-nil (k ∷ ks) = refl
 
-unless-nil : (a : Kinds) (x : Option WordValues) → unless (or_else a []) x ≡ unless a x
-unless-nil a x = ap (λ (k : Kinds). unless k x) (or_else-nil a)
+unless-nil : (a : Kinds) (x : Option (List Row)) → rows_unless (or_else a []) x ≡ rows_unless a x
+unless-nil a x = ap (λ (k : Kinds). rows_unless k x) (or_else-nil a)
 
-unless-both : (a b c : Kinds) (x : Option WordValues) → unless (or_else (or_else a b) c) x ≡ unless a (unless (or_else b c) x)
+unless-both : (a b c : Kinds) (x : Option (List Row)) → rows_unless (or_else (or_else a b) c) x ≡ rows_unless a (rows_unless (or_else b c) x)
 unless-both [] b c x = refl
 unless-both (k ∷ ks) b c x = refl
 
-abbrev pub whole : Walk → List Text → Option WordValues
+abbrev pub whole : Walk → List Text → Option (List Row)
 whole w words =
-    unless (or_else (walk_fault shape [] w words) (ends (fold (walked shape.rules []) w words).held))
-    (values_of_rows (finished shape.rules (fold (walked shape.rules []) w words).held))
+    rows_unless (or_else (walk_fault shape [] w words) (ends (fold (walked shape.rules []) w words).held))
+    (Some (finished shape.rules (fold (walked shape.rules []) w words).held))
 
 -- the walk over all the words, word by word
 pub outcome-is : (w : Walk) (words : List Text) → whole w words ≡ outcome w words
@@ -75,17 +80,17 @@ outcome-is w [] = refl
 outcome-is w (word ∷ words) =
     unless-both (turn_fault shape [] w word) (walk_fault shape [] (walked shape.rules [] w word) words)
     (ends (fold (walked shape.rules []) (walked shape.rules [] w word) words).held)
-    (values_of_rows (finished shape.rules (fold (walked shape.rules []) (walked shape.rules [] w word) words).held))
-    ∙ ap (λ (o : Option WordValues). unless (turn_fault shape [] w word) o) (outcome-is (walked shape.rules [] w word) words)
+    (Some (finished shape.rules (fold (walked shape.rules []) (walked shape.rules [] w word) words).held))
+    ∙ ap (λ (o : Option (List Row)). rows_unless (turn_fault shape [] w word) o) (outcome-is (walked shape.rules [] w word) words)
 
 -- ---- one word
 
 -- a word with this fault and this meaning, and then the rest
-abbrev pub after_word : Walk → Text → List Text → Kinds → Held × Step → Option WordValues
-after_word w word rest fault m = unless (or_else fault (step_fault shape 1 m.0 m.1)) (outcome (after_step shape.rules word w m.0 m.1) rest)
+abbrev pub after_word : Walk → Text → List Text → Kinds → Held × Step → Option (List Row)
+after_word w word rest fault m = rows_unless (or_else fault (step_fault shape 1 m.0 m.1)) (outcome (after_step shape.rules word w m.0 m.1) rest)
 
 -- a word that names flags or an option, with this fault and this meaning, and then the rest
-abbrev pub flagged : Walk → Text → List Text → Kinds → Held × Outcome → Option WordValues
+abbrev pub flagged : Walk → Text → List Text → Kinds → Held × Outcome → Option (List Row)
 flagged w word rest fault m = after_word w word rest fault (after_flag shape.rules w.waiting word m.0 m.1)
 
 -- where a walk stands behind an option whose value is still to come, and behind `--`
@@ -96,23 +101,23 @@ abbrev trailing_at : Walk → Walk
 trailing_at w = record w { position = 1; is_trailing = true }
 
 -- what a word makes of what is held, where nothing waits for a value
-abbrev pub met_option : Held → Rule → Option Text → List Text → Option WordValues
-met_option h a (Some v) rest = unless (react_fault shape.rules false a (v ∷ []) h) (outcome (walk_from (reacted shape.rules a (v ∷ []) h)) rest)
-met_option h a None rest = unless (settle_fault shape.rules false h) (outcome (awaiting (settled shape.rules h) a.id) rest)
+abbrev pub met_option : Held → Rule → Option Text → List Text → Option (List Row)
+met_option h a (Some v) rest = rows_unless (react_fault shape.rules false a (v ∷ []) h) (outcome (walk_from (reacted shape.rules a (v ∷ []) h)) rest)
+met_option h a None rest = rows_unless (settle_fault shape.rules false h) (outcome (awaiting (settled shape.rules h) a.id) rest)
 
-abbrev pub met_flag : Held → Rule → Option Text → List Text → Option WordValues
+abbrev pub met_flag : Held → Rule → Option Text → List Text → Option (List Row)
 met_flag h a (Some v) rest = None
-met_flag h a None rest = unless (react_fault shape.rules false a [] h) (outcome (walk_from (reacted shape.rules a [] h)) rest)
+met_flag h a None rest = rows_unless (react_fault shape.rules false a [] h) (outcome (walk_from (reacted shape.rules a [] h)) rest)
 
-abbrev pub met : Held → Option Rule → Option Text → List Text → Option WordValues
+abbrev pub met : Held → Option Rule → Option Text → List Text → Option (List Row)
 met h None v rest = None
 met h (Some a) v rest = if takes_values a then met_option h a v rest else met_flag h a v rest
 
-abbrev pub at_end : Held → List Text → Option WordValues
+abbrev pub at_end : Held → List Text → Option (List Row)
 at_end h [] = ended h
 at_end h (word ∷ words) = None
 
-abbrev pub met_word : Held → Text → List Text → Option WordValues
+abbrev pub met_word : Held → Text → List Text → Option (List Row)
 met_word h word rest =
     if bytes_eq word (45 ∷ 45 ∷ []) then at_end h rest
     else option_and_then (λ p. met h (arg_by_long shape.rules p.0) p.1 rest) (long_of word)
@@ -167,8 +172,8 @@ module _ (rows : List Row) (pending : Option (Text × List Text)) (word : Text) 
 -- ---- what is pending is used by the next word, or by the end
 
 module _ (rows : List Row) (pending : Option (Text × List Text)) where
-  abbrev pub late : Option WordValues → Option WordValues
-  late o = unless (settle_fault shape.rules false (held rows pending)) o
+  abbrev pub late : Option (List Row) → Option (List Row)
+  late o = rows_unless (settle_fault shape.rules false (held rows pending)) o
 
   abbrev pub then_held : Held
   then_held = settled shape.rules (held rows pending)
@@ -205,7 +210,7 @@ module _ (rows : List Row) (pending : Option (Text × List Text)) where
   later (word ∷ rest) =
       outcome-word rows pending word rest
       ∙ (late_word rest (bytes_eq word (45 ∷ 45 ∷ [])) (long_of word)
-      ∙ ap (λ (o : Option WordValues). late o) (sym (outcome-word (settled_rows shape.rules pending rows) None word rest)))
+      ∙ ap (λ (o : Option (List Row)). late o) (sym (outcome-word (settled_rows shape.rules pending rows) None word rest)))
 
 -- ---- a word behind an option whose value is still to come
 
@@ -256,7 +261,7 @@ module _ (rows : List Row) (id : Text) (word : Text) (rest : List Text) where
       (long_met shape.rules (arg_by_long shape.rules p.0) p.1 waiting_held).1
   met_by None short = short_or_plain shape.rules (option id) word short waiting_held
 
-  abbrev waits_by : Bool → Option (Text × Option Text) → Option Text → Option WordValues
+  abbrev waits_by : Bool → Option (Text × Option Text) → Option Text → Option (List Row)
   waits_by b l short = after_word waiting_walk word rest (if b then [] else fault_by l short) (if b then (waiting_held, trailing 1) else met_by l short)
 
   split : (b : Bool) (l : Option (Text × Option Text))

@@ -1,6 +1,7 @@
 -- The command as `clap` is told of it, and what a reader of the words answers.
-use Rattle.std.specs.Prelude.{◌≡◌, Bool, true, false, List, [], ◌∷◌, map, Option, None, Some, option_map, codes, String, string_bytes, Result, Ok, Err}
+use Rattle.std.specs.Prelude.{◌≡◌, Bool, true, false, List, [], ◌∷◌, map, Option, None, Some, is_some, option_map, codes, String, string_bytes, Result, Ok, Err}
 use Rattle.std.specs.Global.{Global}
+use Rattle.std.specs.Option.{option_map_or}
 use Rattle.clap.specs.Words.{App, Kinds, Row, Rule, fault_of as faults_of, first_of, matches_of, new_app, new_rule}
 use Rattle.clap.specs.Simple.{on_top}
 use Rattle.clap.specs.declared.builder.action.ArgAction.TheVariants.{Set, SetTrue}
@@ -10,7 +11,7 @@ use Rattle.clap.specs.declared.builder.value_parser.ValueParser.TheVariants.{Uns
 use Rattle.clap.specs.declared.error.kind.ErrorKind.{ErrorKind}
 use Rattle.clap.specs.declared.error.kind.ErrorKind.TheVariants.{OutOfMemory}
 use Rattle.rd_base.specs.declared.limits.TheConstants.{GENERATED_NUMBER}
-use Rattle.rd_words.specs.Words.{Text, Setting, class_file, mirror_file, bracket_file, generate, dump, settings, name_of, is_true, WordValues, values_by}
+use Rattle.rd_words.specs.Words.{Text, Setting, class_file, mirror_file, bracket_file, generate, dump, settings, name_of, is_number, is_true, WordValues, values_by}
 use Rattle.rd_words.specs.declared.words.Words.{Words}
 use Rattle.rd_words.specs.declared.words.WordsFault.{WordsFault}
 use Rattle.rd_words.specs.declared.words.WordsFault.TheVariants.{Usage, Memory}
@@ -49,6 +50,12 @@ abbrev pub values_of_rows : List Row → Option WordValues
 values_of_rows rows =
     values_by (first_of (name_of class_file) rows) (first_of (name_of mirror_file) rows) (first_of (name_of bracket_file) rows)
     (first_of (name_of generate) rows) (is_true (first_of (name_of dump) rows))
+
+-- rows in which both data files are named, and a generated script by no number but one that it may have
+abbrev pub AreWhole : List Row → Type 0
+AreWhole rows =
+    (is_some (first_of (name_of class_file) rows) ≡ true) × (is_some (first_of (name_of mirror_file) rows) ≡ true)
+    × (option_map_or is_number (first_of (name_of generate) rows) true ≡ true)
 
 -- what is said where there is no fault to tell
 abbrev pub unless : Kinds → Option WordValues → Option WordValues

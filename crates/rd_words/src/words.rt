@@ -1,8 +1,9 @@
 //! What the words of the command line say.
-ghost use Rattle.std.specs.Prelude.{◌≡◌, false, IfOk, option_map, option_and_then};
+ghost use Rattle.std.specs.Prelude.{◌≡◌, false, true, IfOk, Some, is_some, option_map, option_and_then};
+ghost use Rattle.std.specs.Option.{option_map_or};
 ghost use Rattle.clap.specs.Words.{app_of, found_of, rows_of, rule_of};
-ghost use Rattle.rd_words.specs.Words.{is_true, values_of, number_of};
-ghost use Rattle.rd_words.specs.Command.{ReadsWords, command, fault_of, option_of, texts, values_of_rows};
+ghost use Rattle.rd_words.specs.Words.{is_number, is_true, values_of, number_of};
+ghost use Rattle.rd_words.specs.Command.{AreWhole, ReadsWords, command, fault_of, meaning, option_of, texts, values_of_rows};
 
 use clap::builder::ValueParser;
 use clap::error::ErrorKind;
@@ -71,7 +72,7 @@ pub fn read_words<'a>(alloc: Global, words: &'a [String]) -> Result<Words<'a>, W
 {
     let command = command(alloc)?;
     match command.try_get_matches_from(words) {
-        Ok(matches) => words_of(&matches),
+        Ok(matches) => Ok(words_of(&matches)),
         Err(error) => Err(fault_of(error.kind())),
     }
 }
@@ -111,40 +112,47 @@ fn option<'a>(alloc: Global, name: &'a str) -> Arg<'a>
     Arg::new(alloc, name).long(name).action(ArgAction::Set)
 }
 
-/// What the matches of the command say.
-fn words_of<'a>(matches: &ArgMatches<'a>) -> Result<Words<'a>, WordsFault>
-    ensures { ReadsWords result (values_of_rows (rows_of (found_of matches.now))) }
+/// What the matches of the command say. `clap` has seen to it that both data files are named, and that a number is in its range.
+fn words_of<'a>(matches: &ArgMatches<'a>) -> Words<'a>
+    requires { AreWhole (rows_of (found_of matches.now)) }
+    ensures { values_of_rows (rows_of (found_of matches.now)) ≡ Some (meaning result) }
 {
-    let Some(class_file) = matches.get_str(DATA) else {
-        return Err(WordsFault::Usage);
-    };
-    let Some(mirror_file) = matches.get_str(MIRROR) else {
-        return Err(WordsFault::Usage);
-    };
-    Ok(Words {
-        class_file,
-        mirror_file,
+    Words {
+        class_file: given(matches.get_str(DATA)),
+        mirror_file: given(matches.get_str(MIRROR)),
         bracket_file: matches.get_str(BRACKETS),
         generate: number_in(matches.get_str(GENERATE)),
         dumps: is_true(matches.get_str(DUMP)),
-    })
+    }
 }
 
-/// The number that a text is, where it is one.
+/// The value of an option that `clap` requires.
+fn given<'a>(value: Option<&'a str>) -> &'a str
+    requires { is_some value ≡ true }
+    ensures { value.entry ≡ Some result }
+{
+    match value {
+        Some(text) => text,
+        None => unreachable!(),
+    }
+}
+
+/// The number that a text is, where there is a text.
 fn number_in(text: Option<&str>) -> Option<u32>
+    requires { option_map_or is_number (option_map (λ t. t.now) text) true ≡ true }
     ensures { result ≡ option_and_then number_of (option_map (λ t. t.now) text.entry) }
 {
-    number_of(text?)
+    Some(number_of(text?))
 }
 
-/// The number of a text, and None where it is none that a generated script has.
-fn number_of(text: &str) -> Option<u32>
-    ensures { result ≡ number_of text.now }
+/// The number of a text that `clap` has found to be one of a generated script.
+fn number_of(text: &str) -> u32
+    requires { is_number text.now ≡ true }
+    ensures { number_of text.now ≡ Some result }
 {
     match text.parse::<u32>() {
-        Ok(number) if number > GENERATED_NUMBER => None,
-        Ok(number) => Some(number),
-        Err(_) => None,
+        Ok(number) => number,
+        Err(_) => unreachable!(),
     }
 }
 

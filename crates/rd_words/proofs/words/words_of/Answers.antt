@@ -1,5 +1,7 @@
-use Rattle.std.proofs.Common.{◌≡◌, ◌∙◌, Bool, Option, None, Some, refl, sym, ap}
+use Rattle.std.proofs.Common.{◌≡◌, ◌∙◌, Bool, Option, Some, option_map, refl, sym, ap}
+use Rattle.std.specs.Borrow.{Bor}
 use Rattle.std.specs.Prelude.{codes}
+use Rattle.clap.proofs.CallerLemmas.{some_of_text}
 use Rattle.clap.proofs.WalkLemmas.{first_value-rows}
 use Rattle.clap.specs.Words.{first_of, first_value, found_of, rows_of}
 use Rattle.clap.specs.declared.parser.matches.Found.{Found}
@@ -19,22 +21,19 @@ said f d m b g u classes mirrors brackets number flag =
     (classes ∙ first_value-rows f (codes "data")) (mirrors ∙ first_value-rows f (codes "mirror")) (brackets ∙ first_value-rows f (codes "brackets"))
     (number ∙ first_value-rows f (codes "generate")) (ap is_true (flag ∙ first_value-rows f (codes "dump"))))
 
-no_mirrors : (d b g : Option Text) (t : Bool) → values_by d None b g t ≡ None
-no_mirrors None b g t = refl
-no_mirrors (Some d) b g t = refl
+pub given-requires : goal.given-requires
+given-requires c = some_of_text _ c.get_str.result _ (c.get_str.ensures ∙ first_value-rows (found_of c.args.matches.now) (codes "data")) c.requires.0
 
-pub returns-in_default : goal.returns-in_default
-returns-in_default c =
-    said (found_of c.args.matches.now) None (first_value (found_of c.args.matches.now) (codes "mirror")) (first_value (found_of c.args.matches.now) (codes "brackets"))
-    (first_value (found_of c.args.matches.now) (codes "generate")) (first_value (found_of c.args.matches.now) (codes "dump")) c.in_default.ensures refl refl refl refl
+pub given-requires-2 : goal.given-requires-2
+given-requires-2 c = some_of_text _ c.get_str-2.result _ (c.get_str-2.ensures ∙ first_value-rows (found_of c.args.matches.now) (codes "mirror")) c.requires.1
 
-pub returns-in_default-get_str : goal.returns-in_default-get_str
-returns-in_default-get_str c =
-    said (found_of c.args.matches.now) (first_value (found_of c.args.matches.now) (codes "data")) None (first_value (found_of c.args.matches.now) (codes "brackets"))
-    (first_value (found_of c.args.matches.now) (codes "generate")) (first_value (found_of c.args.matches.now) (codes "dump")) refl c.in_default-get_str.ensures refl refl refl
-    ∙ no_mirrors _ _ _ _
+pub number_in-requires : goal.number_in-requires
+number_in-requires c = rw (c.get_str-4.ensures ∙ first_value-rows (found_of c.args.matches.now) (codes "generate")) c.requires.2
 
 pub returns : goal.returns
 returns c =
-    said (found_of c.args.matches.now) _ _ _ _ _ c.in-Some.ensures c.in-Some-get_str.ensures c.get_str-3.ensures c.get_str-4.ensures c.get_str-5.ensures
+    said (found_of c.args.matches.now) (Some c.given.result.now) (Some c.given-2.result.now) _ _ _
+    (ap (λ (o : Option (Bor Text)). option_map (λ t. t.now) o) (sym c.given.ensures) ∙ c.get_str.ensures)
+    (ap (λ (o : Option (Bor Text)). option_map (λ t. t.now) o) (sym c.given-2.ensures) ∙ c.get_str-2.ensures)
+    c.get_str-3.ensures c.get_str-4.ensures c.get_str-5.ensures
     ∙ rw (c.number_in.ensures, c.is_true.ensures) refl
