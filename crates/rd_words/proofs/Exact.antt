@@ -13,7 +13,7 @@ use Rattle.clap.specs.Simple.{built, matches_of}
 use Rattle.clap.specs.Faults.{fault_of, react_fault, settle_fault, use_fault}
 use Rattle.rd_words.specs.Words.{Text, Setting, generate, dump, name_of, named, has_value, Use, with_use, begun, last, uses_from, fits, is_flag, is_in_form, is_number, is_of, is_used, values_from, values_of}
 use Rattle.rd_words.specs.Command.{command, unless, values_of_rows}
-use Rattle.rd_words.proofs.WordByWord.{awaiting, at_end, held, later, met, outcome, outcome-is, outcome-word, rows_unless, rule, shape, unless-first, waits}
+use Rattle.rd_words.proofs.WordByWord.{awaiting, at_end, held, later, met, outcome, outcome-is, outcome-word, rule, shape, unless-first, waits}
 use Rattle.rd_words.proofs.Uses.{HaveNumber, Say, ended-is, ended_rows, ended-say, flag-fits, flag-used, named-is, rows, value-fits, value-used}
 
 -- the rows that uses make behind those that were met
@@ -33,7 +33,7 @@ after-use us u None = go (fits us u)
 after-use us u (Some vs) = refl
 
 -- where a use fits what is behind it counts, and nothing where it does not
-unless-fits : (k : Kinds) (b : Bool) (x y : Option (List Row)) → is_empty k ≡ b → (b ≡ true → x ≡ y) → rows_unless k x ≡ (if b then y else None)
+unless-fits : (k : Kinds) (b : Bool) (x y : Option (List Row)) → is_empty k ≡ b → (b ≡ true → x ≡ y) → unless k x ≡ (if b then y else None)
 unless-fits k true x y e h = rw (is_nil k e) (h refl)
 unless-fits [] false x y e h = cc
 unless-fits (k ∷ ks) false x y e h = refl
@@ -73,7 +73,7 @@ pending us s v words e =
 -- a use in one word
 used-once : (us : List Use) (a : Rule) (vs : List Text) (u : Use) (words : List Text) → is_empty (use_fault false a vs (rows us)) ≡ fits us u
     → (fits us u ≡ true → used a vs (rows us) ≡ rows (us ++ u ∷ []))
-    → rows_unless (react_fault shape.rules false a vs (held (rows us) None)) (outcome (walk_from (reacted shape.rules a vs (held (rows us) None))) words)
+    → unless (react_fault shape.rules false a vs (held (rows us) None)) (outcome (walk_from (reacted shape.rules a vs (held (rows us) None))) words)
     ≡ (if fits us u then start (us ++ u ∷ []) words else None)
 used-once us a vs u words fault row =
     unless-fits (use_fault false a vs (rows us)) (fits us u) _ _ fault (λ f. ap (λ (rs : List Row). outcome (walk_from (held rs None)) words) (row f))
@@ -130,9 +130,9 @@ mutual
   waits-is (word ∷ words) us s e = waits (rows us) (name_of s) word words refl refl ∙ value-is us s word words (is_flag word) refl (starts words)
 
 -- the rows of the command are those of the uses that the words are, and it faults where there are none
-rows-are : (words : List Text) → rows_unless (fault_of command words) (Some (matches_of command words)) ≡ after [] (uses_from None words)
+rows-are : (words : List Text) → unless (fault_of command words) (Some (matches_of command words)) ≡ after [] (uses_from None words)
 rows-are words =
-    ap (λ (k : Kinds). rows_unless k (Some (matches_of command words))) (leaf_fault (built command) nothing_held words refl)
+    ap (λ (k : Kinds). unless k (Some (matches_of command words))) (leaf_fault (built command) nothing_held words refl)
     ∙ (outcome-is (walk_from nothing_held) words ∙ starts words [])
 
 -- ---- what the rows say
@@ -162,13 +162,13 @@ say None = refl
 say (Some us) = say-from [] us refl
 
 -- where the command has no fault its rows are whole and say what the words do, and other words are faulty
-pub rows-say : (words : List Text) → Say (rows_unless (fault_of command words) (Some (matches_of command words))) (values_of words)
+pub rows-say : (words : List Text) → Say (unless (fault_of command words) (Some (matches_of command words))) (values_of words)
 rows-say words = rw (rows-are words) (say (uses_from None words))
 
 -- what the command faults, and what else it finds
 pub exact : (words : List Text) → unless (fault_of command words) (values_of_rows (matches_of command words)) ≡ values_of words
 exact words = go (fault_of command words) (rows-say words)
   where
-    go : (k : Kinds) → Say (rows_unless k (Some (matches_of command words))) (values_of words) → unless k (values_of_rows (matches_of command words)) ≡ values_of words
+    go : (k : Kinds) → Say (unless k (Some (matches_of command words))) (values_of words) → unless k (values_of_rows (matches_of command words)) ≡ values_of words
     go [] s = s.0
     go (k ∷ ks) s = sym s

@@ -19,8 +19,8 @@ use Rattle.clap.specs.declared.error.kind.ErrorKind.TheVariants as kind
 use Rattle.clap.specs.declared.parser.matches.ValueSource.TheVariants.{CommandLine, DefaultValue}
 use Rattle.rd_base.proofs.Lists.{none-found}
 use Rattle.rd_words.specs.Words.{Text, Setting, class_file, mirror_file, bracket_file, generate, dump, settings, name_of, named, has_value, Use, is_of, is_true, is_used, is_in_form, is_number, value_of, fits, WordValues, values_by, values_in}
-use Rattle.rd_words.specs.Command.{AreWhole, values_of_rows}
-use Rattle.rd_words.proofs.WordByWord.{ended, held, rows_unless, rule, shape}
+use Rattle.rd_words.specs.Command.{AreWhole, unless, values_of_rows}
+use Rattle.rd_words.proofs.WordByWord.{ended, held, rule, shape}
 
 -- the row of a use
 abbrev pub row : Use → Row
@@ -189,14 +189,14 @@ ended_rows us = if is_some (value_of class_file us) && is_some (value_of mirror_
 
 -- the class file and the mirror file are there, or there are no rows
 checked : (classes mirrors : Option Text) (rs : List Row)
-    → rows_unless (if (true && not (is_some classes)) || ((true && not (is_some mirrors)) || (false || (false || (false || false)))) then kind.MissingRequiredArgument ∷ [] else [])
+    → unless (if (true && not (is_some classes)) || ((true && not (is_some mirrors)) || (false || (false || (false || false)))) then kind.MissingRequiredArgument ∷ [] else [])
     (Some rs)
     ≡ (if is_some classes && is_some mirrors then Some rs else None)
 checked None mirrors rs = refl
 checked (Some c) None rs = refl
 checked (Some c) (Some m) rs = refl
 
-check-is : (us : List Use) (rs : List Row) → rs ≡ rows_by (is_used dump us) us → rows_unless (check_fault shape rs false) (Some rs) ≡ ended_rows us
+check-is : (us : List Use) (rs : List Row) → rs ≡ rows_by (is_used dump us) us → unless (check_fault shape rs false) (Some rs) ≡ ended_rows us
 check-is us rs e =
     rw (e, given-is us (is_used dump us) class_file refl, given-is us (is_used dump us) mirror_file refl)
     (checked (value_of class_file us) (value_of mirror_file us) (rows_by (is_used dump us) us))

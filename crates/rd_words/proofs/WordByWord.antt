@@ -12,7 +12,7 @@ use Rattle.clap.specs.Simple.{Shape, built, filled}
 use Rattle.clap.specs.Faults.{bundle_fault, bundle_step_fault, check_fault, defaults_fault, flag_word_fault, flags_fault, long_fault, option_fault, react_fault, settle_fault, step_fault, turn_fault, walk_fault}
 use Rattle.clap.specs.declared.error.kind.ErrorKind.TheVariants as kind
 use Rattle.rd_words.specs.Words.{Text, Setting, is_flag}
-use Rattle.rd_words.specs.Command.{asked, command}
+use Rattle.rd_words.specs.Command.{asked, command, unless}
 
 -- the command as it is built
 abbrev pub shape : Shape
@@ -24,32 +24,27 @@ rule s = filled (asked s)
 abbrev pub held : List Row → Option (Text × List Text) → Held
 held rows pending = record { rows = rows; pending = pending; skip = 0 }
 
--- rows, where there is no fault to tell
-abbrev pub rows_unless : Kinds → Option (List Row) → Option (List Row)
-rows_unless [] rows = rows
-rows_unless (kind ∷ kinds) rows = None
-
 -- what the end of the words makes of what is held, and the rows that are then there
 abbrev pub ends : Held → Kinds
 ends h = or_else (settle_fault shape.rules false h) (or_else (defaults_fault (settled shape.rules h).rows shape.rules) (check_fault shape (finished shape.rules h) false))
 
 abbrev pub ended : Held → Option (List Row)
-ended h = rows_unless (ends h) (Some (finished shape.rules h))
+ended h = unless (ends h) (Some (finished shape.rules h))
 
 -- what words come to behind a walk, word by word
 abbrev pub outcome : Walk → List Text → Option (List Row)
 outcome w [] = ended w.held
-outcome w (word ∷ words) = rows_unless (turn_fault shape [] w word) (outcome (walked shape.rules [] w word) words)
+outcome w (word ∷ words) = unless (turn_fault shape [] w word) (outcome (walked shape.rules [] w word) words)
 
-pub unless-none : (a : Kinds) → rows_unless a None ≡ None
+pub unless-none : (a : Kinds) → unless {T = List Row} a None ≡ None
 unless-none [] = refl
 unless-none (k ∷ ks) = refl
 
-pub unless-or : (a b : Kinds) (x : Option (List Row)) → rows_unless (or_else a b) x ≡ rows_unless a (rows_unless b x)
+pub unless-or : (a b : Kinds) (x : Option (List Row)) → unless (or_else a b) x ≡ unless a (unless b x)
 unless-or [] b x = refl
 unless-or (k ∷ ks) b x = refl
 
-pub unless-first : (a b : Kinds) (x : Option (List Row)) → is_empty a ≡ false → rows_unless (or_else a b) x ≡ None
+pub unless-first : (a b : Kinds) (x : Option (List Row)) → is_empty a ≡ false → unless (or_else a b) x ≡ None
 unless-first [] b x e = cc
 unless-first (k ∷ ks) b x e = refl
 
@@ -61,16 +56,16 @@ or_else-nil : (a : Kinds) → or_else a [] ≡ a
 or_else-nil [] = refl
 or_else-nil (k ∷ ks) = refl
 
-unless-nil : (a : Kinds) (x : Option (List Row)) → rows_unless (or_else a []) x ≡ rows_unless a x
-unless-nil a x = ap (λ (k : Kinds). rows_unless k x) (or_else-nil a)
+unless-nil : (a : Kinds) (x : Option (List Row)) → unless (or_else a []) x ≡ unless a x
+unless-nil a x = ap (λ (k : Kinds). unless k x) (or_else-nil a)
 
-unless-both : (a b c : Kinds) (x : Option (List Row)) → rows_unless (or_else (or_else a b) c) x ≡ rows_unless a (rows_unless (or_else b c) x)
+unless-both : (a b c : Kinds) (x : Option (List Row)) → unless (or_else (or_else a b) c) x ≡ unless a (unless (or_else b c) x)
 unless-both [] b c x = refl
 unless-both (k ∷ ks) b c x = refl
 
 abbrev pub whole : Walk → List Text → Option (List Row)
 whole w words =
-    rows_unless (or_else (walk_fault shape [] w words) (ends (fold (walked shape.rules []) w words).held))
+    unless (or_else (walk_fault shape [] w words) (ends (fold (walked shape.rules []) w words).held))
     (Some (finished shape.rules (fold (walked shape.rules []) w words).held))
 
 -- the walk over all the words, word by word
@@ -81,13 +76,13 @@ outcome-is w (word ∷ words) =
     unless-both (turn_fault shape [] w word) (walk_fault shape [] (walked shape.rules [] w word) words)
     (ends (fold (walked shape.rules []) (walked shape.rules [] w word) words).held)
     (Some (finished shape.rules (fold (walked shape.rules []) (walked shape.rules [] w word) words).held))
-    ∙ ap (λ (o : Option (List Row)). rows_unless (turn_fault shape [] w word) o) (outcome-is (walked shape.rules [] w word) words)
+    ∙ ap (λ (o : Option (List Row)). unless (turn_fault shape [] w word) o) (outcome-is (walked shape.rules [] w word) words)
 
 -- ---- one word
 
 -- a word with this fault and this meaning, and then the rest
 abbrev pub after_word : Walk → Text → List Text → Kinds → Held × Step → Option (List Row)
-after_word w word rest fault m = rows_unless (or_else fault (step_fault shape 1 m.0 m.1)) (outcome (after_step shape.rules word w m.0 m.1) rest)
+after_word w word rest fault m = unless (or_else fault (step_fault shape 1 m.0 m.1)) (outcome (after_step shape.rules word w m.0 m.1) rest)
 
 -- a word that names flags or an option, with this fault and this meaning, and then the rest
 abbrev pub flagged : Walk → Text → List Text → Kinds → Held × Outcome → Option (List Row)
@@ -102,12 +97,12 @@ trailing_at w = record w { position = 1; is_trailing = true }
 
 -- what a word makes of what is held, where nothing waits for a value
 abbrev pub met_option : Held → Rule → Option Text → List Text → Option (List Row)
-met_option h a (Some v) rest = rows_unless (react_fault shape.rules false a (v ∷ []) h) (outcome (walk_from (reacted shape.rules a (v ∷ []) h)) rest)
-met_option h a None rest = rows_unless (settle_fault shape.rules false h) (outcome (awaiting (settled shape.rules h) a.id) rest)
+met_option h a (Some v) rest = unless (react_fault shape.rules false a (v ∷ []) h) (outcome (walk_from (reacted shape.rules a (v ∷ []) h)) rest)
+met_option h a None rest = unless (settle_fault shape.rules false h) (outcome (awaiting (settled shape.rules h) a.id) rest)
 
 abbrev pub met_flag : Held → Rule → Option Text → List Text → Option (List Row)
 met_flag h a (Some v) rest = None
-met_flag h a None rest = rows_unless (react_fault shape.rules false a [] h) (outcome (walk_from (reacted shape.rules a [] h)) rest)
+met_flag h a None rest = unless (react_fault shape.rules false a [] h) (outcome (walk_from (reacted shape.rules a [] h)) rest)
 
 abbrev pub met : Held → Option Rule → Option Text → List Text → Option (List Row)
 met h None v rest = None
@@ -173,7 +168,7 @@ module _ (rows : List Row) (pending : Option (Text × List Text)) (word : Text) 
 
 module _ (rows : List Row) (pending : Option (Text × List Text)) where
   abbrev pub late : Option (List Row) → Option (List Row)
-  late o = rows_unless (settle_fault shape.rules false (held rows pending)) o
+  late o = unless (settle_fault shape.rules false (held rows pending)) o
 
   abbrev pub then_held : Held
   then_held = settled shape.rules (held rows pending)

@@ -58,7 +58,7 @@ AreWhole rows =
     × (option_map_or is_number (first_of (name_of generate) rows) true ≡ true)
 
 -- what is said where there is no fault to tell
-abbrev pub unless : Kinds → Option WordValues → Option WordValues
+abbrev pub unless : {T : Type 0} → Kinds → Option T → Option T
 unless [] said = said
 unless (kind ∷ kinds) said = None
 
