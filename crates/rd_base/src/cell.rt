@@ -82,8 +82,8 @@ pub enum Cell {
 }
 
 impl Cell {
-    /// Three words that differ for different cells whose codes are below 2^21, with at most 6 marks and 3 columns. The cell's colours are in
-    /// their range, as those of each `Face` are.
+    /// Three words that differ for different cells whose codes are below 2^21, with at most 6 marks and 3 columns. The cell's colours are
+    /// in their range, as those of each `Face` are.
     pub fn words(&self) -> [u64; 3]
         ensures words { result ≡ words_of self.now }
         ensures colours { IsColoured self.now }

@@ -78,8 +78,9 @@ impl Settings {
     }
 }
 
-/// Where a window's view begins: a position, and the number, from 0, of a row of the block that starts there. An edit, `narrow` or
-/// `start` may leave it at any accessible position, also where no block starts.
+/// Where a window's view begins: a position, and the number, from 0, of a row of the block that starts there. `start`, and ops that
+/// change the text, its accessible part, or which newlines are shown, may leave it at any accessible position, also where no block starts,
+/// and with a number behind that of the block's last row.
 #[derive(Clone, Copy, Debug, PartialEq, Eq)]
 pub struct Anchor {
     pub pos: u32,

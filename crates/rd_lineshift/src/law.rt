@@ -15,7 +15,7 @@ ghost use Rattle.rd_lineshift.specs.declared.choice.TheConstants.{GAIN};
 
 use rd_update::{update_law, updates_keep_screens_sound, updates_reach_their_targets};
 
-/// The update law, with shifts. Take a terminal that is not confused and stands between two sequences, a well-formed target of
+/// The update law, with shifts. Take a terminal that is not confused and stands between two sequences, a sound target of
 /// its size, any bands on it and any limit of rows; nothing is asked of its region. Either the current screen is unknown, or
 /// the terminal's cells are its cells and the terminal's pen is plain. Then, after the bytes of the update, the terminal is not
 /// confused and stands between two sequences, its cells are those of the new current screen, its pen is plain, and where the

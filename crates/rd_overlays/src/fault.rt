@@ -14,7 +14,7 @@ pub enum OverlayFault {
     /// 65,536 overlays were made.
     #[error("too many overlays")]
     TooMany,
-    /// Want of memory, which may be answered at any time; then nothing has changed.
+    /// Want of memory, which `make` and `move_to` may answer at any time; then nothing has changed.
     #[error("no memory")]
     Memory,
 }

@@ -181,7 +181,7 @@ impl Draft {
     }
 }
 
-/// The cells behind the mark of a row that is scrolled sideways.
+/// The cells, behind the mark where the row is scrolled sideways and something was placed in it.
 fn with_front_mark(
     alloc: Global,
     cutting: &Cutting,

@@ -1,6 +1,7 @@
 //! The row at which a window starts, chosen from its old start, from point and from the rows of its text.
 //!
-//! The start (`Anchor`) is Emacs's window start, `w->start`: here the first position of a block, and the number of a row of that block.
+//! The start (`Anchor`) is Emacs's window start, `w->start`. Here one that was chosen is the first position of a block, and the number of a
+//! row of that block; an old start may stand where no block begins any more.
 //!
 //! What goes in: a source of blocks and their rows, the shape of the rows, and what the window wants (`Wanted`): its old start, whether
 //! that was set by command, the rows by which it is to be scrolled, point, the height, the scroll margin and `conservatively`. What comes

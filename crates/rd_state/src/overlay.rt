@@ -92,8 +92,7 @@ impl Content {
         Ok(living.overlay)
     }
 
-    /// Gives an overlay another margin string, or takes its string away. Its number is refused as
-    /// that of a before-string is.
+    /// Gives an overlay another margin string, or takes its string away. The string's number is refused as that of a before-string is.
     pub(crate) fn put_margin_string(
         &mut self,
         objects: &Objects,

@@ -6,7 +6,8 @@
 //! 1. `reading`: a byte begins a character or a control sequence, goes on with it, ends it, or can't be read. `character` puts the
 //!    bytes of a character in UTF-8 together, `parameters` the numbers of a sequence, and `control` names the function by its last byte.
 //! 2. `printing`: a character is put at the cursor, `overwriting` what stood there; what is left of a wide one that it cuts is not known
-//!    any more. A mark joins the character that was put directly before it. Where it filled the row the cursor waits in the last column.
+//!    any more. A mark joins the character that was put directly before it. Where a character filled the row the cursor waits in the last
+//!    column.
 //! 3. `obeying`: a function moves the cursor, erases, sets the region, moves the region's rows (`shifting`) or changes the pen (`pen`).
 //!    What needs something that is not known, or can't be read, makes the terminal confused, and then it stays as it is.
 //!

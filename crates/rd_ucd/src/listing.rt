@@ -128,7 +128,7 @@ impl<E: Listed> Listing<E> {
     }
 }
 
-/// The two codes that a line begins with.
+/// The two codes that a line begins with: that of its entry, and the other one, which the entry gives for it.
 #[derive(Clone, Copy)]
 pub struct Codes {
     pub code: u32,

@@ -13,7 +13,7 @@ ghost use Rattle.rd_update.specs.Plans.{HaveOneSize};
 ghost use Rattle.rd_update.specs.Updates.{sequence, update, end_of_differences, begin_of, end_of};
 ghost use Rattle.rd_update.specs.Laws.{IsReady, IsUpdated, IsLeastInterval, IsSound};
 
-/// The update law. Take a terminal that is not confused and stands between two sequences, a well-formed target of its size, and
+/// The update law. Take a terminal that is not confused and stands between two sequences, a sound target of its size, and
 /// any limit of rows. Either the current screen is unknown, or the terminal's cells are its cells and the terminal's pen is plain. Then,
 /// after the bytes of the update, the terminal is not confused and stands between two sequences, its cells are those of the new
 /// current screen, its pen is plain, and where the update is done its cursor is the target's.
