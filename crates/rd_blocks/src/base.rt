@@ -10,7 +10,7 @@ use rd_para::{Paragraph, next_line, own_level, paragraph_at};
 use rd_props::View;
 
 /// The base level of a block that starts at a position. Where the text decides it, it is that of the position's paragraph, which is
-/// then the one that is known. The paragraph that was known is gone on with, line by line, where it reaches `near`, a position before
+/// then the one that is known. The paragraph that was known is continued, line by line, where it reaches `near`, a position before
 /// the block or its start, and so a paragraph is asked for once, however many of its blocks are asked for in order.
 pub(crate) fn base_of(view: View, known: &mut Option<Paragraph>, near: Pos, start: Pos) -> u8
     requires known { IfSome known.old (λ p. IsKnown view.classes.now view.state.now.text p) }
@@ -28,7 +28,7 @@ pub(crate) fn base_of(view: View, known: &mut Option<Paragraph>, near: Pos, star
     known.insert(paragraph_of(view, *known, near, start)).base
 }
 
-/// The paragraph of a position: gone on to from the known one where that reaches `near`, and else found in the text.
+/// The paragraph of a position: continued from the known one where that reaches `near`, and else found in the text.
 fn paragraph_of(view: View, known: Option<Paragraph>, near: Pos, pos: Pos) -> Paragraph
     requires known { IfSome known (λ p. IsKnown view.classes.now view.state.now.text p) }
     requires place { IsAccessible view.state.now.text pos }

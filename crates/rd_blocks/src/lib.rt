@@ -8,7 +8,7 @@
 //!
 //! 1. `blocks`: rd_items says where a block begins and ends.
 //! 2. `base`: its base level follows from the buffer's settings, or where the text decides it from the block's paragraph, which rd_para
-//!    finds. The paragraphs that were found last, one on the way up and one on the way down, are gone on from line by line, so that
+//!    finds. The paragraphs that were found last, one on the way up and one on the way down, are continued line by line, so that
 //!    blocks in order ask for each once.
 //! 3. `rows`: the properties at the block's first position are looked up once. By them, or else by the settings, a block has a line prefix
 //!    and a wrap prefix. rd_stack gives the elements of both (`string_line`) and those of the line (`Walker`).

@@ -21,7 +21,7 @@ length-without : (f : Option ℕ) (bs : List Bool) → length (without_beginning
 length-without None bs = refl
 length-without (Some f) bs = length-set bs f false
 
--- the classes at i and behind it
+-- the walk comes to index i, which has class c and level l, and all behind it is linked
 module _ (base i : ℕ) (classes : List Class) (levels : List ℕ) (c : Class) (l : ℕ) (old new : Links)
     (within : i < length classes) (same_levels : length levels ≡ length classes)
     (read_class : slice_get classes i ≡ Some c) (read_level : slice_get levels i ≡ Some l)

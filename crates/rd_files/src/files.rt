@@ -125,7 +125,7 @@ fn fault_of(file: DataFile, fault: UcdFault) -> DataFault
     }
 }
 
-/// The number of the bad line.
+/// The number of the bad line, and 0 for want of memory.
 fn line_of(fault: UcdFault) -> u64
     ensures { result ≡ line_of fault }
 {

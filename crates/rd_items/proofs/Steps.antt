@@ -19,10 +19,11 @@ use Rattle.rd_items.proofs.Chains.{ends-where}
 use Rattle.rd_items.proofs.Readings.{before-end, end-open, reads-one, reading-more}
 use Rattle.rd_items.proofs.Runs.{open-stops, ender-open}
 
--- the scene of a buffer, and the pieces of a position at an offset and of those after it
+-- the scene of a buffer
 abbrev scene : BufferValue → ObjectLists → Data → Scene
 scene s o d = scene_in s.settings o d
 
+-- the pieces of the position at an offset, and of those after it
 abbrev left : BufferValue → ObjectLists → Data → ℕ → ℕ → List Piece
 left s o d k p = pieces_from (scene s o d) 0 k (reading s o p)
 

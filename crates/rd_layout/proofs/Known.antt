@@ -106,7 +106,7 @@ module _ (laws : StepLaws) (s t : StateValue) (op : Op) (valid : IsValid s) (for
         (has-place s t valid op is v.buffer both.0 both.2) ((laws.left s t op valid form is).contents v.buffer both.0 both.1 both.2 both.3))
   ]
 
-  -- an effect that tells of a window itself tells more than none
+  -- where an effect is that of the window itself, its change is not none
   not-itself : (number k : ℕ) → effect_of s op ≡ Window number → change_by (effect_of s op) number k ≡ none → ⊥
   not-itself number k p h =
       let all-is-none : all ≡ none = sym (ap (λ (e : Effect). change_by e number k) p ∙ cond-true (number == number) all none (eq-eqb number number refl)) ∙ h in

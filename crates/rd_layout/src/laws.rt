@@ -53,9 +53,9 @@ pub fn redisplays_keep_states()
 }
 
 /// The opening is a session, whatever the data files are, and an op in form leads from a session to a session: its state stays valid,
-/// a known screen the frame's, and what changed since the last layouts is known. So the rows of a last layout that a window's blocks
-/// keep are those that the window has for them, and a last layout since which nothing changed stands, unless the window's start was set
-/// by command; and the items of its rows end at positions. The call does nothing.
+/// a known screen the frame's, and what changed since the last layouts is known. So the rows of a last layout that may be kept are
+/// the rows that the window's blocks have now, and a last layout since which nothing changed stands, unless the window's start was set by
+/// command; and the items of its rows end at positions. The call does nothing.
 pub fn sessions_stay_known()
     ensures opened { (files : Data) → IsSession (opened files) }
     ensures step { (v : SessionValue) (op : Op) (state : StateValue) → IsSession v → IsInForm op → IsStep op → session_step v op ≡ Ok state → IsSession (behind v op state) }

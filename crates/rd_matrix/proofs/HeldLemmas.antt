@@ -92,7 +92,7 @@ none-behind from last zero (a ∷ c ∷ bs) b h i past =
     absurd (omega (arith, end, h.2.0, h.2.1, end-least c.end bs h.2.2, past))
 none-behind from last (suc k) (a ∷ bs) b h i past = none-behind a.end a.end k bs b h.2 i past
 
--- blocks of which there is one end at one position, from wherever they are followed
+-- where there is a block, the end of the blocks does not depend on the position from which they are followed
 pub end-any : (x y : ℕ) (bs : List Block) → 0 < length bs → end_from x bs ≡ end_from y bs
 end-any x y [] some = absurd (omega arith)
 end-any x y (b ∷ bs) some = refl

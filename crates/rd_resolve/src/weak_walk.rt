@@ -1,5 +1,5 @@
-//! Rules W1 to W7 of UAX 9 in one walk over an isolating run sequence. Each rule is a function here, and each of its passes in the
-//! definitions a whole walk; `Before` has the state in which each pass stands.
+//! Rules W1 to W7 of UAX 9 in one walk over an isolating run sequence. Each rule is a function here. In the definitions each is a pass over
+//! the whole sequence; `Before` has what these passes know where the walk stands.
 ghost use Rattle.std.specs.Prelude.{◌≡◌, ◌<◌, length, ◌||◌, false, unwrap_or, All, AllPairs, IfSome};
 ghost use Rattle.rd_resolve.specs.Places.{types_at, TakesTypes};
 ghost use Rattle.rd_resolve.specs.Weak.{w1_nonspacing_marks, strong_after, w2_european_numbers_after_arabic, w3_arabic_letters, w4_separators, w4_first_type, w5_is_en, w5_terminators, w6_remaining_separators, w7_latin_numbers, weak_types, w1, w2, w3};

@@ -18,7 +18,8 @@ use Rattle.rd_rows.specs.Placing.{width_at, is_blank, ends_row, fits, columns_in
 use Rattle.rd_rows.specs.Shapes.{ShapeValues, room, is_word, truncates}
 use Rattle.rd_rows.proofs.Fill.{reached-append, break-more, break-here, break-before}
 
--- the elements of a row behind its last break are no more than its columns that are taken, and than those before the last one
+-- The elements behind a row's last break are no more than the columns taken so far and, where rows are not truncated, than the row's
+-- columns before the last.
 pub record AreFewBehind (shape : ShapeValues) (spot : Spot) (xs : List Element) : Type 0 where
   pub taken : has_break xs ≡ true → length xs - length (up_to_break xs) ≤ spot.used
   pub fit : has_break xs ≡ true → truncates shape ≡ false → length xs - length (up_to_break xs) ≤ room shape

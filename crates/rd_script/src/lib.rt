@@ -1,5 +1,5 @@
-//! The ops of a script, one line an op in JSON. The crate hands on `WindowFacts` and `print_dump` of rd_dump, and `generated` of
-//! rd_generate.
+//! The ops of a script, one line an op in JSON. `WindowFacts` and `print_dump` of rd_dump and `generated` of rd_generate
+//! are named here again, where their users look for them.
 //!
 //! The rules are in docs/RULES.md, "Scripts".
 #![tactic(auto)]

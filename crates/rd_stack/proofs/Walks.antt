@@ -55,7 +55,7 @@ module _ (step : Step) (few : List Element) (old new : List Frame) (stands : Ste
   left-after : frames_left new ≡ after ++ frames_left stands.below
   left-after = ap frames_left stands.is ∙ innermost-first stands.below stands.after
 
-  -- the elements of the frames begin with these, which the innermost gives, and there is less work, though a string is entered for it
+  -- the innermost frame gives these elements first, and less work is left, also where a string is entered
   taken : (these : List Element) (string : List (List Element)) (more : List Frame) → before ≡ these ∷ (string ++ after)
       → frames_left more ≡ string ++ frames_left new → length more ≤ length new + 1
       → (elements_in (frames_left old) ≡ these ++ elements_in (frames_left more)) × (work more < work old)

@@ -1,4 +1,4 @@
-//! The ops that make objects, as methods of `StateParts`. Each answers its effect, which is nothing.
+//! The ops that make objects, as methods of `StateParts`. Each answers `Effect::Nothing`.
 ghost use Rattle.rd_script.specs.Forms.{IsInForm};
 ghost use Rattle.rd_script.specs.declared.op.Op.TheVariants.{AddString, AddSpec, AddFace, AddTable};
 ghost use Rattle.rd_state.specs.Answers.{Applies};

@@ -55,7 +55,8 @@ pub enum Refused {
     /// At this place of the format, counted from 0 in characters, stands a `%` that no code follows. It is the first such place.
     #[error("bad format at {0}")]
     BadFormat(u64),
-    /// The window was not laid out since what it shows may have changed. It comes from the session alone, which holds the layouts.
+    /// The window was not laid out since what it shows may have changed. No op of the state is refused so: the layer that holds the last
+    /// layouts answers it.
     #[error("not shown")]
     NotShown,
     /// Want of memory, which an op that takes memory may answer at any time; then nothing has changed.

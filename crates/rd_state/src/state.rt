@@ -138,6 +138,14 @@ impl State {
         }
     }
 
+    /// The margin strings of the overlays of the buffer with a number, from 0 in order of making; None exactly where none was made.
+    pub fn marks(&self, i: u32) -> Option<&Marks>
+        ensures { option_map (λ m. m.now) result ≡ option_map (λ b. b.content.marks) (slice_get self.now.buffers i) }
+    {
+        let (_name, content) = self.parts.buffers.get_index(i as usize)?;
+        Some(content.marks())
+    }
+
     /// The name of the buffer with a number, the buffer, and the margin strings of its overlays; None exactly where none was made.
     pub fn named_buffer(&self, i: u32) -> Option<(&str, &BufferState, &Marks)>
         ensures name { option_map (λ b. b.0.now) result ≡ option_map (λ b. b.name) (slice_get self.now.buffers i) }

@@ -212,8 +212,8 @@ fn is_overlay(overlay: Option<&Overlay>) -> bool {
 
 /// Whether the first overlay of the first buffer has its margin string.
 fn has_mark(state: &State) -> bool {
-    match state.named_buffer(0) {
-        Some((_name, _buffer, marks)) => marks.get(0) == Some(0) && marks.get(1).is_none(),
+    match state.marks(0) {
+        Some(marks) => marks.get(0) == Some(0) && marks.get(1).is_none(),
         None => false,
     }
 }

@@ -142,8 +142,7 @@ module _ (t : TextValue) (pos at : ℕ) (right : IsText t) (low : t.begin ≤ po
       let of = o.first in
       let ol = o.last in
       let size = line_size (omega arith) in
-      let two : at + first_end + 2 - 1 - 1 ≡ at + first_end = omega arith in
-      let one : at + first_end + 2 - 1 - 1 ≡ at + first_end = omega arith in
+      let line_end : at + first_end + 2 - 1 - 1 ≡ at + first_end = omega arith in
       let zero_off : at + 1 - 1 ≡ at = omega arith in
       let blank : (k : ℕ) → k < first_end → is_blank (get_or line k 0) ≡ true
       = λ k less. blank_else _ (ap is_newline (line_at k less) ∙ before_end (at + k) (omega arith) (omega arith) (omega arith))
@@ -158,8 +157,8 @@ module _ (t : TextValue) (pos at : ℕ) (right : IsText t) (low : t.begin ≤ po
             | inr same ↦ inl (omega arith)
           ];
           order = omega arith;
-          newline = ap (λ (n : ℕ). is_newline (get_or t.text n 0)) two ∙ at_end inside;
-          blank = ap is_separator (ap (λ (n : ℕ). slice_range t.text n (at + first_end + 2 - 1 - 1)) zero_off ∙ ap (slice_range t.text at) one)
+          newline = ap (λ (n : ℕ). is_newline (get_or t.text n 0)) line_end ∙ at_end inside;
+          blank = ap is_separator (ap (λ (n : ℕ). slice_range t.text n (at + first_end + 2 - 1 - 1)) zero_off ∙ ap (slice_range t.text at) line_end)
               ∙ list_all-from_AllPass is_blank line (All-from_get_or (λ c. is_blank c ≡ true) line 0 (λ k less. blank k (omega arith)));
         });
         last = λ r after before e.

@@ -65,7 +65,7 @@ replaced_fits w other (Split side size first second) rect window h e =
       | inr q ↦ rw (q.0, (room-decides first (first_part side size rect)).1 h.0) (replaced_fits w other second (second_part side size rect) window h.1 q.1)
     ]
 
--- what stands for a window is that by its own mode line and margins
+-- to put something in a window's place, by a mode line and margins, is to put there what it is by that window's own
 pub replaced_found : (w : ℕ) (other : Bool → ℕ → Windows) (windows : Windows) (rect : Rect) (window : Placed) → window_at w windows rect ≡ Some window → replaced w (λ _ _. other window.mode window.margins) windows ≡ replaced w other windows
 replaced_found w other (Window n mode margins) rect window e =
     let leaf = cond_some (n == w) (record { number = n; mode = mode; margins = margins; rect = rect }) window e in

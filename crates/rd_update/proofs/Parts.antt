@@ -63,7 +63,7 @@ at-replica a from r x d le lt in_a =
 
 -- ---- bytes under a limit
 
--- the bytes before those of the part of a number are those under that number as limit
+-- the bytes before part k of a plan are those of an update with the limit k
 prefix-step : (d : Bool) (row at k : ℕ) (o n : List Cell) (os ns : List (List Cell)) (pre fin : List ℕ)
     → ((at k : ℕ) (pre : List ℕ) → length pre ≡ at → k < length (parts_from (row + 1) at os ns)
     → take (get_or (parts_from (row + 1) at os ns) k no_part).start ((pre ++ rows_bytes (row + 1) None os ns) ++ fin) ≡ pre ++ rows_bytes (row + 1) (Some k) os ns)
