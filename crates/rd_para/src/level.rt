@@ -16,7 +16,7 @@ use rd_ucd::Classes;
 /// paragraph of the position's line. A line of only spaces, tabs and form feeds separates paragraphs and has the level of the line before,
 /// else 0. The first line of a paragraph in which UAX 9 P2 finds a strong character gives its level (P3), else it is 0.
 ///
-/// Where the text decides it costs what `paragraph_at` does, else the cost is constant. It takes no memory.
+/// With `Auto` it costs what `paragraph_at` does, else the cost is constant. It takes no memory.
 pub fn base_level(text: &Buffer, classes: &Classes, direction: Direction, pos: Pos) -> u8
     requires { IsAccessible text.now pos }
     ensures { result ≡ base_at classes.now text.now direction pos }
