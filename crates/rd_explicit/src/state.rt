@@ -69,15 +69,14 @@ impl State {
     }
 
     /// For X5a to X5c, an isolate at a level above the last entry's. It overflows where the level is too deep (BD2), or something has
-    /// overflowed; `free` says that nothing has.
-    fn x5a_to_x5c_isolate(&mut self, free: bool, level: u8)
-        requires free { free ≡ (self.old.overflow_isolates == 0 && self.old.overflow_embeddings == 0) }
+    /// overflowed.
+    fn x5a_to_x5c_isolate(&mut self, level: u8)
         requires above { (top self.old.stack).level < level }
         requires ready { IsReady 4294967294 self.old }
         ensures state { self.new ≡ x5a_to_x5c_isolate level self.old }
         ensures leaves { GoesOn self.old self.new }
     {
-        if free && level <= MAX_DEPTH {
+        if self.is_free() && level <= MAX_DEPTH {
             self.stack.push(level, None, true);
             self.valid_isolates += 1;
         } else {
@@ -94,9 +93,8 @@ impl State {
         ensures leaves { GoesOn self.old self.new }
     {
         let level = self.stack.top().level;
-        let free = self.is_free();
-        let parity = u8::from(free && x5c_starts_right(rest));
-        self.x5a_to_x5c_isolate(free, level_above(parity, level));
+        let parity = u8::from(self.is_free() && x5c_starts_right(rest));
+        self.x5a_to_x5c_isolate(level_above(parity, level));
     }
 
     /// X6a: a PDI closes the overflow isolate that was opened last, else the isolate that was opened last and all embeddings in it.
@@ -152,9 +150,9 @@ impl State {
             // X5: an LRO opens an override to L at the next even level.
             Class::LRO => self.x2_to_x5_embed(level_above(0, entry.level), Some(Class::L)),
             // X5a: an RLI opens an isolate at the next odd level.
-            Class::RLI => self.x5a_to_x5c_isolate(self.is_free(), level_above(1, entry.level)),
+            Class::RLI => self.x5a_to_x5c_isolate(level_above(1, entry.level)),
             // X5b: an LRI opens an isolate at the next even level.
-            Class::LRI => self.x5a_to_x5c_isolate(self.is_free(), level_above(0, entry.level)),
+            Class::LRI => self.x5a_to_x5c_isolate(level_above(0, entry.level)),
             Class::FSI => self.x5c_first_strong_isolate(rest),
             Class::PDI => {
                 self.x6a_pop_directional_isolate();
