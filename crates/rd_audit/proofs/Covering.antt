@@ -17,7 +17,7 @@ use Rattle.rd_base.proofs.Equals.{face-told, face-itself}
 use Rattle.rd_base.proofs.Colours.{plain-coloured}
 use Rattle.rd_term.specs.Pictures.{blank}
 use Rattle.rd_update.specs.Updates.{is_rest}
-use Rattle.rd_dump.specs.Dumps.{faces_of, with_columns, face_runs, runs_text, runs_of_row, numbers_text}
+use Rattle.rd_dump.specs.Dumps.{faces_of, with_columns, maximal_runs, runs_text, runs_of_row, numbers_text}
 use Rattle.rd_audit.specs.Cuts.{pieces}
 use Rattle.rd_audit.specs.FaceRuns.{is_edge, fits, with_face, faced, painted_by, with_face_run, painted, runs_over}
 use Rattle.rd_audit.specs.declared.run.SaidFaceRun.{SaidFaceRun}
@@ -79,18 +79,18 @@ own-colours before (First g f) p q = q
 own-colours before Rest p q = p
 
 -- a run that ends does so at a cell at which no character goes on
-start-by : (face : Attributes) (cells : List Cell) → is_headed face (face_runs (faces_of face cells)) ≡ false → is_start cells ≡ true
+start-by : (face : Attributes) (cells : List Cell) → is_headed face (maximal_runs (faces_of face cells)) ≡ false → is_start cells ≡ true
 start-by face [] e = refl
 start-by face (Blank f ∷ cells) e = refl
 start-by face (First g f ∷ cells) e = refl
-start-by face (Rest ∷ cells) e = absurd (true≢false (sym (headed 1 face (face_runs (faces_of face cells))) ∙ e))
+start-by face (Rest ∷ cells) e = absurd (true≢false (sym (headed 1 face (maximal_runs (faces_of face cells))) ∙ e))
 
-pub covered : (before : Attributes) (cells : List Cell) → HasColours before → All IsColoured cells → Covers (face_runs (faces_of before cells)) cells
+pub covered : (before : Attributes) (cells : List Cell) → HasColours before → All IsColoured cells → Covers (maximal_runs (faces_of before cells)) cells
 covered before [] p q = refl
 covered before (cell ∷ cells) p q =
     let face = face_after before cell in
     let range = own-colours before cell p (All-head IsColoured cell cells q) in
-    covers-more cell face (face_runs (faces_of face cells)) cells (own-face before cell) range (start-by face cells) (covered face cells range (All-tail IsColoured cell cells q))
+    covers-more cell face (maximal_runs (faces_of face cells)) cells (own-face before cell) range (start-by face cells) (covered face cells range (All-tail IsColoured cell cells q))
 
 -- ---- the texts of runs
 
@@ -133,7 +133,7 @@ spaced-lacks byte (text ∷ more) p h = ap (λ t. t && lacks byte (text ++ space
 pub runs-lack : (byte : ℕ) (cells : List Cell) → ((first last : ℕ) (face : Attributes) → lacks byte (run_piece first last face) ≡ true) → not (32 == byte) ≡ true
     → lacks byte (runs_of_row cells) ≡ true
 runs-lack byte cells h p =
-    let runs = face_runs (faces_of plain cells) in
+    let runs = maximal_runs (faces_of plain cells) in
     ap (lacks byte) (runs-spaced 0 runs) ∙ spaced-lacks byte (texts 0 runs) p (texts-lack byte 0 runs h)
 
 pieces-spaced : (text : List ℕ) (more : List (List ℕ)) → lacks 32 text ≡ true → AllLack 32 more → pieces 32 (text ++ spaced more) ≡ text ∷ more
@@ -251,7 +251,7 @@ row-starts (Rest ∷ cells) h = absurd h
 -- the runs of a row say its faces
 pub runs-read : (cells : List Cell) → IsRowAfter 0 cells → All IsColoured cells → length cells < 1000 → runs_over (runs_of_row cells) (plainly cells) ≡ Some cells
 runs-read cells h colours small =
-    let runs = face_runs (faces_of plain cells) in
+    let runs = maximal_runs (faces_of plain cells) in
     ap (λ l. runs_over l (plainly cells)) (runs-spaced 0 runs)
     ∙ over-spaced (plainly cells) (texts 0 runs) (texts-lack 32 0 runs (λ first last face. piece-lacks 32 first last face refl))
     ∙ paint-all runs 0 [] cells (omega arith) (omega (arith, small)) (row-starts cells h) (covered plain cells plain-coloured colours)

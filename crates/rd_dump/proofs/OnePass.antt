@@ -7,7 +7,7 @@ use Rattle.rd_base.specs.Faces.{Attributes, plain}
 use Rattle.rd_base.specs.Equals.{same_face}
 use Rattle.rd_base.proofs.Equals.{face-told, face-itself}
 use Rattle.rd_base.proofs.Lists.{drop-read}
-use Rattle.rd_dump.specs.Dumps.{with_columns, face_runs, run_text, runs_text, ended_text, faces_of, numbers_text, number_text, numbers_behind, rows_text, row_line}
+use Rattle.rd_dump.specs.Dumps.{with_columns, maximal_runs, run_text, runs_text, ended_text, faces_of, numbers_text, number_text, numbers_behind, rows_text, row_line}
 use Rattle.std.specs.Result.{IsErr}
 use Rattle.rd_base.specs.Cells.{face_after}
 use Rattle.rd_io.specs.Devices.{Prints}
@@ -50,21 +50,21 @@ told_apart f g false e other = refl
 
 -- one step of a pass over the faces
 open_text-step : (first n : ℕ) (face next : Attributes) (faces : List Attributes) (same : Bool) → same_face next face ≡ same
-    → open_text first (first + (n + 1)) face faces ≡ runs_text first (with_columns (n + 1) face (face_runs faces))
-    → open_text (first + n) (first + n + 1) next faces ≡ runs_text (first + n) (with_columns 1 next (face_runs faces))
+    → open_text first (first + (n + 1)) face faces ≡ runs_text first (with_columns (n + 1) face (maximal_runs faces))
+    → open_text (first + n) (first + n + 1) next faces ≡ runs_text (first + n) (with_columns 1 next (maximal_runs faces))
     → (if same then open_text first (first + n + 1) face faces else run_text first (first + n) face ++ open_text (first + n) (first + n + 1) next faces)
-    ≡ runs_text first (with_columns n face (with_columns 1 next (face_runs faces)))
+    ≡ runs_text first (with_columns n face (with_columns 1 next (maximal_runs faces)))
 open_text-step first n face next faces true e on other =
     let turned : next ≡ face = face-told next face e in
     let moved : first + n + 1 ≡ first + (n + 1) = omega arith in
     ap (λ k. open_text first k face faces) moved ∙ on
-    ∙ sym (ap (runs_text first) (with_columns-more n 1 face (face_runs faces))) ∙ ap (λ f. runs_text first (with_columns n face (with_columns 1 f (face_runs faces)))) (sym turned)
+    ∙ sym (ap (runs_text first) (with_columns-more n 1 face (maximal_runs faces))) ∙ ap (λ f. runs_text first (with_columns n face (with_columns 1 f (maximal_runs faces)))) (sym turned)
 open_text-step first n face next faces false e on other =
     ap (λ l. run_text first (first + n) face ++ l) other
-    ∙ sym (ap (runs_text first) (with_columns-other n 1 face next (face_runs faces) (told_apart next face (same_face face next) refl e)))
+    ∙ sym (ap (runs_text first) (with_columns-other n 1 face next (maximal_runs faces) (told_apart next face (same_face face next) refl e)))
 
 -- one pass finds the runs
-pub open_text-runs : (first n : ℕ) (face : Attributes) (faces : List Attributes) → open_text first (first + n) face faces ≡ runs_text first (with_columns n face (face_runs faces))
+pub open_text-runs : (first n : ℕ) (face : Attributes) (faces : List Attributes) → open_text first (first + n) face faces ≡ runs_text first (with_columns n face (maximal_runs faces))
 open_text-runs first n face [] = sym (append-nil (run_text first (first + n) face))
 open_text-runs first n face (next ∷ faces) =
     open_text-step first n face next faces (same_face next face) refl (open_text-runs first (n + 1) face faces) (open_text-runs (first + n) 1 next faces)
@@ -82,8 +82,8 @@ before_plain [] = refl
 before_plain (run ∷ runs) = before_plain_at run runs (same_face plain run.1) refl
 
 -- a row's runs, found in one pass
-pub open_text-row : (faces : List Attributes) → open_text 0 0 plain faces ≡ runs_text 0 (face_runs faces)
-open_text-row faces = open_text-runs 0 0 plain faces ∙ before_plain (face_runs faces)
+pub open_text-row : (faces : List Attributes) → open_text 0 0 plain faces ≡ runs_text 0 (maximal_runs faces)
+open_text-row faces = open_text-runs 0 0 plain faces ∙ before_plain (maximal_runs faces)
 
 -- a cell's step of the pass
 open-step_at : (first column : ℕ) (face next : Attributes) (cells : List Cell) (same : Bool) → same_face next face ≡ same

@@ -81,9 +81,9 @@ with_columns n face [] = (n, face) ∷ []
 with_columns n face (run ∷ runs) = if same_face face run.1 then (n + run.0, face) ∷ runs else (n, face) ∷ run ∷ runs
 
 -- the maximal runs of equal faces
-abbrev pub face_runs : List Attributes → List (ℕ × Attributes)
-face_runs [] = []
-face_runs (face ∷ faces) = with_columns 1 face (face_runs faces)
+abbrev pub maximal_runs : List Attributes → List (ℕ × Attributes)
+maximal_runs [] = []
+maximal_runs (face ∷ faces) = with_columns 1 face (maximal_runs faces)
 
 -- ---- a face's numbers
 
@@ -114,7 +114,7 @@ runs_text column [] = []
 runs_text column (run ∷ runs) = run_text column (column + run.0) run.1 ++ runs_text (column + run.0) runs
 
 abbrev pub runs_of_row : List Cell → List ℕ
-runs_of_row cells = runs_text 0 (face_runs (faces_of plain cells))
+runs_of_row cells = runs_text 0 (maximal_runs (faces_of plain cells))
 
 -- ---- rows, and the whole dump
 
