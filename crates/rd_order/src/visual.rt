@@ -90,11 +90,7 @@ fn neighbour(levels: &[u8], level: u8, base: u8, place: usize) -> Option<usize>
     } else {
         place.checked_sub(1)?
     };
-    if beside < levels.len() && (level == base || levels[beside] >= level) {
-        Some(beside)
-    } else {
-        None
-    }
+    (beside < levels.len() && (level == base || levels[beside] >= level)).then_some(beside)
 }
 
 /// For L2, the highest level of the two indexes beside a run, at least the base.

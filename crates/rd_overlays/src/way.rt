@@ -49,9 +49,5 @@ pub(crate) fn is_on(way: Way, pos: Pos, place: Pos) -> bool
 pub(crate) fn reached(way: Way, pos: Pos, edge: Pos) -> Option<Pos>
     ensures { result ≡ reached way pos edge }
 {
-    if is_on(way, pos, edge) {
-        Some(edge)
-    } else {
-        None
-    }
+    is_on(way, pos, edge).then_some(edge)
 }

@@ -141,13 +141,7 @@ impl Parameters {
                 numbers.push(n);
                 Some(numbers)
             }
-            None => {
-                if numbers.len() == 0 {
-                    Some(numbers)
-                } else {
-                    None
-                }
-            }
+            None => (numbers.len() == 0).then_some(numbers),
         }
     }
 }
