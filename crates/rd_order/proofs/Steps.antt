@@ -109,11 +109,12 @@ beside f n base (suc m) p q r next q_in r_in q_high r_high (s, c, inr t) =
     let before = beside f n base m p s s' reversed_next (omega arith) (omega arith) (λ _. omega arith) (λ _. omega arith) c in
     (s', before, inr (record { a = t.a; b = t.b; run = t.run; from = omega arith; to = omega arith; image = omega arith }))
 
--- a run that is one at each level above base + m up to base + m + j, and a place in it and its image where it is reversed j times
+-- a place q of a run from a to b, and where it stands (r) once the run is reversed j times
 pub record IsReversedBy (j a b q r : ℕ) : Type 0 where
   pub even : j % 2 ≡ 0 → r ≡ q
   pub odd : j % 2 ≡ 1 → suc (q + r) ≡ a + b
 
+-- from a to b is a run at each level above base + m up to base + m + j
 abbrev pub AreRuns : (ℕ → ℕ) → ℕ → ℕ → ℕ → ℕ → ℕ → ℕ → Type 0
 AreRuns f n base m j a b = (i : ℕ) → m < i → i ≤ m + j → IsLevelRun f n (base + i) a b
 

@@ -33,11 +33,7 @@ loop-beside-preserved c =
     let facts = c.l2_run_around-run.ensures in
     let beside_run = c.highest_beside-beside_run.result in
     let beside_it = c.highest_beside-beside_run.ensures in
-    let turn = reversed_by (c.loop-beside.level - beside_run) run.start run.end c.loop-beside.place c.reversed_place-place.result facts.from facts.to c.reversed_place-place.ensures in
-    let from = turn.1 in
-    let to = turn.2 in
-    let within = facts.run.within in
-    let base = inv.base in
+    let (turn, from, to) = reversed_by (c.loop-beside.level - beside_run) run.start run.end c.loop-beside.place c.reversed_place-place.result facts.from facts.to c.reversed_place-place.ensures in
     let fall : beside_run < c.loop-beside.level = elim beside_it.known [
       | inl same ↦ omega arith
       | inr rest ↦ elim rest [
@@ -46,12 +42,11 @@ loop-beside-preserved c =
       ]
     ] in
     let before : BeginsLow (slice_index c.args.levels.now) (beside_run + 1) run.start = λ q e. let h = beside_it.before q e in omega arith in
-    let up = beside_it.base in
-    let back : IsReversedBy (c.loop-beside.level - beside_run) run.start run.end c.reversed_place-place.result c.loop-beside.place = record { even = λ e. sym (turn.0.even e); odd = λ e. let h = turn.0.odd e in omega (arith, h) } in
+    let back : IsReversedBy (c.loop-beside.level - beside_run) run.start run.end c.reversed_place-place.result c.loop-beside.place = record { even = λ e. sym (turn.even e); odd = λ e. let h = turn.odd e in omega (arith, h) } in
     record {
-      base = up;
-      place = omega arith;
+      base = beside_it.base;
+      place = omega (arith, facts.run.within);
       high = λ _. let h = facts.run.high c.reversed_place-place.result from to in omega arith;
       comes = λ p at. (between (slice_index c.args.levels.now) (length c.args.levels.now) c.args.base beside_run c.loop-beside.level run.start run.end p
-          c.reversed_place-place.result c.loop-beside.place up fall facts.run.order facts.run.within facts.run.high before (λ less. let h = beside_it.after less in omega arith) from to back).1 (inv.comes p at);
+          c.reversed_place-place.result c.loop-beside.place beside_it.base fall facts.run.order facts.run.within facts.run.high before (λ less. let h = beside_it.after less in omega arith) from to back).1 (inv.comes p at);
     }

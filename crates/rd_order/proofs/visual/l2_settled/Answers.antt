@@ -7,18 +7,13 @@ loop-level-preserved c =
     let inv = c.loop-level.invariant in
     let run = c.l2_run_around-run.result in
     let facts = c.l2_run_around-run.ensures in
-    let turn = reversed_by (run.lowest - c.loop-level.level) run.start run.end c.loop-level.place c.reversed_place-place.result facts.from facts.to c.reversed_place-place.ensures in
-    let from = turn.1 in
-    let to = turn.2 in
-    let within = facts.run.within in
-    let base = inv.base in
-    let up = facts.up in
+    let (turn, from, to) = reversed_by (run.lowest - c.loop-level.level) run.start run.end c.loop-level.place c.reversed_place-place.result facts.from facts.to c.reversed_place-place.ensures in
     record {
-      base = omega arith;
-      place = omega arith;
+      base = omega (arith, inv.base, facts.up);
+      place = omega (arith, facts.run.within);
       high = λ _. facts.lowest c.reversed_place-place.result from to;
       comes = λ p came. (between (slice_index c.args.levels.now) (length c.args.levels.now) c.args.base c.loop-level.level run.lowest run.start run.end p
-          c.loop-level.place c.reversed_place-place.result base (omega arith) facts.run.order within facts.lowest facts.run.before facts.run.after facts.from facts.to turn.0).0 (inv.comes p came);
+          c.loop-level.place c.reversed_place-place.result inv.base (omega arith) facts.run.order facts.run.within facts.lowest facts.run.before facts.run.after facts.from facts.to turn).0 (inv.comes p came);
     }
 
 pub returns : goal.returns
