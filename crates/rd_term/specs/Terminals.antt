@@ -58,10 +58,11 @@ abbrev pub writes_plain : Option Attributes → Bool
 writes_plain None = false
 writes_plain (Some face) = same_face face plain
 
--- `\e[r;cH`: the cursor goes to a row and a column, counted from 1, that are on the screen, and the wait ends
+-- whether a row and a column, counted from 1, are on the screen
 abbrev pub on_screen : {A : Type 0} → List (List A) → ℕ → ℕ → Bool
 on_screen rows r c = nat_lt 0 r && nat_le r (length rows) && nat_lt 0 c && nat_le c (length (row_at rows (r - 1)))
 
+-- `\e[r;cH`: the cursor goes to a row and a column, counted from 1, that are on the screen, and the wait ends
 abbrev pub move_to : List ℕ → Tty → Tty
 move_to (r ∷ c ∷ []) t = if on_screen t.rows r c then record t { cursor = Some (r - 1, c - 1); wait = false } else confuse t
 move_to numbers t = confuse t
@@ -71,8 +72,7 @@ abbrev pub clear : List ℕ → Tty → Tty
 clear (n ∷ []) t = if n == 2 && writes_plain t.pen then record t { rows = map cleared t.rows } else confuse t
 clear numbers t = confuse t
 
--- `\e[K`: the cells from the cursor to its row's end become blank and plain, by a plain pen and while no wait stands; what is
--- left of a character that this cuts becomes unknown
+-- a row of which the cells from a column to the end are blank and plain; what is left of a character that this cuts is unknown
 abbrev pub erased_from : ℕ → List (Option Cell) → List (Option Cell)
 erased_from column row = overwritten column (replicate (length row - column) (Some blank)) row
 
@@ -80,6 +80,8 @@ abbrev pub erase_at : Option (ℕ × ℕ) → Tty → Tty
 erase_at None t = confuse t
 erase_at (Some place) t = record t { rows = slice_set t.rows place.0 (erased_from place.1 (row_at t.rows place.0)) }
 
+-- `\e[K`: the cells from the cursor to its row's end become blank and plain, by a plain pen and while no wait stands; what is
+-- left of a character that this cuts becomes unknown
 abbrev pub erase : List ℕ → Tty → Tty
 erase [] t = if writes_plain t.pen && not t.wait then erase_at t.cursor t else confuse t
 erase (n ∷ ns) t = confuse t
@@ -98,8 +100,7 @@ set_region (t ∷ b ∷ []) s =
     else confuse s
 set_region numbers s = confuse s
 
--- `\e[nL` and `\e[nM`: the rows from the cursor's to the region's last are moved down or up by n, which is at least 1, by a plain
--- pen, while no wait stands, with a cursor in a known region; the cursor is not known then
+-- the rows of a part are moved, and the cursor is not known then; the terminal is confused where there is no part
 abbrev pub move_rows : (List (List (Option Cell)) → List (List (Option Cell))) → Option (ℕ × ℕ) → Tty → Tty
 move_rows move None t = confuse t
 move_rows move (Some part) t = record t { rows = changed_between part.0 part.1 move t.rows; cursor = None }
@@ -107,7 +108,8 @@ move_rows move (Some part) t = record t { rows = changed_between part.0 part.1 m
 abbrev pub may_move : ℕ → Tty → Bool
 may_move n t = nat_lt 0 n && writes_plain t.pen && not t.wait
 
--- rows that are inserted move the others down, rows that are deleted move them up
+-- `\e[nL` and `\e[nM`: the rows from the cursor's to the region's last are moved down or up by n, which is at least 1, by a plain
+-- pen, while no wait stands, with a cursor in a known region; the cursor is not known then
 abbrev pub shift_rows : RowMove → List ℕ → Tty → Tty
 shift_rows way (n ∷ []) t = if may_move n t then move_rows (moved way n) (rows_moved t.region t.cursor) t else confuse t
 shift_rows way numbers t = confuse t
