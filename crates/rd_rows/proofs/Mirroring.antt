@@ -1,13 +1,16 @@
 -- The mirror image of a row, from its last cell to its first.
-use Rattle.std.proofs.Common.{◌≡◌, ℕ, ◌+◌, ◌-◌, ◌<◌, ◌≤◌, ◌&&◌, nat_lt, Bool, true, false, if◌then◌else◌, List, [], ◌∷◌, ◌++◌, length, refl, ap, ◌∙◌, arith, length-append}
+use Rattle.std.proofs.Common.{◌≡◌, ℕ, ◌+◌, ◌-◌, ◌<◌, ◌≤◌, ◌&&◌, max, nat_lt, Bool, true, false, if◌then◌else◌, List, [], ◌∷◌, ◌++◌, length, flat_map, refl, ap, ◌∙◌, arith, length-append}
 use Rattle.std.specs.Prelude.{replicate}
 use Rattle.std.proofs.lemmas.List.{length-replicate}
+use Rattle.rd_base.specs.Faces.{plain}
+use Rattle.rd_base.specs.Glyphs.{blanks}
 use Rattle.rd_base.specs.declared.cell.Cell.{Cell}
 use Rattle.rd_base.specs.declared.cell.Cell.TheVariants.{Blank, First, Rest}
 use Rattle.std.proofs.lemmas.Bool.Decides.{nat_tests}
 use Rattle.rd_rows.specs.declared.cutting.Cutting.{Cutting}
+use Rattle.rd_rows.specs.declared.spot.Placed.{Placed}
 use Rattle.rd_rows.specs.Mirrors.{mirror_image, leading_rests}
-use Rattle.rd_rows.specs.Rows.{front_mark, first_seen, from_edge, mark}
+use Rattle.rd_rows.specs.Rows.{filled, front_mark, first_seen, from_edge, last_cell, mark, row_of, seen_in}
 use Rattle.rd_rows.specs.Shapes.{room}
 
 -- what holds of no cells, and goes on past a later column and past each other cell, by its mirror image, holds of all cells
@@ -21,7 +24,7 @@ by-mirror P none rest other (Blank f ∷ cells) = other (Blank f) cells refl ref
 by-mirror P none rest other (First g f ∷ cells) = other (First g f) cells refl refl (by-mirror P none rest other cells)
 
 -- no cell is lost but later columns at the beginning, whose glyph is not there
-pub mirror-length : (cells : List Cell) → length (mirror_image cells) + leading_rests cells ≡ length cells
+mirror-length : (cells : List Cell) → length (mirror_image cells) + leading_rests cells ≡ length cells
 mirror-length = by-mirror (λ cells. length (mirror_image cells) + leading_rests cells ≡ length cells) refl
     (λ cells e. omega (arith, e)) (λ x cells image none e.
     let a = length-append (mirror_image cells) (x ∷ replicate (leading_rests cells) Rest) in
@@ -30,6 +33,24 @@ mirror-length = by-mirror (λ cells. length (mirror_image cells) + leading_rests
 edge-length : (b : Bool) (cells : List Cell) → length (from_edge b cells) ≤ length cells
 edge-length true cells = let e = mirror-length cells in omega (arith, e)
 edge-length false cells = omega arith
+
+edge-size : (b : Bool) (cells : List Cell) → leading_rests cells ≡ 0 → length (from_edge b cells) ≡ length cells
+edge-size true cells none = let e = mirror-length cells in omega (arith, e, none)
+edge-size false cells none = refl
+
+-- a row of cells that begin with no later column has those of its mark and its elements, at least as many as there is room for, and one more
+pub row-length : (c : Cutting) (used : ℕ) (continued : Bool) (ps : List Placed)
+    → leading_rests (filled (room c.shape) (front_mark c used ++ flat_map (seen_in c.shape) ps) ++ last_cell c used continued ∷ []) ≡ 0
+    → length (row_of c used continued ps).cells ≡ max (room c.shape) (length (front_mark c used ++ flat_map (seen_in c.shape) ps)) + 1
+row-length c used continued ps none =
+    let r = room c.shape in
+    let body = front_mark c used ++ flat_map (seen_in c.shape) ps in
+    let last = last_cell c used continued ∷ [] in
+    let edge = edge-size c.reversed (filled r body ++ last) none in
+    let more = length-append (filled r body) last in
+    let fill = length-append body (blanks (r - length body) plain) in
+    let blank = length-replicate (r - length body) (Blank plain) in
+    omega (arith, edge, more, fill, blank)
 
 front-by : (b d : Bool) (x : Cell) (h r n : ℕ) → nat_lt 0 h ≡ b → 1 ≤ r → n ≤ h + r - (if b then h + 1 else 0) → length (if b && d then x ∷ [] else []) + n ≤ r
 front-by true true x h r n i some few = omega arith

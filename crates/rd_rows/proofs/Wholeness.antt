@@ -1,10 +1,9 @@
 -- In the rows of measured elements each glyph stands whole.
-use Rattle.std.proofs.Common.{◌≡◌, ℕ, suc, ◌+◌, ◌-◌, ◌≤◌, ◌&&◌, min, max, nat_le, Bool, true, false, List, [], ◌∷◌, ◌++◌, length, flat_map, refl, ap, ◌∙◌, arith, length-append, replicate}
+use Rattle.std.proofs.Common.{◌≡◌, ℕ, suc, ◌+◌, ◌-◌, ◌≤◌, ◌&&◌, min, max, nat_le, Bool, true, false, List, [], ◌∷◌, ◌++◌, flat_map, refl, ap, arith, replicate}
 use Rattle.std.specs.List.{AllByRecursion}
-use Rattle.std.proofs.lemmas.List.{length-replicate}
 use Rattle.rd_base.specs.Elements.{IsSound, AreSound}
 use Rattle.rd_base.specs.Faces.{Attributes, plain}
-use Rattle.rd_base.specs.Glyphs.{blanks, look_cells, IsMeasuredLook, AreMeasured, IsRowAfter}
+use Rattle.rd_base.specs.Glyphs.{look_cells, IsMeasuredLook, AreMeasured, IsRowAfter}
 use Rattle.rd_base.specs.declared.cell.Cell.{Cell}
 use Rattle.rd_base.specs.declared.cell.Cell.TheVariants.{Blank, First, Rest}
 use Rattle.rd_base.specs.declared.cell.Glyph.{Glyph}
@@ -23,7 +22,7 @@ use Rattle.rd_rows.specs.Shapes.{ShapeValues, room}
 use Rattle.rd_rows.specs.Whole.{IsWhole, AreWhole, IsMark, IsMeasuredPrefix, ArePlacedMeasured, IsMeasuredCutting}
 use Rattle.rd_rows.proofs.Fitting.{cutting-leads}
 use Rattle.rd_rows.proofs.Marks.{mark-whole, row-has}
-use Rattle.rd_rows.proofs.Mirroring.{mirror-length, front-length}
+use Rattle.rd_rows.proofs.Mirroring.{front-length, row-length}
 use Rattle.rd_rows.proofs.Placings.{fitted-each, placed-each}
 use Rattle.rd_rows.proofs.Splits.{placed_in, over-rows}
 use Rattle.rd_rows.proofs.Stands.{stand-append, stand-placed, room-length}
@@ -52,37 +51,22 @@ mirror-whole = by-cells (λ due cells. IsRowAfter 0 (mirror_image cells) × (lea
     ))
     (λ due cells so. (so.0, ap suc so.1))
 
-edge-whole : (b : Bool) (cells : List Cell) → IsRowAfter 0 cells → IsRowAfter 0 (from_edge b cells) × (length (from_edge b cells) ≡ length cells)
-edge-whole true cells h =
-    let image = mirror-whole 0 cells h in
-    let none = image.1 in
-    let size = mirror-length cells in
-    (image.0, omega (arith, none, size))
-edge-whole false cells h = (h, refl)
+edge-whole : (b : Bool) (cells : List Cell) → IsRowAfter 0 cells → IsRowAfter 0 (from_edge b cells)
+edge-whole true cells h = (mirror-whole 0 cells h).0
+edge-whole false cells h = h
 
 -- the rows
-
-filled-length : (r : ℕ) (cells : List Cell) → length cells ≤ r → length (filled r cells) ≡ r
-filled-length r cells h =
-    let size : length (filled r cells) ≡ length cells + (r - length cells)
-    = length-append cells (blanks (r - length cells) plain) ∙ ap (λ n. length cells + n) (length-replicate (r - length cells) (Blank plain)) in
-    omega (arith, size, h)
 
 row-whole : (c : Cutting) (used : ℕ) (continued : Bool) (ps : List Placed) → IsMeasuredCutting c → StandFrom 0 ps used → ArePlacedMeasured ps → IsWhole c.shape.width (row_of c used continued ps)
 row-whole c used continued ps m stand measured =
     let r = room c.shape in
     let columns = m.columns in
-    let some : 1 ≤ r = omega (arith, columns) in
-    let body : List Cell = front_mark c used ++ flat_map (seen_in c.shape) ps in
-    let last : List Cell = last_cell c used continued ∷ [] in
+    let cells = filled r (front_mark c used ++ flat_map (seen_in c.shape) ps) ++ last_cell c used continued ∷ [] in
     let all = row-has (IsRowAfter 0) (behind-whole 0) tt (λ n. blanks-whole n plain) c (mark-whole c.truncation m.truncation) (mark-whole c.continuation m.continuation)
     used continued ps (each-whole (first_seen c.shape) (c.shape.hscroll + r) 0 used ps stand measured) in
-    let edge = edge-whole c.reversed (filled r body ++ last) all in
-    let short = front-length c used (flat_map (seen_in c.shape) ps) some (room-length c.shape used ps stand) in
-    let size = filled-length r body short in
-    let more = length-append (filled r body) last in
-    let same = edge.1 in
-    record { wide = omega (arith, columns, size, more, same); whole = edge.0 }
+    let short = front-length c used (flat_map (seen_in c.shape) ps) (omega (arith, columns)) (room-length c.shape used ps stand) in
+    let size = row-length c used continued ps (mirror-whole 0 cells all).1 in
+    record { wide = omega (arith, columns, short, size); whole = edge-whole c.reversed cells all }
 
 -- a prefix with which a measured row can begin
 record IsMeasuredLead (lead : List Placed) : Type 0 where

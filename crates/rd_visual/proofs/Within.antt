@@ -1,7 +1,6 @@
 -- The items of a row begin in columns of its window.
-use Rattle.std.proofs.Common.{◌≡◌, ℕ, zero, suc, ◌+◌, ◌-◌, ◌<◌, ◌≤◌, ◌&&◌, min, max, nat_le, Bool, true, false, List, [], ◌∷◌, ◌++◌, All, get_or, Some, refl, subst, arith, length-append}
+use Rattle.std.proofs.Common.{◌≡◌, ℕ, zero, suc, ◌+◌, ◌-◌, ◌<◌, ◌≤◌, ◌&&◌, min, max, nat_le, Bool, true, false, List, [], ◌∷◌, ◌++◌, All, get_or, Some, refl, subst, arith}
 use Rattle.std.specs.Prelude.{flat_map, length, if◌then◌else◌, replicate, slice_get}
-use Rattle.std.proofs.lemmas.List.{length-replicate}
 use Rattle.std.proofs.lemmas.List.Elements.{All-append, All-cons, All-map, All-nil, recursion_from_All}
 use Rattle.rd_base.proofs.Choices.{either}
 use Rattle.rd_base.proofs.Lists.{all-at, all-back, all-front}
@@ -15,7 +14,7 @@ use Rattle.rd_base.specs.declared.element.Look.{Look}
 use Rattle.rd_base.specs.declared.element.Look.TheVariants as look
 use Rattle.rd_matrix.proofs.EachRow.{rows-each}
 use Rattle.rd_rows.proofs.Marks.{row-has}
-use Rattle.rd_rows.proofs.Mirroring.{mirror-length}
+use Rattle.rd_rows.proofs.Mirroring.{row-length}
 use Rattle.rd_rows.proofs.Splits.{over-rows, placed_in}
 use Rattle.rd_ucd.specs.Data.{Data}
 use Rattle.rd_objects.specs.Things.{ObjectLists}
@@ -29,7 +28,7 @@ use Rattle.rd_blocks.specs.Rows.{block_cutting}
 use Rattle.rd_blocks.specs.Sources.{text_source}
 use Rattle.rd_visual.specs.Hits.{AreAdjacentRows}
 use Rattle.rd_rows.specs.Mirrors.{leading_rests}
-use Rattle.rd_rows.specs.Rows.{LaidRow, RowMeaning, begin_of, filled, first_seen, from_edge, front_mark, laid, last_cell, mark, row_of, rows_of, seen, seen_in}
+use Rattle.rd_rows.specs.Rows.{LaidRow, RowMeaning, begin_of, first_seen, laid, mark, row_of, rows_of, seen}
 use Rattle.rd_rows.specs.Shapes.{IsShape, ShapeValues, room}
 use Rattle.rd_rows.specs.declared.begin.Begin.{Begin}
 use Rattle.rd_rows.specs.declared.cutting.Cutting.{Cutting}
@@ -86,22 +85,12 @@ leading-seen from to p =
 leading-mark : (g : Glyph) → leading_rests (mark g ∷ []) ≡ 0
 leading-mark g = either (λ x. leading_rests (x ∷ []) ≡ 0) (is_space g) (Blank plain) (First g plain) refl refl
 
-edge-size : (b : Bool) (cells : List Cell) → leading_rests cells ≡ 0 → length (from_edge b cells) ≡ length cells
-edge-size true cells none = let e = mirror-length cells in omega (arith, e, none)
-edge-size false cells none = refl
-
 row-wide : (c : Cutting) (used : ℕ) (continued : Bool) (ps : List Placed) → c.shape.width ≤ length (row_of c used continued ps).cells
 row-wide c used continued ps =
-    let cells = front_mark c used ++ flat_map (seen_in c.shape) ps in
-    let fill = blanks (room c.shape - length cells) plain in
-    let end = last_cell c used continued ∷ [] in
     let leads = row-has (λ xs. leading_rests xs ≡ 0) leading-append refl (λ n. leading-blanks n plain) c (leading-mark c.truncation) (leading-mark c.continuation)
     used continued ps (recursion_from_All _ ps (λ k d here. leading-seen (first_seen c.shape) (c.shape.hscroll + room c.shape) (get_or ps k d))) in
-    let size = edge-size c.reversed (filled (room c.shape) cells ++ end) leads in
-    let whole = length-append (filled (room c.shape) cells) end in
-    let two = length-append cells fill in
-    let blank = length-replicate (room c.shape - length cells) (Blank plain) in
-    omega (arith, size, whole, two, blank)
+    let size = row-length c used continued ps leads in
+    omega (arith, size)
 
 -- each item begins in a column of its row
 
