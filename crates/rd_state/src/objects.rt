@@ -55,7 +55,7 @@ fn if_inside(inside: bool, place: u64, other: u32) -> u32
     ensures { result ≡ (if inside then min place 4294967295 else other) }
 {
     if inside {
-        place.min(4_294_967_295) as u32
+        place.min(u32::MAX as u64) as u32
     } else {
         other
     }
