@@ -1,5 +1,5 @@
 -- A dump that was printed, read back.
-use Rattle.std.proofs.Common.{◌≡◌, ◌==◌, ℕ, ◌+◌, ◌<◌, ◌≤◌, ◌&&◌, nat_lt, nat_le, Bool, true, false, if◌then◌else◌, Option, None, Some, option_and_then, option_map, unwrap_or, Result, Ok, Err, decimal, codes, List, [], ◌∷◌, ◌++◌, length, map, refl, sym, ap, ◌∙◌, arith, append_assoc, append-nil, length-append}
+use Rattle.std.proofs.Common.{◌≡◌, ◌==◌, ℕ, ◌+◌, ◌<◌, ◌≤◌, ◌&&◌, nat_lt, nat_le, Bool, true, false, if◌then◌else◌, Option, None, Some, option_and_then, Result, Ok, decimal, codes, List, [], ◌∷◌, ◌++◌, length, map, refl, sym, ap, ◌∙◌, arith, append_assoc, append-nil, length-append}
 use Rattle.std.specs.Prelude.{All}
 use Rattle.std.proofs.lemmas.Bool.Decides.{nat_tests, Decides-eqb}
 use Rattle.std.proofs.lemmas.List.Elements.{All-head, All-tail}
@@ -14,7 +14,7 @@ use Rattle.rd_dump.specs.Dumps.{cells_text, runs_of_row, windows_text, rows_text
 use Rattle.rd_dump.specs.declared.dump.WindowFacts.{WindowFacts}
 use Rattle.rd_base.proofs.Choices.{either}
 use Rattle.rd_audit.specs.Cuts.{stripped, cut_last}
-use Rattle.rd_audit.specs.Dumps.{last_group, ended_by, picture_from, picture_of, dump_in}
+use Rattle.rd_audit.specs.Dumps.{last_group, ended_by, after_row, picture_from, picture_of, dump_in}
 use Rattle.rd_audit.specs.Printed.{HasDump, HasNoCursor}
 use Rattle.rd_audit.specs.Rows.{is_row, is_cursor, row_text, row_cells, is_as_wide, next_row, place_in, cursor_place}
 use Rattle.rd_audit.specs.FaceRuns.{runs_over}
@@ -81,7 +81,7 @@ rows-read width (cells ∷ rows) done number last whole h colours grid few narro
     let next = done ++ cells ∷ [] in
     let lines = row_bodies (length done + 1) rows ++ last in
     let count : length done + 1 ≡ length next = omega (arith, length-append done (cells ∷ [])) in
-    ap (λ o. unwrap_or (option_map (λ x. picture_from (number + 1) (done ++ x ∷ []) lines) o) (Err number))
+    ap (after_row number (λ x. picture_from (number + 1) (done ++ x ∷ []) lines))
     (next-row_read width done cells (All-head (λ r. IsRowAfter 0 r) cells rows h) (All-head (λ r. All IsColoured r) cells rows colours) (omega (arith, few)) narrow size wide)
     ∙ ap (λ k. picture_from (number + 1) next (row_bodies k rows ++ last)) count
     ∙ rows-read width rows next (number + 1) last whole (All-tail (λ r. IsRowAfter 0 r) cells rows h) (All-tail (λ r. All IsColoured r) cells rows colours)

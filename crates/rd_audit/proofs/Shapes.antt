@@ -1,5 +1,5 @@
 -- Rows of one width.
-use Rattle.std.proofs.Common.{◌≡◌, ℕ, ◌+◌, ◌<◌, ◌≤◌, nat_lt, Bool, true, false, if◌then◌else◌, Option, None, Some, option_and_then, option_map, unwrap_or, Result, Err, List, [], ◌∷◌, ◌++◌, length, refl, sym, ap, ◌∙◌, arith, length-append}
+use Rattle.std.proofs.Common.{◌≡◌, ℕ, ◌+◌, ◌<◌, ◌≤◌, nat_lt, Bool, true, false, if◌then◌else◌, Option, None, Some, option_and_then, option_map, unwrap_or, Result, List, [], ◌∷◌, ◌++◌, length, refl, sym, ap, ◌∙◌, arith, length-append}
 use Rattle.std.proofs.lemmas.Bool.Decides.{nat_tests}
 use Rattle.std.proofs.lemmas.List.Elements.{All-nil, All-cons, All-push}
 use Rattle.std.proofs.lemmas.Option.{none-some}
@@ -7,7 +7,7 @@ use Rattle.rd_base.proofs.Choices.{kept-some}
 use Rattle.rd_base.specs.declared.cell.Cell.{Cell}
 use Rattle.rd_term.specs.Pictures.{Picture}
 use Rattle.rd_audit.specs.Cuts.{stripped}
-use Rattle.rd_audit.specs.Dumps.{picture_from, ended_by}
+use Rattle.rd_audit.specs.Dumps.{picture_from, ended_by, after_row}
 use Rattle.rd_audit.specs.Results.{IsShape}
 use Rattle.rd_audit.specs.Rows.{row_key, is_as_wide, next_row, row_cells, cursor_place}
 
@@ -42,9 +42,10 @@ pub picture-on : (first : ℕ) (rows next : List (List Cell)) (cells : List Cell
 picture-on first rows next cells lines more line behind whole split row found push inv =
     let size : first + length (rows ++ cells ∷ []) ≡ first + length rows + 1 = omega (arith, length-append rows (cells ∷ [])) in
     let n = first + length rows in
+    let rest = λ (x : List Cell). picture_from (n + 1) (rows ++ x ∷ []) more in
     ap (λ r. picture_from (first + length r) r more) push
     ∙ ap (λ k. picture_from k (rows ++ cells ∷ []) more) size
     ∙ sym (ap (picture_from n rows) split
-    ∙ ap (λ o. unwrap_or (option_map (λ b. unwrap_or (option_map (λ x. picture_from (n + 1) (rows ++ x ∷ []) more) (next_row rows b)) (Err n)) o) (ended_by n rows (cursor_place rows line))) (sym row)
-    ∙ ap (λ o. unwrap_or (option_map (λ x. picture_from (n + 1) (rows ++ x ∷ []) more) o) (Err n)) found)
+    ∙ ap (λ o. unwrap_or (option_map (λ b. after_row n rest (next_row rows b)) o) (ended_by n rows (cursor_place rows line))) (sym row)
+    ∙ ap (after_row n rest) found)
     ∙ inv

@@ -21,13 +21,18 @@ abbrev pub ended_by : ℕ → List (List Cell) → Option (ℕ × ℕ) → Resul
 ended_by number rows None = Err number
 ended_by number rows (Some place) = Ok (record { rows = rows; row = place.0; column = place.1 })
 
+-- the picture by what follows a row with these cells, or the number of a bad line where there are none
+abbrev pub after_row : ℕ → (List Cell → Result Picture ℕ) → Option (List Cell) → Result Picture ℕ
+after_row number rest None = Err number
+after_row number rest (Some cells) = rest cells
+
 -- The picture that the lines of a group say, of which these rows were read and the next line has this number, or the number of the
 -- first line that is bad.
 abbrev pub picture_from : ℕ → List (List Cell) → List (List ℕ) → Result Picture ℕ
 picture_from number rows [] = Err number
 picture_from number rows (line ∷ lines) =
     unwrap_or
-    (option_map (λ behind. unwrap_or (option_map (λ cells. picture_from (number + 1) (rows ++ cells ∷ []) lines) (next_row rows behind)) (Err number)) (stripped row_key line))
+    (option_map (λ behind. after_row number (λ cells. picture_from (number + 1) (rows ++ cells ∷ []) lines) (next_row rows behind)) (stripped row_key line))
     (ended_by number rows (cursor_place rows line))
 
 abbrev pub picture_of : Option (ℕ × List (List ℕ)) → Result Picture ℕ
