@@ -27,7 +27,7 @@ pub use element::{Element, Elements, Extent, Look, Origin};
 pub use face::Face;
 pub use laws::good_cells_are_small;
 pub use line::{Line, Seq};
-pub use list::{ListOf, mapped};
+pub use list::{ListOf, change_each, mapped};
 pub use memory::Memory;
 pub use settings::{Anchor, Direction, Invisible, Settings, Wrap};
 pub use steps::Steps;

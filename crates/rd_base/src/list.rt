@@ -1,6 +1,6 @@
 //! A list that contracts see as the list of its elements.
 ghost use Rattle.std.specs.Prelude.{ℕ, ◌≡◌, ◌==◌, ◌<◌, ◌≤◌, ◌+◌, ◌-◌, [], ◌∷◌, ◌++◌, length, OnOk, OnErr, IfOk, slice_get, slice_set, take, drop, replicate, map, option_to_list, Some, MatchOption};
-ghost use Rattle.std.specs.Borrow.{Bor};
+ghost use Rattle.std.specs.Borrow.{Bor, MutBor};
 
 use crate::memory::Memory;
 use std::alloc::Global;
@@ -66,6 +66,14 @@ impl<T> ListOf<T> {
         ensures { slice_get self.now i ≡ Some result.now }
     {
         &self.items[i]
+    }
+
+    /// Changes each element in its place.
+    pub fn change_each<F: Fn(&mut T)>(&mut self, change: F)
+        requires { (k : ℕ) (x : MutBor T) → slice_get self.old k ≡ Some x.now → F.pre change x }
+        ensures { (changed : T → T) → ((x y : MutBor T) → F.post change x tt y → y.now ≡ changed x.now) → self.new ≡ map changed self.old }
+    {
+        change_each(&mut self.items[..], change);
     }
 }
 
@@ -207,4 +215,14 @@ pub fn mapped<S, T: Drop, F: Fn(&S) -> T>(
         list.push(make(item))?;
     }
     Ok(list)
+}
+
+/// Changes each element of a list in its place.
+pub fn change_each<T, F: Fn(&mut T)>(list: &mut [T], change: F)
+    requires { (k : ℕ) (x : MutBor T) → slice_get list.old k ≡ Some x.now → F.pre change x }
+    ensures { (changed : T → T) → ((x y : MutBor T) → F.post change x tt y → y.now ≡ changed x.now) → list.new ≡ map changed list.old }
+{
+    for i in 0..list.len() {
+        change(&mut list[i]);
+    }
 }

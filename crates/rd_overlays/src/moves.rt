@@ -1,10 +1,10 @@
 //! All overlays, and all bounds, as they move with the text.
-ghost use Rattle.std.specs.Prelude.{◌≡◌, ℕ, Some, map, slice_get};
+ghost use Rattle.std.specs.Prelude.{◌≡◌, Some};
 ghost use Rattle.rd_overlays.specs.Moves.{overlay_moved, slot_moved, bounds_moved, IsEdit, SlotFollows};
 
 use crate::bounds::{Bounds, bounds_grown, bounds_shrunk};
 use crate::overlay::{Overlay, grown, shrunk};
-use rd_base::{ListOf, Pos};
+use rd_base::Pos;
 
 /// An edit of the text.
 #[derive(Clone, Copy)]
@@ -44,16 +44,5 @@ pub(crate) fn bounds_moved(edit: Edit, bounds: Bounds) -> Bounds
     match edit {
         Edit::Insertion { pos, n } => bounds_grown(pos, n, bounds),
         Edit::Deletion { from, to } => bounds_shrunk(from, to, bounds),
-    }
-}
-
-/// Puts in place of each element of a list what is made of it.
-pub(crate) fn change_each<T: Copy, F: Fn(T) -> T>(list: &mut ListOf<T>, change: F)
-    requires { (k : ℕ) (x : T) → slice_get list.old k ≡ Some x → F.pre change x }
-    ensures { (changed : T → T) → ((x y : T) → F.post change x y → y ≡ changed x) → list.new ≡ map changed list.old }
-{
-    for i in 0..list.len() {
-        let each = list.at(i);
-        list.set(i, change(each));
     }
 }

@@ -1,6 +1,6 @@
 //! The overlays by number, with an index by which a look-up passes over many of them at once.
 use crate::index::{Index, indexed, make_fit};
-use crate::moves::{Edit, bounds_moved, change_each, slot_moved};
+use crate::moves::{Edit, bounds_moved, slot_moved};
 use crate::overlay::Overlay;
 use rd_base::limits::OVERLAYS;
 use rd_base::{ListOf, Memory};
@@ -96,7 +96,10 @@ impl Store {
         requires follow { AllFollow edit self.old }
         ensures { self.new ≡ map (slot_moved edit) self.old }
     {
-        change_each(&mut self.slots, |slot| slot_moved(edit, slot));
-        change_each(&mut self.index.bounds, |bounds| bounds_moved(edit, bounds));
+        self.slots
+            .change_each(|slot| *slot = slot_moved(edit, *slot));
+        self.index
+            .bounds
+            .change_each(|bounds| *bounds = bounds_moved(edit, *bounds));
     }
 }

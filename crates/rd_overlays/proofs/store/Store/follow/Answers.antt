@@ -14,7 +14,7 @@ invariant_of-self c =
     let same : c.args.self.now ≡ slots = cc in
     let follow = subst (AllFollow c.args.edit) same c.requires.follow in
     let moved = moved-index c.args.edit slots order c.self.inside.index.bounds c.requires.edit follow c.self.invariant in
-    let P : List (Option Overlay) → Type 0 = λ xs. IsIndex xs order c.change_each-2.new.list in
+    let P : List (Option Overlay) → Type 0 = λ xs. IsIndex xs order c.change_each-2.new.self in
     let Q : List Bounds → Type 0 = λ xs. IsIndex (map (slot_moved c.args.edit) slots) order xs in
     subst P (sym (c.change_each.ensures (slot_moved c.args.edit) (λ x y told. search rules)))
     (subst Q (sym (c.change_each-2.ensures (bounds_moved c.args.edit) (λ x y told. search rules))) moved)
