@@ -1,6 +1,6 @@
 -- Paragraphs of a text and their base levels. P2 and P3 of UAX 9 find the level of a line. What a paragraph is, P1 leaves open; that
 -- it has several lines, and what separates it from the next, are choices of this project.
-use Rattle.std.specs.Prelude.{ℕ, ◌+◌, ◌-◌, Bool, false, not, ◌||◌, max, if◌then◌else◌, List, [], ◌∷◌, ◌++◌, length, map, replicate, slice_index, Option, None, unwrap_or}
+use Rattle.std.specs.Prelude.{ℕ, ◌+◌, ◌-◌, Bool, false, not, ◌||◌, max, if◌then◌else◌, List, [], ◌∷◌, ◌++◌, length, map, replicate, slice_index, Option, None, Some, unwrap_or}
 use Rattle.std.specs.List.{slice_split}
 use Rattle.std.specs.Option.{option_or}
 use Rattle.rd_base.specs.Classes.{p2_p3_first_strong}
@@ -42,8 +42,12 @@ text_level classes t pos = slice_index (levels_of classes 0 false (slice_split i
 abbrev pub paragraph_place : TextValue → ℕ → ℕ
 paragraph_place t pos = max t.begin (prev_ink t (next_newline t pos) - 1)
 
--- the base level at a position: by P2 and P3 where the text decides, else the direction's own
+-- the base level that a direction gives by itself; none where the text decides
+abbrev pub own_level : Direction → Option ℕ
+own_level Auto = None
+own_level Left = Some 0
+own_level Right = Some 1
+
+-- the base level at a position: the direction's own, else by P2 and P3
 abbrev pub base_at : List Span → TextValue → Direction → ℕ → ℕ
-base_at classes t Auto pos = text_level classes t pos
-base_at classes t Left pos = 0
-base_at classes t Right pos = 1
+base_at classes t direction pos = unwrap_or (own_level direction) (text_level classes t pos)

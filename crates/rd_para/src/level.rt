@@ -1,9 +1,8 @@
 //! Base levels.
-ghost use Rattle.std.specs.Prelude.{◌≡◌, ◌+◌, ◌<◌, ◌≤◌, ℕ, false, List, unwrap_or};
+ghost use Rattle.std.specs.Prelude.{◌≡◌, ◌+◌, ◌<◌, ◌≤◌, false, unwrap_or};
 ghost use Rattle.std.specs.List.{slice_split};
-ghost use Rattle.rd_text.specs.Texts.{TextValue, IsAccessible, between, is_newline, is_separator, next_newline};
-ghost use Rattle.rd_ucd.specs.declared.spans.Span.{Span};
-ghost use Rattle.rd_para.specs.Paragraphs.{base_at, decided, text_level};
+ghost use Rattle.rd_text.specs.Texts.{IsAccessible, between, is_newline, is_separator, next_newline};
+ghost use Rattle.rd_para.specs.Paragraphs.{base_at, decided, own_level};
 ghost use Rattle.rd_para.specs.Known.{IsKnown, IsParagraph};
 
 use crate::line::{is_blank_line, p2_p3_level_of_line};
@@ -26,7 +25,7 @@ pub fn base_level(text: &Buffer, classes: &Classes, direction: Direction, pos: P
 
 /// The base level that a direction gives by itself; None where the text decides.
 pub fn own_level(direction: Direction) -> Option<u8>
-    ensures { (classes : List Span) (t : TextValue) (pos : ℕ) → base_at classes t direction pos ≡ unwrap_or result (text_level classes t pos) }
+    ensures { result ≡ own_level direction }
 {
     match direction {
         Direction::Auto => None,
