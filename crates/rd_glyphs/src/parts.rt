@@ -1,5 +1,7 @@
 //! The elements of a character.
 ghost use Rattle.std.specs.Prelude.{◌≡◌, ◌≤◌, map, length, All, None, IsOk, IfOk};
+ghost use Rattle.std.specs.Borrow.{Bor};
+ghost use Rattle.rd_base.specs.declared.element.Element.{Element};
 ghost use Rattle.rd_base.specs.declared.limits.TheConstants.{ENTRY_GLYPHS};
 ghost use Rattle.rd_base.specs.Elements.{AreSound};
 ghost use Rattle.rd_base.specs.Glyphs.{AreMeasured};
@@ -161,11 +163,11 @@ pub fn of_glyphs(
 ) -> Result<SmallVec<Element, 4>, Memory>
     ensures { IfOk result (λ elements. elements.items ≡ glyph_elements face origin text.now) }
 {
-    let mut elements = SmallVec::new(alloc);
-    for glyph in text {
-        elements.push(element_of(Look::Glyph(*glyph), face, origin))?;
-    }
-    Ok(elements)
+    made_of(
+        alloc,
+        text,
+        |glyph| element_of(Look::Glyph(*glyph), face, origin),
+    )
 }
 
 /// The elements of at most four looks.
@@ -179,9 +181,22 @@ pub(crate) fn of_looks(
     ensures value { IfOk result (λ elements. elements.items ≡ map (element_of face origin) looks.now) }
     ensures inline { IsOk result }
 {
+    made_of(alloc, looks, |look| element_of(*look, face, origin))
+}
+
+/// The element that `make` makes of each item, in the order of the items. For at most four of them no memory is taken.
+fn made_of<T, F: Fn(&T) -> Element>(
+    alloc: Global,
+    items: &[T],
+    make: F,
+) -> Result<SmallVec<Element, 4>, Memory>
+    requires { F.IsAlwaysCallable make }
+    ensures value { (made : T → Element) → ((x : Bor T) (e : Element) → F.post make x e → e ≡ made x.now) → IfOk result (λ elements. elements.items ≡ map made items.now) }
+    ensures inline { length items.now ≤ 4 → IsOk result }
+{
     let mut elements = SmallVec::new(alloc);
-    for look in looks {
-        elements.push(element_of(*look, face, origin))?;
+    for item in items {
+        elements.push(make(item))?;
     }
     Ok(elements)
 }
