@@ -40,6 +40,8 @@ mod laws;
 mod line;
 mod line_steps;
 mod marks;
+#[cfg(test)]
+mod nesting;
 mod order;
 mod part;
 mod prefix;

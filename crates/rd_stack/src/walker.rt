@@ -14,7 +14,8 @@ use std::alloc::Global;
 
 /// The elements of a line, of which some are still to be given. It holds the frames of what is being walked through, the innermost last:
 /// the block, a string in it, and a display string in that one; each has the levels of its line or row and the place reached in visual
-/// order, and borrows its text. Of the elements it holds those of one character or of one ellipsis at most.
+/// order, and borrows its text. How many stand is the depth of Emacs's iterator stack (`it->sp`), the line counted. Of the elements it
+/// holds those of one character or of one ellipsis at most.
 #[derive(Drop)]
 pub struct Walker<'a> {
     pub(crate) frames: SmallVec<Frame<'a>, 3>,
@@ -67,14 +68,6 @@ impl<'a> Walker<'a> {
         reading_stays_sound(&view, start);
         let items = Items::with_appearance(alloc, &view, start, appearance)?;
         Walker::of_items(alloc, view, base, items)
-    }
-
-    /// How many frames stand: one in the line itself, one more in an overlay's string or a display string, and a third in a display string
-    /// that stands in an overlay's. It is the depth of Emacs's iterator stack (`it->sp`), the line counted.
-    pub fn depth(&self) -> usize
-        ensures { result ≡ length self.now.frames.items }
-    {
-        self.frames.len()
     }
 
     /// The elements of the line of these items.

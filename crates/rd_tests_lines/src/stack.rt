@@ -65,24 +65,24 @@ fn are_looks(elements: &[Element], signs: &str) -> bool {
     i == elements.len()
 }
 
-/// Whether the rest of a line has these looks, with so many frames standing when each is given, and then none.
-fn goes_on(alloc: Global, walker: &mut Walker, wanted: &[(char, usize)]) -> bool {
-    for (sign, depth) in wanted {
+/// Whether the rest of a line has these looks, and then none.
+fn goes_on(alloc: Global, walker: &mut Walker, signs: &str) -> bool {
+    for sign in signs.chars() {
         match walker.next(alloc) {
-            Ok(Some(element)) if element.look == look(*sign) && walker.depth() == *depth => {}
+            Ok(Some(element)) if element.look == look(sign) => {}
             _ => return false,
         }
     }
     matches!(walker.next(alloc), Ok(None))
 }
 
-/// Whether the whole line from a position on has these looks, with so many frames standing when each is given.
-fn walks(alloc: Global, view: &View, start: Pos, wanted: &[(char, usize)]) -> bool {
+/// Whether the whole line from a position on has these looks.
+fn walks(alloc: Global, view: &View, start: Pos, signs: &str) -> bool {
     if !is_accessible(view, start) {
         return false;
     }
     match Walker::start(alloc, *view, start, 0) {
-        Ok(mut walker) => goes_on(alloc, &mut walker, wanted),
+        Ok(mut walker) => goes_on(alloc, &mut walker, signs),
         Err(_) => false,
     }
 }
@@ -95,22 +95,10 @@ fn stands(alloc: Global, view: &View, string: u32, signs: &str) -> bool {
     }
 }
 
-/// The looks of the line, each with the number of frames that stand then.
-const LINE: [(char, usize); 8] = [
-    ('x', 1),
-    ('P', 2),
-    ('z', 3),
-    ('z', 3),
-    ('|', 2),
-    ('R', 2),
-    ('y', 1),
-    ('.', 1),
-];
-
 #[test]
-fn a_line_of_three_frames_and_a_prefix(rt: HostRuntime) -> Result<(), Fail> {
+fn a_line_with_a_string_in_a_string_and_a_prefix(rt: HostRuntime) -> Result<(), Fail> {
     let scenery = scenery(rt.alloc())?;
-    assert!(rt; walks(rt.alloc(), &scenery.view(), 1, &LINE));
+    assert!(rt; walks(rt.alloc(), &scenery.view(), 1, "xPzz|Ry."));
     assert!(rt; stands(rt.alloc(), &scenery.view(), 1, "PQ"));
     Ok(())
 }
