@@ -22,8 +22,7 @@ use Rattle.rd_start.specs.declared.wanted.Wanted.{Wanted}
 use Rattle.rd_start.specs.declared.window.Window.{Window}
 use Rattle.rd_start.proofs.Choosing.{chosen-forced, chosen-free, follows-found, follows-none, follows-old}
 use Rattle.rd_start.proofs.NearRows.{forced-near, moving-near, old-near, point-near, view-near}
-use Rattle.rd_start.proofs.Growth.{affords}
-use Rattle.rd_start.proofs.Reaching.{EdgePays}
+use Rattle.rd_start.proofs.Reaching.{EdgePays, pays}
 use Rattle.rd_start.proofs.Suits.{old-is, point-is}
 
 abbrev pub near_of : SourceValues → Sweep → Wanted → ℕ → Bool
@@ -180,12 +179,6 @@ value-centre m shape s new w place chosen e f point row is =
     row ∙ ap (λ n. n - w.height / 2) (ap (λ p. row_of p (all_rows (rows_in m s.sweep) m.blocks)) point ∙ ap (λ (x : ShapeValues). row_of w.point (rows_at m x)) f) in
     is ∙ (ap (λ (ys : List EntryMeaning). record { anchor = anchor_at ys (first_row m new + place); point = w.point }) rows
     ∙ ap (λ n. record { anchor = anchor_at (rows_at m shape) n; point = w.point }) there)
-
--- what was paid is at most the costs of all blocks that have a row of the kind
-pub pays : (kind : ℕ → Bool) (base : ℕ) (m : SourceValues) (sweep : Sweep) (s : Strip) (steps : ℕ) → s.sweep ≡ sweep → IsPaid kind base m s steps → steps ≤ base + all_costs kind m sweep
-pays kind base m sweep s steps e paid =
-    let bound = affords kind base m s.sweep s.blocks.items s.strip_rows.items s.home steps paid.0 paid.1 in
-    omega (arith, bound, ap (λ (x : Sweep). all_costs kind m x) e)
 
 -- what was paid for a strip of a window, by the rows near it
 abbrev pub NearPaid : SourceValues → Window → Strip → ℕ → ℕ → Type 0

@@ -128,23 +128,21 @@ more-below m s b h next =
     let home = next.home in
     omega arith
 
--- the block beyond an edge, and the steps behind the making of its rows
-pub record Asked (edge : Edge) (m : SourceValues) (s : Strip) (steps more : ℕ) (b : Block) : Type 0 where
+-- a strip with too few rows at an edge, the block beyond that, and the steps behind the making of its rows
+pub record Asked (edge : Edge) (m : SourceValues) (s : Strip) (steps more count : ℕ) (b : Block) : Type 0 where
+  pub low : extent edge s < count
   pub next : StandsBeyond m s edge b
   pub cost : more ≤ steps + cost_in m s.sweep b
 
--- the block beyond an edge, and the steps behind the making of its rows, as they were told of the same source
+-- the block beyond an edge, as it was told of the same source
 pub beyond-given : (edge : Edge) (m other : SourceValues) (s : Strip) (o told : Option Block) → other ≡ m → IsBeyond other s edge o → o ≡ told → IsBeyond m s edge told
 beyond-given edge m other s o told e beyond is = subst (λ (x : SourceValues). IsBeyond x s edge told) e (subst (λ (y : Option Block). IsBeyond other s edge y) is beyond)
 
-pub asked-given : (edge : Edge) (m at other : SourceValues) (s : Strip) (steps more : ℕ) (o : Option Block) (b : Block) → at ≡ m → IsBeyond at s edge o → o ≡ Some b → other ≡ m
-    → more ≤ steps + cost_in other s.sweep b → Asked edge m s steps more b
-asked-given edge m at other s steps more o b e beyond is f cost = record { next = beyond-given edge m at s o (Some b) e beyond is; cost = subst (λ (x : SourceValues). more ≤ steps + cost_in x s.sweep b) f cost }
-
-grown-paid : (edge : Edge) (kind : ℕ → Bool) (base : ℕ) (m : SourceValues) (old s : Strip) (n steps more count : ℕ) (b : Block) → Grown edge m old s n steps count → Asked edge m s steps more b
-    → extent edge s < count → IsPaid kind base m old n → AsksAt edge kind m old count
+grown-paid : (edge : Edge) (kind : ℕ → Bool) (base : ℕ) (m : SourceValues) (old s : Strip) (n steps more count : ℕ) (b : Block) → Grown edge m old s n steps count → Asked edge m s steps more count b
+    → IsPaid kind base m old n → AsksAt edge kind m old count
     → IsPaidOf kind base m s.sweep (pushed_at edge s.blocks.items (b ∷ [])) (moved_at edge s.home (length (rows_in m s.sweep b))) more
-grown-paid Top kind base m old s n steps more count b grown asked low paid asks =
+grown-paid Top kind base m old s n steps more count b grown asked paid asks =
+    let low = asked.low in
     let next = asked.next in
     let some = some-of m s.sweep s.blocks.items s.strip_rows.items s.home b grown.strip next.among in
     let home = next.home in
@@ -152,7 +150,8 @@ grown-paid Top kind base m old s n steps more count b grown asked low paid asks 
     let grows = grown.grows in
     paid-above kind base m s.sweep s.blocks.items s.home steps more b (omega arith) (grown.paid kind base paid asks) some
     (asks (home_row m s.sweep - s.home - 1) (omega arith) (omega arith)) asked.cost
-grown-paid Bottom kind base m old s n steps more count b grown asked low paid asks =
+grown-paid Bottom kind base m old s n steps more count b grown asked paid asks =
+    let low = asked.low in
     let next = asked.next in
     let some = some-of m s.sweep s.blocks.items s.strip_rows.items s.home b grown.strip next.among in
     let inside = more-below m s b grown.strip next in
@@ -180,9 +179,9 @@ grows-more Bottom old s new own count grows home strip_rows size =
 pub grown-none : (edge : Edge) (m : SourceValues) (s : Strip) (n count : ℕ) → IsStrip m s → Grown edge m s s n n count
 grown-none edge m s n count h = record { strip = h; sweep = refl; grows = grows-none edge s; paid = λ kind base paid asks. paid.1 }
 
-pub grown-more : (edge : Edge) (m : SourceValues) (old s new : Strip) (n steps more count : ℕ) (b : Block) (rows : List RowMeaning) → Grown edge m old s n steps count → Asked edge m s steps more b
-    → extent edge s < count → rows ≡ rows_in m s.sweep b → IsPushed edge s new b rows → Grown edge m old new n more count
-grown-more edge m old s new n steps more count b rows grown asked low same pushed =
+pub grown-more : (edge : Edge) (m : SourceValues) (old s new : Strip) (n steps more count : ℕ) (b : Block) (rows : List RowMeaning) → Grown edge m old s n steps count → Asked edge m s steps more count b
+    → rows ≡ rows_in m s.sweep b → IsPushed edge s new b rows → Grown edge m old new n more count
+grown-more edge m old s new n steps more count b rows grown asked same pushed =
     let next = asked.next in
     let strip_row = strip_row_of s.sweep.point in
     let own = map strip_row (entries_of (rows_in m s.sweep) b) in
@@ -196,8 +195,14 @@ grown-more edge m old s new n steps more count b rows grown asked low same pushe
       sweep = pushed.sweep ∙ grown.sweep;
       grows = grows-more edge old s new own added grown.grows home strip_rows (length-strip_rows (rows_in m s.sweep) strip_row b);
       paid = λ kind base paid asks. paid-same kind base m s.sweep new.sweep (pushed_at edge s.blocks.items (b ∷ [])) new.blocks.items (moved_at edge s.home added) new.home more
-          pushed.sweep pushed.blocks home (grown-paid edge kind base m old s n steps more count b grown asked low paid asks);
+          pushed.sweep pushed.blocks home (grown-paid edge kind base m old s n steps more count b grown asked paid asks);
     }
+
+-- what was paid is at most the costs of all blocks that have a row of the kind
+pub pays : (kind : ℕ → Bool) (base : ℕ) (m : SourceValues) (sweep : Sweep) (s : Strip) (steps : ℕ) → s.sweep ≡ sweep → IsPaid kind base m s steps → steps ≤ base + all_costs kind m sweep
+pays kind base m sweep s steps e paid =
+    let bound = affords kind base m s.sweep s.blocks.items s.strip_rows.items s.home steps paid.0 paid.1 in
+    omega (arith, bound, ap (λ (x : Sweep). all_costs kind m x) e)
 
 -- what a strip pays that grows at an edge, and what was taken where memory was wanting
 abbrev pub EdgePays : Edge → SourceValues → Strip → Strip → ℕ → ℕ → ℕ → Type 0
@@ -210,23 +215,20 @@ pub grown-pays : (edge : Edge) (m : SourceValues) (old s : Strip) (n steps count
 grown-pays edge m old s n steps count grown = λ kind base paid asks. (grown.strip, grown.paid kind base paid asks)
 
 pub grown-stops : (edge : Edge) (m : SourceValues) (old s : Strip) (n steps count : ℕ) → Grown edge m old s n steps count → EdgeFails edge m old n steps count
-grown-stops edge m old s n steps count grown = λ kind base paid asks.
-    let bound = affords kind base m s.sweep s.blocks.items s.strip_rows.items s.home steps grown.strip (grown.paid kind base paid asks) in
-    let same = ap (λ (x : Sweep). all_costs kind m x) grown.sweep in
-    omega arith
+grown-stops edge m old s n steps count grown = λ kind base paid asks. pays kind base m old.sweep s steps grown.sweep (grown.strip, grown.paid kind base paid asks)
 
-pub grown-fails : (edge : Edge) (m : SourceValues) (old s : Strip) (n steps more count : ℕ) (b : Block) → Grown edge m old s n steps count → Asked edge m s steps more b → extent edge s < count
+pub grown-fails : (edge : Edge) (m : SourceValues) (old s : Strip) (n steps more count : ℕ) (b : Block) → Grown edge m old s n steps count → Asked edge m s steps more count b
     → EdgeFails edge m old n more count
-grown-fails edge m old s n steps more count b grown asked low = λ kind base paid asks.
+grown-fails edge m old s n steps more count b grown asked = λ kind base paid asks.
     let next = asked.next in
     let bound = affords-pieces kind base m s.sweep next.before (pushed_at edge s.blocks.items (b ∷ [])) next.after (moved_at edge s.home (length (rows_in m s.sweep b))) more next.pieces next.home
-    (grown-paid edge kind base m old s n steps more count b grown asked low paid asks) in
+    (grown-paid edge kind base m old s n steps more count b grown asked paid asks) in
     let same = ap (λ (x : Sweep). all_costs kind m x) grown.sweep in
     omega arith
 
-pub edge-failed : {T E : Type 0} (edge : Edge) (r : Result T E) (m : SourceValues) (old new : Strip) (n steps count : ℕ) → IsErr r → EdgeFails edge m old n steps count
-    → PaysOn m (λ kind. AsksAt edge kind m old count) old new n steps r
-edge-failed edge r m old new n steps count err fails = λ kind base paid asks.
+pub pays-failed : {T E : Type 0} {Asks : (ℕ → Bool) → Type 0} (r : Result T E) (m : SourceValues) (old new : Strip) (n steps : ℕ) → IsErr r
+    → ((kind : ℕ → Bool) (base : ℕ) → IsPaid kind base m old n → Asks kind → steps ≤ base + all_costs kind m old.sweep) → PaysOn m Asks old new n steps r
+pays-failed r m old new n steps err fails = λ kind base paid asks.
     MatchResult-from_err r (λ _. IsPaid kind base m new steps) (λ _. steps ≤ base + all_costs kind m old.sweep) err (λ _. fails kind base paid asks)
 
 -- one block more at an edge, and there were fewer than the source has

@@ -2,8 +2,8 @@ use Rattle.std.proofs.Common.{◌≡◌, ℕ, ◌+◌, ◌-◌, ◌/◌, ap, sub
 use Rattle.rd_matrix.specs.Sources.{SourceValues}
 use Rattle.rd_start.specs.Strips.{IsStrip, BeginsAbove, all_costs, first_row, point_row}
 use Rattle.rd_start.specs.declared.strip.Edge.TheVariants.{Top}
-use Rattle.rd_start.proofs.Reaching.{EdgeFails}
-use Rattle.rd_start.proofs.Moving.{CentredPays, asks-above, centre-place, costs-same, pays, value-centre}
+use Rattle.rd_start.proofs.Reaching.{EdgeFails, pays}
+use Rattle.rd_start.proofs.Moving.{CentredPays, asks-above, centre-place, costs-same, value-centre}
 use Rattle.rd_start.proofs.choice.centred.Given as given
 use Rattle.rd_start.proofs.choice.centred.Goals as goal
 use Rattle.rd_start.proofs.choice.centred.Goals.{After-saturating_sub-above}

@@ -3,8 +3,8 @@ use Rattle.rd_matrix.specs.Sources.{SourceValues}
 use Rattle.rd_start.specs.Strips.{IsStrip, AsksAt, Reaches, all_costs}
 use Rattle.rd_start.specs.declared.strip.Edge.TheVariants.{Bottom}
 use Rattle.rd_start.specs.declared.strip.Sweep.{Sweep}
-use Rattle.rd_start.proofs.Reaching.{EdgeFails, EdgePays}
-use Rattle.rd_start.proofs.Moving.{NearPaid, asks-forced, asks-scrolled, first-same, near_of, pays, value-forced}
+use Rattle.rd_start.proofs.Reaching.{EdgeFails, EdgePays, pays}
+use Rattle.rd_start.proofs.Moving.{NearPaid, asks-forced, asks-scrolled, first-same, near_of, value-forced}
 use Rattle.rd_start.proofs.choice.forced.Given as given
 use Rattle.rd_start.proofs.choice.forced.Goals as goal
 use Rattle.rd_start.proofs.choice.forced.Goals.{In_ok-start}

@@ -4,7 +4,7 @@ use Rattle.std.specs.Prelude.{ℕ}
 use Rattle.rd_start.specs.Strips.{IsPaid, all_costs, point_row}
 use Rattle.rd_start.specs.declared.strip.Strip.{Strip}
 use Rattle.rd_start.specs.declared.strip.Sweep.{Sweep}
-use Rattle.rd_start.proofs.Moving.{pays}
+use Rattle.rd_start.proofs.Reaching.{pays}
 use Rattle.rd_start.proofs.Sides.{point-told}
 use Rattle.rd_start.proofs.choice.with_point.Goals as goal
 
