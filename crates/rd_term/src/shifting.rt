@@ -2,7 +2,7 @@
 ghost use Rattle.std.specs.Prelude.{◌≡◌, ◌≤◌, length, map};
 ghost use Rattle.rd_term.specs.Shifts.{cleared, moved, moved_down, moved_up, changed_between};
 
-use rd_base::{Cell, Face, ListOf};
+use rd_base::{Cell, Face, ListOf, change_each};
 
 /// The way that rows are moved.
 #[derive(Clone, Copy)]
@@ -11,15 +11,19 @@ pub(crate) enum RowMove {
     Up,
 }
 
+/// Makes the cells of a row blank and plain.
+fn clear(row: &mut ListOf<Option<Cell>>)
+    ensures { row.new ≡ cleared row.old }
+{
+    let end = row.len();
+    row.fill(0, end, Some(Cell::Blank(Face::PLAIN)));
+}
+
 /// Makes the cells of these rows blank and plain.
 fn clear_rows(rows: &mut [ListOf<Option<Cell>>])
     ensures { rows.new ≡ map cleared rows.old }
 {
-    for i in 0..rows.len() {
-        let row = &mut rows[i];
-        let end = row.len();
-        row.fill(0, end, Some(Cell::Blank(Face::PLAIN)));
-    }
+    change_each(rows, clear);
 }
 
 /// Makes the cells of all rows blank and plain.
