@@ -6,7 +6,7 @@ ghost use Rattle.rd_state.specs.Movable.{IsMovable, CanMove};
 ghost use Rattle.rd_state.specs.Windows.{NumberedWindow};
 
 use crate::window::WindowState;
-use rd_base::Pos;
+use rd_base::{Pos, change_each};
 use rd_overlays::after_deletion;
 
 /// What happened to a text: so many characters were put in before a position, a range was taken away, or a range was made the
@@ -23,9 +23,7 @@ pub(crate) fn move_windows(windows: &mut Vec<(u32, WindowState)>, buffer: u32, h
     requires { (k : ℕ) (e : NumberedWindow) → slice_get windows.old.items k ≡ Some e → CanMove buffer how e }
     ensures { windows.new.items ≡ map (moved_in buffer how) windows.old.items }
 {
-    for i in 0..windows.len() {
-        move_in(&mut windows[i], buffer, how);
-    }
+    change_each(&mut windows[..], |window| move_in(window, buffer, how));
 }
 
 /// Moves a window, where it shows the buffer with this number.
