@@ -1,5 +1,5 @@
 -- Blocks and their rows, by place.
-use Rattle.std.proofs.Common.{◌≡◌, ℕ, ◌+◌, ◌-◌, ◌<◌, ◌≤◌, inl, inr, List, [], ◌∷◌, ◌++◌, length, option_map, Option, None, Some, refl, sym, ap, ◌∙◌, subst, arith}
+use Rattle.std.proofs.Common.{◌≡◌, ℕ, ◌+◌, ◌-◌, ◌<◌, inl, inr, List, [], ◌∷◌, ◌++◌, length, option_map, Option, None, Some, refl, sym, ap, ◌∙◌, subst, arith}
 use Rattle.std.proofs.lemmas.Bool.{cases_lt}
 use Rattle.std.proofs.lemmas.Option.{same_Some}
 use Rattle.std.specs.List.{slice_get}
@@ -9,7 +9,7 @@ use Rattle.rd_base.specs.declared.settings.Anchor.{Anchor}
 use Rattle.rd_matrix.proofs.HeldLemmas.{same-holder, asked-within}
 use Rattle.rd_matrix.proofs.Counting.{count-cons, length-numbered}
 use Rattle.rd_matrix.proofs.EachRow.{numbered-at}
-use Rattle.rd_matrix.specs.Blocks.{IsWithin, StandFrom, StartsBlock}
+use Rattle.rd_matrix.specs.Blocks.{HoldsPosition, IsWithin, StartsBlock, first_start}
 use Rattle.rd_matrix.specs.Entries.{EntryMeaning, all_rows, entries_of, numbered}
 use Rattle.rd_matrix.specs.Sources.{SourceValues, IsSource, rows_at}
 use Rattle.rd_matrix.specs.declared.block.Block.{Block}
@@ -71,13 +71,13 @@ found-of rows bs k anchor (Some e) at is =
 pub anchor-found : (rows : Block → List RowMeaning) (bs : List Block) (k : ℕ) (anchor : Anchor) → Names anchor (all_rows rows bs) k → Found rows bs anchor.pos anchor.row k
 anchor-found rows bs k anchor is = found-of rows bs k anchor (slice_get (all_rows rows bs) k) refl is
 
--- only one block holds a position
-pub holding : (from place : ℕ) (before after : List Block) (b d : Block) (j : ℕ) → StandFrom from (before ++ b ∷ after) → b.start ≡ place
-    → slice_get (before ++ b ∷ after) j ≡ Some d → d.start ≤ place → place < d.end → d ≡ b
-holding from place before after b d j stand starts at low high =
-    let seam = at-seam before b after in
-    let same = same-holder from j (length before) (before ++ b ∷ after) d b stand at seam (omega (arith, starts, low)) (omega (arith, starts, high)) in
-    same_Some _ _ (sym at ∙ ap (slice_get (before ++ b ∷ after)) same ∙ seam)
+-- the block that holds a position at which a block starts is that block
+pub same-block : {m : SourceValues} (source : IsSource m) (place : ℕ) (before after : List Block) (b d : Block) → m.blocks ≡ before ++ b ∷ after → b.start ≡ place → HoldsPosition place m.blocks d → d ≡ b
+same-block {m} source place before after b d pieces starts holds =
+    let at = holds.among.1 in
+    let seam = ap (λ bs. slice_get bs (length before)) pieces ∙ at-seam before b after in
+    let same = same-holder (first_start m.blocks) holds.among.0 (length before) m.blocks d b source.blocks.stand at seam (omega (arith, starts, holds.from)) (omega (arith, starts, holds.below)) in
+    same_Some _ _ (sym at ∙ ap (slice_get m.blocks) same ∙ seam)
 
 -- at the position of an anchor that names a row the row's block starts
 pub named-starts : (m : SourceValues) (shape : ShapeValues) (anchor : Anchor) (k : ℕ) → Names anchor (rows_at m shape) k → StartsBlock anchor.pos m.blocks

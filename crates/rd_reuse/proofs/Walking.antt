@@ -10,7 +10,7 @@ use Rattle.std.specs.List.{list_any, range_with_len}
 use Rattle.rd_base.specs.Lists.{is_between}
 use Rattle.rd_base.specs.declared.settings.Anchor.{Anchor}
 use Rattle.rd_matrix.proofs.Counting.{all-append, any-range, costs-behind, costs-here, count-last, length-numbered, some-row}
-use Rattle.rd_matrix.specs.Blocks.{HoldsPosition, IsAmong, StandFrom, first_start}
+use Rattle.rd_matrix.specs.Blocks.{HoldsPosition, IsAmong, first_start}
 use Rattle.rd_matrix.specs.Entries.{EntryMeaning, all_rows, entries_of, numbered, shown_entries, shown_entry}
 use Rattle.rd_matrix.specs.Rows.{blocks_with}
 use Rattle.rd_matrix.specs.Sources.{SourceValues, IsSource, costs_of, rows_at}
@@ -22,7 +22,7 @@ use Rattle.rd_reuse.specs.Views.{IsCopied, Names, fresh_costs}
 use Rattle.rd_reuse.specs.declared.change.Change.{Change}
 use Rattle.rd_reuse.proofs.Lists.{filled-more, filled-size}
 use Rattle.rd_matrix.proofs.HeldLemmas.{later-start}
-use Rattle.rd_reuse.proofs.Places.{anchor-found, holding}
+use Rattle.rd_reuse.proofs.Places.{anchor-found, same-block}
 use Rattle.rd_reuse.proofs.Placing.{all-placed, none-added, shown-placed}
 use Rattle.rd_rows.specs.Copies.{RowValues, copied, shown_rows}
 use Rattle.rd_rows.specs.Shapes.{ShapeValues, IsShape}
@@ -53,10 +53,7 @@ pub begins : (m : SourceValues) (old : List Entry) (c : Change) (shape : ShapeVa
 begins m old c shape anchor place most base block source holds is =
     let rows = λ (b : Block). m.rows_of b shape in
     let found = anchor-found rows m.blocks place anchor is in
-    let stand = subst (λ bs. StandFrom (first_start m.blocks) bs) found.pieces source.blocks.stand in
-    let same : block ≡ found.block =
-    holding (first_start m.blocks) anchor.pos found.before found.after found.block block holds.among.0 stand found.starts
-    (sym (ap (λ bs. slice_get bs holds.among.0) found.pieces) ∙ holds.among.1) holds.from holds.below in
+    let same = same-block source anchor.pos found.before found.after found.block block found.pieces found.starts holds in
     let count = found.place in
     let pieces : m.blocks ≡ found.before ++ block ∷ found.after = found.pieces ∙ ap (λ b. found.before ++ b ∷ found.after) (sym same) in
     let all = ap (all_rows rows) pieces ∙ all-append rows found.before (block ∷ found.after) in
@@ -120,13 +117,9 @@ copied-of (Some x) r o i f =
 rows-copied : (m : SourceValues) (old : List Entry) (c : Change) (before after : List Block) (block : Block) (laid : List RowValues) → IsSource m → m.blocks ≡ before ++ block ∷ after
     → (is_kept old c block ≡ true → laid ≡ copied_rows (taken old c block.start)) → All (IsCopied old c m.blocks) (placed block.start 0 laid)
 rows-copied m old c before after block laid source pieces kept =
-    let stand = subst (λ bs. StandFrom (first_start m.blocks) bs) pieces source.blocks.stand in
     all-placed (IsCopied old c m.blocks) block.start 0 laid (λ j r at b o among starts keeps under.
-    let there = sym (ap (λ bs. slice_get bs among.0) pieces) ∙ among.1 in
-    let some = (later-start (first_start m.blocks) among.0 (before ++ block ∷ after) b stand there).1 in
-    let low : b.start ≤ block.start = omega (arith, starts) in
-    let high : block.start < b.end = omega (arith, some, starts) in
-    let same : b ≡ block = holding (first_start m.blocks) block.start before after block b among.0 stand refl there low high in
+    let some = (later-start (first_start m.blocks) among.0 m.blocks b source.blocks.stand among.1).1 in
+    let same = same-block source block.start before after block b pieces refl (record { among = among; from = omega (arith, starts); below = omega (arith, some, starts) }) in
     let rows = kept (subst (λ x. is_kept old c x ≡ true) same keeps) in
     copied-of (slice_get (taken old c block.start) j) r o
     (sym (slice_get-map (λ (x : RowValues). record { shown = x.shown; copies = copied x.copies }) (taken old c block.start) j) ∙ (sym (ap (λ rs. slice_get rs j) rows) ∙ at))

@@ -1,5 +1,5 @@
 -- The first row of a source, and its last one.
-use Rattle.std.proofs.Common.{◌≡◌, ℕ, zero, suc, ◌+◌, ◌-◌, ◌<◌, true, false, not, ◌==◌, leb, List, [], ◌∷◌, ◌++◌, length, min, take, drop, slice_get, option_map, Option, Some, refl, sym, ap, ◌∙◌, subst, arith}
+use Rattle.std.proofs.Common.{◌≡◌, ℕ, zero, suc, ◌+◌, ◌-◌, ◌<◌, true, false, not, ◌==◌, leb, List, [], ◌∷◌, ◌++◌, length, min, take, drop, slice_get, option_map, Option, Some, refl, sym, ap, ◌∙◌, arith}
 use Rattle.std.specs.Option.{is_none}
 use Rattle.std.proofs.lemmas.Bool.{and_parts, eqb-true, le-leb, lt-leb, ne_eqb}
 use Rattle.std.proofs.lemmas.Bool.Decides.{nat_tests}
@@ -10,13 +10,13 @@ use Rattle.rd_base.proofs.Lists.{element-at, get-first, get-second, get-take, ge
 use Rattle.rd_base.specs.declared.settings.Anchor.{Anchor}
 use Rattle.rd_matrix.proofs.Counting.{all-append, count-cons, length-numbered, some-row}
 use Rattle.rd_matrix.proofs.EachRow.{entry-at}
-use Rattle.rd_matrix.specs.Blocks.{HoldsPosition, StandFrom, block_before, first_start}
+use Rattle.rd_matrix.specs.Blocks.{HoldsPosition, block_before}
 use Rattle.rd_matrix.specs.Entries.{EntryMeaning, all_rows, entries_of, shown_entries, shown_entry}
 use Rattle.rd_matrix.specs.Sources.{SourceValues, IsSource, rows_at}
 use Rattle.rd_matrix.specs.declared.block.Block.{Block}
 use Rattle.rd_matrix.specs.declared.matrix.Entry.{Entry}
 use Rattle.rd_reuse.specs.Views.{Names, anchor_of}
-use Rattle.rd_reuse.proofs.Places.{Found, anchor-found, holding, row-in}
+use Rattle.rd_reuse.proofs.Places.{Found, anchor-found, row-in, same-block}
 use Rattle.rd_rows.specs.Laws.{ends_last}
 use Rattle.rd_rows.specs.Rows.{RowMeaning}
 use Rattle.rd_rows.specs.Shapes.{ShapeValues, IsShape}
@@ -54,15 +54,10 @@ module _ {m : SourceValues} {shape : ShapeValues} (source : IsSource m) (is : Is
       let count = count-cons rows_in x xs in
       omega (arith, some, count)
 
-  -- the block that holds a position at which a block starts is that block
-  same-block : (start row k : ℕ) (f : Found rows_in m.blocks start row k) (block : Block) → HoldsPosition start m.blocks block → block ≡ f.block
-  same-block start row k f block holds =
-      holding (first_start m.blocks) start f.before f.after f.block block holds.among.0 (subst (StandFrom (first_start m.blocks)) f.pieces source.blocks.stand) f.starts
-      (sym (ap (λ bs. slice_get bs holds.among.0) f.pieces) ∙ holds.among.1) holds.from holds.below
-
+  -- the block that holds a position at which a block starts, by its place
   at-block : (start row k : ℕ) (f : Found rows_in m.blocks start row k) (block : Block) → HoldsPosition start m.blocks block → slice_get m.blocks (length f.before) ≡ Some block
   at-block start row k f block holds =
-      ap (λ bs. slice_get bs (length f.before)) f.pieces ∙ at-seam f.before f.block f.after ∙ ap Some (sym (same-block start row k f block holds))
+      ap (λ bs. slice_get bs (length f.before)) f.pieces ∙ at-seam f.before f.block f.after ∙ ap Some (sym (same-block source start f.before f.after f.block block f.pieces f.starts holds))
 
   first-by : (before after : List Block) (b : Block) (o : Option Block) (place : ℕ) → m.blocks ≡ before ++ b ∷ after → o ≡ block_before m.blocks (length before)
       → length (all_rows rows_in before) ≡ place → is_none o ≡ (place == 0)
