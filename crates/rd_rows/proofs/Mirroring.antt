@@ -38,7 +38,7 @@ edge-size : (b : Bool) (cells : List Cell) → leading_rests cells ≡ 0 → len
 edge-size true cells none = let e = mirror-length cells in omega (arith, e, none)
 edge-size false cells none = refl
 
--- a row of cells that begin with no later column has those of its mark and its elements, at least as many as there is room for, and one more
+-- a row of cells that begin with no later column has those of its mark and elements, at least as many as there is room for, and one more
 pub row-length : (c : Cutting) (used : ℕ) (continued : Bool) (ps : List Placed)
     → leading_rests (filled (room c.shape) (front_mark c used ++ flat_map (seen_in c.shape) ps) ++ last_cell c used continued ∷ []) ≡ 0
     → length (row_of c used continued ps).cells ≡ max (room c.shape) (length (front_mark c used ++ flat_map (seen_in c.shape) ps)) + 1

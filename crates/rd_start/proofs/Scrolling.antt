@@ -19,7 +19,7 @@ moved-down : (z : ℤ) (row : ℕ) → int_lt z (pos 0) ≡ false → moved z ro
 moved-down (pos n) row e = refl
 moved-down (negsuc n) row e = absurd (false≢true (sym e))
 
--- the row that a start is scrolled to is at this place of a strip that reaches so many rows, and those between are the ones that it asks for
+-- the row that a start is scrolled to is at this place of a strip that reaches so many rows, and those between are what it asks for
 abbrev pub Scrolls : Edge → SourceValues → Strip → ℤ → ℕ → ℕ → Type 0
 Scrolls edge m s z count place =
     ((old : Sweep) (start : ℕ) → ReachesAt edge m s count → s.sweep ≡ old → start ≡ place → (start < length s.strip_rows.items) × (first_row m s + start ≡ moved_row m old z))
