@@ -2,7 +2,7 @@
 ghost use Rattle.std.specs.Prelude.{◌≡◌, option_map};
 ghost use Rattle.rd_layout.specs.Changes.{change_by, change_in, if_shown, later, layouts_after, restyled};
 
-use rd_base::Pos;
+use rd_base::{Pos, change_each};
 use rd_reuse::Change;
 use rd_state::{Effect, State, WindowState};
 use rd_window::Layout;
@@ -11,9 +11,7 @@ use rd_window::Layout;
 pub(crate) fn note(layouts: &mut Vec<(u32, Layout)>, effect: Effect, state: &State)
     ensures { layouts.new.items ≡ layouts_after effect state.now layouts.old.items }
 {
-    for i in 0..layouts.len() {
-        note_in(&mut layouts[i], effect, state);
-    }
+    change_each(&mut layouts[..], |layout| note_in(layout, effect, state));
 }
 
 /// Notes in the last layout of one window what an effect changed of what it shows.

@@ -1,10 +1,10 @@
-use Rattle.std.proofs.Common.{◌<◌, length, set, ap, ◌∙◌, arith}
-use Rattle.std.proofs.lemmas.List.Edits.{map_over_more}
+use Rattle.std.proofs.Common.{rules, length, map, ap, ◌∙◌}
+use Rattle.std.proofs.lemmas.List.{length-map, with_items_is}
 use Rattle.rd_layout.specs.Changes.{later}
 use Rattle.rd_views.proofs.noting.note.Goals as goal
 
-pub loop-i-preserved : goal.loop-i-preserved
-loop-i-preserved c =
-    let less : c.loop-i.i < length c.args.layouts.now.items = omega arith in
-    ap (set c.loop-i.layouts.items c.loop-i.i) c.note_in.ensures
-    ∙ map_over_more (later c.args.effect c.args.state.now) c.args.layouts.now.items c.loop-i.layouts.items c.loop-i.i c.index_mut.result.now less c.loop-i.invariant c.index_mut.ensures.value
+pub returns : goal.returns
+returns c =
+    let f = later c.args.effect c.args.state.now in
+    let told = c.change_each.ensures f (λ x y told. search rules) in
+    with_items_is c.args.layouts.now _ (ap length told ∙ length-map _ f ∙ c.deref_mut.ensures.len) ∙ told ∙ ap (map f) c.deref_mut.ensures.value
