@@ -1,9 +1,10 @@
--- Blocks that stand one behind the other with rows of their own, how many items of rows cover a position, and the row that has
--- the cursor.
-use Rattle.std.proofs.Common.{◌≡◌, ℕ, suc, ◌+◌, ◌<◌, ◌≤◌, inl, inr, Bool, cond, List, [], ◌∷◌, Option, None, Some, refl, sym, ap, ap₂, ◌∙◌, subst, add-one, arith}
-use Rattle.std.specs.List.{count_by}
+-- Blocks that stand one behind the other with rows of their own, how many items of rows cover a position, the row that has the
+-- cursor, and the last row of all.
+use Rattle.std.proofs.Common.{◌≡◌, ℕ, suc, ◌+◌, ◌-◌, ◌<◌, ◌≤◌, inl, inr, Bool, true, cond, List, [], ◌∷◌, ◌++◌, length, Option, None, Some, refl, sym, ap, ap₂, ◌∙◌, subst, add-one, arith}
+use Rattle.std.specs.List.{count_by, list_any}
 use Rattle.std.proofs.lemmas.Bool.{cases_Bool}
 use Rattle.std.proofs.lemmas.Bool.Decides.{nat_tests}
+use Rattle.std.proofs.lemmas.List.{append-nil, append_assoc}
 use Rattle.std.proofs.lemmas.List.Folds.{list_any_none}
 use Rattle.std.proofs.lemmas.Option.{same_Some}
 use Rattle.std.specs.Prelude.{slice_get}
@@ -15,7 +16,7 @@ use Rattle.rd_matrix.specs.Blocks.{IsAmong, StandFrom, end_from, first_start}
 use Rattle.rd_matrix.specs.Columns.{covers}
 use Rattle.rd_matrix.specs.Cursors.{column_shown, cursor_in, or_below}
 use Rattle.rd_matrix.specs.Entries.{EntryMeaning, all_rows, entries_of, numbered}
-use Rattle.rd_matrix.specs.Sources.{AreRowsOf, IsSource, SourceValues, begins_of, rows_at}
+use Rattle.rd_matrix.specs.Sources.{AreRowsOf, IsSource, SourceValues, begins_last, begins_of, rows_at}
 use Rattle.rd_matrix.specs.declared.block.Block.{Block}
 use Rattle.rd_rows.specs.Rows.{RowMeaning}
 use Rattle.rd_rows.specs.Shapes.{IsShape, ShapeValues}
@@ -93,3 +94,31 @@ cursor-by point e es None (Some p) place here later at =
 pub cursor-row : (point : ℕ) (es : List EntryMeaning) (place : ℕ × ℕ) → cursor_in point es ≡ Some place → HasCursor point es place
 cursor-row point [] place at = absurd cc
 cursor-row point (e ∷ es) place at = cursor-by point e es (column_shown point e) (cursor_in point es) place refl (cursor-row point es) at
+
+-- ---- the last row of all
+
+-- the last row of a list has an item that covers a position
+abbrev pub LastCovers : ℕ → List EntryMeaning → Type 0
+LastCovers point es = (front : List EntryMeaning) × (e : EntryMeaning) × (es ≡ front ++ e ∷ []) × (list_any (covers e.start point) e.row.begins ≡ true)
+
+last-numbered : (point start n : ℕ) (rs : List RowMeaning) → begins_last (covers start point) rs ≡ true → LastCovers point (numbered start n rs)
+last-numbered point start n [] h = absurd cc
+last-numbered point start n (r ∷ []) h = ([], record { start = start; number = n; row = r }, refl, h)
+last-numbered point start n (r ∷ s ∷ rs) h =
+    let rest = last-numbered point start (n + 1) (s ∷ rs) h in
+    let e : EntryMeaning = record { start = start; number = n; row = r } in
+    (e ∷ rest.0, rest.1, ap (λ es. e ∷ es) rest.2, rest.3)
+
+last-fit : (rows : Block → List RowMeaning) (from : ℕ) (b : Block) (bs : List Block) → Fit rows from (b ∷ bs) → LastCovers (end_from 0 (b ∷ bs) - 1) (all_rows rows (b ∷ bs))
+last-fit rows from b [] h = subst (LastCovers (b.end - 1)) (sym (append-nil (entries_of rows b))) (last-numbered (b.end - 1) b.start 0 (rows b) h.2.ender)
+last-fit rows from b (c ∷ bs) h =
+    let rest = last-fit rows b.end c bs h.3 in
+    (entries_of rows b ++ rest.0, rest.1, ap (λ es. entries_of rows b ++ es) rest.2 ∙ sym (append_assoc (entries_of rows b) rest.0 (rest.1 ∷ [])), rest.3)
+
+some-last : (rows : Block → List RowMeaning) (bs : List Block) → 0 < length bs → Fit rows (first_start bs) bs → LastCovers (end_from 0 bs - 1) (all_rows rows bs)
+some-last rows [] some h = absurd (omega (arith, some))
+some-last rows (b ∷ bs) some h = last-fit rows b.start b bs h
+
+-- the item that covers the last position of a source begins in its last row
+pub last-whole : (m : SourceValues) (shape : ShapeValues) → IsSource m → IsShape shape → LastCovers (end_from 0 m.blocks - 1) (rows_at m shape)
+last-whole m shape source is = some-last (λ b. m.rows_of b shape) m.blocks source.blocks.some (whole-fit m shape source is)

@@ -1,4 +1,5 @@
 mod Below
+pub mod Enders
 pub mod HeldLemmas
 pub mod Counting
 pub mod EachRow

@@ -1,5 +1,6 @@
 -- Sources of blocks and of their rows.
-use Rattle.std.specs.Prelude.{◌≡◌, ℕ, ◌+◌, ◌<◌, ◌≤◌, IsTrue, List, count_by, All}
+use Rattle.std.specs.Prelude.{◌≡◌, ℕ, ◌+◌, ◌-◌, ◌<◌, ◌≤◌, Bool, false, IsTrue, List, [], ◌∷◌, count_by, All}
+use Rattle.std.specs.List.{list_any}
 use Rattle.rd_base.specs.Lists.{total}
 use Rattle.rd_matrix.specs.Blocks.{AreBlocks, IsAmong}
 use Rattle.rd_matrix.specs.Columns.{covers}
@@ -34,12 +35,19 @@ costs_of cost bs = total cost bs
 abbrev pub IsInBlock : ℕ → ℕ → Begin → Type 0
 IsInBlock start end b = (b.from ≤ b.to) × (start + b.to ≤ end)
 
+-- whether an item that passes a test begins in the last of these rows
+abbrev pub begins_last : (Begin → Bool) → List RowMeaning → Bool
+begins_last test [] = false
+begins_last test (r ∷ []) = list_any test r.begins
+begins_last test (r ∷ s ∷ rs) = begins_last test (s ∷ rs)
+
 -- the rows of a block from one position up to another: at least one, of which the last and no other ends the block; and the items
--- that begin in them lie in the block, and exactly one of them covers each of its positions
+-- that begin in them lie in the block, and exactly one of them covers each of its positions, that of its last position in the last row
 pub record AreRowsOf (start end : ℕ) (rows : List RowMeaning) : Type 0 where
   pub ends : IsTrue (ends_last rows)
   pub inside : All (IsInBlock start end) (begins_of rows)
   pub once : (point : ℕ) → start ≤ point → point < end → count_by (covers start point) (begins_of rows) ≡ 1
+  pub ender : IsTrue (begins_last (covers start (end - 1)) rows)
 
 -- what holds of every source
 pub record IsSource (m : SourceValues) : Type 0 where
