@@ -60,7 +60,7 @@ module _ (classes : List Span) (s : BufferValue) (are : AreListed s) where
   stand : StandFrom s.text.begin (blocks_in classes s)
   stand = stand-map classes s s.text.begin (s.text.end + 1) (blocks_of s) are.adjoin
 
-  ends-of : s.text.begin ≤ s.text.end
+  pub ends-of : s.text.begin ≤ s.text.end
       → (first_start (blocks_in classes s) ≡ s.text.begin) × (end_from 0 (blocks_in classes s) ≡ s.text.end + 1)
   ends-of order =
       let less : s.text.begin < s.text.end + 1 = omega (arith, order) in (

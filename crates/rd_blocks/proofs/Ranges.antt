@@ -36,7 +36,7 @@ abbrev AreOf : Origin → List Element → Type 0
 AreOf origin es = AllByRecursion (λ (e : Element). e.origin ≡ origin) es
 
 -- what holds of whatever has an item's origin holds of each of its elements
-item-of : (P : Element → Type 0) (s : Scene) (base : ℕ) (x : Item) (odd : Bool) (origin : Origin) → ((e : Element) → e.origin ≡ origin → P e) → AllByRecursion P (put_kind kind_elements s base x.kind x.overlay odd x.face origin)
+pub item-of : (P : Element → Type 0) (s : Scene) (base : ℕ) (x : Item) (odd : Bool) (origin : Origin) → ((e : Element) → e.origin ≡ origin → P e) → AllByRecursion P (put_kind kind_elements s base x.kind x.overlay odd x.face origin)
 item-of P s base x odd origin own =
     item-each s base origin (λ f. Unit {0}) P (λ n text found i under any. tt) (λ extent l f nested any. own _ refl) x.kind x.overlay odd x.face (λ ends. own _ refl) tt
 

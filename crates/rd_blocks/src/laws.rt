@@ -1,5 +1,5 @@
 //! What holds of the blocks of every buffer and of their rows, proved of the definitions.
-ghost use Rattle.std.specs.Prelude.{ℕ, ◌≡◌, ◌≤◌, Bool, true, false, [], length, All};
+ghost use Rattle.std.specs.Prelude.{ℕ, ◌≡◌, ◌+◌, ◌≤◌, Bool, true, false, [], length, All};
 ghost use Rattle.rd_base.specs.declared.limits.TheConstants.{TAB_COLUMNS};
 ghost use Rattle.rd_base.specs.Cells.{IsColoured};
 ghost use Rattle.rd_base.specs.Faces.{Attributes};
@@ -17,12 +17,13 @@ ghost use Rattle.rd_rows.specs.Whole.{IsWhole};
 ghost use Rattle.rd_stack.specs.Lines.{put_kind};
 ghost use Rattle.rd_stack.specs.Shown.{kind_elements};
 ghost use Rattle.rd_matrix.specs.declared.block.Block.{Block};
-ghost use Rattle.rd_matrix.specs.Blocks.{IsWithin};
+ghost use Rattle.rd_matrix.specs.Blocks.{IsWithin, end_from, first_start};
 ghost use Rattle.rd_matrix.specs.Sources.{IsSource, rows_at};
 ghost use Rattle.rd_blocks.specs.Sources.{text_source};
 
 use rd_glyphs::elements_are_sound;
 use rd_items::{blocks_are_listed, blocks_are_read_whole, items_cover_their_block};
+use rd_levels::enders_come_last;
 use rd_rows::{rows_are_coloured, rows_are_whole, rows_behind_quiet_prefixes};
 use rd_stack::{
     lines_are_coloured, lines_are_sound, lines_end_once, prefixes_are_sound, prefixes_end_no_line,
@@ -31,7 +32,7 @@ use rd_stack::{
 
 /// Each buffer is a source of blocks, whatever objects and data files there are: it has blocks in order, and the rows of a block
 /// at a shape are at least one, of which the last and no other ends the block; and each position of a block is covered by exactly
-/// one item that begins in its rows. The call does nothing.
+/// one item that begins in its rows, and its last position by one that begins in the last row. The call does nothing.
 pub fn buffers_are_sources()
     ensures { (s : BufferValue) (objects : ObjectLists) (files : Data) → IsText s.text → IsSource (text_source s objects files) }
 {
@@ -41,6 +42,7 @@ pub fn buffers_are_sources()
     rows_behind_quiet_prefixes();
     items_that_give_have_elements();
     lines_end_once();
+    enders_come_last();
     prefixes_end_no_line();
 }
 
@@ -58,6 +60,15 @@ pub fn items_that_give_have_elements()
 /// Each accessible position of a buffer, and the end of its accessible text, lies within its blocks. The call does nothing.
 pub fn accessible_positions_lie_in_blocks()
     ensures { (s : BufferValue) (objects : ObjectLists) (files : Data) (pos : ℕ) → IsAccessible s.text pos → IsWithin pos (text_source s objects files).blocks }
+{
+    blocks_are_listed();
+}
+
+/// The first block of a buffer starts where its accessible text begins, and the last one ends behind the end of that. The call does
+/// nothing.
+pub fn blocks_fill_the_text()
+    ensures begin { (s : BufferValue) (objects : ObjectLists) (files : Data) → IsText s.text → first_start (text_source s objects files).blocks ≡ s.text.begin }
+    ensures end { (s : BufferValue) (objects : ObjectLists) (files : Data) → IsText s.text → end_from 0 (text_source s objects files).blocks ≡ s.text.end + 1 }
 {
     blocks_are_listed();
 }
