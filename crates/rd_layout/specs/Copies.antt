@@ -11,7 +11,7 @@ use Rattle.rd_window.specs.declared.layout.Layout.{Layout}
 use Rattle.rd_layout.specs.Redisplays.{update_of}
 use Rattle.rd_layout.specs.Screens.{laid_out}
 use Rattle.rd_layout.specs.Sessions.{SessionValue}
-use Rattle.rd_layout.specs.Windows.{of_windows, view_in, wanted_of, window_shape, window_source}
+use Rattle.rd_layout.specs.Windows.{of_windows, view_in, wanted_of, window_shape}
 
 -- a row that was never copied
 abbrev pub uncopied_entry : Entry → Entry
@@ -28,7 +28,7 @@ without_copies v = record v { layouts = map (λ e. (e.0, uncopied e.1)) v.layout
 abbrev pub fresh_layout : Data → StateValue → Placed → WindowState → ℕ × Layout
 fresh_layout files s place w =
     let entries = map made_entry (view_in files s w place).rows in
-    (place.number, made_layout entries (window_source files s w) (window_shape s w place) (wanted_of s w place))
+    (place.number, made_layout entries (window_shape s w place) (wanted_of s w place))
 
 -- the layouts of all windows from nothing, in leaf order
 abbrev pub fresh_layouts : Data → StateValue → List (ℕ × Layout)

@@ -114,8 +114,6 @@ seven_lines = record {
   height = 7;
   margin = 0;
   conservatively = 0;
-  top = true;
-  bottom = true;
   change = edit 1 0 1;
 }
 

@@ -47,8 +47,8 @@ fn facts<'a>(name: &'a [Ch], content: &Content<'_>, shown: &ShownWindow<'_>) -> 
     Facts {
         name,
         line: text.line_of(shown.chosen.point),
-        top: shown.layout.top,
-        bottom: shown.layout.bottom,
+        top: shown.layout.has_first_row(shown.ends.begin),
+        bottom: shown.layout.has_last_row(shown.ends.end),
         above: shown.chosen.anchor.pos - text.begin(),
         total: text.end() - text.begin(),
         modified: settings.modified,

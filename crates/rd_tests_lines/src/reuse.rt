@@ -23,7 +23,7 @@ use rd_matrix::{Matrix, MemBlocks};
 use rd_reuse::Change;
 use rd_rows::Shape;
 use rd_start::Wanted;
-use rd_window::{Layout, lay_out_again};
+use rd_window::{Layout, TextEnds, lay_out_again};
 use right::are_right;
 use std::alloc::Global;
 use std::marker::Brand;
@@ -66,8 +66,6 @@ fn layout_of(matrix: Matrix, change: Change) -> Layout {
         height: 9,
         margin: 0,
         conservatively: 0,
-        top: true,
-        bottom: true,
         change,
     }
 }
@@ -107,23 +105,29 @@ fn relays<L: Ledger>(
 /// Whether a window has these rows over its last layout, since which something changed.
 fn lays_again<L: Ledger>(
     alloc: Global,
-    source: MemBlocks,
+    made: Made,
     layout: &Layout,
     wanted: Wanted,
     shape: Shape,
     rows: &str,
     steps: &mut Steps<L>,
 ) -> Result<bool, Memory>
-    requires source { IsSource (source_of source) }
-    requires right { AreRight (source_of source) (older_rows (Some layout.now) shape) layout.now.change shape }
-    requires anchor { IsWithin wanted.anchor.pos (blocks_held source) }
-    requires point { IsWithin wanted.point (blocks_held source) }
+    requires source { IsSource (source_of made.source) }
+    requires first { first_start (blocks_held made.source) ≡ 1 }
+    requires end { end_from 0 (blocks_held made.source) ≡ made.end }
+    requires right { AreRight (source_of made.source) (older_rows (Some layout.now) shape) layout.now.change shape }
+    requires anchor { IsWithin wanted.anchor.pos (blocks_held made.source) }
+    requires point { IsWithin wanted.point (blocks_held made.source) }
     requires height { 1 ≤ wanted.height }
 {
     if layout.change.is_none() {
         return Ok(false);
     }
-    let laying = lay_out_again(alloc, source, Some(layout), wanted, shape, steps)?;
+    let ends = TextEnds {
+        begin: 1,
+        end: made.end - 1,
+    };
+    let laying = lay_out_again(alloc, made.source, ends, Some(layout), wanted, shape, steps)?;
     match laying.anew {
         Some(anew) => Ok(is_told(alloc, &anew.matrix, rows)),
         None => Ok(false),
@@ -164,7 +168,7 @@ fn holds_over<L: Ledger>(
             case.rows,
             steps,
         ),
-        _ => lays_again(alloc, made.source, layout, wanted, shape, case.rows, steps),
+        _ => lays_again(alloc, made, layout, wanted, shape, case.rows, steps),
     }
 }
 

@@ -12,9 +12,8 @@ use Rattle.rd_tree.proofs.Listing.{AreApart, placed-here, placed-there}
 use Rattle.rd_tree.specs.Windows.{of_number}
 use Rattle.rd_tree.specs.declared.placed.Placed.{Placed}
 use Rattle.rd_ucd.specs.Data.{Data}
-use Rattle.rd_window.specs.Layouts.{IsLaidOut, layout_after, rests}
+use Rattle.rd_window.specs.Layouts.{IsLaidOut, TellsEnds, layout_after, rests}
 use Rattle.rd_window.specs.Views.{WindowView}
-use Rattle.rd_window.specs.declared.again.Laying.{Laying}
 use Rattle.rd_window.specs.declared.layout.Layout.{Layout}
 use Rattle.rd_layout.specs.Redisplays.{AreLaidOut, IsLaidOutBy, allowance_by, allowances}
 use Rattle.rd_layout.specs.Sessions.{SessionValue, layout_of}
@@ -23,6 +22,7 @@ use Rattle.rd_layout.proofs.Known.{Last}
 use Rattle.rd_state.proofs.ByNumber.{under-there}
 use Rattle.rd_views.specs.Layings.{AreDesired, AreOnce, IsDesiredAt, IsDesiredBy, layout_in, layout_taken, layouts_taken, no_layout, shown_by, views_taken, window_in}
 use Rattle.rd_views.specs.declared.desired.LaidWindow.{LaidWindow}
+use Rattle.rd_views.specs.declared.laying.TextLaying.{TextLaying}
 
 -- ---- one window
 
@@ -30,17 +30,26 @@ module _ (files : Data) (s : StateValue) (place : Placed) (w : WindowState) wher
   abbrev pub IsNew : Option Layout → Layout → Type 0
   IsNew last new = IsLaidOut last (window_source files s w) (window_shape s w place) (wanted_of s w place) new
 
-  kept-layout : (last anew : Option Layout) → IfSome (layout_after last anew) (IsNew last)
-      → is_some anew ≡ not (rests last (window_source files s w) (window_shape s w place) (wanted_of s w place))
-      → IsNew last (if is_some anew then unwrap_or anew no_layout else unwrap_or last (unwrap_or anew no_layout))
-  kept-layout last (Some new) laid is = laid
-  kept-layout (Some l) None laid is = laid
-  kept-layout None None laid is = absurd (false≢true is)
+  abbrev pub Tells : TextLaying → Layout → Type 0
+  Tells laid = TellsEnds laid.ends (window_source files s w) (window_shape s w place) (wanted_of s w place)
 
-  pub desired-window : (last : Option Layout) (laying : Laying) → laying.chosen ≡ chosen_of (window_source files s w) (window_shape s w place) (wanted_of s w place)
-      → IfSome (layout_after last laying.anew) (IsNew last) → is_some laying.anew ≡ not (rests last (window_source files s w) (window_shape s w place) (wanted_of s w place))
-      → IsDesiredAt files s last place w (window_in laying) (place.number, layout_in laying)
-  desired-window last laying chosen laid is = record { number = refl; chosen = chosen; layout = kept-layout last laying.anew laid is }
+  -- what holds of the layout that a window has holds of the one that is taken
+  kept-layout : (P : Layout → Type 0) (last anew : Option Layout) → IfSome (layout_after last anew) P
+      → is_some anew ≡ not (rests last (window_source files s w) (window_shape s w place) (wanted_of s w place))
+      → P (if is_some anew then unwrap_or anew no_layout else unwrap_or last (unwrap_or anew no_layout))
+  kept-layout P last (Some new) own is = own
+  kept-layout P (Some l) None own is = own
+  kept-layout P None None own is = absurd (false≢true is)
+
+  pub desired-window : (last : Option Layout) (laid : TextLaying) → laid.laying.chosen ≡ chosen_of (window_source files s w) (window_shape s w place) (wanted_of s w place)
+      → IfSome (layout_after last laid.laying.anew) (IsNew last) → IfSome (layout_after last laid.laying.anew) (Tells laid) → is_some laid.laying.anew ≡ not (rests last (window_source files s w) (window_shape s w place) (wanted_of s w place))
+      → IsDesiredAt files s last place w (window_in laid) (place.number, layout_in laid)
+  desired-window last laid chosen new tells is = record {
+    number = refl;
+    chosen = chosen;
+    layout = kept-layout (IsNew last) last laid.laying.anew new is;
+    tells = kept-layout (Tells laid) last laid.laying.anew tells is;
+  }
 
 -- ---- one window more
 
@@ -83,6 +92,11 @@ module _ (v : SessionValue) where
     subst (λ (n : ℕ). IsLaidOutBy v.files v.state (layout_of p.number v.layouts) p (Some w) (layout_taken (layout_of n v.layouts) x e.1)) (sym h.number) h.layout,
   )
 
+  tells-by : (p : Placed) (w : WindowState) (x : LaidWindow) (e : Last) → IsDesiredAt v.files v.state (layout_of p.number v.layouts) p w x e
+      → TellsEnds x.ends (window_source v.files v.state w) (window_shape v.state w p) (wanted_of v.state w p) (layout_taken (layout_of e.0 v.layouts) x e.1)
+  tells-by p w x e h =
+      subst (λ (n : ℕ). TellsEnds x.ends (window_source v.files v.state w) (window_shape v.state w p) (wanted_of v.state w p) (layout_taken (layout_of n v.layouts) x e.1)) (sym h.number) h.tells
+
   -- what holds of no window, and of one more where it holds of the others, holds of all that are laid out
   pub each-desired : (C : List Placed → List LaidWindow → List Last → Type 0) → C [] [] []
       → ((p : Placed) (x : LaidWindow) (e : Last) (ps : List Placed) (xs : List LaidWindow) (es : List Last)
@@ -110,7 +124,8 @@ module _ (v : SessionValue) where
   view-by p (Some w) x e rest more h is =
       let laid = (laid-by p (Some w) x e h).1 in
       let chosen = h.chosen in
-      λ i. record { anchor = (chosen i).anchor; point = (chosen i).point; rows = laid.rows i; top = (laid.is i).top; bottom = (laid.is i).bottom } ∷ is i
+      let tells = tells-by p w x e h in
+      λ i. record { anchor = (chosen i).anchor; point = (chosen i).point; rows = laid.rows i; top = tells.top i; bottom = tells.bottom i } ∷ is i
 
   -- the windows show what the rules give
   pub views-are : (ps : List Placed) (xs : List LaidWindow) (es : List Last) → AreDesired v ps xs es → views_taken v.layouts xs es ≡ flat_map (of_place view v.state) ps

@@ -12,14 +12,14 @@ use Rattle.rd_state.specs.Windows.{window_of}
 use Rattle.rd_state.specs.declared.window.WindowState.{WindowState}
 use Rattle.rd_tree.specs.declared.placed.Placed.{Placed}
 use Rattle.rd_ucd.specs.Data.{Data}
-use Rattle.rd_window.specs.Layouts.{IsLaidOut}
-use Rattle.rd_window.specs.Views.{WindowView}
-use Rattle.rd_window.specs.declared.again.Laying.{Laying}
+use Rattle.rd_window.specs.Layouts.{IsLaidOut, TellsEnds}
+use Rattle.rd_window.specs.Views.{WindowView, shows_at, starts_at}
 use Rattle.rd_window.specs.declared.layout.Layout.{Layout}
 use Rattle.rd_layout.specs.Sessions.{SessionValue, layout_of}
 use Rattle.rd_layout.specs.Windows.{places, wanted_of, window_shape, window_source}
 use Rattle.rd_views.specs.declared.desired.Desired.{Desired}
 use Rattle.rd_views.specs.declared.desired.LaidWindow.{LaidWindow}
+use Rattle.rd_views.specs.declared.laying.TextLaying.{TextLaying}
 
 -- ---- one window
 
@@ -31,25 +31,23 @@ no_layout = record {
   height = 0;
   margin = 0;
   conservatively = 0;
-  top = false;
-  bottom = false;
   change = none;
 }
 
 -- what is chosen for no window
 abbrev pub nothing_chosen : LaidWindow
-nothing_chosen = record { chosen = record { anchor = record { pos = 0; row = 0 }; point = 0 }; anew = false }
+nothing_chosen = record { chosen = record { anchor = record { pos = 0; row = 0 }; point = 0 }; ends = record { begin = 0; end = 0 }; anew = false }
 
 -- the layout at no place
 abbrev pub nobody : ℕ × Layout
 nobody = (0, no_layout)
 
 -- what is held of a window that was laid out
-abbrev pub window_in : Laying → LaidWindow
-window_in laying = record { chosen = laying.chosen; anew = is_some laying.anew }
+abbrev pub window_in : TextLaying → LaidWindow
+window_in laid = record { chosen = laid.laying.chosen; ends = laid.ends; anew = is_some laid.laying.anew }
 
-abbrev pub layout_in : Laying → Layout
-layout_in laying = unwrap_or laying.anew no_layout
+abbrev pub layout_in : TextLaying → Layout
+layout_in laid = unwrap_or laid.laying.anew no_layout
 
 -- the layout that a window has once it is taken: the new one, or its last one where it was not laid out anew
 abbrev pub layout_taken : Option Layout → LaidWindow → Layout → Layout
@@ -60,6 +58,7 @@ pub record IsDesiredAt (files : Data) (s : StateValue) (last : Option Layout) (p
   pub number : e.0 ≡ place.number
   pub chosen : x.chosen ≡ chosen_of (window_source files s w) (window_shape s w place) (wanted_of s w place)
   pub layout : IsLaidOut last (window_source files s w) (window_shape s w place) (wanted_of s w place) (layout_taken last x e.1)
+  pub tells : TellsEnds x.ends (window_source files s w) (window_shape s w place) (wanted_of s w place) (layout_taken last x e.1)
 
 abbrev pub IsDesiredBy : Data → StateValue → Option Layout → Placed → Option WindowState → LaidWindow → ℕ × Layout → Type 0
 IsDesiredBy files s last place None x e = ⊥
@@ -82,7 +81,13 @@ IsDesired v d = AreDesired v (places v.state) d.windows d.layouts.items
 
 -- what a window shows of its layout
 abbrev pub shown_by : LaidWindow → Layout → WindowView
-shown_by x l = record { anchor = x.chosen.anchor; point = x.chosen.point; rows = shown_entries l.matrix; top = l.top; bottom = l.bottom }
+shown_by x l = record {
+  anchor = x.chosen.anchor;
+  point = x.chosen.point;
+  rows = shown_entries l.matrix;
+  top = starts_at x.ends.begin (shown_entries l.matrix);
+  bottom = shows_at x.ends.end (shown_entries l.matrix);
+}
 
 -- what each window shows, where these are the last layouts
 abbrev pub views_taken : List (ℕ × Layout) → List LaidWindow → List (ℕ × Layout) → List WindowView

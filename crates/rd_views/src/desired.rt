@@ -7,6 +7,7 @@ ghost use Rattle.rd_layout.specs.Windows.{views_in};
 ghost use Rattle.rd_window.specs.declared.layout.Layout.{Layout};
 ghost use Rattle.rd_views.specs.Layings.{IsDesired, layout_in, layout_taken, no_layout, views_taken, window_in};
 
+use crate::laying::TextLaying;
 use crate::views::Views;
 use rd_base::limits::LEAST_TEXT_COLUMNS;
 use rd_base::{ListOf, Memory, Steps, Wrap};
@@ -15,14 +16,15 @@ use rd_matrix::Matrix;
 use rd_reuse::Change;
 use rd_rows::Shape;
 use rd_start::Chosen;
-use rd_window::{Laying, Layout};
+use rd_window::{Layout, TextEnds};
 use std::alloc::Global;
 use std::sync::ledger::Ledger;
 
-/// The start and the point that were chosen for a window, and whether it was laid out anew.
+/// The start and the point that were chosen for a window, where its text begins and ends, and whether it was laid out anew.
 #[derive(Clone, Copy)]
 pub struct LaidWindow {
     pub chosen: Chosen,
+    pub ends: TextEnds,
     pub anew: bool,
 }
 
@@ -36,12 +38,14 @@ pub struct Desired {
 
 impl Desired {
     /// Adds what laying out the window with a number gave.
-    fn push(&mut self, alloc: Global, number: u32, laying: Laying) -> Result<(), Memory>
-        ensures windows { OnOk result (self.new.windows ≡ self.old.windows ++ window_in laying ∷ []) }
-        ensures layouts { OnOk result (self.new.layouts.items ≡ self.old.layouts.items ++ (number, layout_in laying) ∷ []) }
+    fn push(&mut self, alloc: Global, number: u32, laid: TextLaying) -> Result<(), Memory>
+        ensures windows { OnOk result (self.new.windows ≡ self.old.windows ++ window_in laid ∷ []) }
+        ensures layouts { OnOk result (self.new.layouts.items ≡ self.old.layouts.items ++ (number, layout_in laid) ∷ []) }
     {
+        let laying = laid.laying;
         self.windows.push(LaidWindow {
             chosen: laying.chosen,
+            ends: laid.ends,
             anew: laying.anew.is_some(),
         })?;
         let layout = new_layout(alloc, laying.anew)?;
@@ -63,8 +67,8 @@ impl Views {
         };
         let mut i = 0;
         while let Some(place) = self.place(i) {
-            let laying = self.lay_out_window(place, steps)?;
-            desired.push(self.alloc, place.number, laying)?;
+            let laid = self.lay_out_window(place, steps)?;
+            desired.push(self.alloc, place.number, laid)?;
             i += 1;
         }
         Ok(desired)
@@ -104,6 +108,7 @@ impl Views {
         ShownWindow {
             chosen: window.chosen,
             layout: self.layout_at(desired, window, i),
+            ends: window.ends,
         }
     }
 }
@@ -132,8 +137,6 @@ fn no_layout(alloc: Global) -> Result<Layout, Memory>
         height: 0,
         margin: 0,
         conservatively: 0,
-        top: false,
-        bottom: false,
         change: Change::none(),
     })
 }

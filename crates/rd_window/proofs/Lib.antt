@@ -1,6 +1,6 @@
 mod Near
-mod Ends
 pub mod Starting
 mod Points
+mod Ends
 pub mod Standing
 mod Remembering

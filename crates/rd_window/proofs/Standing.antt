@@ -16,17 +16,19 @@ use Rattle.rd_reuse.proofs.Changes.{none-is}
 use Rattle.rd_matrix.proofs.HeldLemmas.{later-start}
 use Rattle.rd_reuse.proofs.Places.{anchor-found}
 use Rattle.rd_rows.specs.Rows.{RowMeaning}
-use Rattle.rd_rows.specs.Shapes.{ShapeValues, is_same_shape}
+use Rattle.rd_rows.specs.Shapes.{IsShape, ShapeValues, is_same_shape}
 use Rattle.rd_rows.proofs.SameShapes.{same-shape}
 use Rattle.rd_start.proofs.Blocks.{anchor-skips}
 use Rattle.rd_start.proofs.Lists.{find-first}
 use Rattle.rd_start.specs.Chosen.{anchor_at, anchor_from, anchor_row, chosen_of, places_of, point_from, row_in_block}
 use Rattle.rd_start.specs.Starts.{Places, centred, following, is_inside, margin_of, scrolled, suits, wanted_above, wanted_below}
 use Rattle.rd_start.specs.declared.wanted.Wanted.{Wanted}
-use Rattle.rd_window.specs.Layouts.{IsLaidOut, Stands, StandsUnchanged, is_current, rests}
-use Rattle.rd_window.specs.Views.{has_first_row, has_last_row, rows_in_view, start_row}
+use Rattle.rd_window.specs.Layouts.{IsLaidOut, IsSourceOf, Stands, StandsUnchanged, TellsEnds, is_current, rests}
+use Rattle.rd_window.specs.Views.{rows_in_view, start_row}
 use Rattle.rd_window.specs.declared.layout.Layout.{Layout}
-use Rattle.rd_window.proofs.Ends.{in-view}
+use Rattle.rd_window.specs.declared.layout.TextEnds.{TextEnds}
+use Rattle.rd_window.proofs.Ends.{tells}
+use Rattle.rd_window.proofs.Points.{in-view}
 use Rattle.rd_window.proofs.Starting.{some-laid, start-named}
 
 -- ---- what a current layout is
@@ -76,12 +78,12 @@ suits-hidden w at out =
           ]
     ]
 
--- how many rows are wanted above and below point's, as a layout knows it
-pub above-known : (w : Wanted) (l : Layout) (i : ℕ) → l.top ≡ (i == 0) → (if l.top then 0 else margin_of w) ≡ wanted_above w i
-above-known w l i known = ap (λ b. if b then 0 else margin_of w) known
+-- how many rows are wanted above and below point's, where it is known whether all rows there are in view
+pub above-known : (w : Wanted) (top : Bool) (i : ℕ) → top ≡ (i == 0) → (if top then 0 else margin_of w) ≡ wanted_above w i
+above-known w top i known = ap (λ b. if b then 0 else margin_of w) known
 
-pub below-known : (w : Wanted) (l : Layout) (count i : ℕ) → l.height ≡ w.height → l.bottom ≡ leb count (i + l.height) → (if l.bottom then 0 else margin_of w) ≡ wanted_below w count i
-below-known w l count i height known = ap (λ b. if b then 0 else margin_of w) (known ∙ ap (λ n. leb count (i + n)) height)
+pub below-known : (w : Wanted) (bottom : Bool) (count i height : ℕ) → height ≡ w.height → bottom ≡ leb count (i + height) → (if bottom then 0 else margin_of w) ≡ wanted_below w count i
+below-known w bottom count i height same known = ap (λ b. if b then 0 else margin_of w) (known ∙ ap (λ n. leb count (i + n)) same)
 
 -- ---- a window that rests
 
@@ -115,18 +117,19 @@ module _ {l : Layout} {m : SourceValues} {shape : ShapeValues} {w : Wanted} (r :
   rows-stay : shown_entries l.matrix ≡ rows_in_view m shape w
   rows-stay = r.stands.rows ∙ (λ i. take (r.current.height i) (drop (start-seen i) (rows_at m (shapes i))))
 
-  top-stays : l.top ≡ has_first_row m shape w
-  top-stays = r.stands.top ∙ (λ i. start-seen i == 0)
-
-  bottom-stays : l.bottom ≡ has_last_row m shape w
-  bottom-stays = r.stands.bottom ∙ (λ i. leb (length (rows_at m (shapes i))) (start-seen i + r.current.height i))
+  start-inside : start_row m shape w < length (rows_at m shape)
+  start-inside =
+      let start = start-stays in
+      let inside = ltb-true at.old at.count (and_parts (ltb at.old at.count) (is_inside w.height (wanted_above w at.old) (wanted_below w at.count at.old) at.old at.point) r.fits).0 in
+      omega (arith, start, inside)
 
   -- a window that rests has a row
   pub some-stay : 1 ≤ w.height → 0 < length l.matrix
-  some-stay some =
-      let start = start-stays in
-      let inside = ltb-true at.old at.count (and_parts (ltb at.old at.count) (is_inside w.height (wanted_above w at.old) (wanted_below w at.count at.old) at.old at.point) r.fits).0 in
-      some-laid m shape w l.matrix some (omega (arith, start, inside)) rows-stay
+  some-stay some = some-laid m shape w l.matrix some start-inside rows-stay
+
+  -- a window that rests tells whether it has the first row and the last one
+  pub tells-resting : {ends : TextEnds} → IsSourceOf ends m → IsShape shape → 1 ≤ w.height → TellsEnds ends m shape w l
+  tells-resting of is some = tells of is w l start-inside some rows-stay
 
   -- the start is that of its first row, and point stays
   pub chosen-stays : 1 ≤ w.height → record { anchor = anchor_at (shown_entries l.matrix) 0; point = w.point } ≡ chosen_of m shape w
@@ -147,8 +150,6 @@ module _ {l : Layout} {m : SourceValues} {shape : ShapeValues} {w : Wanted} (r :
       height = r.current.height i;
       margin = r.current.margin i;
       conservatively = r.current.conservatively i;
-      top = top-stays i;
-      bottom = bottom-stays i;
       change = none-is l.change r.current.unchanged i;
     };
     stays = λ e. sym (ap (λ (b : Bool). if b then l.matrix else []) r.current.shapes);
@@ -178,11 +179,7 @@ pub stands-new : (last : Option Layout) (m : SourceValues) (shape : ShapeValues)
 stands-new last m shape w new source low laid =
     let anchor = (chosen_of m shape w).anchor in
     let place = anchor-place m shape anchor (start_row m shape w) source (start-named m shape w low) in
-    subst (Stands m anchor) (sym laid.is) (record {
-      rows = laid.rows ∙ sym (ap (λ (i : ℕ). take w.height (drop i (rows_at m shape))) place);
-      top = sym (ap (λ (i : ℕ). i == 0) place);
-      bottom = sym (ap (λ (i : ℕ). leb (length (rows_at m shape)) (i + w.height)) place);
-    })
+    subst (Stands m anchor) (sym laid.is) (record { rows = laid.rows ∙ sym (ap (λ (i : ℕ). take w.height (drop i (rows_at m shape))) place) })
 
 -- ---- a source with equal rows
 
@@ -204,8 +201,4 @@ stands-on m n anchor l blocks each stands =
     let h : Block → List RowMeaning = λ b. n.rows_of b l.shape in
     let rows : rows_at n l.shape ≡ rows_at m l.shape = ap (all_rows h) blocks ∙ same-rows f h m.blocks each in
     let place : anchor_row h anchor n.blocks ≡ anchor_row f anchor m.blocks = ap (anchor_row h anchor) blocks ∙ same-anchor f h anchor m.blocks each in
-    record {
-      rows = stands.rows ∙ sym (ap₂ (λ (i : ℕ) (es : List EntryMeaning). take l.height (drop i es)) place rows);
-      top = stands.top ∙ sym (ap (λ (i : ℕ). i == 0) place);
-      bottom = stands.bottom ∙ sym (ap₂ (λ (i : ℕ) (es : List EntryMeaning). leb (length es) (i + l.height)) place rows);
-    }
+    record { rows = stands.rows ∙ sym (ap₂ (λ (i : ℕ) (es : List EntryMeaning). take l.height (drop i es)) place rows) }

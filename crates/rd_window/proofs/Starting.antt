@@ -77,3 +77,11 @@ some-laid m shape w es some low same =
     let taken = length-take w.height (drop (start_row m shape w) (rows_at m shape)) in
     let left = length-drop (start_row m shape w) (rows_at m shape) in
     omega (arith, count, taken, left, some, low)
+
+-- a window that has a row in view starts at a row that there is
+pub start-laid : (m : SourceValues) (shape : ShapeValues) (w : Wanted) (es : List Entry) → 0 < length es → shown_entries es ≡ rows_in_view m shape w → start_row m shape w < length (rows_at m shape)
+start-laid m shape w es some same =
+    let count = sym (length-map es shown_entry) ∙ ap length same in
+    let taken = length-take w.height (drop (start_row m shape w) (rows_at m shape)) in
+    let left = length-drop (start_row m shape w) (rows_at m shape) in
+    omega (arith, count, taken, left, some)

@@ -19,7 +19,7 @@ two_lines_and count = record (two_letters_and count) { rows_of = λ b shape. las
 abbrev pub three_rows : Change → Layout
 three_rows change =
     let entries = map made_entry (rows_at (two_lines_and 2) twelve_truncated) in
-    record (made_layout entries (two_lines_and 2) twelve_truncated (window 3 1 1)) { change = change }
+    record (made_layout entries twelve_truncated (window 3 1 1)) { change = change }
 
 -- how often the rows of a block were copied that keeps those of this layout, since which so much changed: none of a block that keeps
 -- none

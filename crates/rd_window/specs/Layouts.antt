@@ -1,8 +1,9 @@
 -- The last layout of a window, and how much of it can be kept.
-use Rattle.std.specs.Prelude.{◌≡◌, ℕ, ◌+◌, ◌*◌, nat_le, Bool, true, false, not, ◌==◌, ◌&&◌, if◌then◌else◌, List, [], length, take, drop, All, Option, None, Some}
+use Rattle.std.specs.Prelude.{◌≡◌, ℕ, ◌+◌, ◌*◌, Bool, true, false, not, ◌==◌, ◌&&◌, if◌then◌else◌, List, [], take, drop, All, Option, None, Some}
 use Rattle.rd_base.specs.declared.settings.Anchor.{Anchor}
+use Rattle.rd_matrix.specs.Blocks.{end_from, first_start}
 use Rattle.rd_matrix.specs.Entries.{shown_entries}
-use Rattle.rd_matrix.specs.Sources.{SourceValues, rows_at}
+use Rattle.rd_matrix.specs.Sources.{IsSource, SourceValues, rows_at}
 use Rattle.rd_matrix.specs.declared.matrix.Entry.{Entry}
 use Rattle.rd_reuse.specs.Changes.{all, is_none, none}
 use Rattle.rd_reuse.specs.Keeping.{kept_source}
@@ -13,8 +14,9 @@ use Rattle.rd_start.specs.Chosen.{anchor_row, places_of}
 use Rattle.rd_start.specs.Near.{near_costs}
 use Rattle.rd_start.specs.Starts.{suits}
 use Rattle.rd_start.specs.declared.wanted.Wanted.{Wanted}
-use Rattle.rd_window.specs.Views.{has_first_row, has_last_row, rows_in_view}
+use Rattle.rd_window.specs.Views.{has_first_row, has_last_row, rows_in_view, shows_at, starts_at}
 use Rattle.rd_window.specs.declared.layout.Layout.{Layout}
+use Rattle.rd_window.specs.declared.layout.TextEnds.{TextEnds}
 
 -- the rows of a last layout that can be kept at a shape: none where it has another one
 abbrev pub older_rows : Option Layout → ShapeValues → List Entry
@@ -49,11 +51,20 @@ abbrev pub allowance : Option Layout → SourceValues → ShapeValues → Wanted
 allowance last m shape w = if rests last m shape w then 0 else 3 * near_costs (kept_by last m shape) shape w
 
 -- What a last layout shows of a source is still what a window shows of it from the row of an anchor on: its rows are those in view from
--- there, and it knows whether these have the first row and the last one of the text.
+-- there.
 pub record Stands (m : SourceValues) (anchor : Anchor) (l : Layout) : Type 0 where
   pub rows : shown_entries l.matrix ≡ take l.height (drop (anchor_row (λ b. m.rows_of b l.shape) anchor m.blocks) (rows_at m l.shape))
-  pub top : l.top ≡ (anchor_row (λ b. m.rows_of b l.shape) anchor m.blocks == 0)
-  pub bottom : l.bottom ≡ nat_le (length (rows_at m l.shape)) (anchor_row (λ b. m.rows_of b l.shape) anchor m.blocks + l.height)
+
+-- a source of the blocks of a text, which begin and end where the text does
+pub record IsSourceOf (ends : TextEnds) (m : SourceValues) : Type 0 where
+  pub source : IsSource m
+  pub begin : ends.begin ≡ first_start m.blocks
+  pub end : ends.end + 1 ≡ end_from 0 m.blocks
+
+-- a layout of a text with these ends tells by its rows whether a window shows the first row of the text and the last one
+pub record TellsEnds (ends : TextEnds) (m : SourceValues) (shape : ShapeValues) (w : Wanted) (l : Layout) : Type 0 where
+  pub top : starts_at ends.begin (shown_entries l.matrix) ≡ has_first_row m shape w
+  pub bottom : shows_at ends.end (shown_entries l.matrix) ≡ has_last_row m shape w
 
 -- a window's last layout stands where nothing changed since it was made, and its start was not set by command since
 abbrev pub StandsUnchanged : Option Layout → SourceValues → Bool → Anchor → Type 0
@@ -65,16 +76,14 @@ abbrev pub layout_after : Option Layout → Option Layout → Option Layout
 layout_after last None = last
 layout_after last (Some new) = Some new
 
--- the layout of a window that was just laid out with these rows over a source, by this shape and what it wanted: nothing has changed since
-abbrev pub made_layout : List Entry → SourceValues → ShapeValues → Wanted → Layout
-made_layout matrix m shape w = record {
+-- the layout of a window that was just laid out with these rows, by this shape and what it wanted: nothing has changed since
+abbrev pub made_layout : List Entry → ShapeValues → Wanted → Layout
+made_layout matrix shape w = record {
   matrix = matrix;
   shape = shape;
   height = w.height;
   margin = w.margin;
   conservatively = w.conservatively;
-  top = has_first_row m shape w;
-  bottom = has_last_row m shape w;
   change = none;
 }
 
@@ -82,6 +91,6 @@ made_layout matrix m shape w = record {
 -- and else each row of a block that keeps its rows was copied once more
 pub record IsLaidOut (last : Option Layout) (m : SourceValues) (shape : ShapeValues) (w : Wanted) (new : Layout) : Type 0 where
   pub rows : shown_entries new.matrix ≡ rows_in_view m shape w
-  pub is : new ≡ made_layout new.matrix m shape w
+  pub is : new ≡ made_layout new.matrix shape w
   pub stays : rests last m shape w ≡ true → new.matrix ≡ older_rows last shape
   pub copies : rests last m shape w ≡ false → All (IsCopied (older_rows last shape) (change_since last) m.blocks) new.matrix

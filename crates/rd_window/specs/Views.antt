@@ -1,6 +1,7 @@
 -- What a window shows of a source of blocks, as the rules give it from nothing.
-use Rattle.std.specs.Prelude.{ℕ, ◌+◌, nat_le, Bool, ◌==◌, List, length, take, drop}
+use Rattle.std.specs.Prelude.{ℕ, ◌+◌, nat_le, Bool, false, ◌==◌, ◌&&◌, is_some, List, [], ◌∷◌, length, take, drop}
 use Rattle.rd_base.specs.declared.settings.Anchor.{Anchor}
+use Rattle.rd_matrix.specs.Cursors.{cursor_in}
 use Rattle.rd_matrix.specs.Entries.{EntryMeaning}
 use Rattle.rd_matrix.specs.Sources.{SourceValues, rows_at}
 use Rattle.rd_rows.specs.Shapes.{ShapeValues}
@@ -23,6 +24,15 @@ has_first_row m shape w = start_row m shape w == 0
 -- whether the view holds the last row of the text
 abbrev pub has_last_row : SourceValues → ShapeValues → Wanted → Bool
 has_last_row m shape w = nat_le (length (rows_at m shape)) (start_row m shape w + w.height)
+
+-- whether rows begin with row 0 of the block that starts at a position
+abbrev pub starts_at : ℕ → List EntryMeaning → Bool
+starts_at begin [] = false
+starts_at begin (e ∷ es) = (e.start == begin) && (e.number == 0)
+
+-- whether the item that covers a position begins in one of these rows
+abbrev pub shows_at : ℕ → List EntryMeaning → Bool
+shows_at pos es = is_some (cursor_in pos es)
 
 -- what a window shows: the start and the point that were chosen for it, the rows in view, and whether these have the first row and
 -- the last one of the text

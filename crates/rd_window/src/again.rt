@@ -1,12 +1,11 @@
 //! The layout of a window over its last one.
 ghost use Rattle.std.specs.Prelude.{◌≡◌, ◌+◌, ◌≤◌, [], is_some, not, option_map, IfOk, IfSome};
 ghost use Rattle.rd_matrix.specs.Blocks.{IsWithin};
-ghost use Rattle.rd_matrix.specs.Sources.{IsSource};
 ghost use Rattle.rd_reuse.specs.Keeping.{AreRight};
 ghost use Rattle.rd_start.specs.Chosen.{chosen_of};
-ghost use Rattle.rd_window.specs.Layouts.{IsLaidOut, StandsUnchanged, allowance, change_since, layout_after, older_rows, rests};
+ghost use Rattle.rd_window.specs.Layouts.{IsLaidOut, IsSourceOf, StandsUnchanged, TellsEnds, allowance, change_since, layout_after, older_rows, rests};
 
-use crate::layout::Layout;
+use crate::layout::{Layout, TextEnds};
 use crate::window::lay_out;
 use rd_base::{Memory, Steps};
 use rd_matrix::{BlockSource, Matrix};
@@ -30,16 +29,18 @@ pub struct Laying {
 ///
 /// `last` is the layout of the window's last redisplay, where there was one. It stands where nothing changed since, and the older rows
 /// of each block that keeps them are those that the source has for it. The anchor and point are positions of the source's blocks, and
-/// the height is at least 1. The steps that it takes, also where memory is wanting, are at most the window's allowance.
+/// the height is at least 1. Its blocks begin and end with the text, so that a layout tells by its rows whether it has the first and the
+/// last of all. The steps that it takes, also where memory is wanting, are at most the window's allowance.
 pub fn lay_out_again<B: BlockSource + Drop, L: Ledger>(
     alloc: Global,
     source: B,
+    ends: TextEnds,
     last: Option<&Layout>,
     wanted: Wanted,
     shape: Shape,
     steps: &mut Steps<L>,
 ) -> Result<Laying, Memory>
-    requires source { IsSource (B.meaning source) }
+    requires source { IsSourceOf ends (B.meaning source) }
     requires right { AreRight (B.meaning source) (older_rows (option_map (λ l. l.now) last) shape) (change_since (option_map (λ l. l.now) last)) shape }
     requires stands { StandsUnchanged (option_map (λ l. l.now) last) (B.meaning source) wanted.forced wanted.anchor }
     requires anchor { IsWithin wanted.anchor.pos (B.meaning source).blocks }
@@ -47,11 +48,12 @@ pub fn lay_out_again<B: BlockSource + Drop, L: Ledger>(
     requires height { 1 ≤ wanted.height }
     ensures chosen { IfOk result (λ laying. laying.chosen ≡ chosen_of (B.meaning source) shape wanted) }
     ensures layout { IfOk result (λ laying. IfSome (layout_after (option_map (λ l. l.now) last.entry) laying.anew) (λ new. IsLaidOut (option_map (λ l. l.now) last.entry) (B.meaning source) shape wanted new)) }
+    ensures tells { IfOk result (λ laying. IfSome (layout_after (option_map (λ l. l.now) last.entry) laying.anew) (λ new. TellsEnds ends (B.meaning source) shape wanted new)) }
     ensures anew { IfOk result (λ laying. is_some laying.anew ≡ not (rests (option_map (λ l. l.now) last.entry) (B.meaning source) shape wanted)) }
     ensures steps { steps.new ≤ steps.old + allowance (option_map (λ l. l.now) last.entry) (B.meaning source) shape wanted }
 {
     if let Some(layout) = last {
-        if layout.rests(shape, wanted) {
+        if layout.rests(ends, shape, wanted) {
             return Ok(Laying {
                 chosen: layout.chosen(wanted),
                 anew: None,
@@ -68,8 +70,6 @@ pub fn lay_out_again<B: BlockSource + Drop, L: Ledger>(
         height: wanted.height,
         margin: wanted.margin,
         conservatively: wanted.conservatively,
-        top: view.top,
-        bottom: view.bottom,
         change: Change::none(),
     };
     Ok(Laying {

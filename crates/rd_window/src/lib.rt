@@ -17,7 +17,8 @@
 //!    theirs.
 //! 5. `rd_reuse::relay` takes the rows in view from there on, and itself copies those that are kept. The rows in view are the new layout,
 //!    since which nothing changed.
-//! 6. `window`: whether the text's first row and its last one are in view is noted, for step 1 of the next redisplay and for the mode line.
+//! 6. `layout`: whether the text's first row and its last one are in view is read from the rows, in step 1 of the next redisplay and for
+//!    the mode line.
 //!
 //! Emacs first measures with the iterator alone (`start_display`, `move_it_to`), and makes the rows afterwards (`try_window`), so that a
 //! line may be walked more than once. It changes the window as it goes. Here nothing is changed: the layer above keeps a new layout once
@@ -36,5 +37,5 @@ mod window;
 
 pub use again::{Laying, lay_out_again};
 pub use laws::{layouts_stand_over_equal_rows, new_layouts_stand, no_rows_are_kept};
-pub use layout::Layout;
+pub use layout::{Layout, TextEnds};
 pub use window::{InView, lay_out};

@@ -2,7 +2,7 @@
 ghost use Rattle.std.specs.Prelude.{◌≡◌, if◌then◌else◌};
 ghost use Rattle.rd_start.specs.Starts.{margin_of};
 
-use crate::layout::Layout;
+use crate::layout::{Layout, TextEnds};
 use rd_base::Anchor;
 use rd_matrix::Matrix;
 use rd_rows::Shape;
@@ -12,22 +12,22 @@ impl Layout {
     ghost use Rattle.std.specs.Prelude.{◌≡◌, ◌<◌, Some, [], length};
     ghost use Rattle.rd_matrix.specs.Blocks.{IsWithin};
     ghost use Rattle.rd_matrix.specs.Entries.{shown_entries};
-    ghost use Rattle.rd_matrix.specs.Sources.{IsSource, SourceValues};
+    ghost use Rattle.rd_matrix.specs.Sources.{SourceValues};
     ghost use Rattle.rd_rows.specs.Shapes.{IsShape};
     ghost use Rattle.rd_start.specs.Chosen.{anchor_at, places_of};
     ghost use Rattle.rd_start.specs.Starts.{suits};
-    ghost use Rattle.rd_window.specs.Layouts.{Stands, StandsUnchanged, is_current, older_rows, rests};
+    ghost use Rattle.rd_window.specs.Layouts.{IsSourceOf, Stands, StandsUnchanged, is_current, older_rows, rests};
 
     /// Whether this is still a window's layout, whose start suits point: then the cursor alone moves. It reads the layout alone, at no
     /// step and without memory.
-    pub(crate) fn rests(&self, shape: Shape, wanted: Wanted) -> bool
-        ensures { (m : SourceValues) → IsSource m → IsWithin wanted.point m.blocks → StandsUnchanged (Some self.now) m wanted.forced wanted.anchor
+    pub(crate) fn rests(&self, ends: TextEnds, shape: Shape, wanted: Wanted) -> bool
+        ensures { (m : SourceValues) → IsSourceOf ends m → IsWithin wanted.point m.blocks → StandsUnchanged (Some self.now) m wanted.forced wanted.anchor
             → result ≡ rests (Some self.now) m shape wanted }
     {
         if !self.is_current(shape, wanted) {
             return false;
         }
-        self.suits(wanted)
+        self.suits(ends, wanted)
     }
 
     /// Whether nothing changed since, the start was not set by command, and the window has the layout's shape, height and ways of
@@ -44,15 +44,15 @@ impl Layout {
     }
 
     /// Whether point is in view, and as far from the view's edges as is wanted.
-    fn suits(&self, wanted: Wanted) -> bool
-        ensures { (m : SourceValues) → IsSource m → IsShape self.now.shape → IsWithin wanted.point m.blocks → self.now.height ≡ wanted.height → Stands m wanted.anchor self.now
+    fn suits(&self, ends: TextEnds, wanted: Wanted) -> bool
+        ensures { (m : SourceValues) → IsSourceOf ends m → IsShape self.now.shape → IsWithin wanted.point m.blocks → self.now.height ≡ wanted.height → Stands m wanted.anchor self.now
             → result ≡ suits wanted (places_of m self.now.shape wanted) (places_of m self.now.shape wanted).old }
     {
         let Some((row, _)) = self.matrix.cursor(wanted.point) else {
             return false;
         };
-        let above = wanted_beside(self.top, wanted);
-        let below = wanted_beside(self.bottom, wanted);
+        let above = wanted_beside(self.has_first_row(ends.begin), wanted);
+        let below = wanted_beside(self.has_last_row(ends.end), wanted);
         is_inside(
             wanted.height as usize,
             above as usize,
@@ -91,8 +91,8 @@ impl Layout {
 }
 
 /// The rows that are wanted between point's and an edge of the view: none where the text goes no further there.
-fn wanted_beside(ends: bool, wanted: Wanted) -> u32
-    ensures { result ≡ (if ends then 0 else margin_of wanted) }
+fn wanted_beside(all: bool, wanted: Wanted) -> u32
+    ensures { result ≡ (if all then 0 else margin_of wanted) }
 {
-    if ends { 0 } else { margin_of(wanted) }
+    if all { 0 } else { margin_of(wanted) }
 }

@@ -1,11 +1,10 @@
-use Rattle.std.proofs.Common.{◌≡◌, ℕ, ◌+◌, ◌*◌, ◌≤◌, inr, leb, All, length, take, drop, ap, ◌∙◌, arith}
-use Rattle.rd_matrix.specs.Blocks.{IsWithin, MayBeAsked}
+use Rattle.std.proofs.Common.{◌≡◌, ℕ, ◌+◌, ◌*◌, ◌≤◌, All, ap, ◌∙◌, arith}
+use Rattle.rd_matrix.specs.Blocks.{IsWithin}
 use Rattle.rd_matrix.specs.Entries.{shown_entries}
 use Rattle.rd_matrix.specs.Sources.{IsSource, SourceValues, rows_at}
-use Rattle.rd_reuse.proofs.Places.{named-starts}
 use Rattle.rd_reuse.specs.Keeping.{AreRight, kept_source}
 use Rattle.rd_reuse.specs.Views.{IsCopied, Names}
-use Rattle.rd_rows.specs.Shapes.{IsShape, ShapeValues}
+use Rattle.rd_rows.specs.Shapes.{IsShape}
 use Rattle.rd_start.specs.Chosen.{chosen_of}
 use Rattle.rd_start.specs.Near.{near_costs}
 use Rattle.rd_window.specs.Views.{rows_in_view, start_row}
@@ -79,50 +78,17 @@ relay-requires g c =
 pub returns-in_err-matrix-clause-steps : goal.returns-in_err-matrix-clause-steps
 returns-in_err-matrix-clause-steps g c = let at = goal.at.returns-in_err-matrix-clause-steps g c in steps g at.After-relay (start g at.After-hand_out)
 
-pub is_first_row-requires : goal.is_first_row-requires
-is_first_row-requires g c =
-    let m = kept_source (g.B.BlockSource.meaning c.args.source) c.args.old.now c.args.change c.args.shape in
-    let begun = start g (goal.at.is_first_row-requires g c).After-hand_out in
-    back-at-source (λ (x : SourceValues). MayBeAsked c.in_ok-chosen.chosen.anchor.pos x.blocks) _ _ (ap (λ (x : SourceValues). kept_source x c.args.old.now c.args.change c.args.shape) c.relay.ensures.stays ∙ begun.same)
-    (inr (named-starts m c.args.shape c.in_ok-chosen.chosen.anchor (start_row m c.args.shape c.args.wanted) begun.named))
-
-pub returns-in_err-top-clause-steps : goal.returns-in_err-top-clause-steps
-returns-in_err-top-clause-steps g c = let at = goal.at.returns-in_err-top-clause-steps g c in steps g at.After-relay (start g at.After-hand_out)
-
-pub has_last_row-requires : goal.has_last_row-requires
-has_last_row-requires g c =
-    let m = kept_source (g.B.BlockSource.meaning c.args.source) c.args.old.now c.args.change c.args.shape in
-    let w = c.args.wanted in
-    let at = goal.at.has_last_row-requires g c in
-    let begun = start g at.After-hand_out in
-    let laid = rows g at.In_ok-matrix begun in
-    let stays = ap (λ (x : SourceValues). kept_source x c.args.old.now c.args.change c.args.shape) (c.is_first_row.ensures.stays ∙ c.relay.ensures.stays) ∙ begun.same in
-    record {
-      source = back-at-source IsSource _ _ (c.is_first_row.ensures.stays ∙ c.relay.ensures.stays) c.relay.ensures.source;
-      some = some-laid m c.args.shape w c.in_ok-matrix.matrix c.requires.height begun.low laid;
-      rows = back-at-source (λ (x : SourceValues). (shape : ShapeValues) × IsShape shape × ((place : ℕ) × (shown_entries c.in_ok-matrix.matrix ≡ take w.height (drop place (rows_at x shape))))) _ _
-          stays (c.args.shape, begun.shaped, (start_row m c.args.shape w, laid));
-    }
-
-pub returns-in_err-bottom-clause-steps : goal.returns-in_err-bottom-clause-steps
-returns-in_err-bottom-clause-steps g c = let at = goal.at.returns-in_err-bottom-clause-steps g c in steps g at.After-relay (start g at.After-hand_out)
-
 pub returns : goal.returns
 returns g c =
     let m = kept_source (g.B.BlockSource.meaning c.args.source) c.args.old.now c.args.change c.args.shape in
     let w = c.args.wanted in
     let at = goal.at.returns g c in
     let begun = start g at.After-hand_out in
-    let place = start_row m c.args.shape w in
     let laid = rows g at.In_ok-matrix begun in
     record {
       chosen = at-source (λ (x : SourceValues). c.in_ok-chosen.chosen ≡ chosen_of x c.args.shape w) m _ (same g at.After-new-kept) c.in_ok-chosen.ensures.value;
+      some = some-laid m c.args.shape w c.in_ok-matrix.matrix c.requires.height begun.low laid;
       rows = laid;
-      top = c.in_ok-top.ensures.value c.args.shape place begun.shaped
-          (back-at-source (λ (x : SourceValues). Names c.in_ok-chosen.chosen.anchor (rows_at x c.args.shape) place) _ _ (ap (λ (x : SourceValues). kept_source x c.args.old.now c.args.change c.args.shape) c.relay.ensures.stays ∙ begun.same) begun.named);
-      bottom = at-source (λ (x : SourceValues). (shape : ShapeValues) (place : ℕ) → IsShape shape → shown_entries c.in_ok-matrix.matrix ≡ take w.height (drop place (rows_at x shape))
-          → c.in_ok-bottom.bottom ≡ leb (length (rows_at x shape)) (place + w.height)) _ _ (ap (λ (x : SourceValues). kept_source x c.args.old.now c.args.change c.args.shape) (c.is_first_row.ensures.stays ∙ c.relay.ensures.stays) ∙ begun.same) c.in_ok-bottom.ensures.value
-          c.args.shape place begun.shaped laid;
       copies = at-source (λ (x : SourceValues). All (IsCopied c.args.old.now c.args.change x.blocks) c.in_ok-matrix.matrix) _ _ begun.same c.in_ok-matrix.ensures.copies;
       steps = steps g at.After-relay begun;
     }

@@ -1,8 +1,9 @@
-use Rattle.std.proofs.Common.{◌≡◌, Some, option_map, sym, ap, subst, ◌∙◌}
+use Rattle.std.proofs.Common.{◌≡◌, ◌+◌, ◌≤◌, Some, option_map, sym, ap, subst, ◌∙◌}
 use Rattle.std.proofs.lemmas.Option.{none-some}
 use Rattle.rd_blocks.specs.Sources.{source_of}
 use Rattle.rd_state.specs.States.{StateValue, seen}
 use Rattle.rd_state.specs.Windows.{shown_content, window_of}
+use Rattle.rd_layout.specs.Redisplays.{allowance_by}
 use Rattle.rd_layout.specs.Sessions.{SessionValue, layout_of}
 use Rattle.rd_layout.specs.Windows.{wanted_of, window_shape, window_source}
 use Rattle.rd_state.proofs.Leaves.{placed-window}
@@ -16,6 +17,8 @@ laws : (g : given.Over) → goal.After-views_are_known g → LookLaws
 laws g c = record {
   source = c.buffers_are_sources.ensures;
   within = c.accessible_positions_lie_in_blocks.ensures;
+  begin = c.blocks_fill_the_text.ensures.begin;
+  end = c.blocks_fill_the_text.ensures.end;
   kept = c.sessions_stay_known.ensures.kept;
   stands = c.sessions_stay_known.ensures.stands;
 }
@@ -27,7 +30,7 @@ lives g c = sym (c.in-Some.ensures ∙ ap (λ (x : SessionValue). window_of c.ar
 source : (g : given.Over) (c : goal.After-new-source g) → source_of c.new-source.result ≡ window_source c.args.self.now.files c.args.self.now.state c.in-Some.window.now
 source g c =
     let v = c.args.self.now in
-    c.new-source.ensures ∙ source-is c.look_at.result (seen (shown_content v.state c.in-Some.window.now)) v.state.objects v.files c.look_at.ensures.content c.look_at.ensures.objects c.look_at.ensures.files
+    c.new-source.ensures ∙ source-is c.look_at-look.result (seen (shown_content v.state c.in-Some.window.now)) v.state.objects v.files c.look_at-look.ensures.content c.look_at-look.ensures.objects c.look_at-look.ensures.files
 
 shape : (g : given.Over) (c : goal.After-shape_of-shape g) → c.shape_of-shape.result ≡ window_shape c.args.self.now.state c.in-Some.window.now c.args.place
 shape g c =
@@ -52,6 +55,7 @@ pub lay_out_again-requires-clause-source : goal.lay_out_again-requires-clause-so
 lay_out_again-requires-clause-source g c =
     let at = goal.at.lay_out_again-requires-clause-source g c in
     is-source (laws g at.After-views_are_known) c.args.self.now c.views_are_known.ensures c.args.place.number c.in-Some.window.now (lives g at.In-Some) (source_of c.new-source.result) (source g at.After-new-source)
+    c.ends_of-ends.result (c.ends_of-ends.ensures.begin ∙ ap (λ b. b.text.begin) c.look_at-look.ensures.content) (c.ends_of-ends.ensures.end ∙ ap (λ b. b.text.end) c.look_at-look.ensures.content)
 
 pub lay_out_again-requires-clause-right : goal.lay_out_again-requires-clause-right
 lay_out_again-requires-clause-right g c =
@@ -77,17 +81,26 @@ lay_out_again-requires-clause-point g c =
     point-wanted (laws g at.After-views_are_known) c.args.self.now c.views_are_known.ensures c.args.place.number c.in-Some.window.now (lives g at.In-Some) (source_of c.new-source.result) (source g at.After-new-source)
     c.self.inside.state c.args.place c.wanted_of-wanted.result c.wanted_of-wanted.ensures
 
+-- the steps that were taken are within the window's allowance
+steps : (g : given.Over) (c : goal.After-lay_out_again g) → c.lay_out_again.new.steps ≤ c.args.steps.now + allowance_by c.args.self.now.files c.args.self.now.state (layout_of c.args.place.number c.args.self.now.layouts) c.args.place (window_of c.args.place.number c.args.self.now.state.windows)
+steps g c =
+    let v = c.args.self.now in
+    let n = c.args.place.number in
+    allowed-steps v.files v.state c.args.place c.in-Some.window.now (layout_of n v.layouts) (option_map (λ l. l.now) c.layout-last.result) (source_of c.new-source.result) c.shape_of-shape.result c.wanted_of-wanted.result
+    (window_of n v.state.windows) c.args.steps.now c.lay_out_again.new.steps c.layout-last.ensures (source g c.After-new-source) (shape g c.After-shape_of-shape)
+    (wanted g c.After-wanted_of-wanted) (lives g c.In-Some) c.lay_out_again.ensures.steps
+
+pub returns-in_err-laying-clause-steps : goal.returns-in_err-laying-clause-steps
+returns-in_err-laying-clause-steps g c = steps g (goal.at.returns-in_err-laying-clause-steps g c).After-lay_out_again
+
 pub returns : goal.returns
 returns g c =
     let at = goal.at.returns g c in
     let v = c.args.self.now in
     let n = c.args.place.number in
-    let last = option_map (λ l. l.now) c.layout-last.result in
     record {
-      laid = laid-result v.files v.state c.args.place c.in-Some.window.now (layout_of n v.layouts) last (source_of c.new-source.result) c.shape_of-shape.result c.wanted_of-wanted.result
-          (window_of n v.state.windows) c.lay_out_again.result c.layout-last.ensures (source g at.After-new-source) (shape g at.After-shape_of-shape) (wanted g at.After-wanted_of-wanted)
-          (lives g at.In-Some) c.lay_out_again.ensures.chosen c.lay_out_again.ensures.layout c.lay_out_again.ensures.anew;
-      steps = allowed-steps v.files v.state c.args.place c.in-Some.window.now (layout_of n v.layouts) last (source_of c.new-source.result) c.shape_of-shape.result c.wanted_of-wanted.result
-          (window_of n v.state.windows) c.args.steps.now c.lay_out_again.new.steps c.layout-last.ensures (source g at.After-new-source) (shape g at.After-shape_of-shape)
-          (wanted g at.After-wanted_of-wanted) (lives g at.In-Some) c.lay_out_again.ensures.steps;
+      laid = laid-result v.files v.state c.args.place c.in-Some.window.now (layout_of n v.layouts) (option_map (λ l. l.now) c.layout-last.result) (source_of c.new-source.result) c.shape_of-shape.result c.wanted_of-wanted.result
+          (window_of n v.state.windows) (record { laying = c.in_ok-laying.laying; ends = c.ends_of-ends.result }) c.layout-last.ensures (source g at.After-new-source) (shape g at.After-shape_of-shape) (wanted g at.After-wanted_of-wanted)
+          (lives g at.In-Some) (c.in_ok-laying.ensures.chosen, c.in_ok-laying.ensures.layout, c.in_ok-laying.ensures.tells, c.in_ok-laying.ensures.anew);
+      steps = steps g at.After-lay_out_again;
     }
