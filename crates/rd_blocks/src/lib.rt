@@ -33,7 +33,7 @@ mod rows;
 pub use blocks::Blocks;
 pub use changes::changes_lead_on;
 pub use laws::{
-    accessible_positions_lie_in_blocks, blocks_fill_the_text, buffers_are_sources, items_that_give_have_elements,
-    rows_of_buffers_are_coloured, rows_of_buffers_are_whole,
+    accessible_positions_lie_in_blocks, blocks_fill_the_text, buffers_are_sources,
+    items_that_give_have_elements, rows_of_buffers_are_coloured, rows_of_buffers_are_whole,
 };
 pub use locality::{kept_rows_are_fresh, rows_are_local};

@@ -43,7 +43,7 @@ abbrev pub are_inside : ℕ → List (ℕ × ℕ) → Bool
 are_inside size [] = true
 are_inside size (r ∷ rs) = nat_le r.0 r.1 && nat_le r.1 size && are_inside size rs
 
--- whether the last of these elements is the first of its item, behind an element of an item, and that item covers an offset
+-- whether the last of these elements is the first of its item, and that item covers an offset; the item of the element before them is given
 abbrev pub ends_with_item : ℕ → Option ℕ → List Element → Bool
 ends_with_item offset before [] = false
 ends_with_item offset before (e ∷ []) = not (is_item before e.origin.item) && in_range offset (e.origin.from, e.origin.to)

@@ -42,7 +42,8 @@ begins_last test (r ∷ []) = list_any test r.begins
 begins_last test (r ∷ s ∷ rs) = begins_last test (s ∷ rs)
 
 -- the rows of a block from one position up to another: at least one, of which the last and no other ends the block; and the items
--- that begin in them lie in the block, and exactly one of them covers each of its positions, that of its last position in the last row
+-- that begin in them lie in the block, and exactly one of them covers each of its positions; the one that covers the last position,
+-- which is that of the block's ender, begins in the last row
 pub record AreRowsOf (start end : ℕ) (rows : List RowMeaning) : Type 0 where
   pub ends : IsTrue (ends_last rows)
   pub inside : All (IsInBlock start end) (begins_of rows)

@@ -55,7 +55,7 @@ allowance last m shape w = if rests last m shape w then 0 else 3 * near_costs (k
 pub record Stands (m : SourceValues) (anchor : Anchor) (l : Layout) : Type 0 where
   pub rows : shown_entries l.matrix ≡ take l.height (drop (anchor_row (λ b. m.rows_of b l.shape) anchor m.blocks) (rows_at m l.shape))
 
--- a source of the blocks of a text, which begin and end where the text does
+-- a source of the blocks of a text with these ends: the first starts where the text begins, and the last holds its end
 pub record IsSourceOf (ends : TextEnds) (m : SourceValues) : Type 0 where
   pub source : IsSource m
   pub begin : ends.begin ≡ first_start m.blocks

@@ -38,7 +38,7 @@ impl Layout {
         }
     }
 
-    /// Whether it has the last row of a text whose end has a position: the item of the end begins there and nowhere else.
+    /// Whether it has the last row of a text that ends at a position: whether the item that covers that position begins in one of its rows.
     pub fn has_last_row(&self, end: Pos) -> bool
         ensures { result ≡ shows_at end (shown_entries self.now.matrix) }
     {

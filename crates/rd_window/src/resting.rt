@@ -18,8 +18,8 @@ impl Layout {
     ghost use Rattle.rd_start.specs.Starts.{suits};
     ghost use Rattle.rd_window.specs.Layouts.{IsSourceOf, Stands, StandsUnchanged, is_current, older_rows, rests};
 
-    /// Whether this is still a window's layout, whose start suits point: then the cursor alone moves. It reads the layout alone, at no
-    /// step and without memory.
+    /// Whether this is still a window's layout, whose start suits point: then the cursor alone moves. It reads no source,
+    /// takes no step and no memory.
     pub(crate) fn rests(&self, ends: TextEnds, shape: Shape, wanted: Wanted) -> bool
         ensures { (m : SourceValues) → IsSourceOf ends m → IsWithin wanted.point m.blocks → StandsUnchanged (Some self.now) m wanted.forced wanted.anchor
             → result ≡ rests (Some self.now) m shape wanted }

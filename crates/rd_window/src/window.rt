@@ -28,9 +28,8 @@ pub struct InView {
 ///
 /// `old` has rows of an older layout at this shape, since which so much changed: the older rows of each block that keeps them are those
 /// that the source has for it. The rows of such a block are copies of them, each with one copy more, and cost nothing. The anchor and
-/// point are positions of the source's blocks, and the height is at least 1. A row is in view. The steps that it
-/// takes, also where memory is wanting, are at most three times the costs of the blocks that have a row near the window and do not keep
-/// their older ones.
+/// point are positions of the source's blocks, and the height is at least 1. A row is in view. The steps that it takes, also where memory
+/// is wanting, are at most three times the costs of the blocks that have a row near the window and do not keep their older ones.
 pub fn lay_out<B: BlockSource + Drop, L: Ledger>(
     alloc: Global,
     source: B,
