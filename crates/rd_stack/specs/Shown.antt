@@ -60,8 +60,7 @@ put_string put named s base replaced origin under (Some text) = flat_map (put_pa
 -- what is put for a string that a display run names: in an overlay's string (true) that display string, and in a display string (false)
 -- nothing, since its own runs are not used
 abbrev pub put_named : {X : Type 0} → Putting X → Scene → ℕ → Bool → Origin → Attributes → Option TextValue → List X
-put_named put s base true origin face text = put_string put (λ over other. []) s base false origin face text
-put_named put s base false origin face text = []
+put_named put s base overlay origin face text = if overlay then put_string put (λ over other. []) s base false origin face text else []
 
 -- an overlay's string (true): its display runs are used, and a string that one names is put; or a display string (false): they are not
 abbrev pub put_text : {X : Type 0} → Putting X → Scene → ℕ → Bool → Origin → Attributes → Option TextValue → List X

@@ -13,8 +13,8 @@
 //!    lists the few of a character or of an ellipsis (`few`), or enters a string, or finds that the frame has ended, which then is left.
 //! 3. `showing` gives what an item of a block or a part of a string shows: a character's elements as rd_glyphs has them, which are its
 //!    entry in the display table, a tab's stretch, the `^A` of a control character, the `\200` of a raw byte, or the character itself, at
-//!    an odd level its mirror; the glyph of a character with its marks; the space of a spec; an ellipsis; an end. A string is entered by
-//!    step 2, and one that is not entered shows nothing.
+//!    an odd level its mirror; the glyph of a character with its marks; the space of a spec; an ellipsis; an end; and a string, which is
+//!    entered, or shows nothing where strings are not.
 //! 4. A string is cut at its newlines that show, and each ends a row. `row`, `part` and `marks` make such a row as a block is made: its
 //!    display runs replace places, marks join, and it is ordered by itself with the line's base. A frame holds one row of its string
 //!    at a time.

@@ -1,13 +1,16 @@
-//! The steps of what shows no string.
-ghost use Rattle.std.specs.Prelude.{◌≡◌, ◌∷◌, [], option_to_list, IfOk, OnOk};
+//! The steps of what an item or a part of a string shows.
+ghost use Rattle.std.specs.Prelude.{◌≡◌, ◌≤◌, if◌then◌else◌, ◌∷◌, [], option_to_list, IfOk, OnOk};
 ghost use Rattle.rd_items.specs.Pieces.{scene_of};
 ghost use Rattle.rd_glyphs.specs.Characters.{elements_of, glyph_elements};
-ghost use Rattle.rd_stack.specs.Shown.{ellipsis_glyphs, space_elements, kind_elements};
+ghost use Rattle.rd_stack.specs.Shown.{ellipsis_glyphs, space_elements, put_text};
+ghost use Rattle.rd_stack.specs.Steps.{kind_steps};
 ghost use Rattle.rd_stack.specs.Walks.{IsStep};
 
+use crate::entrance::Entrance;
 use crate::few::Few;
 use crate::part::Shown;
 use crate::step::Step;
+use crate::string::Surroundings;
 use rd_base::{Ch, Element, Extent, Face, Glyph, Look, Memory, Origin};
 use rd_glyphs::{Expansion, element_of};
 use rd_items::{ItemKind, parts_of};
@@ -15,23 +18,31 @@ use rd_objects::Spec;
 use rd_props::View;
 use std::alloc::Global;
 
-/// The step of what an item or a part of a string shows, by the look of an ender. A string that is not entered gives nothing.
+/// The step of what an item or a part of a string shows, by the look of an ender. A string is entered, in these surroundings, where
+/// strings are; else it gives nothing.
 pub fn kind_step<'a>(
     alloc: Global,
-    view: &View<'a>,
+    around: &Surroundings<'a>,
+    enters: bool,
     end: Look,
     part: &Shown,
-    origin: Origin,
     few: &mut Few,
 ) -> Result<Step<'a>, Memory>
-    requires { few.old ≡ [] }
-    ensures { IfOk result (λ step. IsStep step few.new (kind_elements end (λ text. []) (scene_of view.now) part.now.kind part.now.odd part.now.face origin ∷ []) []) }
+    requires base { around.now.base ≤ 1 }
+    requires few { few.old ≡ [] }
+    ensures { IfOk result (λ step. IsStep step few.new (kind_steps end (λ text. if enters then put_text kind_steps (scene_of around.now.view) around.now.base around.now.replaced around.now.origin around.now.under text else []) (scene_of around.now.view) part.now.kind part.now.odd part.now.face around.now.origin) []) }
 {
+    let view = &around.view;
+    let origin = around.origin;
     let face = part.face;
     match part.kind {
+        ItemKind::Text(number) if enters => Ok(Step::Enters(Entrance {
+            around: Surroundings { ..*around },
+            number,
+        })),
+        ItemKind::Text(_) => Ok(Step::Lists),
         ItemKind::Char(ch) => char_step(alloc, view, ch, part.odd, face, origin, few),
         ItemKind::Marked(glyph) => Ok(Step::Gives(element_of(Look::Glyph(glyph), face, origin))),
-        ItemKind::Text(_) => Ok(Step::Lists),
         ItemKind::Space(spec) => Ok(space_step(spec, face, origin)),
         ItemKind::Ellipsis => {
             put_ellipsis(alloc, view, face, origin, few)?;

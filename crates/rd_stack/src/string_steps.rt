@@ -1,10 +1,4 @@
 //! The steps of strings.
-ghost use Rattle.std.specs.Prelude.{◌≡◌, ◌≤◌, [], IfOk};
-ghost use Rattle.rd_items.specs.Pieces.{scene_of};
-ghost use Rattle.rd_stack.specs.Steps.{part_steps};
-ghost use Rattle.rd_stack.specs.Walks.{IsStep};
-
-use crate::entrance::Entrance;
 use crate::few::Few;
 use crate::part::{Shown, place_of};
 use crate::showing::kind_step;
@@ -12,14 +6,13 @@ use crate::step::Step;
 use crate::string::{StringFrame, Surroundings};
 use rd_base::{Look, Memory};
 use rd_glyphs::element_of;
-use rd_items::ItemKind;
 use std::alloc::Global;
 
 impl<'a> StringFrame<'a> {
     ghost use Rattle.std.specs.Prelude.{◌≡◌, [], IfOk};
     ghost use Rattle.rd_stack.specs.Walks.{IsStep};
 
-    /// Takes the next step.
+    /// Takes the next step. Where display runs are used, a string that a part names is entered; its own display runs are not used.
     pub fn step(&mut self, alloc: Global, few: &mut Few) -> Result<Step<'a>, Memory>
         requires { few.old ≡ [] }
         ensures { IfOk result (λ step. IsStep step few.new self.old self.new) }
@@ -31,7 +24,13 @@ impl<'a> StringFrame<'a> {
                 face: part.face,
                 odd: turn.odd,
             };
-            return step_of(alloc, &self.around, &shown, few);
+            let around = Surroundings {
+                replaced: false,
+                under: part.face,
+                ..self.around
+            };
+            let enters = self.around.replaced;
+            return kind_step(alloc, &around, enters, Look::RowEnd, &shown, few);
         }
         if self.end >= self.text.len() {
             return Ok(Step::Ends);
@@ -40,29 +39,5 @@ impl<'a> StringFrame<'a> {
         let end = element_of(Look::RowEnd, place.face, self.around.origin);
         *self = StringFrame::from_place(alloc, &self.around, self.text, self.end + 1)?;
         Ok(Step::Gives(end))
-    }
-}
-
-/// The step of a part of a string: where a display run of it names a string and display runs are used, that string is entered.
-fn step_of<'a>(
-    alloc: Global,
-    around: &Surroundings<'a>,
-    part: &Shown,
-    few: &mut Few,
-) -> Result<Step<'a>, Memory>
-    requires base { around.now.base ≤ 1 }
-    requires few { few.old ≡ [] }
-    ensures { IfOk result (λ step. IsStep step few.new (part_steps (scene_of around.now.view) around.now.base around.now.replaced around.now.origin part.now) []) }
-{
-    match part.kind {
-        ItemKind::Text(number) if around.replaced => Ok(Step::Enters(Entrance {
-            around: Surroundings {
-                replaced: false,
-                under: part.face,
-                ..*around
-            },
-            number,
-        })),
-        _ => kind_step(alloc, &around.view, Look::RowEnd, part, around.origin, few),
     }
 }
