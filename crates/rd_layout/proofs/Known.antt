@@ -138,7 +138,7 @@ module _ (laws : StepLaws) (s t : StateValue) (op : Op) (valid : IsValid s) (for
         | inl p ↦ absurd (not-itself number v.buffer p nothing)
         | inr q ↦ stands-by files number w v l hw hv known ((laws.left s t op valid form is).windows number w v hw hv q) nothing before forced
       ] in
-      record { rows = stands.rows; top = stands.top; bottom = stands.bottom }
+      record { rows = stands.rows }
 
   known-behind : (files : Data) (number : ℕ) (w v : WindowState) (l : Layout) → window_of number s.windows ≡ Some w → window_of number t.windows ≡ Some v → IsKnown files s w l
       → IsKnown files t v (changed (change_by (effect_of s op) number v.buffer) l)
