@@ -11,7 +11,7 @@ use Rattle.rd_state.proofs.Showing.{window-valid}
 use Rattle.rd_views.proofs.Premises.{LookLaws, allowed-steps, anchor-wanted, is-source, kept-right, laid-result, point-wanted, source-is, stands-unchanged}
 use Rattle.rd_views.proofs.views.Views.lay_out_window.Given as given
 use Rattle.rd_views.proofs.views.Views.lay_out_window.Goals as goal
-use Rattle.rd_views.proofs.views.Views.lay_out_window.Goals.{After-new-source, After-shape_of-shape, After-views_are_known, After-wanted_of-wanted, In-Some}
+use Rattle.rd_views.proofs.views.Views.lay_out_window.Goals.{After-lay_out_again, After-new-source, After-shape_of-shape, After-views_are_known, After-wanted_of-wanted, In-Some}
 
 laws : (g : given.Over) → goal.After-views_are_known g → LookLaws
 laws g c = record {
@@ -47,9 +47,9 @@ unreachable-requires g c =
     let there = placed-window v.state n c.args.place c.views_are_known.ensures.state c.requires.found in
     none-some there.0 (c.in_default.ensures ∙ (ap (λ (x : SessionValue). window_of n x.state.windows) c.self.view_is ∙ there.1))
 
-pub look_at-requires : goal.look_at-requires
-look_at-requires g c =
-    (window-valid c.args.self.now.state c.args.place.number c.in-Some.window.now c.views_are_known.ensures.state (lives g (goal.at.look_at-requires g c).In-Some)).made
+pub look_at-look-requires : goal.look_at-look-requires
+look_at-look-requires g c =
+    (window-valid c.args.self.now.state c.args.place.number c.in-Some.window.now c.views_are_known.ensures.state (lives g (goal.at.look_at-look-requires g c).In-Some)).made
 
 pub lay_out_again-requires-clause-source : goal.lay_out_again-requires-clause-source
 lay_out_again-requires-clause-source g c =
