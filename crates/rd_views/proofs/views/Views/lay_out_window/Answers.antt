@@ -82,16 +82,20 @@ lay_out_again-requires-clause-point g c =
     c.self.inside.state c.args.place c.wanted_of-wanted.result c.wanted_of-wanted.ensures
 
 -- the steps that were taken are within the window's allowance
-steps : (g : given.Over) (c : goal.After-lay_out_again g) → c.lay_out_again.new.steps ≤ c.args.steps.now + allowance_by c.args.self.now.files c.args.self.now.state (layout_of c.args.place.number c.args.self.now.layouts) c.args.place (window_of c.args.place.number c.args.self.now.state.windows)
-steps g c =
+steps : (g : given.Over) (c : goal.After-lay_out_again g) → let v = c.args.self.now in let window = c.in-Some.window.now in
+    source_of c.new-source.result ≡ window_source v.files v.state window → c.shape_of-shape.result ≡ window_shape v.state window c.args.place
+    → c.wanted_of-wanted.result ≡ wanted_of v.state window c.args.place → window_of c.args.place.number v.state.windows ≡ Some window
+    → c.lay_out_again.new.steps ≤ c.args.steps.now + allowance_by v.files v.state (layout_of c.args.place.number v.layouts) c.args.place (window_of c.args.place.number v.state.windows)
+steps g c source_is shape_is wanted_is lives_is =
     let v = c.args.self.now in
     let n = c.args.place.number in
     allowed-steps v.files v.state c.args.place c.in-Some.window.now (layout_of n v.layouts) (option_map (λ l. l.now) c.layout-last.result) (source_of c.new-source.result) c.shape_of-shape.result c.wanted_of-wanted.result
-    (window_of n v.state.windows) c.args.steps.now c.lay_out_again.new.steps c.layout-last.ensures (source g c.After-new-source) (shape g c.After-shape_of-shape)
-    (wanted g c.After-wanted_of-wanted) (lives g c.In-Some) c.lay_out_again.ensures.steps
+    (window_of n v.state.windows) c.args.steps.now c.lay_out_again.new.steps c.layout-last.ensures source_is shape_is wanted_is lives_is c.lay_out_again.ensures.steps
 
 pub returns-in_err-laying-clause-steps : goal.returns-in_err-laying-clause-steps
-returns-in_err-laying-clause-steps g c = steps g (goal.at.returns-in_err-laying-clause-steps g c).After-lay_out_again
+returns-in_err-laying-clause-steps g c =
+    let at = goal.at.returns-in_err-laying-clause-steps g c in
+    steps g at.After-lay_out_again (source g at.After-new-source) (shape g at.After-shape_of-shape) (wanted g at.After-wanted_of-wanted) (lives g at.In-Some)
 
 pub returns : goal.returns
 returns g c =
@@ -102,5 +106,5 @@ returns g c =
       laid = laid-result v.files v.state c.args.place c.in-Some.window.now (layout_of n v.layouts) (option_map (λ l. l.now) c.layout-last.result) (source_of c.new-source.result) c.shape_of-shape.result c.wanted_of-wanted.result
           (window_of n v.state.windows) (record { laying = c.in_ok-laying.laying; ends = c.ends_of-ends.result }) c.layout-last.ensures (source g at.After-new-source) (shape g at.After-shape_of-shape) (wanted g at.After-wanted_of-wanted)
           (lives g at.In-Some) (c.in_ok-laying.ensures.chosen, c.in_ok-laying.ensures.layout, c.in_ok-laying.ensures.tells, c.in_ok-laying.ensures.anew);
-      steps = steps g at.After-lay_out_again;
+      steps = steps g at.After-lay_out_again (source g at.After-new-source) (shape g at.After-shape_of-shape) (wanted g at.After-wanted_of-wanted) (lives g at.In-Some);
     }
