@@ -10,8 +10,7 @@ ghost use Rattle.std.specs.Prelude.{◌≡◌, ◌<◌};
 
 use rd_base::Steps;
 use rd_io::{HostFiles, StdSink, StdSource, host_words};
-use rd_player::{play, tell_status};
-use rd_run::Status;
+use rd_player::{Status, play, tell_status};
 use std::io;
 use std::marker::Brand;
 use std::process::ExitCode;

@@ -16,4 +16,5 @@ mod run;
 mod top;
 mod windows;
 
+pub use rd_run::Status;
 pub use top::{play, tell_status};
