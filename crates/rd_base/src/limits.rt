@@ -1,4 +1,5 @@
-//! The limits of the engine, each with its unit. All are included: a text of `TEXT_CHARACTERS` is not yet too long.
+//! The limits of the engine, each with its unit. All are included, but where "one less" is said: a text of `TEXT_CHARACTERS` is not yet
+//! too long.
 
 /// Code points of Unicode: they are 0 up to one less, and the code of a raw byte is this number plus the byte.
 pub const CODE_POINTS: u32 = 1_114_112;

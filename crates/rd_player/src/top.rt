@@ -46,7 +46,7 @@ use std::sync::ledger::Ledger;
 ///
 /// `ran` says, by the lines that were run and the bytes that were taken from `script`, what holds where each status comes, what was
 /// written then, that behind each redisplay that was shown the written terminal shows what the rules give from nothing, that behind
-/// each that was shown or stopped the current screen is what the terminal shows, and that the steps rise by no more than the
+/// each that was shown or stopped the terminal's cells are those of the current screen, and that the steps rise by no more than the
 /// redisplays that were begun may place. Of bytes it speaks only where they are known: those of devices that tell theirs. It says too
 /// that under valid words, over good files whose bytes are known, a script without a bad line ends Done or NoMemory, where no count
 /// rose. A script has no bad line if each op is accepted for some choice of redisplays without memory that is the run's own as far as

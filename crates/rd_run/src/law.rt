@@ -37,7 +37,7 @@ pub fn each_redisplay_is_shown()
 }
 
 /// Behind each redisplay that was shown or stopped, with whatever edits between the slices of an update, the written terminal is not
-/// confused and shows the current screen. The call does nothing.
+/// confused and its cells are those of the current screen. The call does nothing.
 pub fn each_slice_is_known()
     ensures { (mode : Mode) (inputs : List Input) → KnowsEach (opened mode) inputs }
 {

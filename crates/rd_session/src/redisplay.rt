@@ -40,7 +40,7 @@ impl Session {
     /// that were sent. NoMemory may be answered at any time, and then no byte was sent: all memory is taken before the first byte.
     /// WriteFault comes only where the sink's count of faults rose: a front of the bytes was sent. After either the frame is garbaged, and
     /// all else is as it was. A window whose last layout stands and whose start suits its point costs nothing; another one costs at most
-    /// three times the elements of the blocks near it that keep no rows.
+    /// three times what the rows of the blocks near it take that keep none: their elements, and those of a prefix once for each row.
     pub fn redisplay<K: Sink, L: Ledger>(
         &mut self,
         sink: &mut K,
