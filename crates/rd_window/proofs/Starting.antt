@@ -1,5 +1,6 @@
 -- The row at which a window starts, and the rows in view from there.
-use Rattle.std.proofs.Common.{◌≡◌, ℕ, zero, suc, ◌+◌, ◌*◌, ◌<◌, ◌≤◌, List, [], ◌∷◌, length, take, drop, slice_get, option_map, Some, refl, sym, ap, ◌∙◌, subst, arith}
+use Rattle.std.proofs.Common.{◌≡◌, ℕ, zero, suc, ◌+◌, ◌-◌, ◌*◌, ◌<◌, ◌≤◌, List, [], ◌∷◌, length, take, drop, slice_get, option_map, Some, refl, sym, ap, ◌∙◌, subst, arith}
+use Rattle.std.specs.Prelude.{min}
 use Rattle.std.proofs.lemmas.List.{length-drop, length-map, length-take}
 use Rattle.rd_matrix.specs.Entries.{EntryMeaning, shown_entries, shown_entry}
 use Rattle.rd_matrix.specs.Sources.{SourceValues, rows_at}
@@ -70,18 +71,15 @@ spent m n old c shape w chosen before chose laid start first told =
     let same = ap (λ (x : SourceValues). near_costs x shape w) start.same in
     omega (arith, first, second, less, same)
 
+-- a window has as many rows in view as its height, or as there are from its start on
+rows-shown : (m : SourceValues) (shape : ShapeValues) (w : Wanted) (es : List Entry) → shown_entries es ≡ rows_in_view m shape w → length es ≡ min w.height (length (rows_at m shape) - start_row m shape w)
+rows-shown m shape w es same =
+    sym (length-map es shown_entry) ∙ (ap length same ∙ (length-take w.height (drop (start_row m shape w) (rows_at m shape)) ∙ ap (min w.height) (length-drop (start_row m shape w) (rows_at m shape))))
+
 -- a window of at least one row, which starts at a row that there is, has a row in view
 pub some-laid : (m : SourceValues) (shape : ShapeValues) (w : Wanted) (es : List Entry) → 1 ≤ w.height → start_row m shape w < length (rows_at m shape) → shown_entries es ≡ rows_in_view m shape w → 0 < length es
-some-laid m shape w es some low same =
-    let count = sym (length-map es shown_entry) ∙ ap length same in
-    let taken = length-take w.height (drop (start_row m shape w) (rows_at m shape)) in
-    let left = length-drop (start_row m shape w) (rows_at m shape) in
-    omega (arith, count, taken, left, some, low)
+some-laid m shape w es some low same = omega (arith, rows-shown m shape w es same, some, low)
 
 -- a window that has a row in view starts at a row that there is
 pub start-laid : (m : SourceValues) (shape : ShapeValues) (w : Wanted) (es : List Entry) → 0 < length es → shown_entries es ≡ rows_in_view m shape w → start_row m shape w < length (rows_at m shape)
-start-laid m shape w es some same =
-    let count = sym (length-map es shown_entry) ∙ ap length same in
-    let taken = length-take w.height (drop (start_row m shape w) (rows_at m shape)) in
-    let left = length-drop (start_row m shape w) (rows_at m shape) in
-    omega (arith, count, taken, left, some)
+start-laid m shape w es some same = omega (arith, rows-shown m shape w es same, some)
