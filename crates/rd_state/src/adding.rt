@@ -5,7 +5,7 @@ ghost use Rattle.rd_state.specs.Answers.{Applies};
 ghost use Rattle.rd_state.specs.Valid.{IsValid};
 
 use crate::effect::Effect;
-use crate::objects::{add_face, add_spec, add_string, add_table};
+use crate::objects::{add_spec, add_string};
 use crate::parts::StateParts;
 use crate::refused::Refused;
 use crate::table::{TableParts, make_table};
@@ -40,7 +40,7 @@ impl StateParts {
     pub(crate) fn add_face(&mut self, face: Face) -> Result<Effect, Refused>
         ensures { Applies result (AddFace face) self.old self.new }
     {
-        add_face(&mut self.objects, face)?;
+        self.objects.add_face(face)?;
         Ok(Effect::Nothing)
     }
 
@@ -51,7 +51,7 @@ impl StateParts {
         ensures { Applies result (AddTable parts.entries parts.truncation parts.continuation parts.escape parts.control parts.ellipsis parts.border) self.old self.new }
     {
         let table = make_table(*self.buffers.allocator(), &parts)?;
-        add_table(&mut self.objects, table)?;
+        self.objects.add_table(table)?;
         Ok(Effect::Nothing)
     }
 }

@@ -1,16 +1,16 @@
-//! Strings, display specs, faces and display tables, made as ops say them, with the refusals of each in order.
+//! Strings and display specs, made as ops say them, with the refusals of each in order.
 ghost use Rattle.std.specs.Prelude.{◌≡◌, if◌then◌else◌, min};
 ghost use Rattle.rd_objects.specs.Things.{string_fault, string_added};
 ghost use Rattle.rd_script.specs.Forms.{IsSpecInForm};
 ghost use Rattle.rd_objects.specs.Sound.{AreObjects};
 ghost use Rattle.rd_state.specs.Answers.{Answers};
 ghost use Rattle.rd_state.specs.Held.{capped_run};
-ghost use Rattle.rd_state.specs.Making.{unless_fault, string_making, spec_making, face_making, table_making};
+ghost use Rattle.rd_state.specs.Making.{unless_fault, string_making, spec_making};
 
 use crate::made::capped;
 use crate::refused::Refused;
-use rd_base::{Ch, Face, mapped};
-use rd_objects::{Objects, Run, Spec, Table};
+use rd_base::{Ch, mapped};
+use rd_objects::{Objects, Run, Spec};
 use rd_script::{OpRun, OpSpec};
 use std::alloc::Global;
 
@@ -73,21 +73,5 @@ pub(crate) fn add_spec(objects: &mut Objects, spec: OpSpec) -> Result<(), Refuse
         OpSpec::Align(column) => Spec::Align(column),
     };
     objects.add_spec(spec)?;
-    Ok(())
-}
-
-/// Makes a face.
-pub(crate) fn add_face(objects: &mut Objects, face: Face) -> Result<(), Refused>
-    ensures { Answers result (face_making objects.old face) objects.old objects.new }
-{
-    objects.add_face(face)?;
-    Ok(())
-}
-
-/// Makes a display table.
-pub(crate) fn add_table(objects: &mut Objects, table: Table) -> Result<(), Refused>
-    ensures { Answers result (table_making objects.old table) objects.old objects.new }
-{
-    objects.add_table(table)?;
     Ok(())
 }
