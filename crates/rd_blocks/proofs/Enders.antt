@@ -1,27 +1,21 @@
 -- The line of a block ends with an item of its own, which covers the block's last position: its ender.
-use Rattle.std.proofs.Common.{◌≡◌, ℕ, ◌-◌, ◌<◌, nat_eq, inl, inr, Bool, true, false, List, [], ◌∷◌, ◌++◌, length, All, Option, None, Some, refl, sym, ap, ◌∙◌, subst, append-nil, arith}
+use Rattle.std.proofs.Common.{◌≡◌, ℕ, ◌-◌, ◌<◌, nat_eq, inl, inr, true, false, List, [], ◌∷◌, ◌++◌, All, Option, None, Some, refl, sym, ap, ◌∙◌, subst, arith}
 use Rattle.std.specs.Prelude.{slice_get}
 use Rattle.std.specs.List.{AllByRecursion, flat_map}
 use Rattle.std.proofs.lemmas.Bool.Decides.{nat_tests}
-use Rattle.std.proofs.lemmas.Grind.{flat_map-append}
 use Rattle.std.proofs.lemmas.List.Elements.{All-head, All-tail}
-use Rattle.rd_base.proofs.Lists.{at-seam, each-append}
-use Rattle.rd_base.specs.Faces.{Attributes}
+use Rattle.rd_base.proofs.Lists.{each-append}
 use Rattle.rd_base.specs.declared.element.Element.{Element}
 use Rattle.rd_base.specs.declared.element.Origin.{Origin}
-use Rattle.rd_base.specs.declared.element.Look.TheVariants as look
-use Rattle.rd_glyphs.specs.Characters.{element_of}
 use Rattle.rd_items.proofs.Ended.{ended}
-use Rattle.rd_items.specs.Covers.{CoverBlock, Tile, is_ender_kind}
+use Rattle.rd_items.specs.Covers.{CoverBlock, Tile}
 use Rattle.rd_items.specs.Pieces.{Scene}
 use Rattle.rd_items.specs.declared.item.Item.{Item}
-use Rattle.rd_items.specs.declared.item.ItemKind.{ItemKind}
-use Rattle.rd_items.specs.declared.item.ItemKind.TheVariants as item
 use Rattle.rd_levels.specs.declared.turn.Turn.{Turn}
 use Rattle.rd_matrix.specs.Held.{ends_with_item, in_range}
 use Rattle.rd_rows.specs.Placing.{is_item}
-use Rattle.rd_stack.proofs.LineEnds.{LastLaw, ender-last}
-use Rattle.rd_stack.specs.Lines.{item_turns, line_of_items, origin_of, put_item, put_kind, put_turn}
+use Rattle.rd_stack.proofs.LineEnds.{LastLaw, ender-last, line-parts}
+use Rattle.rd_stack.specs.Lines.{line_of_items, origin_of, put_item, put_turn}
 use Rattle.rd_stack.specs.Shown.{kind_elements}
 use Rattle.rd_blocks.proofs.Ranges.{item-of}
 
@@ -52,11 +46,6 @@ last-ends since to (y ∷ ys) x (inl empty) some = last-ends since to ys x empty
 last-ends since to (y ∷ ys) x (inr next) some = last-ends y.to to ys x next.2 some
 
 module _ (s : Scene) (base : ℕ) where
-  ender-elements : (k : ItemKind) (overlay odd : Bool) (face : Attributes) (origin : Origin) → is_ender_kind k ≡ true
-      → put_kind kind_elements s base k overlay odd face origin ≡ element_of face origin look.LineEnd ∷ []
-  ender-elements item.Ender overlay odd face origin is = refl
-  ender-elements k overlay odd face origin is = absurd (let never : false ≡ true = is in cc)
-
   turn-lower : (n : ℕ) (t : Turn) (o : Option Item) → t.index < n → AllByRecursion (IsLower n) (put_turn kind_elements s base t o)
   turn-lower n t None low = tt
   turn-lower n t (Some x) low =
@@ -72,19 +61,8 @@ module _ (s : Scene) (base : ℕ) where
   line-ender law size items cover =
       let e = ended items cover.end in
       let comes = ender-last law s base items e in
-      let n = length e.others in
-      let all = e.others ++ e.ender ∷ [] in
-      let f = put_item kind_elements s base all in
-      let last = element_of e.ender.face (origin_of comes.last.index e.ender) look.LineEnd in
-      let given : f comes.last ≡ last ∷ [] =
-      ap (λ i. put_turn kind_elements s base comes.last (slice_get all i)) comes.index
-      ∙ (ap (put_turn kind_elements s base comes.last) (at-seam e.others e.ender [])
-      ∙ ender-elements e.ender.kind e.ender.overlay comes.last.odd e.ender.face (origin_of comes.last.index e.ender) e.is.kind) in
       let some = e.is.some in
       let to = last-ends 0 size e.others e.ender (subst (Tile 0 size) e.whole cover.tile) some in
       let has : in_range (size - 1) (e.ender.from, e.ender.to) ≡ true = grind (arith, nat_tests, to, some) in
-      let lower = turns-lower comes.last.index all comes.front (subst (λ (k : ℕ). All (λ (t : Turn). t.index < k) comes.front) (sym comes.index) comes.others) in
-      ap (λ xs. ends_with_item (size - 1) None (flat_map (put_item kind_elements s base xs) (item_turns s base items))) e.whole
-      ∙ (ap (λ ts. ends_with_item (size - 1) None (flat_map f ts)) comes.whole
-      ∙ (ap (ends_with_item (size - 1) None) (flat_map-append f comes.front (comes.last ∷ []) ∙ ap (λ es. flat_map f comes.front ++ es) (append-nil (f comes.last) ∙ given))
-      ∙ ends-own (size - 1) None (flat_map f comes.front) last tt lower has))
+      let lower = turns-lower comes.last.index (e.others ++ e.ender ∷ []) comes.front (subst (λ (k : ℕ). All (λ (t : Turn). t.index < k) comes.front) (sym comes.index) comes.others) in
+      ap (ends_with_item (size - 1) None) (line-parts s base items e comes) ∙ ends-own (size - 1) None _ _ tt lower has

@@ -1,10 +1,11 @@
 -- The ender of items comes last in visual order; the last element of a line is its end, and no other is.
 use Rattle.std.proofs.Common.{◌≡◌, ℕ, zero, suc, ◌<◌, Bool, true, false, List, [], ◌∷◌, ◌++◌, length, All, refl, sym, subst, ap, ap₂, ◌∙◌, append-nil, arith}
-use Rattle.std.specs.Prelude.{not, ◌&&◌, map, slice_get, Some}
+use Rattle.std.specs.Prelude.{not, ◌&&◌, map, slice_get}
 use Rattle.std.specs.List.{flat_map, AllByRecursion}
 use Rattle.std.proofs.lemmas.Grind.{flat_map-append}
 use Rattle.std.proofs.lemmas.List.{map-append, length-map}
 use Rattle.std.proofs.lemmas.List.Elements.{recursion_from_All}
+use Rattle.rd_base.proofs.Lists.{at-seam}
 use Rattle.rd_base.specs.Faces.{Attributes}
 use Rattle.rd_base.specs.Elements.{is_line_end, ends_once}
 use Rattle.rd_base.specs.declared.class.Class.{Class}
@@ -48,22 +49,30 @@ ender-last law s base items e =
     (subst (λ cs. ComesLast (turned cs) (length fronts)) (sym classes) (law s.brackets s.parts.settings.reorder base fronts (map item_code items)))
 
 module _ (s : Scene) (base : ℕ) where
-  kind-ends : (k : ItemKind) (overlay odd : Bool) (face : Attributes) (origin : Origin) → is_ender_kind k ≡ true → put_kind kind_elements s base k overlay odd face origin ≡ element_of face origin look.LineEnd ∷ []
+  kind-ends : (k : ItemKind) (overlay odd : Bool) (face : Attributes) (origin : Origin) → is_ender_kind k ≡ true
+      → put_kind kind_elements s base k overlay odd face origin ≡ element_of face origin look.LineEnd ∷ []
   kind-ends item.Ender overlay odd face origin is = refl
-  kind-ends (item.Char c) overlay odd face origin is = absurd (let q : false ≡ true = is in cc)
-  kind-ends (item.Marked g) overlay odd face origin is = absurd (let q : false ≡ true = is in cc)
-  kind-ends (item.Text n) overlay odd face origin is = absurd (let q : false ≡ true = is in cc)
-  kind-ends (item.Space spec) overlay odd face origin is = absurd (let q : false ≡ true = is in cc)
-  kind-ends item.Ellipsis overlay odd face origin is = absurd (let q : false ≡ true = is in cc)
+  kind-ends k overlay odd face origin is = absurd (let never : false ≡ true = is in cc)
+
+  -- a line is the elements of the turns before its ender's, and the ender's one element
+  pub line-parts : (items : List Item) (e : Ended items) (comes : ComesLast (item_turns s base items) (length e.others))
+      → line_of_items s base items ≡ flat_map (put_item kind_elements s base (e.others ++ e.ender ∷ [])) comes.front ++ element_of e.ender.face (origin_of comes.last.index e.ender) look.LineEnd ∷ []
+  line-parts items e comes =
+      let all = e.others ++ e.ender ∷ [] in
+      let f = put_item kind_elements s base all in
+      ap (λ xs. flat_map (put_item kind_elements s base xs) (item_turns s base items)) e.whole
+      ∙ ap (flat_map f) comes.whole
+      ∙ flat_map-append f comes.front (comes.last ∷ [])
+      ∙ ap (λ es. flat_map f comes.front ++ es)
+      (append-nil (f comes.last)
+      ∙ ap (λ i. put_turn kind_elements s base comes.last (slice_get all i)) comes.index
+      ∙ ap (put_turn kind_elements s base comes.last) (at-seam e.others e.ender [])
+      ∙ kind-ends e.ender.kind e.ender.overlay comes.last.odd e.ender.face (origin_of comes.last.index e.ender) e.is.kind)
 
   open-at : (front : List Item) (last : Item) (turn : Turn) → AllByRecursion (λ (x : Item). is_ender_kind x.kind ≡ false) front → (i : ℕ) → i < length front → AllByRecursion IsOpen (put_turn kind_elements s base turn (slice_get (front ++ last ∷ []) i))
   open-at [] last turn each i inside = absurd (omega arith)
   open-at (x ∷ xs) last turn each zero inside = item-open s base x.kind x.overlay turn.odd x.face (origin_of turn.index x) each.0
   open-at (x ∷ xs) last turn each (suc i) inside = open-at xs last turn each.1 i (omega arith)
-
-  end-at : (front : List Item) (last : Item) (turn : Turn) → put_turn kind_elements s base turn (slice_get (front ++ last ∷ []) (length front)) ≡ put_turn kind_elements s base turn (Some last)
-  end-at [] last turn = refl
-  end-at (x ∷ xs) last turn = end-at xs last turn
 
   front-open : (front : List Item) (last : Item) (turns : List Turn) → AllByRecursion (λ (x : Item). is_ender_kind x.kind ≡ false) front → All (λ (t : Turn). t.index < length front) turns
       → AllByRecursion IsOpen (flat_map (put_item kind_elements s base (front ++ last ∷ [])) turns)
@@ -71,20 +80,8 @@ module _ (s : Scene) (base : ℕ) where
       each-flat (put_item kind_elements s base (front ++ last ∷ [])) (λ (t : Turn). t.index < length front) IsOpen (λ t below. open-at front last t each t.index below) turns
       (recursion_from_All (λ (t : Turn). t.index < length front) turns low)
 
-  turned-ends : (front : List Item) (last : Item) (turns : List Turn) → is_ender_kind last.kind ≡ true → AllByRecursion (λ (x : Item). is_ender_kind x.kind ≡ false) front → ComesLast turns (length front)
-      → ends_once (flat_map (put_item kind_elements s base (front ++ last ∷ [])) turns) ≡ true
-  turned-ends front last turns ends each comes =
-      let f = put_item kind_elements s base (front ++ last ∷ []) in
-      let end = element_of last.face (origin_of comes.last.index last) look.LineEnd in
-      let given : f comes.last ≡ end ∷ [] =
-      ap (λ i. put_turn kind_elements s base comes.last (slice_get (front ++ last ∷ []) i)) comes.index ∙ end-at front last comes.last
-      ∙ kind-ends last.kind last.overlay comes.last.odd last.face (origin_of comes.last.index last) ends in
-      ap (λ ts. ends_once (flat_map f ts)) comes.whole
-      ∙ ap ends_once (flat_map-append f comes.front (comes.last ∷ []) ∙ ap (λ l. flat_map f comes.front ++ l) (append-nil (f comes.last) ∙ given))
-      ∙ ends-append (flat_map f comes.front) end (front-open front last comes.front each comes.others) refl
-
   pub line-ends : LastLaw → (items : List Item) → EndOnce items → ends_once (line_of_items s base items) ≡ true
   line-ends law items once =
       let e = ended items once in
-      ap (λ xs. ends_once (flat_map (put_item kind_elements s base xs) (item_turns s base items))) e.whole
-      ∙ turned-ends e.others e.ender (item_turns s base items) e.is.kind e.no_enders (ender-last law s base items e)
+      let comes = ender-last law s base items e in
+      ap ends_once (line-parts items e comes) ∙ ends-append _ _ (front-open e.others e.ender comes.front e.no_enders comes.others) refl
