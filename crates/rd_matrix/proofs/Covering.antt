@@ -109,16 +109,12 @@ last-numbered point start n (r ∷ s ∷ rs) h =
     let e : EntryMeaning = record { start = start; number = n; row = r } in
     (e ∷ rest.0, rest.1, ap (λ es. e ∷ es) rest.2, rest.3)
 
-last-fit : (rows : Block → List RowMeaning) (from : ℕ) (b : Block) (bs : List Block) → Fit rows from (b ∷ bs) → LastCovers (end_from 0 (b ∷ bs) - 1) (all_rows rows (b ∷ bs))
-last-fit rows from b [] h = subst (LastCovers (b.end - 1)) (sym (append-nil (entries_of rows b))) (last-numbered (b.end - 1) b.start 0 (rows b) h.2.ender)
-last-fit rows from b (c ∷ bs) h =
-    let rest = last-fit rows b.end c bs h.3 in
+-- where the item of each block's last position begins in the block's last row, that of the last position begins in the last row of all
+pub last-all : (rows : Block → List RowMeaning) (bs : List Block) → 0 < length bs → ((b : Block) → IsAmong bs b → begins_last (covers b.start (b.end - 1)) (rows b) ≡ true)
+    → LastCovers (end_from 0 bs - 1) (all_rows rows bs)
+last-all rows [] some each = absurd (omega (arith, some))
+last-all rows (b ∷ []) some each =
+    subst (LastCovers (b.end - 1)) (sym (append-nil (entries_of rows b))) (last-numbered (b.end - 1) b.start 0 (rows b) (each b (0, refl)))
+last-all rows (b ∷ c ∷ bs) some each =
+    let rest = last-all rows (c ∷ bs) (omega arith) (λ d k. each d (suc k.0, k.1)) in
     (entries_of rows b ++ rest.0, rest.1, ap (λ es. entries_of rows b ++ es) rest.2 ∙ sym (append_assoc (entries_of rows b) rest.0 (rest.1 ∷ [])), rest.3)
-
-some-last : (rows : Block → List RowMeaning) (bs : List Block) → 0 < length bs → Fit rows (first_start bs) bs → LastCovers (end_from 0 bs - 1) (all_rows rows bs)
-some-last rows [] some h = absurd (omega (arith, some))
-some-last rows (b ∷ bs) some h = last-fit rows b.start b bs h
-
--- the item that covers the last position of a source begins in its last row
-pub last-whole : (m : SourceValues) (shape : ShapeValues) → IsSource m → IsShape shape → LastCovers (end_from 0 m.blocks - 1) (rows_at m shape)
-last-whole m shape source is = some-last (λ b. m.rows_of b shape) m.blocks source.blocks.some (whole-fit m shape source is)

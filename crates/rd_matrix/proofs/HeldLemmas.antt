@@ -11,11 +11,10 @@ use Rattle.rd_base.specs.Elements.{ends_once}
 use Rattle.rd_base.specs.declared.cell.Glyph.{Glyph}
 use Rattle.rd_base.specs.declared.element.Element.{Element}
 use Rattle.rd_base.proofs.Lists.{all-at, count-cons, get-map}
-use Rattle.rd_matrix.proofs.Enders.{ender-row, has_offset}
 use Rattle.rd_matrix.specs.Blocks.{IsAmong, IsWithin, MayBeAsked, HoldsPosition, StandFrom, first_start, end_from, block_before}
 use Rattle.rd_matrix.specs.Columns.{covers}
 use Rattle.rd_matrix.specs.Held.{blocks_held, laid_at, laid_from, source_of, in_range, covers_each, are_inside, IsHeld, AreHeld}
-use Rattle.rd_matrix.specs.Sources.{SourceValues, IsSource, AreRowsOf, IsInBlock, begins_last}
+use Rattle.rd_matrix.specs.Sources.{SourceValues, IsSource, AreRowsOf, IsInBlock}
 use Rattle.rd_matrix.specs.declared.block.Block.{Block}
 use Rattle.rd_matrix.specs.declared.held.HeldBlock.{HeldBlock}
 use Rattle.rd_rows.specs.declared.begin.Begin.{Begin}
@@ -125,7 +124,8 @@ moved-lt : (b : Bool) (start k t : ℕ) → nat_lt k t ≡ b → nat_lt (start +
 moved-lt true start k t h = grind (arith, nat_tests)
 moved-lt false start k t h = grind (arith, nat_tests)
 
-covers-moved : (start k : ℕ) (b : Begin) → covers start (start + k) b ≡ in_range k (range_of b)
+-- an item covers a position of a block where it has the position's offset
+pub covers-moved : (start k : ℕ) (b : Begin) → covers start (start + k) b ≡ in_range k (range_of b)
 covers-moved start k b = rw (moved-le (nat_le b.from k) start b.from k refl, moved-lt (nat_lt k b.to) start k b.to refl) refl
 
 covered-at : (n k : ℕ) (rs : List (ℕ × ℕ)) → covers_each n rs ≡ true → k < n → count_by (in_range k) rs ≡ 1
@@ -146,17 +146,11 @@ inside-all start end size (b ∷ bs) e h =
     let within : b.to ≤ size = let o = parts.1 in grind (arith, nat_tests) in
     All-cons (IsInBlock start end) b bs (order, omega (arith, e, within)) (inside-all start end size bs e both.1)
 
-last-covers : (start end size : ℕ) (rows : List RowMeaning) → start + size ≡ end → 0 < size → begins_last (has_offset (size - 1)) rows ≡ true → begins_last (covers start (end - 1)) rows ≡ true
-last-covers start end size rows whole some h =
-    let k : ℕ = size - 1 in
-    let at : end - 1 ≡ start + k = omega (arith, whole, some) in
-    ap (λ (p : ℕ). begins_last (covers start p) rows) at ∙ ((λ i. begins_last (λ b. covers-moved start k b i) rows) ∙ h)
-
 -- rows are those of a block of this size where the items that begin in them have these ranges, which lie within it and hold each of its
--- offsets once, and one that holds the last of them begins in the last row
-pub are-rows : (start end size : ℕ) (rows : List RowMeaning) (rs : List (ℕ × ℕ)) → start + size ≡ end → 0 < size → IsTrue (ends_last rows) → map range_of (begins_of rows) ≡ rs
-    → are_inside size rs ≡ true → ((k : ℕ) → k < size → count_by (in_range k) rs ≡ 1) → begins_last (has_offset (size - 1)) rows ≡ true → AreRowsOf start end rows
-are-rows start end size rows rs whole some last begun inside once ender = record {
+-- offsets once
+pub are-rows : (start end size : ℕ) (rows : List RowMeaning) (rs : List (ℕ × ℕ)) → start + size ≡ end → IsTrue (ends_last rows) → map range_of (begins_of rows) ≡ rs
+    → are_inside size rs ≡ true → ((k : ℕ) → k < size → count_by (in_range k) rs ≡ 1) → AreRowsOf start end rows
+are-rows start end size rows rs whole last begun inside once = record {
   ends = last;
   inside = inside-all start end size (begins_of rows) whole (ap (are_inside size) begun ∙ inside);
   once = λ point low high.
@@ -164,7 +158,6 @@ are-rows start end size rows rs whole some last begun inside once ender = record
       let at : start + k ≡ point = omega (arith, low) in
       subst (λ (p : ℕ). count_by (covers start p) (begins_of rows) ≡ 1) at
       (count-same (covers start (start + k)) (in_range k) (begins_of rows) (covers-moved start k) ∙ (ap (count_by (in_range k)) begun ∙ once k (omega (arith, low, high, whole))));
-  ender = last-covers start end size rows whole some ender;
 }
 
 pub source-right : (hs : List HeldBlock) → AreHeld hs → 0 < length hs
@@ -188,9 +181,8 @@ source-right hs held some last begun leads = record {
       let some = is.some in
       subst (λ (x : Block). AreRowsOf x.start x.end (seen_rows (laid_from shape x.start hs))) found.2
       (subst (λ (rs : List LaidRow). AreRowsOf h.block.start h.block.end (seen_rows rs)) (sym there)
-      (are-rows h.block.start h.block.end size (seen_rows (laid_at shape h)) (ranges_of None h.elements) (omega (arith, some)) (omega (arith, some)) (last _ h.elements lead is.end) (begun _ h.elements lead is.end)
-      is.inside (λ k. covered-at size k (ranges_of None h.elements) is.covers)
-      (ender-row (size - 1) (cutting_of shape h.block.base h.first h.wrap h.truncation h.continuation) h.elements is.ender)));
+      (are-rows h.block.start h.block.end size (seen_rows (laid_at shape h)) (ranges_of None h.elements) (omega (arith, some)) (last _ h.elements lead is.end) (begun _ h.elements lead is.end)
+      is.inside (λ k. covered-at size k (ranges_of None h.elements) is.covers)));
 }
 
 -- held blocks with one block more

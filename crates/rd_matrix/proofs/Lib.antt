@@ -1,5 +1,4 @@
 mod Below
-pub mod Enders
 pub mod HeldLemmas
 pub mod Counting
 pub mod EachRow

@@ -1,14 +1,12 @@
 -- Blocks with their lines.
-use Rattle.std.specs.Prelude.{◌≡◌, ℕ, zero, suc, ◌-◌, ◌^◌, ◌<◌, ◌≤◌, ◌==◌, ◌&&◌, nat_le, not, Bool, true, false, if◌then◌else◌, IsTrue, List, [], ◌∷◌, map, count_by, All, Option, None, Some}
+use Rattle.std.specs.Prelude.{◌≡◌, ℕ, zero, suc, ◌-◌, ◌^◌, ◌<◌, ◌≤◌, ◌==◌, ◌&&◌, nat_le, Bool, true, if◌then◌else◌, IsTrue, List, [], ◌∷◌, map, count_by, All, None}
 use Rattle.rd_base.specs.Elements.{AreSound, ends_once, columns_at_most}
 use Rattle.rd_base.specs.Lists.{is_between}
-use Rattle.rd_base.specs.declared.element.Element.{Element}
 use Rattle.rd_matrix.specs.Blocks.{StandFrom, first_start}
 use Rattle.rd_matrix.specs.Sources.{SourceValues, source_by_itself}
 use Rattle.rd_matrix.specs.declared.block.Block.{Block}
 use Rattle.rd_matrix.specs.declared.held.HeldBlock.{HeldBlock}
 use Rattle.rd_rows.specs.Laws.{seen_rows, ranges_of}
-use Rattle.rd_rows.specs.Placing.{is_item}
 use Rattle.rd_rows.specs.Prefixes.{IsPrefix}
 use Rattle.rd_rows.specs.Rows.{LaidRow, cutting_of, rows_of, weight_of}
 use Rattle.rd_rows.specs.Shapes.{ShapeValues}
@@ -43,14 +41,8 @@ abbrev pub are_inside : ℕ → List (ℕ × ℕ) → Bool
 are_inside size [] = true
 are_inside size (r ∷ rs) = nat_le r.0 r.1 && nat_le r.1 size && are_inside size rs
 
--- whether the last of these elements is the first of its item, and that item covers an offset; the item of the element before them is given
-abbrev pub ends_with_item : ℕ → Option ℕ → List Element → Bool
-ends_with_item offset before [] = false
-ends_with_item offset before (e ∷ []) = not (is_item before e.origin.item) && in_range offset (e.origin.from, e.origin.to)
-ends_with_item offset before (e ∷ f ∷ es) = ends_with_item offset (Some e.origin.item) (f ∷ es)
-
 -- a block with the line of its positions: sound elements up to one line end, in fewer than 2^63 columns, whose items cover each of
--- the block's positions once; the line end is an item of its own, which covers the last of them
+-- the block's positions once
 pub record IsHeld (h : HeldBlock) : Type 0 where
   pub base : h.block.base ≤ 1
   pub some : h.block.start < h.block.end
@@ -63,7 +55,6 @@ pub record IsHeld (h : HeldBlock) : Type 0 where
   pub columns : columns_at_most h.elements < 2 ^ 63
   pub covers : IsTrue (covers_each (h.block.end - h.block.start) (ranges_of None h.elements))
   pub inside : IsTrue (are_inside (h.block.end - h.block.start) (ranges_of None h.elements))
-  pub ender : IsTrue (ends_with_item (h.block.end - h.block.start - 1) None h.elements)
 
 -- blocks one behind the other, with their lines
 pub record AreHeld (hs : List HeldBlock) : Type 0 where

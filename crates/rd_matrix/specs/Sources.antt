@@ -35,22 +35,25 @@ costs_of cost bs = total cost bs
 abbrev pub IsInBlock : ℕ → ℕ → Begin → Type 0
 IsInBlock start end b = (b.from ≤ b.to) × (start + b.to ≤ end)
 
+-- the rows of a block from one position up to another: at least one, of which the last and no other ends the block; and the items
+-- that begin in them lie in the block, and exactly one of them covers each of its positions
+pub record AreRowsOf (start end : ℕ) (rows : List RowMeaning) : Type 0 where
+  pub ends : IsTrue (ends_last rows)
+  pub inside : All (IsInBlock start end) (begins_of rows)
+  pub once : (point : ℕ) → start ≤ point → point < end → count_by (covers start point) (begins_of rows) ≡ 1
+
+-- what holds of every source
+pub record IsSource (m : SourceValues) : Type 0 where
+  pub blocks : AreBlocks m.blocks
+  pub rows : (b : Block) (shape : ShapeValues) → IsAmong m.blocks b → IsShape shape → AreRowsOf b.start b.end (m.rows_of b shape)
+
 -- whether an item that passes a test begins in the last of these rows
 abbrev pub begins_last : (Begin → Bool) → List RowMeaning → Bool
 begins_last test [] = false
 begins_last test (r ∷ []) = list_any test r.begins
 begins_last test (r ∷ s ∷ rs) = begins_last test (s ∷ rs)
 
--- the rows of a block from one position up to another: at least one, of which the last and no other ends the block; and the items
--- that begin in them lie in the block, and exactly one of them covers each of its positions; the one that covers the last position,
--- which is that of the block's ender, begins in the last row
-pub record AreRowsOf (start end : ℕ) (rows : List RowMeaning) : Type 0 where
-  pub ends : IsTrue (ends_last rows)
-  pub inside : All (IsInBlock start end) (begins_of rows)
-  pub once : (point : ℕ) → start ≤ point → point < end → count_by (covers start point) (begins_of rows) ≡ 1
-  pub ender : IsTrue (begins_last (covers start (end - 1)) rows)
-
--- what holds of every source
-pub record IsSource (m : SourceValues) : Type 0 where
-  pub blocks : AreBlocks m.blocks
-  pub rows : (b : Block) (shape : ShapeValues) → IsAmong m.blocks b → IsShape shape → AreRowsOf b.start b.end (m.rows_of b shape)
+-- the item of each block's last position begins in the block's last row; not every source has this
+abbrev pub EndersBeginLast : SourceValues → Type 0
+EndersBeginLast m =
+    (b : Block) (shape : ShapeValues) → IsAmong m.blocks b → IsShape shape → IsTrue (begins_last (covers b.start (b.end - 1)) (m.rows_of b shape))

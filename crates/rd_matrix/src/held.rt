@@ -55,8 +55,8 @@ impl MemBlocks {
         }
     }
 
-    /// Adds a block behind the others. It starts where the last of them ends, its line's items cover each of its positions once, and
-    /// its line end is an item of its own, which covers the last.
+    /// Adds a block behind the others. It starts where the last of them ends, and its line's items cover each of its positions
+    /// once.
     pub fn push(&mut self, held: HeldBlock) -> Result<(), Memory>
         requires held { IsHeld held }
         requires next { held.block.start ≡ end_from held.block.start (blocks_held self.old) }

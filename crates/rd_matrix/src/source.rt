@@ -10,7 +10,7 @@ use std::sync::ledger::Ledger;
 /// at a shape, and their cost, here and in the source that this one stands on, none of which a call changes. Each call says what
 /// holds of every source: there is a block, each but the first starts at the end of the one before, and the rows of a block at a
 /// shape are at least one, of which the last and no other ends the block; each position of a block is covered by exactly one item
-/// that begins in its rows, and its last position by one that begins in the last row. After want of memory a source is to be made anew.
+/// that begins in its rows. After want of memory a source is to be made anew.
 pub trait BlockSource {
     ghost use Rattle.std.specs.Prelude.{◌≡◌, ℕ, ◌+◌, ◌^◌, ◌<◌, ◌≤◌, length, slice_get, Some, IfOk};
     ghost use Rattle.rd_matrix.specs.Blocks.{IsAmong, MayBeAsked, HoldsPosition, block_before};
