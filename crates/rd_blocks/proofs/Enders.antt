@@ -12,11 +12,12 @@ use Rattle.rd_items.specs.Covers.{CoverBlock, Tile}
 use Rattle.rd_items.specs.Pieces.{Scene}
 use Rattle.rd_items.specs.declared.item.Item.{Item}
 use Rattle.rd_levels.specs.declared.turn.Turn.{Turn}
-use Rattle.rd_matrix.specs.Held.{ends_with_item, in_range}
+use Rattle.rd_matrix.specs.Held.{in_range}
 use Rattle.rd_rows.specs.Placing.{is_item}
 use Rattle.rd_stack.proofs.LineEnds.{LastLaw, ender-last, line-parts}
 use Rattle.rd_stack.specs.Lines.{line_of_items, origin_of, put_item, put_turn}
 use Rattle.rd_stack.specs.Shown.{kind_elements}
+use Rattle.rd_blocks.proofs.LastRows.{ends_with_item}
 use Rattle.rd_blocks.proofs.Ranges.{item-of}
 
 -- an element of an item with a lower number

@@ -1,6 +1,7 @@
 mod Gives
 pub mod Within
 mod Ranges
+mod LastRows
 mod Enders
 mod Bases
 mod Quiet

@@ -1,5 +1,5 @@
 -- Each buffer is a source of blocks.
-use Rattle.std.proofs.Common.{◌≡◌, ℕ, ◌+◌, ◌-◌, ◌<◌, ◌≤◌, true, IsTrue, List, [], ◌∷◌, length, get_or, map, None, sym, subst, arith}
+use Rattle.std.proofs.Common.{◌≡◌, ℕ, ◌+◌, ◌<◌, ◌≤◌, true, IsTrue, List, [], ◌∷◌, length, get_or, map, None, sym, subst, arith}
 use Rattle.std.proofs.lemmas.List.Elements.{All-map}
 use Rattle.rd_base.specs.Elements.{ends_once}
 use Rattle.rd_base.specs.declared.element.Element.{Element}
@@ -15,7 +15,6 @@ use Rattle.rd_items.specs.Readings.{reading, IsReading}
 use Rattle.rd_items.specs.Pieces.{Scene, scene_in}
 use Rattle.rd_items.specs.Items.{items_of}
 use Rattle.rd_items.specs.Covers.{CoverBlock}
-use Rattle.rd_matrix.proofs.Enders.{ender-row}
 use Rattle.rd_matrix.proofs.HeldLemmas.{are-rows}
 use Rattle.rd_matrix.specs.Blocks.{StandFrom, first_start, end_from}
 use Rattle.rd_matrix.specs.Sources.{IsSource, AreRowsOf}
@@ -25,12 +24,10 @@ use Rattle.rd_rows.specs.Laws.{seen_rows, ends_last, begins_of, range_of, ranges
 use Rattle.rd_rows.specs.Leads.{HasQuietLeads}
 use Rattle.rd_rows.specs.Rows.{rows_of}
 use Rattle.rd_rows.specs.Shapes.{ShapeValues}
-use Rattle.rd_stack.proofs.LineEnds.{LastLaw}
 use Rattle.rd_stack.specs.Lines.{line_elements}
 use Rattle.rd_blocks.specs.Bases.{block_in, blocks_in}
 use Rattle.rd_blocks.specs.Rows.{block_cutting, block_rows}
 use Rattle.rd_blocks.specs.Sources.{text_source}
-use Rattle.rd_blocks.proofs.Enders.{line-ender}
 use Rattle.rd_blocks.proofs.Gives.{ItemsGive}
 use Rattle.rd_blocks.proofs.Within.{items-within}
 use Rattle.rd_blocks.proofs.Ranges.{line-once, line-within}
@@ -46,7 +43,6 @@ pub record Lower : Type 0 where
   pub size : (s : BufferValue) (objects : ObjectLists) (from to : ℕ) → IsBlock s from to → from + length (reading s objects from) ≡ to
   pub cover : (scene : Scene) (es : List Seen) → IsReading scene.parts.settings.invisible es → CoverBlock scene 0 (length es) (items_of scene es)
   pub ends : (scene : Scene) (base : ℕ) (es : List Seen) → IsReading scene.parts.settings.invisible es → ends_once (line_elements scene base es) ≡ true
-  pub ender : LastLaw
   pub last : (c : Cutting) (es : List Element) → HasQuietLeads c → IsTrue (ends_once es) → IsTrue (ends_last (seen_rows (rows_of c es)))
   pub begun : (c : Cutting) (es : List Element) → HasQuietLeads c → IsTrue (ends_once es) → map range_of (begins_of (seen_rows (rows_of c es))) ≡ ranges_of None es
 
@@ -75,18 +71,17 @@ some-map classes s from to (b ∷ bs) h less = omega arith
 
 -- the rows of what is read of a block
 rows-right : Lower → (scene : Scene) (base start end : ℕ) (shape : ShapeValues) (es : List Seen) → IsReading scene.parts.settings.invisible es → start + length es ≡ end
-    → start < end → AreRowsOf start end (seen_rows (block_rows scene base shape es))
-rows-right low scene base start end shape es is size some =
+    → AreRowsOf start end (seen_rows (block_rows scene base shape es))
+rows-right low scene base start end shape es is size =
     let cutting = block_cutting scene base shape es in
     let line = line_elements scene base es in
     let quiet = quiet-cutting low.prefixes scene base shape es in
     let ends = low.ends scene base es is in
     let items = items_of scene es in
     let cover = low.cover scene es is in
-    are-rows start end (length es) (seen_rows (rows_of cutting line)) (ranges_of None line) size (omega (arith, size, some)) (low.last cutting line quiet ends) (low.begun cutting line quiet ends)
+    are-rows start end (length es) (seen_rows (rows_of cutting line)) (ranges_of None line) size (low.last cutting line quiet ends) (low.begun cutting line quiet ends)
     (line-within scene base (length es) items cover.tile (items-within (length es) scene es (omega arith)))
     (λ k. line-once low.items scene base (length es) k items cover.tile cover.give)
-    (ender-row (length es - 1) cutting line (line-ender scene base low.ender (length es) items cover))
 
 pub source-right : Lower → (s : BufferValue) (objects : ObjectLists) (files : Data) → IsText s.text → IsSource (text_source s objects files)
 source-right low s objects files right =
@@ -107,5 +102,5 @@ source-right low s objects files right =
           let some = block.some in
           subst (λ (x : Block). AreRowsOf x.start x.end ((text_source s objects files).rows_of x shape)) found.2
           (rows-right low (scene_in s.settings objects files) (block_in classes s found.0).base found.0.0 found.0.1 shape (reading s objects found.0.0)
-          (low.read s objects found.0.0 (omega (arith, last, some))) (low.size s objects found.0.0 found.0.1 block) some);
+          (low.read s objects found.0.0 (omega (arith, last, some))) (low.size s objects found.0.0 found.0.1 block));
     }

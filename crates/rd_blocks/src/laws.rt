@@ -18,7 +18,7 @@ ghost use Rattle.rd_stack.specs.Lines.{put_kind};
 ghost use Rattle.rd_stack.specs.Shown.{kind_elements};
 ghost use Rattle.rd_matrix.specs.declared.block.Block.{Block};
 ghost use Rattle.rd_matrix.specs.Blocks.{IsWithin, end_from, first_start};
-ghost use Rattle.rd_matrix.specs.Sources.{IsSource, rows_at};
+ghost use Rattle.rd_matrix.specs.Sources.{EndersBeginLast, IsSource, rows_at};
 ghost use Rattle.rd_blocks.specs.Sources.{text_source};
 
 use rd_glyphs::elements_are_sound;
@@ -32,7 +32,7 @@ use rd_stack::{
 
 /// Each buffer is a source of blocks, whatever objects and data files there are: it has blocks in order, and the rows of a block
 /// at a shape are at least one, of which the last and no other ends the block; and each position of a block is covered by exactly
-/// one item that begins in its rows, and its last position by one that begins in the last row. The call does nothing.
+/// one item that begins in its rows. The call does nothing.
 pub fn buffers_are_sources()
     ensures { (s : BufferValue) (objects : ObjectLists) (files : Data) → IsText s.text → IsSource (text_source s objects files) }
 {
@@ -42,7 +42,6 @@ pub fn buffers_are_sources()
     rows_behind_quiet_prefixes();
     items_that_give_have_elements();
     lines_end_once();
-    enders_come_last();
     prefixes_end_no_line();
 }
 
@@ -64,13 +63,17 @@ pub fn accessible_positions_lie_in_blocks()
     blocks_are_listed();
 }
 
-/// The first block of a buffer starts where its accessible text begins, and the last one ends behind the end of that. The call does
-/// nothing.
+/// The first block of a buffer starts where its accessible text begins, and the last one ends behind the end of that. The item of each
+/// block's last position begins in the block's last row. The call does nothing.
 pub fn blocks_fill_the_text()
     ensures begin { (s : BufferValue) (objects : ObjectLists) (files : Data) → IsText s.text → first_start (text_source s objects files).blocks ≡ s.text.begin }
     ensures end { (s : BufferValue) (objects : ObjectLists) (files : Data) → IsText s.text → end_from 0 (text_source s objects files).blocks ≡ s.text.end + 1 }
+    ensures last { (s : BufferValue) (objects : ObjectLists) (files : Data) → IsText s.text → EndersBeginLast (text_source s objects files) }
 {
     blocks_are_listed();
+    blocks_are_read_whole();
+    items_cover_their_block();
+    enders_come_last();
 }
 
 /// In each row of a block of a buffer, at a shape of 10 to 400 columns, each glyph stands whole, and the row has the shape's columns, where

@@ -10,7 +10,6 @@ returns c = source-right (record {
   size = c.blocks_are_read_whole.ensures.length;
   cover = c.items_cover_their_block.ensures;
   ends = c.lines_end_once.ensures;
-  ender = c.enders_come_last.ensures;
   last = c.rows_behind_quiet_prefixes.ensures.last;
   begun = c.rows_behind_quiet_prefixes.ensures.begun;
 })
