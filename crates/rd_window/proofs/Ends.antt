@@ -4,7 +4,7 @@ use Rattle.std.proofs.lemmas.Bool.{cases_lt, eq-eqb, false≢true, le-leb, lt-le
 use Rattle.std.proofs.lemmas.List.{length-append}
 use Rattle.rd_base.proofs.Lists.{at-seam, element-at}
 use Rattle.rd_matrix.proofs.Counting.{count-cons, some-row}
-use Rattle.rd_matrix.proofs.Covering.{few-whole, last-whole}
+use Rattle.rd_matrix.proofs.Covering.{few-whole, last-all}
 use Rattle.rd_matrix.proofs.HeldLemmas.{later-start}
 use Rattle.rd_matrix.proofs.Passing.{one-position}
 use Rattle.rd_matrix.specs.Blocks.{StandFrom, end_from, first_start}
@@ -76,7 +76,7 @@ module _ {m : SourceValues} {shape : ShapeValues} {ends : TextEnds} (of : IsSour
   pub last-shown : (i height : ℕ) → i < length (rows_at m shape) → shows_at ends.end (take height (drop i (rows_at m shape))) ≡ leb (length (rows_at m shape)) (i + height)
   last-shown i height low =
       let rows = rows_at m shape in
-      let last = last-whole m shape source is in
+      let last = last-all rows_in m.blocks source.blocks.some (λ b among. of.last b shape among is) in
       let k = length last.0 in
       let position : end_from 0 m.blocks - 1 ≡ ends.end = omega (arith, of.end) in
       let begins : begins_item ends.end last.1 ≡ true = ap (λ p. begins_item p last.1) (sym position) ∙ last.3 in

@@ -3,7 +3,7 @@ use Rattle.std.specs.Prelude.{◌≡◌, ℕ, ◌+◌, ◌*◌, Bool, true, fals
 use Rattle.rd_base.specs.declared.settings.Anchor.{Anchor}
 use Rattle.rd_matrix.specs.Blocks.{end_from, first_start}
 use Rattle.rd_matrix.specs.Entries.{shown_entries}
-use Rattle.rd_matrix.specs.Sources.{IsSource, SourceValues, rows_at}
+use Rattle.rd_matrix.specs.Sources.{EndersBeginLast, IsSource, SourceValues, rows_at}
 use Rattle.rd_matrix.specs.declared.matrix.Entry.{Entry}
 use Rattle.rd_reuse.specs.Changes.{all, is_none, none}
 use Rattle.rd_reuse.specs.Keeping.{kept_source}
@@ -55,11 +55,13 @@ allowance last m shape w = if rests last m shape w then 0 else 3 * near_costs (k
 pub record Stands (m : SourceValues) (anchor : Anchor) (l : Layout) : Type 0 where
   pub rows : shown_entries l.matrix ≡ take l.height (drop (anchor_row (λ b. m.rows_of b l.shape) anchor m.blocks) (rows_at m l.shape))
 
--- a source of the blocks of a text with these ends: the first starts where the text begins, and the last holds its end
+-- a source of the blocks of a text with these ends: the first starts where the text begins, and the last holds its end. Beyond what holds
+-- of every source, the item of each block's last position begins in the block's last row.
 pub record IsSourceOf (ends : TextEnds) (m : SourceValues) : Type 0 where
   pub source : IsSource m
   pub begin : ends.begin ≡ first_start m.blocks
   pub end : ends.end + 1 ≡ end_from 0 m.blocks
+  pub last : EndersBeginLast m
 
 -- a layout of a text with these ends tells by its rows whether a window shows the first row of the text and the last one
 pub record TellsEnds (ends : TextEnds) (m : SourceValues) (shape : ShapeValues) (w : Wanted) (l : Layout) : Type 0 where

@@ -29,8 +29,9 @@ pub struct Laying {
 ///
 /// `last` is the layout of the window's last redisplay, where there was one. It stands where nothing changed since, and the older rows
 /// of each block that keeps them are those that the source has for it. The anchor and point are positions of the source's blocks, and
-/// the height is at least 1. The source's blocks are those of the text with these ends, by which the layout tells whether it has the
-/// text's first row and its last one. The steps that it takes, also where memory is wanting, are at most the window's allowance.
+/// the height is at least 1. The source's blocks are those of the text with these ends, and the item of each block's last position
+/// begins in the block's last row. By this the layout tells whether it has the text's first row and its last one. The steps that it
+/// takes, also where memory is wanting, are at most the window's allowance.
 pub fn lay_out_again<B: BlockSource + Drop, L: Ledger>(
     alloc: Global,
     source: B,
