@@ -3,7 +3,7 @@ use Rattle.std.proofs.Common.{◌≡◌, ℕ, ◌+◌, ◌≤◌, not, is_some, 
 use Rattle.std.specs.Prelude.{IfSome, slice_get}
 use Rattle.rd_blocks.specs.Sources.{source_of, text_source}
 use Rattle.rd_matrix.specs.Blocks.{IsWithin, end_from, first_start}
-use Rattle.rd_matrix.specs.Sources.{IsSource, SourceValues}
+use Rattle.rd_matrix.specs.Sources.{EndersBeginLast, IsSource, SourceValues}
 use Rattle.rd_objects.specs.Things.{ObjectLists}
 use Rattle.rd_props.specs.Buffers as props
 use Rattle.rd_props.specs.Buffers.{files_of, meaning}
@@ -42,6 +42,7 @@ pub record LookLaws : Type 0 where
   pub within : (s : props.BufferValue) (objects : ObjectLists) (files : Data) (pos : ℕ) → IsAccessible s.text pos → IsWithin pos (text_source s objects files).blocks
   pub begin : (s : props.BufferValue) (objects : ObjectLists) (files : Data) → IsText s.text → first_start (text_source s objects files).blocks ≡ s.text.begin
   pub end : (s : props.BufferValue) (objects : ObjectLists) (files : Data) → IsText s.text → end_from 0 (text_source s objects files).blocks ≡ s.text.end + 1
+  pub last : (s : props.BufferValue) (objects : ObjectLists) (files : Data) → IsText s.text → EndersBeginLast (text_source s objects files)
   pub kept : (v : SessionValue) (number : ℕ) (w : WindowState) (shape : ShapeValues) → IsSession v → window_of number v.state.windows ≡ Some w
       → AreRight (window_source v.files v.state w) (older_rows (layout_of number v.layouts) shape) (change_since (layout_of number v.layouts)) shape
   pub stands : (v : SessionValue) (number : ℕ) (w : WindowState) → IsSession v → window_of number v.state.windows ≡ Some w
@@ -62,6 +63,7 @@ module _ (laws : LookLaws) (v : SessionValue) (session : IsSession v) (n : ℕ) 
         source = laws.source content v.state.objects v.files text;
         begin = begin ∙ sym (laws.begin content v.state.objects v.files text);
         end = ap (λ (n : ℕ). n + 1) end ∙ sym (laws.end content v.state.objects v.files text);
+        last = laws.last content v.state.objects v.files text;
       })
 
   -- a position that is accessible in the window's buffer lies in the source's blocks

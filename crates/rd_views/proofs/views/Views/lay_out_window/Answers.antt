@@ -19,6 +19,7 @@ laws g c = record {
   within = c.accessible_positions_lie_in_blocks.ensures;
   begin = c.blocks_fill_the_text.ensures.begin;
   end = c.blocks_fill_the_text.ensures.end;
+  last = c.blocks_fill_the_text.ensures.last;
   kept = c.sessions_stay_known.ensures.kept;
   stands = c.sessions_stay_known.ensures.stands;
 }
