@@ -1,8 +1,8 @@
 //! Blocks in memory, with ample memory: how they are made for tests of what reads them, and their rows and order.
-ghost use Rattle.std.specs.Prelude.{◌≡◌, ◌+◌, ◌-◌, ◌^◌, ◌<◌, ◌≤◌, ℕ, None, IsTrue, IfOk, OnOk};
+ghost use Rattle.std.specs.Prelude.{◌≡◌, ◌+◌, ◌^◌, ◌<◌, ◌≤◌, ℕ, None, IsTrue, IfOk, OnOk};
 ghost use Rattle.rd_base.specs.Elements.{AreSound, columns_at_most, ends_once};
 ghost use Rattle.rd_matrix.specs.Blocks.{end_from, first_start};
-ghost use Rattle.rd_matrix.specs.Held.{IsHeld, are_inside, blocks_held, covers_each, ends_with_item};
+ghost use Rattle.rd_matrix.specs.Held.{IsHeld, are_inside, blocks_held, covers_each};
 ghost use Rattle.rd_rows.specs.Laws.{ranges_of};
 
 use crate::claims::assert_of;
@@ -69,7 +69,6 @@ fn held(
     requires columns { columns_at_most line.now < 2 ^ 63 }
     requires covers { IsTrue (covers_each size (ranges_of None line.now)) }
     requires inside { IsTrue (are_inside size (ranges_of None line.now)) }
-    requires ender { IsTrue (ends_with_item (size - 1) None line.now) }
     ensures held { IfOk result IsHeld }
     ensures start { IfOk result (λ held. held.block.start ≡ start) }
     ensures end { IfOk result (λ held. held.block.end ≡ start + size) }

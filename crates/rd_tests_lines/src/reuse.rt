@@ -1,10 +1,8 @@
-//! Rows that are kept, over blocks in memory: tables of windows that are laid out again, by `relay` and over a last layout.
-ghost use Rattle.std.specs.Prelude.{◌≡◌, ◌<◌, ◌≤◌, [], Some};
+//! Rows that are kept, over blocks in memory: tables of windows that are laid out again, by `relay` and by `lay_out`.
+ghost use Rattle.std.specs.Prelude.{◌≡◌, ◌<◌, ◌≤◌};
 ghost use Rattle.rd_matrix.specs.Blocks.{IsWithin, end_from, first_start};
 ghost use Rattle.rd_matrix.specs.Held.{blocks_held, source_of};
-ghost use Rattle.rd_matrix.specs.Sources.{IsSource};
 ghost use Rattle.rd_reuse.specs.Keeping.{AreRight};
-ghost use Rattle.rd_window.specs.Layouts.{older_rows};
 
 mod cases;
 mod right;
@@ -23,7 +21,7 @@ use rd_matrix::{Matrix, MemBlocks};
 use rd_reuse::Change;
 use rd_rows::Shape;
 use rd_start::Wanted;
-use rd_window::{Layout, TextEnds, lay_out_again};
+use rd_window::{Layout, lay_out};
 use right::are_right;
 use std::alloc::Global;
 use std::marker::Brand;
@@ -44,9 +42,9 @@ const WIDER: Shape = Shape {
 enum Way {
     /// By `relay` alone.
     Relay,
-    /// By `lay_out_again`, over its last layout.
+    /// By `lay_out`, over the rows of its last layout.
     LastLayout,
-    /// By `lay_out_again`, over a last layout since which the window became wider.
+    /// By `lay_out`, over a last layout since which the window became wider.
     Wider,
 }
 
@@ -71,10 +69,7 @@ fn layout_of(matrix: Matrix, change: Change) -> Layout {
 }
 
 /// The rows of a last layout that a window of a shape can keep, and a matrix of no row where it has another one.
-fn kept<'a>(layout: &'a Layout, none: &'a Matrix, shape: Shape) -> &'a Matrix
-    requires { none.now ≡ [] }
-    ensures { result.now ≡ older_rows (Some layout.now) shape }
-{
+fn kept<'a>(layout: &'a Layout, none: &'a Matrix, shape: Shape) -> &'a Matrix {
     if layout.shape.is_same(shape) {
         &layout.matrix
     } else {
@@ -102,36 +97,24 @@ fn relays<L: Ledger>(
     Ok(is_told(alloc, &matrix, rows))
 }
 
-/// Whether a window has these rows over its last layout, since which something changed.
-fn lays_again<L: Ledger>(
+/// Whether `lay_out` gives a window these rows.
+fn lays_out<L: Ledger>(
     alloc: Global,
-    made: Made,
-    layout: &Layout,
+    source: MemBlocks,
+    old: &Matrix,
+    change: Change,
     wanted: Wanted,
     shape: Shape,
     rows: &str,
     steps: &mut Steps<L>,
 ) -> Result<bool, Memory>
-    requires source { IsSource (source_of made.source) }
-    requires first { first_start (blocks_held made.source) ≡ 1 }
-    requires end { end_from 0 (blocks_held made.source) ≡ made.end }
-    requires right { AreRight (source_of made.source) (older_rows (Some layout.now) shape) layout.now.change shape }
-    requires anchor { IsWithin wanted.anchor.pos (blocks_held made.source) }
-    requires point { IsWithin wanted.point (blocks_held made.source) }
+    requires right { AreRight (source_of source) old.now change shape }
+    requires anchor { IsWithin wanted.anchor.pos (blocks_held source) }
+    requires point { IsWithin wanted.point (blocks_held source) }
     requires height { 1 ≤ wanted.height }
 {
-    if layout.change.is_none() {
-        return Ok(false);
-    }
-    let ends = TextEnds {
-        begin: 1,
-        end: made.end - 1,
-    };
-    let laying = lay_out_again(alloc, made.source, ends, Some(layout), wanted, shape, steps)?;
-    match laying.anew {
-        Some(anew) => Ok(is_told(alloc, &anew.matrix, rows)),
-        None => Ok(false),
-    }
+    let view = lay_out(alloc, source, old, change, wanted, shape, steps)?;
+    Ok(is_told(alloc, &view.matrix, rows))
 }
 
 /// Whether a window over a text has the rows of a case, where it is laid out again so.
@@ -146,7 +129,6 @@ fn holds_over<L: Ledger>(
 ) -> Result<bool, Memory>
     requires first { first_start (blocks_held made.source) ≡ 1 }
     requires end { end_from 0 (blocks_held made.source) ≡ made.end }
-    requires none { none.now ≡ [] }
 {
     let wanted = window(case.start, case.height);
     if !stands(made.end, wanted) {
@@ -168,7 +150,16 @@ fn holds_over<L: Ledger>(
             case.rows,
             steps,
         ),
-        _ => lays_again(alloc, made, layout, wanted, shape, case.rows, steps),
+        _ => lays_out(
+            alloc,
+            made.source,
+            old,
+            layout.change,
+            wanted,
+            shape,
+            case.rows,
+            steps,
+        ),
     }
 }
 
@@ -180,9 +171,7 @@ fn holds_against<L: Ledger>(
     case: &Case,
     way: Way,
     steps: &mut Steps<L>,
-) -> Result<bool, Memory>
-    requires { none.now ≡ [] }
-{
+) -> Result<bool, Memory> {
     match text_of(alloc, case.text)? {
         Some(made) => holds_over(alloc, made, layout, none, case, way, steps),
         None => Ok(false),
