@@ -1,5 +1,5 @@
 -- What the line of an op does.
-use Rattle.std.proofs.Common.{◌≡◌, ℕ, ◌+◌, inl, inr, Bool, true, false, List, [], ◌++◌, Option, None, Some, is_some, if◌then◌else◌, OnErr, Result, Ok, Err, refl, sym, ap, ◌∙◌, subst}
+use Rattle.std.proofs.Common.{◌≡◌, ℕ, ◌+◌, inl, inr, Bool, true, false, List, [], ◌++◌, Option, None, is_some, if◌then◌else◌, OnErr, Result, Ok, Err, refl, sym, ap, ◌∙◌, subst}
 use Rattle.std.specs.Io.KnownBytes.{Appends}
 use Rattle.std.proofs.KnownBytes.{Appends-nil}
 use Rattle.rd_io.specs.Devices.{AppendsFront, Prints, Rose}
@@ -11,7 +11,7 @@ use Rattle.rd_layout.specs.Sessions.{SessionValue}
 use Rattle.rd_run.proofs.Effects.{is-sent}
 use Rattle.rd_run.specs.Ends.{Sunk, sunk}
 use Rattle.rd_run.specs.Reports.{no_memory_line, shown_line, stopped_line}
-use Rattle.rd_run.specs.Runs.{Effect, Mode, Standing, asked, dump_lines, effect_by, effect_of_op, redisplayed, told_of, unshown}
+use Rattle.rd_run.specs.Runs.{Mode, Standing, asked, dump_lines, effect_by, effect_of_op, redisplayed, told_of, unshown}
 use Rattle.rd_script.specs.declared.op.Op.{Op}
 use Rattle.rd_player.specs.Acts.{Acts, IsTold}
 use Rattle.rd_player.specs.declared.halt.Halt.{Halt}
@@ -33,10 +33,6 @@ op-acts result place next op screen report answer asks p q h =
 
 -- ---- a redisplay
 
--- where the run stands may be said otherwise
-pub acts-next : (result : Result Unit Halt) (does : Bool → Effect) (next same : Standing) (screen report : Sunk) → next ≡ same → Acts result does same screen report → Acts result does next screen report
-acts-next result does next same screen report e h = subst (λ n. Acts result does n screen report) (sym e) h
-
 -- however often rows were copied, the report is told what the effect tells
 told-same : (law : CopyLaw) (mode : Mode) (number rows : ℕ) (done : Bool) (old new : SessionValue) (stop : Option ℕ) → without_copies new ≡ redisplayed_session old stop
     → rows ≡ (update_of old stop).rows → (update_of old stop).done ≡ done
@@ -49,21 +45,20 @@ told-same law mode number rows done old new stop same count whole =
 
 -- a redisplay was sent as far as it goes, and the report was told of it or broke
 pub sent-acts : (law : CopyLaw) (answer : Result Unit Failed) (result : Result Unit Halt) (dumps : Bool) (generated : Option ℕ) (lines shown : ℕ) (old new : SessionValue) (stop : Option ℕ) (rows : ℕ) (done : Bool)
-    (s0 s1 r0 r1 : Option (List ℕ)) (m0 m1 n0 n1 : ℕ) → IsTold answer result → without_copies new ≡ redisplayed_session old stop → IsSent rows done stop old new s0 s1
+    (next : Standing) (s0 s1 r0 r1 : Option (List ℕ)) (m0 m1 n0 n1 : ℕ) → next ≡ stand dumps generated (lines + 1) (if done then shown + 1 else shown) new
+    → IsTold answer result → without_copies new ≡ redisplayed_session old stop → IsSent rows done stop old new s0 s1
     → Prints r0 r1 n0 n1 (told_of (stand dumps generated lines shown new).mode (lines + 1) done rows new) answer → OnErr answer (generated ≡ None)
     → Acts result (λ starved. if starved then unshown (stand dumps generated lines shown old) else redisplayed (stand dumps generated lines shown old) stop)
-    (stand dumps generated (lines + 1) (if done then shown + 1 else shown) new) (sunk s0 s1 m0 m1) (sunk r0 r1 n0 n1)
-sent-acts law (Ok x) result dumps generated lines shown old new stop rows done s0 s1 r0 r1 m0 m1 n0 n1 told same h prints read =
+    next (sunk s0 s1 m0 m1) (sunk r0 r1 n0 n1)
+sent-acts law (Ok x) result dumps generated lines shown old new stop rows done next s0 s1 r0 r1 m0 m1 n0 n1 stands told same h prints read =
     let place = stand dumps generated lines shown old in
-    let next = stand dumps generated (lines + 1) (if done then shown + 1 else shown) new in
-    let counts : next.shown ≡ (redisplayed place stop).now.shown = ap (λ d. if d then shown + 1 else shown) (sym h.whole) in
-    let now : next ≡ (redisplayed place stop).now =
+    let counts : (if done then shown + 1 else shown) ≡ (redisplayed place stop).now.shown = ap (λ d. if d then shown + 1 else shown) (sym h.whole) in
+    let now : stand dumps generated (lines + 1) (if done then shown + 1 else shown) new ≡ (redisplayed place stop).now =
     λ i. record { mode = record { files = h.files i; dumps = dumps; generated = generated }; session = same i; lines = lines + 1; shown = counts i } in
     subst (λ (r : Result Unit Halt). Acts r (λ starved. if starved then unshown place else redisplayed place stop) next (sunk s0 s1 m0 m1) (sunk r0 r1 n0 n1)) (sym told)
-    (false, refl, now, h.bytes, subst (Appends r0 r1) (told-same law place.mode (lines + 1) rows done old new stop same h.count h.whole) prints.bytes.whole)
-sent-acts law (Err x) result dumps generated lines shown old new stop rows done s0 s1 r0 r1 m0 m1 n0 n1 told same h prints read =
+    (false, refl, stands ∙ now, h.bytes, subst (Appends r0 r1) (told-same law place.mode (lines + 1) rows done old new stop same h.count h.whole) prints.bytes.whole)
+sent-acts law (Err x) result dumps generated lines shown old new stop rows done next s0 s1 r0 r1 m0 m1 n0 n1 stands told same h prints read =
     let place = stand dumps generated lines shown old in
-    let next = stand dumps generated (lines + 1) (if done then shown + 1 else shown) new in
     let u = update_of old stop in
     let front = subst (AppendsFront r0 r1) (told-same law place.mode (lines + 1) rows done old new stop same h.count h.whole) prints.bytes.front in
     subst (λ (r : Result Unit Halt). Acts r (λ starved. if starved then unshown place else redisplayed place stop) next (sunk s0 s1 m0 m1) (sunk r0 r1 n0 n1)) (sym told)

@@ -158,40 +158,34 @@ impl Playing {
         match self.session.redisplay(screen, stop, steps) {
             Outcome::Shown(rows) => {
                 self.shown += 1;
-                told(self.tell_shown(report, rows))
+                told(self.tell_redisplayed(report, true, rows))
             }
-            Outcome::Stopped(rows) => told(self.tell_stopped(report, rows)),
+            Outcome::Stopped(rows) => told(self.tell_redisplayed(report, false, rows)),
             Outcome::NoMemory => told(tell_no_memory(report, self.lines)),
             Outcome::WriteFault => Err(Halt::ScreenBroke),
         }
     }
 
-    /// Writes that the redisplay of the last line was shown, with its dump where that is asked for; of a generated script it writes
-    /// nothing.
-    fn tell_shown<R: Sink>(&mut self, report: &mut R, rows: u32) -> Result<(), Failed>
+    /// Writes that the redisplay of the last line was shown, with its dump where that is asked for, or that it was stopped; of a
+    /// generated script it writes nothing.
+    fn tell_redisplayed<R: Sink>(
+        &mut self,
+        report: &mut R,
+        shown: bool,
+        rows: u32,
+    ) -> Result<(), Failed>
         ensures printed { Prints (R.written report.old) (R.written report.new) (R.faults report.old) (R.faults report.new)
-            (told_of (mode_of self.old) self.old.lines true rows self.old.session) result }
+            (told_of (mode_of self.old) self.old.lines shown rows self.old.session) result }
         ensures read { OnErr result (self.old.generated ≡ None) }
         ensures same { standing self.new ≡ standing self.old }
     {
-        match self.generated {
-            Some(_) => Ok(()),
-            None => {
+        match (self.generated, shown) {
+            (Some(_), _) => Ok(()),
+            (None, true) => {
                 tell_rows(report, self.lines, ": shown ", rows)?;
                 tell_dump(report, &self.session, &mut self.windows, self.dumps)
             }
-        }
-    }
-
-    /// Writes that the redisplay of the last line was stopped; of a generated script it writes nothing.
-    fn tell_stopped<R: Sink>(&self, report: &mut R, rows: u32) -> Result<(), Failed>
-        ensures printed { Prints (R.written report.old) (R.written report.new) (R.faults report.old) (R.faults report.new)
-            (told_of (mode_of self.now) self.now.lines false rows self.now.session) result }
-        ensures read { OnErr result (self.now.generated ≡ None) }
-    {
-        match self.generated {
-            Some(_) => Ok(()),
-            None => tell_rows(report, self.lines, ": stopped ", rows),
+            (None, false) => tell_rows(report, self.lines, ": stopped ", rows),
         }
     }
 

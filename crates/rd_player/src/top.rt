@@ -3,11 +3,13 @@
 //!
 //! `begun` answers a run of no line, or the status that comes before the first line. `run_whole` runs the lines (`run`), each of them by
 //! `Playing::line` (`act`), and `finish` writes the last line.
-ghost use Rattle.std.specs.Prelude.{◌≡◌, ℕ, ◌≤◌, IsSome, Some, List};
+ghost use Rattle.std.specs.Prelude.{◌≡◌, ℕ, ◌≤◌, IsSome, Some, List, Option};
 ghost use Rattle.rd_files.specs.DataFiles.{meaning as files_meaning};
-ghost use Rattle.rd_player.specs.Acts.{Begins, Finishes, IsOpened, IsNew, Tells, mode_of, status_of, summary_of};
+ghost use Rattle.rd_io.specs.Devices.{Prints};
+ghost use Rattle.rd_player.specs.Acts.{Begins, Finishes, IsOpened, IsNew, Tells, mode_of, status_of};
 ghost use Rattle.rd_player.specs.Devices.{drawn_by, given_by, sunk_by};
 ghost use Rattle.rd_player.specs.Played.{HasReadFault, Played};
+ghost use Rattle.rd_run.specs.Ends.{sunk};
 ghost use Rattle.rd_run.specs.Given.{Given, IsMode};
 ghost use Rattle.rd_run.specs.Reports.{last_line};
 ghost use Rattle.rd_run.specs.Statuses.{TellsNoMemory};
@@ -15,13 +17,13 @@ ghost use Rattle.rd_words.specs.Command.{meaning, texts};
 ghost use Rattle.rd_words.specs.Words.{WordValues, values_of};
 
 use crate::act::Playing;
-use crate::halt::{Ending, Summary};
+use crate::halt::Ending;
 use crate::last_line::LastLine;
 use crate::run::{run_generated, run_script};
 use rd_base::Steps;
 use rd_dump::print_at_once;
 use rd_files::{DataFault, DataFiles, read_data};
-use rd_io::{Files, Sink, Source};
+use rd_io::{Failed, Files, Sink, Source};
 use rd_run::{Status, each_redisplay_is_shown, each_slice_is_known};
 use rd_words::{Words, WordsFault, read_words};
 use std::alloc::Global;
@@ -170,7 +172,7 @@ fn finish<R: Sink>(report: &mut R, ending: Ending) -> Status
 {
     match ending {
         Ending::Ends(status, lines) => tell_status(report, status, lines),
-        Ending::Sums(summary) => tell_sums(report, summary),
+        Ending::Sums(summary) => told_last(print_at_once(report, &summary), Status::Done),
         Ending::ScreenBroke => tell_status(report, Status::WriteFault, 0),
         Ending::ReportBroke => Status::WriteFault,
     }
@@ -181,19 +183,15 @@ pub fn tell_status<R: Sink>(report: &mut R, status: Status, lines: u32) -> Statu
     ensures tells { Tells status (last_line status lines) result (sunk_by R.written R.faults report.old report.new) }
     ensures report { R.faults report.old ≤ R.faults report.new }
 {
-    match print_at_once(report, &LastLine(&status, lines)) {
-        Ok(()) => status,
-        Err(_) => Status::WriteFault,
-    }
+    told_last(print_at_once(report, &LastLine(&status, lines)), status)
 }
 
-/// Tells what stands at the end of a generated script, and answers that it was run, or the write fault where the report fails.
-fn tell_sums<R: Sink>(report: &mut R, summary: Summary) -> Status
-    ensures tells { Tells Status.Done (summary_of summary) result (sunk_by R.written R.faults report.old report.new) }
-    ensures report { R.faults report.old ≤ R.faults report.new }
+/// The status that is answered behind a last line: that of the run, or the write fault where the report failed.
+fn told_last(printed: Result<(), Failed>, status: Status) -> Status
+    ensures { (old new : Option (List ℕ)) (before after : ℕ) (line : List ℕ) → Prints old new before after line printed → Tells status line result (sunk old new before after) }
 {
-    match print_at_once(report, &summary) {
-        Ok(()) => Status::Done,
+    match printed {
+        Ok(()) => status,
         Err(_) => Status::WriteFault,
     }
 }

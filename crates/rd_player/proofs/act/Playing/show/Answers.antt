@@ -1,6 +1,6 @@
 use Rattle.std.proofs.Common.{◌+◌, true, false}
 use Rattle.rd_player.specs.Acts.{standing}
-use Rattle.rd_player.proofs.Acting.{acts-next, broke-acts, sent-acts, stand, starved-acts}
+use Rattle.rd_player.proofs.Acting.{broke-acts, sent-acts, stand, starved-acts}
 use Rattle.rd_player.proofs.act.Playing.show.Goals as goal
 
 pub returns-in-Shown-clause-acts : goal.returns-in-Shown-clause-acts
@@ -8,17 +8,18 @@ returns-in-Shown-clause-acts g c =
     let self = c.args.self.now in
     let new = c.redisplay.new.self in
     let h = c.in-Shown.ensures.redisplayed in
-    acts-next c.told.result _ (standing c.tell_shown.new.self) (stand self.dumps self.generated (self.lines + 1) (self.shown + 1) new) _ _ c.tell_shown.ensures.same
-    (sent-acts c.copies_change_no_op.ensures.facts c.tell_shown.result c.told.result self.dumps self.generated self.lines self.shown self.session new c.args.stop c.in-Shown.rows true _ _ _ _ _ _ _ _ c.told.ensures
-    (c.sent_redisplays_are_determined.ensures c.in-Shown.rows true c.args.stop self.session new _ _ h) h c.tell_shown.ensures.printed c.tell_shown.ensures.read)
+    sent-acts c.copies_change_no_op.ensures.facts c.tell_redisplayed.result c.told.result self.dumps self.generated self.lines self.shown self.session new c.args.stop c.in-Shown.rows true
+    (standing c.tell_redisplayed.new.self) _ _ _ _ _ _ _ _ c.tell_redisplayed.ensures.same c.told.ensures
+    (c.sent_redisplays_are_determined.ensures c.in-Shown.rows true c.args.stop self.session new _ _ h) h c.tell_redisplayed.ensures.printed c.tell_redisplayed.ensures.read
 
 pub returns-in-Stopped-clause-acts : goal.returns-in-Stopped-clause-acts
 returns-in-Stopped-clause-acts g c =
     let self = c.args.self.now in
     let new = c.redisplay.new.self in
     let h = c.in-Stopped.ensures.redisplayed in
-    sent-acts c.copies_change_no_op.ensures.facts c.tell_stopped.result c.told-in-Stopped.result self.dumps self.generated self.lines self.shown self.session new c.args.stop c.in-Stopped.rows false _ _ _ _ _ _ _ _ c.told-in-Stopped.ensures
-    (c.sent_redisplays_are_determined.ensures c.in-Stopped.rows false c.args.stop self.session new _ _ h) h c.tell_stopped.ensures.printed c.tell_stopped.ensures.read
+    sent-acts c.copies_change_no_op.ensures.facts c.tell_redisplayed-in-Stopped.result c.told-in-Stopped.result self.dumps self.generated self.lines self.shown self.session new c.args.stop c.in-Stopped.rows false
+    (standing c.tell_redisplayed-in-Stopped.new.self) _ _ _ _ _ _ _ _ c.tell_redisplayed-in-Stopped.ensures.same c.told-in-Stopped.ensures
+    (c.sent_redisplays_are_determined.ensures c.in-Stopped.rows false c.args.stop self.session new _ _ h) h c.tell_redisplayed-in-Stopped.ensures.printed c.tell_redisplayed-in-Stopped.ensures.read
 
 pub returns-in-NoMemory-clause-acts : goal.returns-in-NoMemory-clause-acts
 returns-in-NoMemory-clause-acts g c =
