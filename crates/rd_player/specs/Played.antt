@@ -9,7 +9,7 @@ use Rattle.rd_run.specs.Validity.{EndsWell, IsValidScript}
 use Rattle.rd_run.specs.declared.status.Status.{Status}
 use Rattle.rd_run.specs.declared.status.Status.TheVariants.{ReadFault, WriteFault}
 
--- behind each redisplay that was shown or stopped the current screen is what the terminal shows
+-- behind each redisplay that was shown or stopped the terminal is not confused, and its cells are those of the current screen
 abbrev pub KnowsIn : Option Mode → List Input → Type 0
 KnowsIn None inputs = Unit {0}
 KnowsIn (Some mode) inputs = KnowsEach (opened mode) inputs
@@ -35,8 +35,8 @@ Completes given result inputs before source screen report =
 
 -- A run under what is given ended with this status: for some lines that were run and bytes that were taken from the source, what was
 -- written is theirs; behind each redisplay that was shown the terminal shows what the rules give from nothing, and behind each that was
--- shown or stopped the current screen; the counts of the steps before and behind it are no further apart than the redisplays allow; and
--- over a script without a bad line it ended well.
+-- shown or stopped its cells are those of the current screen; the counts of the steps before and behind it are no further apart than the
+-- redisplays allow; and over a script without a bad line it ended well.
 abbrev pub Played : Given → Status → Option (List ℕ) → Drawn → Sunk → Sunk → ℕ → ℕ → Type 0
 Played given result before source screen report from to = (mode : Option Mode) × (inputs : List Input) × (bytes : List ℕ) × Consumes before source.left bytes
     × Ended given mode result inputs bytes source screen report × ShowsIn mode inputs × KnowsIn mode inputs × Spent given mode result inputs bytes source.left from to

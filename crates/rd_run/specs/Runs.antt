@@ -201,8 +201,8 @@ abbrev pub IsOn : Option Picture → Tty → Type 0
 IsOn None terminal = ⊥
 IsOn (Some screen) terminal = (terminal.confused ≡ false) × (terminal.rows ≡ known screen.rows)
 
--- Behind each line whose redisplay was shown or stopped, whatever was edited between its slices, the current screen is what the terminal
--- shows.
+-- Behind each line whose redisplay was shown or stopped, whatever was edited between its slices, the terminal is not confused and its
+-- cells are those of the current screen.
 abbrev pub KnowsEach : World → List Input → Type 0
 KnowsEach w [] = Unit {0}
 KnowsEach w (t ∷ ts) =
@@ -213,8 +213,8 @@ abbrev pub AreOfOneSize : StateValue → StateValue → Type 0
 AreOfOneSize s t = (t.width ≡ s.width) × (t.height ≡ s.height)
 
 -- What the next line does where a run stands. The frame keeps its size, unless a new terminal begins. Behind a redisplay that is shown or
--- stopped the current screen is what the terminal shows. Behind one that is shown it is what the rules give from nothing for the state
--- before that line, and so the terminal shows it, with its cursor.
+-- stopped the terminal's cells are those of the current screen. Behind one that is shown this screen is what the rules give from nothing
+-- for the state before that line, and so the terminal shows it, with its cursor.
 pub record LeadsOn (w : World) (t : Input) : Type 0 where
   pub size : (effect w.now t).fresh ≡ false → AreOfOneSize w.now.session.state (effect w.now t).now.session.state
   pub knows : is_sent (outcome_at w t) ≡ true → IsOn (run_line w t).now.session.current (run_line w t).terminal

@@ -13,15 +13,14 @@ use crate::blocks::{Made, SHAPE};
 use crate::claims::assert_of;
 use crate::starts::stands;
 use cases::{
-    BASE_LEVELS, CHANGES, COMBINED_CHANGES, Case, MOVES, OLDER_LAYOUTS, OTHER_SHAPES, STARTS,
-    whole_change,
+    BASE_LEVELS, CHANGES, COMBINED_CHANGES, Case, MOVES, OLDER_LAYOUTS, STARTS, whole_change,
 };
-use rd_base::{Memory, Steps, Wrap};
+use rd_base::{Memory, Steps};
 use rd_matrix::{Matrix, MemBlocks};
 use rd_reuse::Change;
 use rd_rows::Shape;
 use rd_start::Wanted;
-use rd_window::{Layout, lay_out};
+use rd_window::lay_out;
 use right::are_right;
 use std::alloc::Global;
 use std::marker::Brand;
@@ -30,51 +29,13 @@ use std::sync::ledger::{Blank, Ledger};
 use told::is_told;
 use windows::{laid, older_of, text_of, window};
 
-/// Two columns more than those of `SHAPE`.
-const WIDER: Shape = Shape {
-    width: 14,
-    wrap: Wrap::Truncate,
-    hscroll: 0,
-};
-
 /// How a window is laid out again.
 #[derive(Clone, Copy)]
 enum Way {
-    /// By `relay` alone.
+    /// By `relay`, from the start that `choose` gives.
     Relay,
-    /// By `lay_out`, over the rows of its last layout.
-    LastLayout,
-    /// By `lay_out`, over a last layout since which the window became wider.
-    Wider,
-}
-
-/// The shape of a window that is laid out again.
-fn shape_of(way: Way) -> Shape {
-    match way {
-        Way::Wider => WIDER,
-        _ => SHAPE,
-    }
-}
-
-/// A last layout, since which so much changed.
-fn layout_of(matrix: Matrix, change: Change) -> Layout {
-    Layout {
-        matrix,
-        shape: SHAPE,
-        height: 9,
-        margin: 0,
-        conservatively: 0,
-        change,
-    }
-}
-
-/// The rows of a last layout that a window of a shape can keep, and a matrix of no row where it has another one.
-fn kept<'a>(layout: &'a Layout, none: &'a Matrix, shape: Shape) -> &'a Matrix {
-    if layout.shape.is_same(shape) {
-        &layout.matrix
-    } else {
-        none
-    }
+    /// By `lay_out`.
+    Window,
 }
 
 /// Whether `relay` gives a window these rows.
@@ -117,12 +78,13 @@ fn lays_out<L: Ledger>(
     Ok(is_told(alloc, &view.matrix, rows))
 }
 
-/// Whether a window over a text has the rows of a case, where it is laid out again so.
+/// Whether a window over a text has the rows of a case, where it is laid out again so over older rows, since which so much changed.
 fn holds_over<L: Ledger>(
     alloc: Global,
     mut made: Made,
-    layout: &Layout,
-    none: &Matrix,
+    old: &Matrix,
+    change: Change,
+    shape: Shape,
     case: &Case,
     way: Way,
     steps: &mut Steps<L>,
@@ -134,9 +96,7 @@ fn holds_over<L: Ledger>(
     if !stands(made.end, wanted) {
         return Ok(false);
     }
-    let shape = shape_of(way);
-    let old = kept(layout, none, shape);
-    if !are_right(alloc, &mut made.source, old, layout.change, shape, steps)? {
+    if !are_right(alloc, &mut made.source, old, change, shape, steps)? {
         return Ok(false);
     }
     match way {
@@ -144,17 +104,17 @@ fn holds_over<L: Ledger>(
             alloc,
             &mut made.source,
             old,
-            layout.change,
+            change,
             wanted,
             shape,
             case.rows,
             steps,
         ),
-        _ => lays_out(
+        Way::Window => lays_out(
             alloc,
             made.source,
             old,
-            layout.change,
+            change,
             wanted,
             shape,
             case.rows,
@@ -163,31 +123,19 @@ fn holds_over<L: Ledger>(
     }
 }
 
-/// Whether a case holds over a last layout; `none` is a matrix of no row.
+/// Whether a case holds over older rows.
 fn holds_against<L: Ledger>(
     alloc: Global,
-    layout: &Layout,
-    none: &Matrix,
+    old: &Matrix,
     case: &Case,
     way: Way,
     steps: &mut Steps<L>,
 ) -> Result<bool, Memory> {
+    let change = whole_change(case);
     match text_of(alloc, case.text)? {
-        Some(made) => holds_over(alloc, made, layout, none, case, way, steps),
+        Some(made) => holds_over(alloc, made, old, change, SHAPE, case, way, steps),
         None => Ok(false),
     }
-}
-
-/// Whether a case holds over a last layout; what a window of another shape keeps is a matrix of no row.
-fn holds_behind<L: Ledger>(
-    alloc: Global,
-    layout: &Layout,
-    case: &Case,
-    way: Way,
-    steps: &mut Steps<L>,
-) -> Result<bool, Memory> {
-    let none = Matrix::new(alloc)?;
-    holds_against(alloc, layout, &none, case, way, steps)
 }
 
 /// Whether a case alone holds.
@@ -198,8 +146,7 @@ fn holds<L: Ledger>(alloc: Global, case: &Case, way: Way, blank: Blank) -> Resul
 {
     let mut steps = Steps::<L>::new(blank);
     let old = older_of(alloc, case.older, &mut steps)?;
-    let layout = layout_of(old, whole_change(case));
-    holds_behind(alloc, &layout, case, way, &mut steps)
+    holds_against(alloc, &old, case, way, &mut steps)
 }
 
 /// Each case of a table holds.
@@ -240,11 +187,6 @@ fn assert_starts(rt: &impl Abort, alloc: Global, way: Way) {
     assert_all(rt, alloc, way, &STARTS);
 }
 
-/// Each case of this table holds.
-fn assert_other_shapes(rt: &impl Abort, alloc: Global, way: Way) {
-    assert_all(rt, alloc, way, &OTHER_SHAPES);
-}
-
 #[test]
 fn rows_are_kept_where_nothing_changed(rt: HostRuntime) {
     assert_changes(&rt, rt.alloc(), Way::Relay);
@@ -256,9 +198,8 @@ fn rows_are_kept_where_nothing_changed(rt: HostRuntime) {
 }
 
 #[test]
-fn windows_keep_rows_of_their_last_layout(rt: HostRuntime) {
-    assert_moves(&rt, rt.alloc(), Way::LastLayout);
-    assert_base_levels(&rt, rt.alloc(), Way::LastLayout);
-    assert_starts(&rt, rt.alloc(), Way::LastLayout);
-    assert_other_shapes(&rt, rt.alloc(), Way::Wider);
+fn windows_keep_older_rows(rt: HostRuntime) {
+    assert_moves(&rt, rt.alloc(), Way::Window);
+    assert_base_levels(&rt, rt.alloc(), Way::Window);
+    assert_starts(&rt, rt.alloc(), Way::Window);
 }

@@ -221,9 +221,3 @@ pub const STARTS: [Case; 4] = [
         ..MOVED
     },
 ];
-
-/// A window that became wider keeps no row, where a line changed and where the last layout is of other lines.
-pub const OTHER_SHAPES: [Case; 2] = [
-    case!("a wider window" => ABC, Edit(3, 1, 1), "axc", ANEW),
-    case!("a wider window of other lines" => rows_of!("uvw"), Edit(3, 1, 1), "axc", ANEW),
-];

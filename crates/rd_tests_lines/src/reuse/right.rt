@@ -2,7 +2,6 @@
 ghost use Rattle.std.specs.Prelude.{◌≡◌, true, IsTrue, IfOk, Some, option_map};
 ghost use Rattle.std.specs.Bool.{OnTrue};
 ghost use Rattle.rd_matrix.specs.Blocks.{IsAmong, IsWithin, first_start};
-ghost use Rattle.rd_matrix.specs.Sources.{IsSource};
 ghost use Rattle.rd_matrix.specs.declared.matrix.Entry.{Entry};
 ghost use Rattle.rd_reuse.specs.Keeping.{AreRight, entry_under, has_base, is_kept, is_outside, is_under, started_at, taken};
 ghost use Rattle.rd_rows.specs.Copies.{shown_rows};
@@ -126,7 +125,6 @@ fn block_is_right<B: BlockSource, L: Ledger>(
     requires among { IsAmong (B.meaning source.old).blocks block.now }
     ensures right { IfOk result (λ right. OnTrue right (is_kept old.now change block.now ≡ true
         → shown_rows (taken old.now change block.now.start) ≡ (B.meaning source.old).rows_of block.now shape)) }
-    ensures source { IsSource (B.meaning source.old) }
     ensures stays { B.meaning source.new ≡ B.meaning source.old }
 {
     let rows = source.rows(alloc, block, shape, steps)?;
@@ -145,7 +143,6 @@ pub fn are_right<B: BlockSource, L: Ledger>(
     requires first { first_start (B.meaning source.old).blocks ≡ 1 }
     requires within { IsWithin 1 (B.meaning source.old).blocks }
     ensures right { IfOk result (λ right. OnTrue right (AreRight (B.meaning source.old) old.now change shape)) }
-    ensures source { IsSource (B.meaning source.old) }
     ensures stays { B.meaning source.new ≡ B.meaning source.old }
 {
     let mut block = source.block_of(alloc, 1)?;

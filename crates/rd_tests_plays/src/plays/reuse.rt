@@ -19,7 +19,7 @@ use std::test::Fail;
 /// Scripts by what changes, line by line. Behind a redisplay stands how often each row of each window was copied, in a digit each: a row
 /// that nothing changed stays as it is where its whole window rests, and has a copy more where only other rows changed. A row that is
 /// laid out anew was not copied.
-const SCRIPTS: [(&'static str, &'static [&'static [u8]]); 3] = [
+const SCRIPTS: [(&'static str, &'static [&'static [u8]]); 4] = [
     (
         "a letter in the last row",
         &[
@@ -62,6 +62,18 @@ const SCRIPTS: [(&'static str, &'static [&'static [u8]]); 3] = [
             br#"{"op":"insert","buffer":"main","pos":1,"text":"0\n"}"#,
             br#"{"op":"redisplay"}"#,
             b"111",
+        ],
+    ),
+    (
+        "another width",
+        &[
+            br#"{"op":"frame","width":12,"height":4}"#,
+            br#"{"op":"insert","buffer":"main","pos":1,"text":"a\nb\nc"}"#,
+            br#"{"op":"redisplay"}"#,
+            b"000",
+            br#"{"op":"frame","width":24,"height":4}"#,
+            br#"{"op":"redisplay"}"#,
+            b"000",
         ],
     ),
 ];

@@ -13,7 +13,6 @@ turns-init g c =
     let first = c.requires.first in
     record {
       source = c.block_of.ensures.stays;
-      is = c.block_of.ensures.source;
       round = first-round m c.args.old.now c.args.change c.args.shape (first_start m.blocks) c.in_ok-block.block c.block_of.ensures.source.blocks.stand found.among (omega (arith, from, first));
     }
 
@@ -57,7 +56,6 @@ turns-preserved g c =
     let next = subst (λ (x : SourceValues). (k : ℕ) → slice_get x.blocks k ≡ Some b → c.in_ok-next.field-0 ≡ slice_get x.blocks (k + 1)) (c.block_is_right.ensures.stays ∙ inv.source) c.in_ok-next.ensures.next in
     record {
       source = c.next.ensures.stays ∙ (c.block_is_right.ensures.stays ∙ inv.source);
-      is = inv.is;
       round = next-round m c.args.old.now c.args.change c.args.shape b c.in-Some.next c.in_ok-next.field-0 inv.round right next c.in-Some.is;
     }
 
