@@ -7,11 +7,10 @@ use Rattle.clap.proofs.FaultLemmas.{leaf_fault}
 use Rattle.clap.proofs.SimpleLemmas.{is_nil}
 use Rattle.clap.proofs.WalkLemmas.{both}
 use Rattle.clap.specs.Kinds.{Kinds}
-use Rattle.clap.specs.Lexer.{long_of}
 use Rattle.clap.specs.Walk.{Held, Row, Rule, arg_by_id, arg_by_long, is_empty, nothing_held, reacted, settled, used, walk_from}
 use Rattle.clap.specs.Simple.{built, matches_of}
 use Rattle.clap.specs.Faults.{fault_of, react_fault, settle_fault, use_fault}
-use Rattle.rd_words.specs.Words.{Text, Setting, generate, dump, name_of, named, has_value, Use, with_use, begun, last, uses_from, fits, is_flag, is_in_form, is_number, is_of, is_used, values_from, values_of}
+use Rattle.rd_words.specs.Words.{Text, Setting, generate, dump, name_of, named, named_in, has_value, Use, with_use, begun, last, uses_from, fits, is_flag, is_in_form, is_number, is_of, is_used, values_from, values_of}
 use Rattle.rd_words.specs.Command.{command, unless, values_of_rows}
 use Rattle.rd_words.proofs.WordByWord.{awaiting, at_end, held, later, met, outcome, outcome-is, outcome-word, rule, shape, unless-first, waits}
 use Rattle.rd_words.proofs.Uses.{HaveNumber, Say, ended-is, ended_rows, ended-say, flag-fits, flag-used, named-is, rows, value-fits, value-used}
@@ -122,7 +121,7 @@ mutual
   starts [] us = ended-is us
   starts (word ∷ words) us =
       outcome-word (rows us) None word words
-      ∙ word-is us words (bytes_eq word (45 ∷ 45 ∷ [])) (long_of word) (starts words) (waits-is words us)
+      ∙ word-is us words (bytes_eq word (45 ∷ 45 ∷ [])) (named_in word) (starts words) (waits-is words us)
 
   waits-is : (words : List Text) (us : List Use) (s : Setting) → has_value s ≡ true → wait us s words ≡ after us (uses_from (Some s) words)
   waits-is [] us s e = unless-first (settle_fault shape.rules false (held (rows us) (Some (name_of s, [])))) _ _ (unsettled us s e)

@@ -1,3 +1,4 @@
+mod OwnWords
 mod WordByWord
 mod Uses
 mod Exact

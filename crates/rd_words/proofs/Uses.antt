@@ -20,6 +20,7 @@ use Rattle.clap.specs.declared.parser.matches.ValueSource.TheVariants.{CommandLi
 use Rattle.rd_base.proofs.Lists.{none-found}
 use Rattle.rd_words.specs.Words.{Text, Setting, class_file, mirror_file, bracket_file, generate, dump, settings, name_of, named, has_value, Use, is_of, is_true, is_used, is_in_form, is_number, value_of, fits, WordValues, values_by, values_in}
 use Rattle.rd_words.specs.Command.{AreWhole, unless, values_of_rows}
+use Rattle.rd_words.proofs.OwnWords.{is_number-is}
 use Rattle.rd_words.proofs.WordByWord.{ended, held, rule, shape}
 
 -- the row of a use
@@ -56,7 +57,7 @@ kinds-fit false false p q = refl
 
 pub value-fits : (us : List Use) (s : Setting) (v : Text) → has_value s ≡ true → is_empty (use_fault false (rule s) (v ∷ []) (rows us)) ≡ fits us (s, v)
 value-fits us dump v e = cc
-value-fits us generate v e = rw (has_row-is us generate) (kinds-fit (is_used generate us) (is_number v) kind.ArgumentConflict kind.ValueValidation)
+value-fits us generate v e = rw (has_row-is us generate, is_number-is v) (kinds-fit (is_used generate us) (is_number v) kind.ArgumentConflict kind.ValueValidation)
 value-fits us s v e = rw (has_row-is us s) (kinds-fit (is_used s us) true kind.ArgumentConflict kind.ValueValidation)
 
 pub flag-fits : (us : List Use) → is_empty (use_fault false (rule dump) [] (rows us)) ≡ fits us (dump, codes "true")

@@ -11,7 +11,8 @@ use Rattle.clap.specs.Walk.{arg_by_long}
 use Rattle.clap.specs.Simple.{Shape, built, filled}
 use Rattle.clap.specs.Faults.{bundle_fault, bundle_step_fault, check_fault, defaults_fault, flag_word_fault, flags_fault, long_fault, option_fault, react_fault, settle_fault, step_fault, turn_fault, walk_fault}
 use Rattle.clap.specs.declared.error.kind.ErrorKind.TheVariants as kind
-use Rattle.rd_words.specs.Words.{Text, Setting, is_flag}
+use Rattle.rd_words.specs.Words.{Text, Setting, is_flag, named_in}
+use Rattle.rd_words.proofs.OwnWords.{named_in-is}
 use Rattle.rd_words.specs.Command.{asked, command, unless}
 
 -- the command as it is built
@@ -115,7 +116,7 @@ at_end h (word ∷ words) = None
 abbrev pub met_word : Held → Text → List Text → Option (List Row)
 met_word h word rest =
     if bytes_eq word (45 ∷ 45 ∷ []) then at_end h rest
-    else option_and_then (λ p. met h (arg_by_long shape.rules p.0) p.1 rest) (long_of word)
+    else option_and_then (λ p. met h (arg_by_long shape.rules p.0) p.1 rest) (named_in word)
 
 dashes : (h : Held) (rest : List Text) → outcome (trailing_at (walk_from h)) rest ≡ at_end h rest
 dashes h [] = refl
@@ -162,7 +163,10 @@ module _ (rows : List Row) (pending : Option (Text × List Text)) (word : Text) 
   -- a word behind what is held
   pub outcome-word : outcome (walk_from (held rows pending)) (word ∷ rest) ≡ met_word (held rows pending) word rest
   unfolding walked
-  outcome-word = by_word (bytes_eq word (45 ∷ 45 ∷ [])) (long_of word)
+  outcome-word =
+      by_word (bytes_eq word (45 ∷ 45 ∷ [])) (long_of word)
+      ∙ ap (λ (l : Option (Text × Option Text)). if bytes_eq word (45 ∷ 45 ∷ []) then at_end (held rows pending) rest else option_and_then (λ p. met (held rows pending) (arg_by_long shape.rules p.0) p.1 rest) l)
+      (named_in-is word)
 
 -- ---- what is pending is used by the next word, or by the end
 
@@ -204,7 +208,7 @@ module _ (rows : List Row) (pending : Option (Text × List Text)) where
   later [] = late_end
   later (word ∷ rest) =
       outcome-word rows pending word rest
-      ∙ (late_word rest (bytes_eq word (45 ∷ 45 ∷ [])) (long_of word)
+      ∙ (late_word rest (bytes_eq word (45 ∷ 45 ∷ [])) (named_in word)
       ∙ ap (λ (o : Option (List Row)). late o) (sym (outcome-word (settled_rows shape.rules pending rows) None word rest)))
 
 -- ---- a word behind an option whose value is still to come
@@ -236,7 +240,7 @@ seen [] = refl
 seen (b ∷ bs) = go (b == 45)
   where
     go : (t : Bool) → Seen (t && bytes_eq bs (45 ∷ [])) (option_and_then long_of_rest (option_and_then (strip_byte 45) (if t then Some bs else None)))
-        (option_and_then short_of_rest (if t then Some bs else None)) (is_some (option_and_then (λ rest. slice_get (chars rest) 0) (if t then Some bs else None)))
+        (option_and_then short_of_rest (if t then Some bs else None)) (t && is_some (slice_get (chars bs) 0))
     go false = refl
     go true = hyphened bs
 

@@ -1,11 +1,10 @@
 -- The words of the command line, and what they say.
-use Rattle.std.specs.Prelude.{ℕ, ◌&&◌, Bool, true, false, not, if◌then◌else◌, List, [], ◌∷◌, ◌++◌, find, slice_get, Option, None, Some, is_some, option_map, option_and_then, codes}
+use Rattle.std.specs.Prelude.{ℕ, ◌==◌, ◌&&◌, Bool, true, false, not, nat_le, if◌then◌else◌, List, [], ◌∷◌, ◌++◌, find, slice_get, Option, None, Some, is_some, option_map, option_and_then, codes}
 use Rattle.std.specs.List.{list_any}
 use Rattle.std.specs.Option.{option_map_or}
-use Rattle.std.specs.Str.{bytes_eq, chars}
+use Rattle.std.specs.Str.{all_ascii_digits, bytes_eq, chars}
 use Rattle.std.specs.Str.Parse.{digits_value, without_leading_plus}
-use Rattle.clap.specs.Lexer.{long_of, strip_byte}
-use Rattle.clap.specs.ValueTests.{is_unsigned_in}
+use Rattle.rd_base.specs.Cuts.{cut}
 use Rattle.rd_base.specs.declared.limits.TheConstants.{GENERATED_NUMBER}
 
 abbrev pub Text : Type 0
@@ -43,7 +42,21 @@ Use = Setting × Text
 
 -- a hyphen and a character behind it: such a word is no value
 abbrev pub is_flag : Text → Bool
-is_flag word = is_some (option_and_then (λ rest. slice_get (chars rest) 0) (strip_byte 45 word))
+is_flag [] = false
+is_flag (c ∷ cs) = c == 45 && is_some (slice_get (chars cs) 0)
+
+-- what stands before a first `=` (61), and what stands behind it; the whole text where it has none
+abbrev pub name_and_value : Text → Text × Option Text
+name_and_value text = option_map_or (λ parts. (parts.0, Some parts.1)) (cut 61 text) (text, None)
+
+-- what stands behind two hyphens (45), where something does
+abbrev pub behind_hyphens : Text → Option Text
+behind_hyphens (a ∷ b ∷ c ∷ cs) = if a == 45 && b == 45 then Some (c ∷ cs) else None
+behind_hyphens word = None
+
+-- the name and the value in a word `--name` or `--name=VALUE`
+abbrev pub named_in : Text → Option (Text × Option Text)
+named_in word = option_map name_and_value (behind_hyphens word)
 
 abbrev pub with_use : Use → Option (List Use) → Option (List Use)
 with_use u us = option_map (λ rest. u ∷ rest) us
@@ -68,11 +81,17 @@ uses_from (Some s) (word ∷ words) = if is_flag word then None else with_use (s
 uses_from None (word ∷ words) =
     if bytes_eq word (45 ∷ 45 ∷ [])
     then last words
-    else option_and_then (λ p. begun (named p.0) p.1 (uses_from None words) (λ s. uses_from (Some s) words)) (long_of word)
+    else option_and_then (λ p. begun (named p.0) p.1 (uses_from None words) (λ s. uses_from (Some s) words)) (named_in word)
+
+-- decimal digits, one or more
+abbrev pub is_decimal : Text → Bool
+is_decimal [] = false
+is_decimal digits = all_ascii_digits digits
 
 -- the number of a generated script: decimal digits, before which a plus may stand, of at most `GENERATED_NUMBER`
 abbrev pub is_number : Text → Bool
-is_number text = is_unsigned_in 0 GENERATED_NUMBER text
+is_number text =
+    is_decimal (without_leading_plus text) && nat_le (digits_value 10 (without_leading_plus text)) GENERATED_NUMBER
 
 abbrev pub number_of : Text → Option ℕ
 number_of text = if is_number text then Some (digits_value 10 (without_leading_plus text)) else None

@@ -1,6 +1,33 @@
 //! The words of the command line on worked examples.
 ghost use Rattle.std.specs.Prelude.{◌≡◌, ◌∷◌, [], false, true, None, Some, codes};
-ghost use Rattle.rd_words.specs.Words.{values_of};
+ghost use Rattle.rd_words.specs.Words.{is_flag, is_number, named_in, values_of};
+
+/// What one word is: a name with a value, which the first `=` ends, or without one; and a flag, which no value is. The call does
+/// nothing.
+fn words_of_their_own()
+    ensures name { named_in (codes "--data") ≡ Some (codes "data", None) }
+    ensures value { named_in (codes "--mirror=M=N") ≡ Some (codes "mirror", Some (codes "M=N")) }
+    ensures empty_value { named_in (codes "--mirror=") ≡ Some (codes "mirror", Some []) }
+    ensures no_name { named_in (codes "--=M") ≡ Some ([], Some (codes "M")) }
+    ensures one_hyphen { named_in (codes "-data") ≡ None }
+    ensures hyphens_alone { named_in (codes "--") ≡ None }
+    ensures flag { is_flag (codes "-D") ≡ true }
+    ensures hyphen { is_flag (codes "-") ≡ false }
+    ensures no_flag { is_flag (codes "D-") ≡ false }
+{}
+
+/// The numbers of generated scripts, and what is none. The call does nothing.
+fn numbers_of_scripts()
+    ensures zero { is_number (codes "0") ≡ true }
+    ensures plus { is_number (codes "+007") ≡ true }
+    ensures most { is_number (codes "2147483647") ≡ true }
+    ensures too_great { is_number (codes "2147483648") ≡ false }
+    ensures no_digits { is_number (codes "+") ≡ false }
+    ensures empty { is_number [] ≡ false }
+    ensures two_signs { is_number (codes "++7") ≡ false }
+    ensures minus { is_number (codes "-7") ≡ false }
+    ensures letter { is_number (codes "7x") ≡ false }
+{}
 
 /// Words that are read: the least of them; all of them, joined to their values or not, and a last `--`; and values that are a
 /// hyphen, empty, or like a name. The call does nothing.
