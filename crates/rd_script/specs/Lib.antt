@@ -1,5 +1,6 @@
 pub mod Fields
 pub mod Forms
+pub mod GeneratedOps
 pub mod Numbers
 pub mod Objects
 pub mod Properties

@@ -32,7 +32,7 @@ mod word;
 
 pub use buffer_name::BufferName;
 pub use fault::OpFault;
-pub use law::no_line_says_want_of_memory;
+pub use law::{generated_lines_are_ops, no_line_says_want_of_memory};
 pub use object::{OpEntry, OpRun, OpSpec};
 pub use op::Op;
 pub use rd_dump::{WindowFacts, print_dump};
