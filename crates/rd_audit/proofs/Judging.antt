@@ -87,6 +87,14 @@ no-no x told file stream dump left after bytes t d e s c (other, (found, (small,
     let all = MatchOption-at_some ⊤ (λ xs. bytes ≡ xs) stream e (Consumes-whole left after bytes (λ xs. bytes ≡ xs) c end refl) in
     no-difference x dump (terminal_after dump stream) s (subst (λ b. IsDifference x dump (terminal_after dump b)) all (subst (λ p. IsDifference x p (terminal_after p bytes)) same differs))
 
+-- yes comes only of a stream that shows the dump
+yes-shows : (told : Option (List ℕ)) (file stream : List ℕ) (dump : Picture) (left after : Option (List ℕ)) (bytes : List ℕ) → told ≡ Some file → dump_in file ≡ Ok dump → left ≡ Some stream
+    → Consumes left after bytes → JudgesFile Yes told bytes after → Shows (terminal_after dump stream) dump
+yes-shows told file stream dump left after bytes t d e c (other, (found, (small, is), good), ((short, end), shows)) =
+    let same : other ≡ dump = same-dump other dump (dump_in file) (ap dump_in (sym (MatchOption-at_some ⊤ (λ bytes. found ≡ bytes) file t is)) ∙ good) d in
+    let all = MatchOption-at_some ⊤ (λ xs. bytes ≡ xs) stream e (Consumes-whole left after bytes (λ xs. bytes ≡ xs) c end refl) in
+    subst (λ b. Shows (terminal_after dump b) dump) all (subst (λ p. Shows (terminal_after p bytes) p) same shows)
+
 neither : {P : Type 0} → ⊥ ⊎ (⊥ ⊎ ⊥) → P
 neither (inl h) = absurd h
 neither (inr (inl h)) = absurd h
@@ -103,3 +111,9 @@ only-yes TooLong words told left after bytes s shows c j read found = neither (j
 only-yes ReadFault words told left after bytes s shows c j read found = absurd (read refl)
 only-yes WriteFault words told left after bytes s shows c j read found = neither (judged WriteFault words told left after bytes ⊥ ⊥ s c j (λ e. absurd (cc)))
 only-yes NoMemory words told left after bytes s shows c j read found = absurd (found refl)
+
+pub judged-yes : (v : Verdict) (words : List (List ℕ)) (told : List ℕ → Option (List ℕ)) (left after : Option (List ℕ)) (bytes : List ℕ) (s : IsSound words told left)
+    → Consumes left after bytes → Comes v words told bytes after → v ≡ Yes → Shows (terminal_after s.dump s.stream) s.dump
+judged-yes v words told left after bytes s c j same =
+    let k : Comes Yes words told bytes after = subst (λ x. Comes x words told bytes after) same j in
+    yes-shows (told k.0) s.file s.stream s.dump left after bytes (told-is words told left k.0 s k.1) s.good s.bytes c k.2

@@ -5,6 +5,7 @@ mod Decimals
 mod Faces
 mod Judging
 mod Lacking
+mod LastLines
 mod Leaving
 mod Lines
 mod OnDumps

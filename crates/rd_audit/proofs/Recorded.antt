@@ -1,9 +1,9 @@
 -- What a run of a script leaves for the auditor: its stream is the terminal's, and its report has the dump of what that shows.
-use Rattle.std.proofs.Common.{◌≡◌, ℕ, ◌+◌, ◌<◌, ◌≤◌, Bool, true, false, if◌then◌else◌, is_some, inl, inr, Option, None, Some, unwrap_or, Ok, decimal, codes, List, [], ◌∷◌, ◌++◌, length, refl, sym, ap, ◌∙◌, subst, arith, append_assoc}
+use Rattle.std.proofs.Common.{◌≡◌, ℕ, ◌+◌, ◌<◌, ◌≤◌, Bool, true, false, if◌then◌else◌, is_some, inl, inr, Option, None, Some, unwrap_or, Ok, decimal, codes, List, [], ◌∷◌, ◌++◌, length, take, refl, sym, ap, ◌∙◌, subst, arith, append_assoc}
 use Rattle.std.specs.Prelude.{IsSome}
 use Rattle.std.specs.Io.KnownBytes.{Appends}
 use Rattle.std.proofs.lemmas.Bool.{false≢true}
-use Rattle.std.proofs.lemmas.List.Elements.{All-nil}
+use Rattle.std.proofs.lemmas.List.{take_all}
 use Rattle.std.proofs.lemmas.List.Sums.{fold-append}
 use Rattle.rd_dump.specs.Dumps.{dump_text}
 use Rattle.rd_dump.specs.declared.dump.WindowFacts.{WindowFacts}
@@ -11,20 +11,19 @@ use Rattle.rd_io.specs.Lines.{lines_of}
 use Rattle.rd_layout.specs.Copies.{redisplayed as redisplayed_session}
 use Rattle.rd_layout.specs.Facts.{fact_of, facts_of}
 use Rattle.rd_layout.specs.Redisplays.{update_of}
-use Rattle.rd_layout.specs.Screens.{laid_out}
 use Rattle.rd_layout.specs.Sessions.{SessionValue}
 use Rattle.rd_layout.specs.Since.{KnownScreenFits, IsSession}
 use Rattle.rd_layout.proofs.Placed.{shown-count}
 use Rattle.rd_run.proofs.Effects.{effect-is, shown-done}
 use Rattle.rd_update.proofs.Sizes.{is-screen, width-is}
-use Rattle.rd_run.proofs.Inputs.{run-clear, run-push}
+use Rattle.rd_run.proofs.Inputs.{run-push}
 use Rattle.rd_run.specs.Alike.{End}
-use Rattle.rd_run.specs.Ends.{Comes, Drawn, Ended, IsWhole, Ran, Sunk, Took, done_of, last_in, told_in}
+use Rattle.rd_run.specs.Ends.{Comes, Drawn, TellsFault, Took, done_of, last_in}
 use Rattle.rd_run.specs.Given.{Given}
 use Rattle.rd_run.specs.Reports.{last_line, shown_line, stopped_line}
-use Rattle.rd_run.specs.Runs.{Effect, Input, Mode, StandLaws, Standing, World, after, dump_lines, effect, is_shown, opened, outcome_at, run, run_line, told_of}
+use Rattle.rd_run.specs.Runs.{Effect, Input, LeadsOn, Mode, StandLaws, Standing, World, after, dump_lines, effect, is_shown, opened, outcome_at, run, run_line, told_of}
 use Rattle.rd_run.specs.declared.status.Status.{Status}
-use Rattle.rd_run.specs.declared.status.Status.TheVariants.{Done, WriteFault}
+use Rattle.rd_run.specs.declared.status.Status.TheVariants.{Done, Usage, BadData, BadScript, ReadFault, WriteFault, NoMemory}
 use Rattle.rd_state.specs.States.{StateValue}
 use Rattle.rd_state.specs.Valid.{IsValid}
 use Rattle.rd_term.specs.Pictures.{Picture, width_of}
@@ -33,14 +32,13 @@ use Rattle.rd_tree.specs.Calls.{frame_of}
 use Rattle.rd_tree.proofs.Rooms.{leaves-some}
 use Rattle.rd_tree.proofs.Standing.{placed-count}
 use Rattle.rd_update.specs.Updates.{Update}
-use Rattle.rd_audit.proofs.Lacking.{lacks-append, lacks-decimal}
-use Rattle.rd_audit.proofs.Leaving.{IsPassed, leaves-on, passed-line}
+use Rattle.rd_audit.proofs.LastLines.{broken-passes, last-passes}
+use Rattle.rd_audit.proofs.Leaving.{IsPassed, leave-unshown, stream-left, told-behind}
 use Rattle.rd_audit.proofs.ReadBack.{read-last}
-use Rattle.rd_audit.proofs.Since.{recorded-end, recorded-read, run_line-reads, since-append}
+use Rattle.rd_audit.proofs.Since.{AreRun, recorded-end, recorded-read, run-all, run-last, run-split, run_line-reads, since-append, sizes-kept}
 use Rattle.rd_audit.specs.Dumps.{dump_in}
 use Rattle.rd_audit.specs.Printed.{HasDump, HasNoCursor}
-use Rattle.rd_audit.specs.Recorded.{IsRecording, LeaveScreen, recorded, since}
-use Rattle.rd_audit.specs.Rows.{is_cursor}
+use Rattle.rd_audit.specs.Recorded.{AreUnshown, HaveNoFrame, IsRecording, IsReported, IsSentWhole, IsToldInOneLine, IsToldWhole, LeaveScreen, recorded, screen_behind, since}
 use Rattle.rd_audit.specs.Verdicts as verdicts
 
 -- ---- the dump of a screen
@@ -101,19 +99,17 @@ run_line-tells : (w : World) (t : Input) (screen : Picture) → is_shown (outcom
     → (rows : ℕ) × ((run_line w t).told ≡ w.told ++ (shown_line (w.now.lines + 1) rows ++ dump_text screen (facts_of (run_line w t).now.session)))
 run_line-tells w t screen = tells-if (is_some w.fault) w (effect w.now t) screen (effect-tells w.now t screen)
 
--- ---- a run that ends with a redisplay that was shown
+-- ---- the last redisplay that was shown
 
--- what such a run leaves: a picture that the terminal of its stream shows, and a report whose last dump is that of the picture
-pub record IsLeft (mode : Mode) (inputs : List Input) : Type 0 where
-  pub picture : Picture
-  pub has : HasDump picture
+-- the report of lines has the dump of a screen, behind a newline, and no line of a cursor behind it
+pub record IsDumped (mode : Mode) (inputs : List Input) (screen : Picture) : Type 0 where
+  pub has : HasDump screen
   pub windows : List WindowFacts
   pub some : 0 < length windows
   pub front : List ℕ
   pub tail : List ℕ
-  pub told : (run (opened mode) inputs).told ≡ front ++ 10 ∷ (dump_text picture windows ++ tail)
+  pub told : (run (opened mode) inputs).told ≡ front ++ 10 ∷ (dump_text screen windows ++ tail)
   pub passed : IsPassed tail
-  pub shows : Shows (verdicts.terminal_after picture (recorded mode inputs)) picture
 
 abbrev shown_body : ℕ → ℕ → List ℕ
 shown_body number rows = decimal number ++ (codes ": shown " ++ (decimal rows ++ codes " rows"))
@@ -134,55 +130,115 @@ terminals-same : (w n x m : ℕ) (bs cs : List ℕ) → w ≡ x → n ≡ m → 
 terminals-same w n x m bs cs p q r =
     ap (λ k. feed_bytes (unknown k n) bs) p ∙ ap (λ k. feed_bytes (unknown x k) bs) q ∙ ap (feed_bytes (unknown x m)) r
 
-shown-run : (laws : StandLaws) (mode : Mode) (before : List Input) (t : Input) (behind : List Input) → mode.dumps ≡ true → mode.generated ≡ None
-    → Ran mode (before ++ t ∷ behind) → is_shown (outcome_at (run (opened mode) before) t) ≡ true → LeaveScreen (run_line (run (opened mode) before) t) behind → IsLeft mode (before ++ t ∷ behind)
-shown-run laws mode before t behind dumps read ran shown leave =
-    let w = run (opened mode) before in
-    let next = run_line w t in
-    let inputs = before ++ t ∷ behind in
-    let leads = laws.leads mode before t in
-    let under = laws.in_mode mode before in
-    let screen = (laid_out w.now.session.files w.now.session.state).picture in
-    let whole : run (opened mode) inputs ≡ run next behind = fold-append run_line (opened mode) before (t ∷ behind) in
-    let ended : (run next behind).fault ≡ None = ap (λ (x : World). x.fault) (sym whole) ∙ ran in
-    let clear : w.fault ≡ None = run-clear w (t ∷ behind) ended in
-    let session : IsSession next.now.session = subst (λ (x : World). IsSession x.now.session) (run-push (opened mode) before t) (laws.session mode (before ++ t ∷ [])) in
-    let reached : next.now.session.current ≡ Some screen = leads.reaches shown in
-    let fits : KnownScreenFits (Some screen) next.now.session.state = subst (λ c. KnownScreenFits c next.now.session.state) reached session.screen in
-    let bytes = since (recorded mode before) (effect w.now t) in
-    let leaves = leaves-on next behind bytes ended leave in
-    let tells = run_line-tells w t screen shown (ap (λ (m : Mode). m.generated) under ∙ read) (ap (λ (m : Mode). m.dumps) under ∙ dumps) reached in
-    let dump = dump_text screen (facts_of next.now.session) in
-    let line = shown_body (w.now.lines + 1) tells.0 in
-    let told : next.told ≡ w.told ++ ((line ++ 10 ∷ []) ++ dump) = tells.1 ∙ ap (λ l. w.told ++ (l ++ dump)) (shown-line (w.now.lines + 1) tells.0) in
-    let stream : bytes ≡ recorded mode inputs = sym (since-append [] (opened mode) before (t ∷ behind) ∙ leaves.stream) in
-    let width = next.now.session.state.width in
-    let height = next.now.session.state.height in
-    let terminal : next.terminal ≡ verdicts.terminal_after screen (recorded mode inputs) =
-    run_line-reads w t (recorded mode before) clear leads (recorded-read mode before clear (laws.leads mode))
-    ∙ terminals-same width height (width_of screen.rows) (length screen.rows) bytes (recorded mode inputs) (sym (width-is width height screen fits.0)) (sym fits.0.rows) stream in
-    record {
-      picture = screen;
-      has = has-dump next.now.session.state screen session.state fits;
-      windows = facts_of next.now.session;
-      some = windows-told next.now.session session.state;
-      front = w.told ++ line;
-      tail = leaves.tail;
-      told = ap (λ (x : World). x.told) whole ∙ leaves.told ∙ ap (λ l. l ++ leaves.tail) told ∙ dump-behind-newline w.told line dump leaves.tail;
-      passed = leaves.passed;
-      shows = subst (λ x. Shows x screen) terminal (leads.shows shown);
-    }
+-- a redisplay that is shown, in a run of which each line was run: lines before it, the redisplay, and those behind it
+pub record Shown (mode : Mode) (before : List Input) (t : Input) (behind : List Input) : Type 0 where
+  pub dumps : mode.dumps ≡ true
+  pub read : mode.generated ≡ None
+  pub all : AreRun (opened mode) (before ++ t ∷ behind)
+  pub shown : is_shown (outcome_at (run (opened mode) before) t) ≡ true
+
+module _ (laws : StandLaws) (mode : Mode) (before : List Input) (t : Input) (behind : List Input) (h : Shown mode before t behind) where
+  abbrev at_redisplay : World
+  at_redisplay = run (opened mode) before
+
+  abbrev behind_it : World
+  behind_it = run_line at_redisplay t
+
+  abbrev all_lines : List Input
+  all_lines = before ++ t ∷ behind
+
+  parts : AreRun (opened mode) before × (at_redisplay.fault ≡ None) × AreRun behind_it behind
+  parts = run-split (opened mode) before t behind h.all
+
+  reached : behind_it.now.session.current ≡ Some (screen_behind mode before)
+  reached = (laws.leads mode before t).reaches h.shown
+
+  session : IsSession behind_it.now.session
+  session = subst (λ (x : World). IsSession x.now.session) (run-push (opened mode) before t) (laws.session mode (before ++ t ∷ []))
+
+  fits : KnownScreenFits (Some (screen_behind mode before)) behind_it.now.session.state
+  fits = subst (λ c. KnownScreenFits c behind_it.now.session.state) reached session.screen
+
+  whole : run (opened mode) all_lines ≡ run behind_it behind
+  whole = fold-append run_line (opened mode) before (t ∷ behind)
+
+  -- the report has its dump
+  pub dumped : AreUnshown behind_it behind → IsDumped mode all_lines (screen_behind mode before)
+  dumped none =
+      let under = laws.in_mode mode before in
+      let tells = run_line-tells at_redisplay t (screen_behind mode before) h.shown (ap (λ (m : Mode). m.generated) under ∙ h.read) (ap (λ (m : Mode). m.dumps) under ∙ h.dumps) reached in
+      let dump = dump_text (screen_behind mode before) (facts_of behind_it.now.session) in
+      let line = shown_body (at_redisplay.now.lines + 1) tells.0 in
+      let told : behind_it.told ≡ at_redisplay.told ++ ((line ++ 10 ∷ []) ++ dump) = tells.1 ∙ ap (λ l. at_redisplay.told ++ (l ++ dump)) (shown-line (at_redisplay.now.lines + 1) tells.0) in
+      let more = told-behind behind_it behind parts.2 none in
+      record {
+        has = has-dump behind_it.now.session.state (screen_behind mode before) session.state fits;
+        windows = facts_of behind_it.now.session;
+        some = windows-told behind_it.now.session session.state;
+        front = at_redisplay.told ++ line;
+        tail = more.tail;
+        told = ap (λ (x : World). x.told) whole ∙ (more.told ∙ (ap (λ l. l ++ more.tail) told ∙ dump-behind-newline at_redisplay.told line dump more.tail));
+        passed = more.passed;
+      }
+
+  -- a terminal of the frame's size is one of the dump's
+  sized : (bytes : List ℕ) → feed_bytes (unknown behind_it.now.session.state.width behind_it.now.session.state.height) bytes ≡ verdicts.terminal_after (screen_behind mode before) bytes
+  sized bytes =
+      let width = behind_it.now.session.state.width in
+      let height = behind_it.now.session.state.height in
+      let screen = screen_behind mode before in
+      terminals-same width height (width_of screen.rows) (length screen.rows) bytes bytes (sym (width-is width height screen fits.0)) (sym fits.0.rows) refl
+
+  -- where the lines behind it leave the screen the terminal of the stream shows it
+  pub shows_screen : LeaveScreen behind_it behind → Shows (verdicts.terminal_after (screen_behind mode before) (recorded mode all_lines)) (screen_behind mode before)
+  shows_screen leave =
+      let screen = screen_behind mode before in
+      let bytes = since (recorded mode before) (effect at_redisplay.now t) in
+      let stream : bytes ≡ recorded mode all_lines = sym (since-append [] (opened mode) before (t ∷ behind) ∙ stream-left behind_it behind bytes parts.2 leave) in
+      let terminal : behind_it.terminal ≡ verdicts.terminal_after screen (recorded mode all_lines) =
+      run_line-reads at_redisplay t (recorded mode before) parts.1 (laws.leads mode before t) (recorded-read mode before parts.0 (laws.leads mode))
+      ∙ (sized bytes ∙ ap (verdicts.terminal_after screen) stream) in
+      subst (λ x. Shows x screen) terminal ((laws.leads mode before t).shows h.shown)
+
+  -- where no frame is accepted behind it the terminal of the stream is that of the run
+  pub same_terminal : HaveNoFrame behind_it behind → verdicts.terminal_after (screen_behind mode before) (recorded mode all_lines) ≡ (run (opened mode) all_lines).terminal
+  same_terminal none =
+      let last = (run (opened mode) all_lines).now.session.state in
+      let size = sizes-kept behind_it behind parts.2 none (λ us u. subst (λ (x : World). LeadsOn x u) (fold-append run_line (opened mode) before (t ∷ us)) (laws.leads mode (before ++ t ∷ us) u)) in
+      let wide : behind_it.now.session.state.width ≡ last.width = sym size.0 ∙ ap (λ (x : World). x.now.session.state.width) (sym whole) in
+      let high : behind_it.now.session.state.height ≡ last.height = sym size.1 ∙ ap (λ (x : World). x.now.session.state.height) (sym whole) in
+      sym (sized (recorded mode all_lines))
+      ∙ (terminals-same behind_it.now.session.state.width behind_it.now.session.state.height last.width last.height (recorded mode all_lines) (recorded mode all_lines) wide high refl
+      ∙ sym (recorded-read mode all_lines h.all (laws.leads mode)))
 
 -- ---- a run that has ended
 
-whole-of : (given : Given) (mode : Option Mode) (m : Mode) (status : Status) (inputs : List Input) (bytes : List ℕ) (source : Drawn) (screen report : Sunk) → mode ≡ Some m → status ≡ Done
-    → Ended given mode status inputs bytes source screen report → IsWhole given (Some m) Done inputs bytes source screen report
-whole-of given mode m status inputs bytes source screen report p q (inl h) =
-    subst (λ x. IsWhole given x Done inputs bytes source screen report) p (subst (λ s. IsWhole given mode s inputs bytes source screen report) q h)
-whole-of given mode m status inputs bytes source screen report p q (inr h) = absurd (let k : Done ≡ WriteFault = sym q ∙ h.0 in cc)
+-- the lines of a run were run, whatever its status, but perhaps the last was refused
+all-run : (given : Given) (mode : Mode) (status : Status) (inputs : List Input) (bytes : List ℕ) (source : Drawn) → Comes given (Some mode) status inputs bytes source → AreRun (opened mode) inputs
+all-run given mode Done inputs bytes source (begun, (ran, all)) = run-all (opened mode) inputs ran
+all-run given mode Usage inputs bytes source (begun, none) = absurd none
+all-run given mode (BadData file number kind) inputs bytes source (begun, none) = absurd none
+all-run given mode (BadScript number fault) inputs bytes source (begun, inl bad) = subst (AreRun (opened mode)) (sym bad.split) (run-last (opened mode) bad.others bad.last bad.ran)
+all-run given mode (BadScript number fault) inputs bytes source (begun, inr past) = run-all (opened mode) inputs past.ran
+all-run given mode ReadFault inputs bytes source (begun, here) = run-all (opened mode) inputs here.0
+all-run given mode WriteFault inputs bytes source (begun, none) = absurd none
+all-run given mode NoMemory inputs bytes source (begun, (ran, all)) = run-all (opened mode) inputs ran
 
-ran-of : (given : Given) (mode : Mode) (inputs : List Input) (bytes : List ℕ) (source : Drawn) → Comes given (Some mode) Done inputs bytes source → Ran mode inputs
-ran-of given mode inputs bytes source (begun, (ran, all)) = ran
+-- a front of the line that a status gives
+last-in-passes : (given : Given) (mode : Mode) (status : Status) (inputs : List Input) (bytes : List ℕ) (source : Drawn) (n : ℕ) → mode.generated ≡ None
+    → Comes given (Some mode) status inputs bytes source → IsToldInOneLine status → HasNoCursor (lines_of (take n (last_in (Some mode) status inputs)))
+last-in-passes given mode Done inputs bytes source n read comes one =
+    let now = (run (opened mode) inputs).now in
+    subst (λ g. HasNoCursor (lines_of (take n (done_of g now)))) (sym read) (last-passes mode Done inputs bytes source now.lines n comes.1 one)
+last-in-passes given mode status inputs bytes source n read comes one = last-passes mode status inputs bytes source (length inputs) n comes.1 one
+
+-- what a report has behind the lines that were run: a front of one line, which is no cursor's
+pub record IsEnded (e : End) (mode : Mode) (file : List ℕ) : Type 0 where
+  pub all : AreRun (opened mode) e.inputs
+  pub old : List ℕ
+  pub rest : List ℕ
+  pub split : file ≡ old ++ ((run (opened mode) e.inputs).told ++ rest)
+  pub passed : HasNoCursor (lines_of rest)
 
 -- bytes that were told are those that were there with those that were written
 wrote : (before after : Option (List ℕ)) (bytes file : List ℕ) → IsSome before → after ≡ Some file → Appends before after bytes → (old : List ℕ) × (file ≡ old ++ bytes)
@@ -190,18 +246,86 @@ wrote None after bytes file some e h = absurd (false≢true some)
 wrote (Some xs) None bytes file some e h = absurd h
 wrote (Some xs) (Some ys) bytes file some e h = (xs, ap (λ o. unwrap_or o file) (sym e) ∙ h)
 
--- the last line of a run that ended with status 0
-passed-last : (lines : ℕ) → HasNoCursor (lines_of (last_line Done lines))
-passed-last lines =
-    let line = codes "done " ++ (decimal lines ++ codes " lines") in
-    subst (λ l. HasNoCursor (lines_of l)) (ap (λ l. codes "done " ++ l) (append_assoc (decimal lines) (codes " lines") (10 ∷ [])))
-    (passed-line line [] (lacks-append 10 (codes "done ") (decimal lines ++ codes " lines") refl (lacks-append 10 (decimal lines) (codes " lines") (lacks-decimal 10 lines refl) refl)) refl
-    (All-nil (λ l. is_cursor l ≡ false)))
+sent-ended : (e : End) (mode : Mode) (file : List ℕ) → mode.generated ≡ None → IsSome e.report.before → e.report.after ≡ Some file → IsSentWhole e mode → IsEnded e mode file
+sent-ended e mode file read empty full (inl (one, ended)) =
+    let last = last_in (Some mode) e.status e.inputs in
+    let told = wrote e.report.before e.report.after ((run (opened mode) e.inputs).told ++ last) file empty full ended.told.wrote in
+    record {
+      all = all-run e.given mode e.status e.inputs e.bytes e.source ended.comes;
+      old = told.0;
+      rest = last;
+      split = told.1;
+      passed = subst (λ l. HasNoCursor (lines_of l)) (take_all (length last) last (omega arith)) (last-in-passes e.given mode e.status e.inputs e.bytes e.source (length last) read ended.comes one);
+    }
+sent-ended e mode file read before after (inr (status, one, broke)) =
+    let front = broke.told.front in
+    let last = last_in (Some mode) status e.inputs in
+    let told = wrote e.report.before e.report.after ((run (opened mode) e.inputs).told ++ take front.0 last) file before after front.2 in
+    record {
+      all = all-run e.given mode status e.inputs e.bytes e.source broke.comes;
+      old = told.0;
+      rest = take front.0 last;
+      split = told.1;
+      passed = last-in-passes e.given mode status e.inputs e.bytes e.source front.0 read broke.comes one;
+    }
+
+fault-ended : (e : End) (mode : Mode) (file : List ℕ) → IsSome e.report.before → e.report.after ≡ Some file → AreRun (opened mode) e.inputs
+    → TellsFault e.report (run (opened mode) e.inputs).told e.inputs → IsEnded e mode file
+fault-ended e mode file before after all (inl took) =
+    let last = last_line WriteFault (length e.inputs) in
+    let told = wrote e.report.before e.report.after ((run (opened mode) e.inputs).told ++ last) file before after took.wrote in
+    record {
+      all = all;
+      old = told.0;
+      rest = last;
+      split = told.1;
+      passed = subst (λ l. HasNoCursor (lines_of l)) (take_all (length last) last (omega arith)) (broken-passes (length last) (length e.inputs));
+    }
+fault-ended e mode file before after all (inr broke) =
+    let front = broke.front in
+    let last = last_line WriteFault (length e.inputs) in
+    let told = wrote e.report.before e.report.after ((run (opened mode) e.inputs).told ++ take front.0 last) file before after front.2 in
+    record {
+      all = all;
+      old = told.0;
+      rest = take front.0 last;
+      split = told.1;
+      passed = broken-passes front.0 (length e.inputs);
+    }
+
+told-ended : (e : End) (mode : Mode) (file : List ℕ) → mode.generated ≡ None → IsSome e.report.before → e.report.after ≡ Some file → IsToldWhole e mode → IsEnded e mode file
+told-ended e mode file read before after (inl sent) = sent-ended e mode file read before after sent
+told-ended e mode file read before after (inr (line, broke)) = fault-ended e mode file before after (run-all (opened mode) e.inputs broke.hand.ran) broke.told
 
 behind-all : (old front dump tail last : List ℕ) → old ++ ((front ++ 10 ∷ (dump ++ tail)) ++ last) ≡ (old ++ front) ++ 10 ∷ (dump ++ (tail ++ last))
 behind-all old front dump tail last =
     ap (λ l. old ++ l) (append_assoc front (10 ∷ (dump ++ tail)) last ∙ ap (λ l. front ++ 10 ∷ l) (append_assoc dump tail last))
     ∙ sym (append_assoc old front (10 ∷ (dump ++ (tail ++ last))))
+
+-- the last dump of the file is that of the screen
+dump-read : (e : End) (mode : Mode) (file : List ℕ) (screen : Picture) → IsEnded e mode file → IsDumped mode e.inputs screen → dump_in file ≡ Ok screen
+dump-read e mode file screen h d =
+    let dump = dump_text screen d.windows in
+    let whole : file ≡ (h.old ++ d.front) ++ 10 ∷ (dump ++ (d.tail ++ h.rest)) =
+    h.split ∙ (ap (λ l. h.old ++ (l ++ h.rest)) d.told ∙ behind-all h.old d.front dump d.tail h.rest) in
+    ap dump_in whole ∙ read-last screen d.windows (h.old ++ d.front) (d.tail ++ h.rest) d.has d.some (d.passed h.rest h.passed)
+
+-- ---- what the laws say of it
+
+pub reported-shown : (e : End) (mode : Mode) (file : List ℕ) (h : IsReported e mode file) → Shown mode h.last.before h.last.redisplay h.last.behind
+reported-shown e mode file h = record {
+  dumps = h.dumps;
+  read = h.read;
+  all = subst (AreRun (opened mode)) h.last.split (told-ended e mode file h.read h.told h.contents h.ended).all;
+  shown = h.last.shown;
+}
+
+pub reported-dump : (laws : StandLaws) (e : End) (mode : Mode) (file : List ℕ) (h : IsReported e mode file) → dump_in file ≡ Ok (screen_behind mode h.last.before)
+reported-dump laws e mode file h =
+    let last = h.last in
+    let screen = screen_behind mode last.before in
+    dump-read e mode file screen (told-ended e mode file h.read h.told h.contents h.ended)
+    (subst (λ ts. IsDumped mode ts screen) (sym last.split) (dumped laws mode last.before last.redisplay last.behind (reported-shown e mode file h) last.none))
 
 -- the file has a dump, and the terminal of the stream shows it
 pub record Agree (stream file : List ℕ) : Type 0 where
@@ -209,38 +333,27 @@ pub record Agree (stream file : List ℕ) : Type 0 where
   pub dump : dump_in file ≡ Ok picture
   pub shows : Shows (verdicts.terminal_after picture stream) picture
 
-left-agrees : (mode : Mode) (inputs : List Input) (file old : List ℕ) → mode.generated ≡ None → file ≡ old ++ ((run (opened mode) inputs).told ++ last_in (Some mode) Done inputs)
-    → IsLeft mode inputs → Agree (recorded mode inputs) file
-left-agrees mode inputs file old read e left =
-    let lines = (run (opened mode) inputs).now.lines in
-    let last : last_in (Some mode) Done inputs ≡ last_line Done lines = ap (λ g. done_of g (run (opened mode) inputs).now) read in
-    let dump = dump_text left.picture left.windows in
-    let whole : file ≡ (old ++ left.front) ++ 10 ∷ (dump ++ (left.tail ++ last_line Done lines)) =
-    e ∙ ap (λ l. old ++ ((run (opened mode) inputs).told ++ l)) last ∙ ap (λ l. old ++ (l ++ last_line Done lines)) left.told
-    ∙ behind-all old left.front dump left.tail (last_line Done lines) in
+pub recording-agrees : (laws : StandLaws) (e : End) (mode : Mode) (stream file : List ℕ) → IsRecording e mode stream file → Agree stream file
+recording-agrees laws e mode stream file h =
+    let last = h.ends in
+    let screen = screen_behind mode last.before in
+    let ended = sent-ended e mode file h.read h.told h.contents h.ended in
+    let all = subst (AreRun (opened mode)) last.split ended.all in
+    let here : Shown mode last.before last.redisplay last.behind = record { dumps = h.dumps; read = h.read; all = all; shown = last.shown } in
+    let none = leave-unshown (run_line (run (opened mode) last.before) last.redisplay) last.behind last.leave in
+    let shown = shows_screen laws mode last.before last.redisplay last.behind here last.leave in
     record {
-      picture = left.picture;
-      dump = ap dump_in whole
-          ∙ read-last left.picture left.windows (old ++ left.front) (left.tail ++ last_line Done lines) left.has left.some (left.passed (last_line Done lines) (passed-last lines));
-      shows = left.shows;
+      picture = screen;
+      dump = dump-read e mode file screen ended (subst (λ ts. IsDumped mode ts screen) (sym last.split) (dumped laws mode last.before last.redisplay last.behind here none));
+      shows = subst (λ s. Shows (verdicts.terminal_after screen s) screen) (ap (recorded mode) (sym last.split) ∙ sym h.sent) shown;
     }
 
-pub recording-agrees : (laws : StandLaws) (e : End) (mode : Mode) (stream file : List ℕ) → IsRecording e mode stream file
-    → Agree stream file
-recording-agrees laws e mode stream file h =
-    let whole = whole-of e.given e.mode mode e.status e.inputs e.bytes e.source e.screen e.report h.begun h.status h.ended in
-    let ran = ran-of e.given mode e.inputs e.bytes e.source whole.comes in
-    let last = h.ends in
-    let inputs = last.before ++ last.redisplay ∷ last.behind in
-    let left : IsLeft mode inputs =
-    shown-run laws mode last.before last.redisplay last.behind h.dumps h.read (subst (Ran mode) last.split ran) last.shown last.leave in
-    let all : IsLeft mode e.inputs = subst (IsLeft mode) (sym last.split) left in
-    let told = wrote e.report.before e.report.after (told_in (Some mode) e.inputs ++ last_in (Some mode) Done e.inputs) file h.told h.contents whole.told in
-    subst (λ s. Agree s file) (sym h.sent) (left-agrees mode e.inputs file told.0 h.read told.1 all)
+whole-sent : (e : End) (mode : Mode) → IsSentWhole e mode → Took e.screen (run (opened mode) e.inputs).sent
+whole-sent e mode (inl (one, ended)) = ended.sent
+whole-sent e mode (inr (status, one, broke)) = broke.sent
 
 -- the screen's bytes end with the stream
 pub recording-sent : (e : End) (mode : Mode) (stream file : List ℕ) → IsRecording e mode stream file → (earlier : List ℕ) × Took e.screen (earlier ++ stream)
 recording-sent e mode stream file h =
-    let whole = whole-of e.given e.mode mode e.status e.inputs e.bytes e.source e.screen e.report h.begun h.status h.ended in
-    let end = recorded-end mode e.inputs (ran-of e.given mode e.inputs e.bytes e.source whole.comes) in
-    (end.0, subst (Took e.screen) (end.1 ∙ ap (λ l. end.0 ++ l) (sym h.sent)) whole.sent)
+    let end = recorded-end mode e.inputs (sent-ended e mode file h.read h.told h.contents h.ended).all in
+    (end.0, subst (Took e.screen) (end.1 ∙ ap (λ l. end.0 ++ l) (sym h.sent)) (whole-sent e mode h.ended))

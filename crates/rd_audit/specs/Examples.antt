@@ -2,7 +2,7 @@
 use Rattle.std.specs.Prelude.{ℕ, Bool, false, List, [], ◌∷◌, ◌++◌, None, Some, codes}
 use Rattle.rd_io.specs.Lines.{text_of_lines}
 use Rattle.rd_run.specs.Alike.{End}
-use Rattle.rd_run.specs.Ends.{drawn, lines_in, sunk}
+use Rattle.rd_run.specs.Ends.{drawn, lines_in, placed, sunk}
 use Rattle.rd_run.specs.Given.{Given}
 use Rattle.rd_run.specs.Runs.{Input, Mode, input_of}
 use Rattle.rd_run.specs.declared.status.Status.TheVariants.{Done}
@@ -43,6 +43,7 @@ short_end dumps report = record {
   source = drawn (Some []) 0 0;
   screen = sunk (Some []) (Some short_stream) 0 0;
   report = sunk (Some []) (Some report) 0 0;
+  steps = placed 0 0;
 }
 
 abbrev pub short_report : List ℕ

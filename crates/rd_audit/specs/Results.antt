@@ -49,3 +49,8 @@ abbrev pub Feeds : Result Unit StreamFault → Tty → Tty → List ℕ → Opti
 Feeds (Ok _) old new bytes left = (new ≡ feed_bytes old bytes) × IsWholeStream bytes left
 Feeds (Err TooLong) old new bytes left = STREAM_BYTES < length bytes
 Feeds (Err Failed) old new bytes left = Unit {0}
+
+-- the count of the stream is as it was, but where the stream failed
+abbrev pub KeepsStream : Result Unit StreamFault → ℕ → ℕ → Type 0
+KeepsStream (Err Failed) before after = Unit {0}
+KeepsStream result before after = after ≡ before

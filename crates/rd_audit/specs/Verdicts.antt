@@ -98,6 +98,12 @@ abbrev pub ReadFails : {S F : Type 0} → (S → ℕ) → S → S → (F → Lis
 ReadFails faults_of old new faults_in before after words =
     Rose (faults_of old) (faults_of new) ⊎ ((name : List ℕ) × (words ≡ name ∷ []) × Rose (faults_in before name) (faults_in after name))
 
+-- the count of what is read is as it was where a verdict comes that is no fault
+abbrev pub Keeps : Verdict → ℕ → ℕ → Type 0
+Keeps ReadFault before after = Unit {0}
+Keeps WriteFault before after = Unit {0}
+Keeps verdict before after = after ≡ before
+
 -- the only word names a file with a dump, and the stream has no byte too many
 pub record IsSound (words : List (List ℕ)) (told : List ℕ → Option (List ℕ)) (left : Option (List ℕ)) : Type 0 where
   pub name : List ℕ

@@ -1,10 +1,10 @@
 //! The top call.
-ghost use Rattle.std.specs.Prelude.{◌≡◌, ◌≤◌, ◌⊎◌, ℕ, List, length, map, string_bytes};
+ghost use Rattle.std.specs.Prelude.{◌≡◌, ◌≢◌, ◌≤◌, ◌⊎◌, ℕ, List, length, map, string_bytes};
 ghost use Rattle.std.specs.Io.KnownBytes.{Consumes};
 ghost use Rattle.rd_io.specs.Devices.{Rose};
 ghost use Rattle.rd_base.specs.declared.limits.TheConstants.{FILE_BYTES, LEAST_FRAME_ROWS};
 ghost use Rattle.rd_audit.specs.Results.{IsShape, JudgesBytes, picture_in};
-ghost use Rattle.rd_audit.specs.Verdicts.{Answers, Comes, JudgesFile, JudgesDump, IsSound, IsJudged, ReadFails};
+ghost use Rattle.rd_audit.specs.Verdicts.{Answers, Comes, JudgesFile, JudgesDump, IsSound, IsJudged, Keeps, ReadFails};
 
 use crate::compare::answer;
 use crate::dump::{Dump, DumpFault, read_dump};
@@ -24,6 +24,8 @@ use std::alloc::Global;
 ///
 /// `answers` says what holds where each verdict comes and what was written then. ReadFault comes only where the count of `stream` or
 /// that of the file's name rose, WriteFault only where that of `report` did, and then a front of the line was written that would have come.
+/// Where neither comes the counts of `stream` and of all files are as they were (`kept`, `kept_files`). So is that of `report`, where
+/// WriteFault does not come (`kept_report`).
 /// NoMemory may come at any time where there is one word, and tells nothing of the file or the stream. With one word, a file with a
 /// dump and a stream that is not too long, and where no count rose, nothing else comes besides yes and no (`complete`). The cost is linear
 /// in the bytes of the file and of the stream.
@@ -42,9 +44,12 @@ pub fn audit<S: Source, F: Files, R: Sink>(
         → IsJudged result ⊎ (ReadFails S.faults stream.old stream.new F.faults files.old files.new (map string_bytes words.items)
         ⊎ Rose (R.faults report.old) (R.faults report.new)) }
     ensures stream { S.faults stream.old ≤ S.faults stream.new }
+    ensures kept { Keeps result (S.faults stream.old) (S.faults stream.new) }
     ensures files { (name : List ℕ) → F.faults files.old name ≤ F.faults files.new name }
+    ensures kept_files { (name : List ℕ) → Keeps result (F.faults files.old name) (F.faults files.new name) }
     ensures contents { (name : List ℕ) → F.contents files.new name ≡ F.contents files.old name }
     ensures report { R.faults report.old ≤ R.faults report.new }
+    ensures kept_report { result ≢ Verdict.WriteFault → R.faults report.new ≡ R.faults report.old }
 {
     let verdict = judge(alloc, words.as_slice(), stream, files);
     match tell(report, verdict) {
@@ -64,7 +69,9 @@ fn judge<S: Source, F: Files>(
         × Comes result (map string_bytes words.now) (F.contents files.old) bytes (S.left stream.new) }
     ensures read { result ≡ Verdict.ReadFault → ReadFails S.faults stream.old stream.new F.faults files.old files.new (map string_bytes words.now) }
     ensures stream { S.faults stream.old ≤ S.faults stream.new }
+    ensures kept { Keeps result (S.faults stream.old) (S.faults stream.new) }
     ensures files { (name : List ℕ) → F.faults files.old name ≤ F.faults files.new name }
+    ensures kept_files { (name : List ℕ) → Keeps result (F.faults files.old name) (F.faults files.new name) }
     ensures contents { (name : List ℕ) → F.contents files.new name ≡ F.contents files.old name }
 {
     match words {
@@ -84,7 +91,9 @@ fn judge_file<S: Source, F: Files>(
         × JudgesFile result (F.contents files.old name.now) bytes (S.left stream.new) }
     ensures read { result ≡ Verdict.ReadFault → Rose (S.faults stream.old) (S.faults stream.new) ⊎ Rose (F.faults files.old name.now) (F.faults files.new name.now) }
     ensures stream { S.faults stream.old ≤ S.faults stream.new }
+    ensures kept { Keeps result (S.faults stream.old) (S.faults stream.new) }
     ensures files { (file : List ℕ) → F.faults files.old file ≤ F.faults files.new file }
+    ensures kept_files { (file : List ℕ) → Keeps result (F.faults files.old file) (F.faults files.new file) }
     ensures contents { (file : List ℕ) → F.contents files.new file ≡ F.contents files.old file }
 {
     match read_file(alloc, files, name) {
@@ -102,6 +111,7 @@ fn judge_bytes<S: Source>(alloc: Global, file: &[u8], stream: &mut S) -> Verdict
         × JudgesBytes result file.now bytes (S.left stream.new) }
     ensures read { result ≡ Verdict.ReadFault → Rose (S.faults stream.old) (S.faults stream.new) }
     ensures stream { S.faults stream.old ≤ S.faults stream.new }
+    ensures kept { Keeps result (S.faults stream.old) (S.faults stream.new) }
 {
     match read_dump(alloc, file) {
         Ok(dump) => judge_stream(alloc, &dump, stream),
@@ -118,6 +128,7 @@ fn judge_stream<S: Source>(alloc: Global, dump: &Dump, stream: &mut S) -> Verdic
         × JudgesDump result (picture_in dump.now) bytes (S.left stream.new) }
     ensures read { result ≡ Verdict.ReadFault → Rose (S.faults stream.old) (S.faults stream.new) }
     ensures stream { S.faults stream.old ≤ S.faults stream.new }
+    ensures kept { Keeps result (S.faults stream.old) (S.faults stream.new) }
 {
     let width = dump.rows.get(0).len() as u32;
     let height = dump.rows.len() as u32;

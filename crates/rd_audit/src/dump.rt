@@ -10,6 +10,7 @@ use crate::cuts::{next_line, stripped};
 use crate::row::{ROW, cursor_place, is_cursor, is_row, next_row};
 use rd_base::{Cell, ListOf, Memory};
 use std::alloc::Global;
+use thiserror::Error;
 
 /// The rows of a dump and the place of its cursor, from 0.
 #[derive(Drop)]
@@ -20,11 +21,13 @@ pub struct Dump {
 }
 
 /// Why a file gave no dump.
-#[derive(Clone, Copy)]
+#[derive(Clone, Copy, Debug, Error)]
 pub enum DumpFault {
     /// The line of this number is bad; 0 where there is no dump.
+    #[error("line {0} of the dump is bad")]
     Bad(u32),
     /// Want of memory, which may be answered at any time.
+    #[error("no memory")]
     Memory,
 }
 

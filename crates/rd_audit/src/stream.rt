@@ -2,21 +2,24 @@
 ghost use Rattle.std.specs.Prelude.{◌≡◌, ◌≤◌, ℕ, List, IsErrOf};
 ghost use Rattle.std.specs.Io.KnownBytes.{Consumes};
 ghost use Rattle.rd_io.specs.Devices.{Rose};
-ghost use Rattle.rd_audit.specs.Results.{Feeds};
+ghost use Rattle.rd_audit.specs.Results.{Feeds, KeepsStream};
 
 use rd_base::limits::STREAM_BYTES;
 use rd_io::{Failed, Source};
 use rd_term::Terminal;
+use thiserror::Error;
 
 /// How many bytes are read at a time.
 const ROOM: usize = 4096;
 
 /// Why a stream was not read to its end.
-#[derive(Clone, Copy)]
+#[derive(Clone, Copy, Debug, Error)]
 pub enum StreamFault {
     /// The stream failed.
+    #[error("the stream failed")]
     Failed,
     /// The stream has more than 16,777,216 bytes.
+    #[error("the stream is too long")]
     TooLong,
 }
 
@@ -35,6 +38,7 @@ impl From<Failed> for StreamFault {
 pub fn feed_stream<S: Source>(terminal: &mut Terminal, stream: &mut S) -> Result<(), StreamFault>
     ensures fed { (bytes : List ℕ) × Consumes (S.left stream.old) (S.left stream.new) bytes × Feeds result terminal.old terminal.new bytes (S.left stream.new) }
     ensures never_falls { S.faults stream.old ≤ S.faults stream.new }
+    ensures kept { KeepsStream result (S.faults stream.old) (S.faults stream.new) }
     ensures failed { IsErrOf result StreamFault.Failed → Rose (S.faults stream.old) (S.faults stream.new) }
 {
     let mut room = [0; ROOM];

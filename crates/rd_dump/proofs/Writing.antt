@@ -1,5 +1,5 @@
 -- Texts that are written piece by piece.
-use Rattle.std.proofs.Common.{◌≡◌, ℕ, ◌+◌, ◌≤◌, ◌<◌, List, [], ◌++◌, length, Option, Result, Ok, Err, true≢false, sym, ap, subst, arith, drop, get_or}
+use Rattle.std.proofs.Common.{◌≡◌, ℕ, ◌+◌, ◌≤◌, ◌<◌, List, [], ◌++◌, length, Option, Result, Ok, Err, true≢false, refl, sym, ap, ◌∙◌, subst, arith, drop, get_or}
 use Rattle.std.specs.Result.{IsErr}
 use Rattle.std.proofs.KnownBytes.{Appends-nil}
 use Rattle.std.proofs.lemmas.List.{drop_all, drop_more}
@@ -10,12 +10,12 @@ use Rattle.rd_io.proofs.Bytes.{Going, front-before, going-by, rose-after, writes
 -- a writer that failed, as the answer of the one that called it
 pub prints-fail : {T E U F : Type 0} (a b : Option (List ℕ)) (f g : ℕ) (xs : List ℕ) (e : E) (s : Result U F) → Prints {T = T} {E = E} a b f g xs (Err e) → IsErr s → Prints a b f g xs s
 prints-fail a b f g xs e (Ok u) p bad = absurd (true≢false (sym bad))
-prints-fail a b f g xs e (Err d) p bad = record { bytes = record { whole = tt; front = p.bytes.front }; never_falls = p.never_falls; failed = p.failed }
+prints-fail a b f g xs e (Err d) p bad = record { bytes = record { whole = tt; front = p.bytes.front }; never_falls = p.never_falls; kept = tt; failed = p.failed }
 
 -- what was to come behind it
 pub prints-stop : {U F : Type 0} (a b : Option (List ℕ)) (f g : ℕ) (xs ys : List ℕ) (s : Result U F) → Prints a b f g xs s → IsErr s → Prints a b f g (xs ++ ys) s
 prints-stop a b f g xs ys (Ok u) p bad = absurd (true≢false (sym bad))
-prints-stop a b f g xs ys (Err d) p bad = record { bytes = record { whole = tt; front = front-before a b xs ys p.bytes.front }; never_falls = p.never_falls; failed = p.failed }
+prints-stop a b f g xs ys (Err d) p bad = record { bytes = record { whole = tt; front = front-before a b xs ys p.bytes.front }; never_falls = p.never_falls; kept = tt; failed = p.failed }
 
 -- a writer that failed, with what was to come behind it, as the answer of the one that called it
 pub prints-failed : {T E U F : Type 0} (a b : Option (List ℕ)) (f g : ℕ) (xs ys : List ℕ) (e : E) (s : Result U F) → Prints {T = T} {E = E} a b f g xs (Err e) → IsErr s
@@ -26,25 +26,26 @@ prints-failed a b f g xs ys e s p bad = prints-stop a b f g xs ys s (prints-fail
 pub prints-then : {T E U F : Type 0} (a b c : Option (List ℕ)) (f g h : ℕ) (xs ys : List ℕ) (t : T) (s : Result U F)
     → Prints {T = T} {E = E} a b f g xs (Ok t) → Prints b c g h ys s → Prints a c f h (xs ++ ys) s
 prints-then a b c f g h xs ys t (Ok u) p q =
-    record { bytes = writes-then (Ok u) a b c xs ys p.bytes.whole q.bytes; never_falls = omega (arith, p.never_falls, q.never_falls); failed = tt }
+    record { bytes = writes-then (Ok u) a b c xs ys p.bytes.whole q.bytes; never_falls = omega (arith, p.never_falls, q.never_falls); kept = q.kept ∙ p.kept; failed = tt }
 prints-then a b c f g h xs ys t (Err d) p q =
     record {
       bytes = writes-then (Err d) a b c xs ys p.bytes.whole q.bytes;
       never_falls = omega (arith, p.never_falls, q.never_falls);
+      kept = tt;
       failed = rose-after f g h p.never_falls q.failed;
     }
 
 -- the next piece of a text was written
 pub going-on : {T E : Type 0} (a b c : Option (List ℕ)) (f g h : ℕ) (all rest piece more : List ℕ) (t : T)
     → Going a b f g all rest → rest ≡ piece ++ more → Prints {T = T} {E = E} b c g h piece (Ok t) → Going a c f h all more
-going-on a b c f g h all rest piece more t going e p = going-by a b c f g h all rest piece more going e p.bytes.whole p.never_falls
+going-on a b c f g h all rest piece more t going e p = going-by a b c f g h all rest piece more going e p.bytes.whole p.kept
 
 -- what is left of a text is written by another call
 pub going-last : {U F : Type 0} (a b c : Option (List ℕ)) (f g h : ℕ) (all rest : List ℕ) (s : Result U F)
     → Going a b f g all rest → Prints b c g h rest s → Prints a c f h all s
 going-last {U} {F} a b c f g h all rest s going p =
     subst (λ l. Prints a c f h l s) (sym going.split)
-    (prints-then {T = Unit {0}} {E = F} a b c f g h going.done rest tt s (record { bytes = record { whole = going.printed; front = tt }; never_falls = going.never_falls; failed = tt }) p)
+    (prints-then {T = Unit {0}} {E = F} a b c f g h going.done rest tt s (record { bytes = record { whole = going.printed; front = tt }; never_falls = omega (arith, going.kept); kept = going.kept; failed = tt }) p)
 
 -- the next piece of a text was not written, so neither is the whole
 pub going-stop : {U F : Type 0} (a b c : Option (List ℕ)) (f g h : ℕ) (all rest piece more : List ℕ) (s : Result U F)
@@ -75,11 +76,11 @@ pub going-done : {A T E : Type 0} (f : A → List ℕ) (xs : List A) (i : ℕ) (
 going-done {A} {T} {E} f xs i a b k l all t past going =
     let rest : flat_map f (drop i xs) ≡ [] = ap (flat_map f) (drop_all i xs past) in
     going-last a b b k l l all _ (Ok t) going
-    (subst (λ ys. Prints {T = T} {E = E} b b l l ys (Ok t)) (sym rest) (record { bytes = record { whole = Appends-nil b; front = tt }; never_falls = omega arith; failed = tt }))
+    (subst (λ ys. Prints {T = T} {E = E} b b l l ys (Ok t)) (sym rest) (record { bytes = record { whole = Appends-nil b; front = tt }; never_falls = omega arith; kept = refl; failed = tt }))
 
 -- what is printed may be said in other words
 pub prints-as : {T E : Type 0} (a b : Option (List ℕ)) (f g : ℕ) (xs ys : List ℕ) (s : Result T E) → xs ≡ ys → Prints a b f g xs s → Prints a b f g ys s
 prints-as a b f g xs ys s e p = subst (λ l. Prints a b f g l s) e p
 
 pub going-start-as : (a : Option (List ℕ)) (f : ℕ) (all rest : List ℕ) → all ≡ rest → Going a a f f all rest
-going-start-as a f all rest e = record { done = []; split = e; printed = Appends-nil a; never_falls = omega arith }
+going-start-as a f all rest e = record { done = []; split = e; printed = Appends-nil a; kept = refl }

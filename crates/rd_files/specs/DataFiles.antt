@@ -115,6 +115,11 @@ abbrev pub FailedAtSome : (List ℕ → ℕ) → (List ℕ → ℕ) → Option (
 FailedAtSome before after None = ⊥
 FailedAtSome before after (Some name) = FailedAt before after name
 
+-- the count of faults of a file is as it was, unless a file could not be read
+abbrev pub Keeps : {T : Type 0} → Result T DataFault → ℕ → ℕ → Type 0
+Keeps (Err Read) before after = Unit {0}
+Keeps result before after = after ≡ before
+
 -- the files that are named
 pub record Named : Type 0 where
   pub class_file : List ℕ

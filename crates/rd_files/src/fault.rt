@@ -14,16 +14,19 @@ pub enum DataFile {
 }
 
 /// What is wrong with a data file.
-#[derive(Clone, Copy, Debug, Drop, PartialEq, Eq)]
+#[derive(Clone, Copy, Debug, Drop, PartialEq, Eq, Error)]
 pub enum DataKind {
     /// The file has more than 8,388,608 bytes.
+    #[error("the file is too large")]
     TooLarge,
     /// A line of the file is bad. This is the file's first fault.
+    #[error("a line is bad")]
     Bad(UcdFault),
 }
 
 /// A data file that is bad.
-#[derive(Clone, Copy, Debug, Drop, PartialEq, Eq)]
+#[derive(Clone, Copy, Debug, Drop, PartialEq, Eq, Error)]
+#[error("a data file is bad")]
 pub struct BadFile {
     /// Which of the three data files is bad.
     pub file: DataFile,

@@ -1,7 +1,7 @@
 //! The reading of the data files.
 ghost use Rattle.std.specs.Prelude.{◌≡◌, ◌≤◌, ◌<◌, ◌^◌, ℕ, List, Result, option_map};
 ghost use Rattle.rd_ucd.specs.declared.fault.UcdFault.{UcdFault};
-ghost use Rattle.rd_files.specs.DataFiles.{FailedAt, FailedAtSome, Judges, LinesFit, ReadsBytes, ReadsData, ReadsFile, brackets_in, fault_of, judged, line_of, told_or_empty};
+ghost use Rattle.rd_files.specs.DataFiles.{FailedAt, FailedAtSome, Judges, Keeps, LinesFit, ReadsBytes, ReadsData, ReadsFile, brackets_in, fault_of, judged, line_of, told_or_empty};
 
 use crate::fault::{BadFile, DataFault, DataFile, DataKind};
 use rd_io::{FileFault, Files, read_file};
@@ -23,7 +23,8 @@ pub struct DataFiles {
 /// before the next one is read, so the first fault in this order is answered, whatever the later files are.
 ///
 /// `Bad` comes exactly at a file of more than 8,388,608 bytes, with line 0, and at one with a bad line, with the first such line.
-/// `Read` comes only where the count of faults of the file that was to be read rose in the call, as at a file that isn't there.
+/// `Read` comes only where the count of faults of the file that was to be read rose in the call, as at a file that isn't there; with
+/// every other answer all counts are as they were.
 /// Want of memory may come at any file. The contents of the files that contracts know stay the same. The cost is linear in the
 /// bytes that are read, and so is the memory.
 pub fn read_data<F: Files>(
@@ -36,6 +37,7 @@ pub fn read_data<F: Files>(
     ensures read { ReadsData (F.contents files.old) (F.faults files.old) (F.faults files.new) (record { class_file = class_file.now; mirror_file = mirror_file.now; bracket_file = option_map (λ name. name.now) bracket_file.entry }) result }
     ensures contents { (file : List ℕ) → F.contents files.new file ≡ F.contents files.old file }
     ensures never_falls { (file : List ℕ) → F.faults files.old file ≤ F.faults files.new file }
+    ensures kept { (file : List ℕ) → Keeps result (F.faults files.old file) (F.faults files.new file) }
 {
     let classes = read_judged(alloc, files, class_file, DataFile::ClassFile, Classes::read)?;
     let mirrors = read_judged(
@@ -62,6 +64,7 @@ fn read_brackets<F: Files>(
     ensures read { ReadsFile brackets_in (told_or_empty (F.contents files.old) (option_map (λ n. n.now) name.entry)) (FailedAtSome (F.faults files.old) (F.faults files.new) (option_map (λ n. n.now) name.entry)) result }
     ensures contents { (file : List ℕ) → F.contents files.new file ≡ F.contents files.old file }
     ensures never_falls { (file : List ℕ) → F.faults files.old file ≤ F.faults files.new file }
+    ensures kept { (file : List ℕ) → Keeps result (F.faults files.old file) (F.faults files.new file) }
 {
     match name {
         Some(name) => read_judged(alloc, files, name, DataFile::BracketFile, Brackets::read),
@@ -82,6 +85,7 @@ fn read_judged<F: Files, T: Drop, J: FnOnce(Global, &[u8]) -> Result<T, UcdFault
     ensures read { (form : List ℕ → Result T UcdFault) → Judges form (J.post judge alloc) → ReadsFile (judged file form) (F.contents files.old name.now) (FailedAt (F.faults files.old) (F.faults files.new) name.now) result }
     ensures contents { (file : List ℕ) → F.contents files.new file ≡ F.contents files.old file }
     ensures never_falls { (file : List ℕ) → F.faults files.old file ≤ F.faults files.new file }
+    ensures kept { (file : List ℕ) → Keeps result (F.faults files.old file) (F.faults files.new file) }
 {
     let bytes = read_bytes(alloc, files, name, file)?;
     judge(alloc, &bytes).map_err(|fault| fault_of(file, fault))
@@ -97,6 +101,7 @@ fn read_bytes<F: Files>(
     ensures read { ReadsBytes file (F.contents files.old name.now) (FailedAt (F.faults files.old) (F.faults files.new) name.now) result }
     ensures contents { (file : List ℕ) → F.contents files.new file ≡ F.contents files.old file }
     ensures never_falls { (file : List ℕ) → F.faults files.old file ≤ F.faults files.new file }
+    ensures kept { (file : List ℕ) → Keeps result (F.faults files.old file) (F.faults files.new file) }
 {
     match read_file(alloc, files, name) {
         Ok(bytes) => Ok(bytes),

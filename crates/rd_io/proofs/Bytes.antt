@@ -1,5 +1,5 @@
 -- Counts and known bytes of sources, sinks and files.
-use Rattle.std.proofs.Common.{◌≡◌, ℕ, ◌+◌, ◌-◌, ◌≤◌, inl, inr, List, [], ◌++◌, length, take, drop, Option, None, Some, sym, ap, ◌∙◌, subst, append_assoc, arith, length-append}
+use Rattle.std.proofs.Common.{◌≡◌, ℕ, ◌+◌, ◌-◌, ◌<◌, ◌≤◌, inl, inr, List, [], ◌++◌, length, take, drop, Option, None, Some, sym, ap, ◌∙◌, subst, append_assoc, arith, length-append}
 use Rattle.std.specs.Io.KnownBytes.{Appends, Keeps}
 use Rattle.std.proofs.KnownBytes.{Appends-trans, Appends-kept}
 use Rattle.std.specs.Prelude.{slice_range}
@@ -22,8 +22,8 @@ range-skipped xs from to n ys bound is p =
     range-from xs from n to (omega (arith, size, p)) ∙ ap (drop n) is
 
 -- a write that failed leaves a front
-pub front-stopped : (a b c : Option (List ℕ)) (bytes front rest : List ℕ) → bytes ≡ front ++ rest → Appends a b front → Keeps b c → AppendsFront a c bytes
-front-stopped a b c bytes front rest e p q =
+pub front-stopped : (a b c : Option (List ℕ)) (bytes front rest : List ℕ) → bytes ≡ front ++ rest → 0 < length rest → Appends a b front → Keeps b c → AppendsFront a c bytes
+front-stopped a b c bytes front rest e some p q =
     let here : take (length front) bytes ≡ front = ap (take (length front)) e ∙ take-append_seam front rest in
     (length front, omega (arith, ap length e, length-append front rest), subst (Appends a c) (sym here) (Appends-kept a b c front p q))
 
@@ -31,7 +31,8 @@ front-stopped a b c bytes front rest e p q =
 pub front-before : (a b : Option (List ℕ)) (xs ys : List ℕ) → AppendsFront a b xs → AppendsFront a b (xs ++ ys)
 front-before a b xs ys front =
     let n = front.0 in
-    (n, omega (arith, front.1, length-append xs ys), subst (Appends a b) (sym (take-append-le n xs ys front.1)) front.2)
+    let within : n ≤ length xs = omega (arith, front.1) in
+    (n, omega (arith, front.1, length-append xs ys), subst (Appends a b) (sym (take-append-le n xs ys within)) front.2)
 
 -- bytes were written, and then a front of others
 front-after : (a b c : Option (List ℕ)) (xs ys : List ℕ) → Appends a b xs → AppendsFront b c ys → AppendsFront a c (xs ++ ys)
@@ -49,16 +50,16 @@ pub record Going (a b : Option (List ℕ)) (f g : ℕ) (all rest : List ℕ) : T
   pub done : List ℕ
   pub split : all ≡ done ++ rest
   pub printed : Appends a b done
-  pub never_falls : f ≤ g
+  pub kept : g ≡ f
 
 -- the next piece was written
-pub going-by : (a b c : Option (List ℕ)) (f g h : ℕ) (all rest piece more : List ℕ) → Going a b f g all rest → rest ≡ piece ++ more → Appends b c piece → g ≤ h
+pub going-by : (a b c : Option (List ℕ)) (f g h : ℕ) (all rest piece more : List ℕ) → Going a b f g all rest → rest ≡ piece ++ more → Appends b c piece → h ≡ g
     → Going a c f h all more
-going-by a b c f g h all rest piece more going e p low = record {
+going-by a b c f g h all rest piece more going e p same = record {
   done = going.done ++ piece;
   split = going.split ∙ ap (λ l. going.done ++ l) e ∙ sym (append_assoc going.done piece more);
   printed = Appends-trans a b c going.done piece going.printed p;
-  never_falls = omega (arith, going.never_falls, low);
+  kept = same ∙ going.kept;
 }
 
 -- these bytes are a front of the file, where its bytes are known

@@ -13,17 +13,18 @@ Fetches None from result buffer = Unit {0}
 Fetches (Some file) from result buffer =
     IfOk result (λ n. (take n buffer ≡ take n (drop from file)) × (n ≡ 0 → 0 < length buffer → length file ≤ from))
 
--- some front of the bytes was written behind what was there
+-- some front of the bytes, and not all of them, was written behind what was there
 abbrev pub AppendsFront : Option (List ℕ) → Option (List ℕ) → List ℕ → Type 0
-AppendsFront old new bytes = (n : ℕ) × (n ≤ length bytes) × Appends old new (take n bytes)
+AppendsFront old new bytes = (n : ℕ) × (n < length bytes) × Appends old new (take n bytes)
 
 -- all the bytes were written, or after a failure a front of them
 pub record Writes {T E : Type 0} (old new : Option (List ℕ)) (bytes : List ℕ) (result : Result T E) : Type 0 where
   pub whole : OnOk result (Appends old new bytes)
   pub front : OnErr result (AppendsFront old new bytes)
 
--- the text was written, or after a failure a front of it; the count of faults did not fall, and rose with a failure
+-- the text was written, or after a failure a front of it; the count of faults rose with a failure, and else is as it was
 pub record Prints {T E : Type 0} (old new : Option (List ℕ)) (before after : ℕ) (text : List ℕ) (result : Result T E) : Type 0 where
   pub bytes : Writes old new text result
   pub never_falls : before ≤ after
+  pub kept : OnOk result (after ≡ before)
   pub failed : OnErr result (Rose before after)

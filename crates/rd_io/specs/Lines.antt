@@ -72,12 +72,18 @@ pub record GivesNone (old new : Reading) (bytes : List ℕ) (left : Option (List
   pub fault : new.fault ≡ None
 
 -- What holds where each fault comes: the source failed while the bytes held and taken had no newline, and neither limit was passed; more
--- than 1,048,576 bytes have come without a newline; a byte has come that begins the 1,000,001st line; or memory was wanting.
+-- than 1,048,576 bytes have come without a newline; a byte has come that begins the 1,000,001st line; or memory was wanting for a line of
+-- which a byte has come.
 abbrev pub Cause : LineFault → ℕ → List ℕ → Type 0
 Cause Failed given come = IsUnbroken come × (length come ≤ LINE_BYTES) × ((given < LINES) ⊎ (come ≡ []))
 Cause TooLong given come = (given < LINES) × (LINE_BYTES < length come) × IsUnbroken (take (LINE_BYTES + 1) come)
 Cause TooMany given come = (LINES ≤ given) × (0 < length come)
-Cause Memory given come = Unit {0}
+Cause Memory given come = (given < LINES) × (0 < length come)
+
+-- the source's count of faults is as it was, unless the source failed
+abbrev pub Keeps : {T : Type 0} → Result T LineFault → ℕ → ℕ → Type 0
+Keeps (Err Failed) before after = Unit {0}
+Keeps result before after = after ≡ before
 
 -- What the reader answers, where it took these bytes from the source, which then has this left.
 abbrev pub Answers : Result Bool LineFault → Reading → Reading → List ℕ → Option (List ℕ) → Type 0

@@ -3,6 +3,7 @@ use Rattle.std.specs.Prelude.{◌≡◌, ℕ, ◌+◌, ◌<◌, ◌≤◌, ◌�
 use Rattle.std.specs.Io.KnownBytes.{IsAtEnd}
 use Rattle.rd_base.specs.declared.limits.TheConstants.{LINE_BYTES, LINES}
 use Rattle.rd_io.specs.Lines.{IsUnbroken, IsWhole, IsLast, Cause}
+use Rattle.rd_io.specs.declared.chunk.TheConstants.{READ_BYTES}
 use Rattle.rd_io.specs.declared.lines.Found.{Found}
 use Rattle.rd_io.specs.declared.lines.Found.TheVariants.{Whole, Last, Over}
 use Rattle.rd_io.specs.declared.lines.LineFault.{LineFault}
@@ -29,7 +30,7 @@ TakesPiece (Ok None) old new bytes given =
 TakesPiece (Err TooLong) old new bytes given =
     (given < LINES) × ((piece rest : List ℕ) × (bytes ≡ piece ++ rest) × IsUnbroken piece × (LINE_BYTES < length old + length piece))
 TakesPiece (Err TooMany) old new bytes given = (LINES ≤ given) × (0 < length bytes)
-TakesPiece (Err Memory) old new bytes given = Unit {0}
+TakesPiece (Err Memory) old new bytes given = (given < LINES) × (0 < length bytes)
 TakesPiece (Err Failed) old new bytes given = ⊥
 
 -- an empty rest is no line
@@ -37,6 +38,12 @@ abbrev pub IsLeft : Found → List ℕ → Type 0
 IsLeft Over line = line ≡ []
 IsLeft Last line = 0 < length line
 IsLeft Whole line = ⊥
+
+-- Bytes were taken behind those that were held, by reads of at most 8,192 bytes each: none, or what was held and taken before the last
+-- read has no newline.
+abbrev pub ReadsOn : List ℕ → List ℕ → Type 0
+ReadsOn held bytes =
+    (bytes ≡ []) ⊎ ((before last : List ℕ) × (bytes ≡ before ++ last) × IsUnbroken (held ++ before) × (length last ≤ READ_BYTES))
 
 -- what the bytes that came begin with
 abbrev pub Gathers : Result Found LineFault → List ℕ → List ℕ → List ℕ → ℕ → Option (List ℕ) → Type 0

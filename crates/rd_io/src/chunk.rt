@@ -9,7 +9,7 @@ use std::alloc::Global;
 use std::marker::Model;
 
 /// How many bytes are read at a time.
-const READ_BYTES: usize = 8192;
+pub const READ_BYTES: usize = 8192;
 
 /// Bytes in a room of a fixed size. Contracts see the list of those that were not used up yet.
 #[derive(Drop)]
@@ -20,13 +20,14 @@ pub struct Chunk {
 }
 
 impl Model for Chunk {
-    ghost use Rattle.std.specs.Prelude.{ℕ, List, ◌≤◌, ◌<◌, slice_range, length};
+    ghost use Rattle.std.specs.Prelude.{ℕ, List, ◌≡◌, ◌≤◌, slice_range, length};
+    ghost use Rattle.rd_io.specs.declared.chunk.TheConstants.{READ_BYTES};
 
     ghost Value = { List ℕ };
 
     ghost view = { λ c. slice_range c.room.items c.from c.to };
 
-    ghost invariant = { λ c. (c.from ≤ c.to) × (c.to ≤ length c.room.items) × (0 < length c.room.items) };
+    ghost invariant = { λ c. (c.from ≤ c.to) × (c.to ≤ length c.room.items) × (length c.room.items ≡ READ_BYTES) };
 }
 
 impl Chunk {
@@ -69,6 +70,8 @@ impl Chunk {
         ensures end { OnOk result (self.new ≡ [] → IsAtEnd (S.left source.new)) }
         ensures err { OnErr result (Keeps (S.left source.old) (S.left source.new) × (self.new ≡ [])) }
         ensures never_falls { S.faults source.old ≤ S.faults source.new }
+        ensures kept { OnOk result (S.faults source.new ≡ S.faults source.old) }
+        ensures few { length self.new ≤ READ_BYTES }
         ensures failed { OnErr result (Rose (S.faults source.old) (S.faults source.new)) }
     {
         self.from = 0;

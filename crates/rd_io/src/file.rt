@@ -1,6 +1,7 @@
 //! The reading of whole files.
 ghost use Rattle.std.specs.Prelude.{◌≡◌, ◌≤◌, ◌<◌, ℕ, List, IfOk, IfSome, IsErrOf, length};
 ghost use Rattle.rd_io.specs.Devices.{Rose};
+ghost use Rattle.rd_io.specs.Files.{Keeps};
 
 use crate::copy::put_within;
 use crate::traits::Files;
@@ -40,7 +41,7 @@ const FETCH_BYTES: usize = 65_536;
 /// files that contracts know stay the same.
 ///
 /// `Failed` comes only where a fetch of this name failed, as for a file that is not there, and its count of faults rose in the
-/// call. `TooLarge` comes exactly where the file has more than 8,388,608 bytes; it is then read no further. The cost is linear in
+/// call; with every other answer all counts are as they were. `TooLarge` comes exactly where the file has more than 8,388,608 bytes; it is then read no further. The cost is linear in
 /// the bytes that are read, and so is the memory.
 pub fn read_file<F: Files>(alloc: Global, files: &mut F, name: &str) -> Result<Vec<u8>, FileFault>
     ensures whole { IfOk result (λ bytes. IfSome (F.contents files.old name.now) (λ file. bytes.items ≡ file)) }
@@ -48,6 +49,7 @@ pub fn read_file<F: Files>(alloc: Global, files: &mut F, name: &str) -> Result<V
     ensures large { IsErrOf result FileFault.TooLarge → IfSome (F.contents files.old name.now) (λ file. FILE_BYTES < length file) }
     ensures contents { (file : List ℕ) → F.contents files.new file ≡ F.contents files.old file }
     ensures never_falls { (file : List ℕ) → F.faults files.old file ≤ F.faults files.new file }
+    ensures kept { (file : List ℕ) → Keeps result (F.faults files.old file) (F.faults files.new file) }
     ensures failed { IsErrOf result FileFault.Failed → Rose (F.faults files.old name.now) (F.faults files.new name.now) }
 {
     let mut held = room(alloc)?;

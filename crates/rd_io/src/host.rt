@@ -1,4 +1,6 @@
-//! Thin adapters over the streams, files and words of the system. Contracts know no bytes of theirs.
+//! Thin adapters over the streams, files and words of the system. Those over streams pass bytes on: what a reader has left is what its
+//! source has left, and what a writer took is what its sink has written. Of the bytes of files by their paths nothing is known.
+ghost use Rattle.std.specs.Prelude.{◌≡◌};
 
 use crate::traits::{Failed, Files, Sink, Source, failure};
 use std::fs::File;
@@ -15,23 +17,31 @@ pub struct Device<D> {
 /// A source over a reader, as standard input.
 pub type StdSource<R> = Device<R>;
 
-/// A sink over a writer, as standard output. A writer that takes none of a piece that is not empty has failed.
+/// A sink over an unbuffered writer, as standard output. A writer that takes none of a piece that is not empty has failed.
 pub type StdSink<W> = Device<W>;
 
 /// The files of a runtime by their paths, with one count for all names.
 pub type HostFiles<'a, R> = Device<&'a R>;
 
+/// A writer that holds nothing back: the bytes that a call of `write` took have left the program when it answers.
+pub trait Unbuffered {}
+
+impl Unbuffered for io::Stdout {}
+
+impl Unbuffered for io::Stderr {}
+
 impl<D> Device<D> {
     /// A device that has not failed.
-    pub fn new(device: D) -> Device<D> {
+    pub fn new(device: D) -> Device<D>
+        ensures device { result.device ≡ device }
+        ensures faults { result.faults ≡ 0 }
+    {
         Device { device, faults: 0 }
     }
 }
 
 impl<R: Read> Source for Device<R> {
-    ghost use Rattle.std.specs.Prelude.{None};
-
-    ghost left = { λ _. None };
+    ghost left = { λ s. R.remaining s.device };
 
     ghost faults = { λ s. s.faults };
 
@@ -43,10 +53,8 @@ impl<R: Read> Source for Device<R> {
     }
 }
 
-impl<W: Write> Sink for Device<W> {
-    ghost use Rattle.std.specs.Prelude.{None};
-
-    ghost written = { λ _. None };
+impl<W: Write + Unbuffered> Sink for Device<W> {
+    ghost written = { λ s. W.contents s.device };
 
     ghost faults = { λ s. s.faults };
 

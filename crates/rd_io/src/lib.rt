@@ -18,7 +18,7 @@ mod piece;
 mod traits;
 
 pub use file::{FileFault, read_file};
-pub use host::{HostFiles, StdSink, StdSource, host_words};
+pub use host::{HostFiles, StdSink, StdSource, Unbuffered, host_words};
 pub use lines::{LineFault, Lines, lines_are_cut_at_newlines};
 pub use memory_files::MemFiles;
 pub use memory_sink::MemSink;

@@ -3,8 +3,8 @@ ghost use Rattle.std.specs.Prelude.{◌≡◌, ◌≤◌, ◌+◌, ◌⊎◌, �
 ghost use Rattle.std.specs.List.{AllByRecursion};
 ghost use Rattle.std.specs.Io.KnownBytes.{Consumes};
 ghost use Rattle.rd_io.specs.Devices.{Rose};
-ghost use Rattle.rd_io.specs.Lines.{Answers, lines_of, text_of_lines, IsUnbroken, last_of};
-ghost use Rattle.rd_io.specs.Pieces.{BreaksAt, IsLeft, PutsPiece, TakesPiece, Gathers};
+ghost use Rattle.rd_io.specs.Lines.{Answers, Keeps, lines_of, text_of_lines, IsUnbroken, last_of};
+ghost use Rattle.rd_io.specs.Pieces.{BreaksAt, IsLeft, PutsPiece, ReadsOn, TakesPiece, Gathers};
 
 use crate::chunk::Chunk;
 use crate::copy::put_within;
@@ -58,7 +58,8 @@ impl Lines {
     ghost use Rattle.std.specs.Prelude.{◌≡◌, ◌≤◌, ◌⊎◌, ℕ, List, None, true, false, IfOk, IfSome, IsErrOf};
     ghost use Rattle.std.specs.Io.KnownBytes.{Consumes};
     ghost use Rattle.rd_io.specs.Devices.{Rose};
-    ghost use Rattle.rd_io.specs.Lines.{unread, Answers, IsUnbroken};
+    ghost use Rattle.rd_io.specs.Lines.{unread, Answers, Keeps, IsUnbroken};
+    ghost use Rattle.rd_io.specs.Pieces.{ReadsOn};
 
     /// A reader that has read nothing.
     pub fn new(alloc: Global) -> Result<Lines, Memory>
@@ -75,14 +76,16 @@ impl Lines {
 
     /// Reads the next line of the bytes that are held followed by those of the source, and answers whether there is one. It
     /// answers false exactly at the end of input. After a fault every call answers that fault, and reads nothing. The source
-    /// is read only while the bytes that are held have no newline. A line's bytes are looked through once and copied twice.
+    /// is read only while the bytes that are held have no newline, at most 8,192 bytes at a time. Its count of faults rises where it
+    /// fails, and else stays as it was. A line's bytes are looked through once and copied twice.
     pub fn next<S: Source>(&mut self, source: &mut S) -> Result<bool, LineFault>
         ensures stuck { IfSome self.old.fault (λ fault. (result ≡ Err fault) × (self.new ≡ self.old) × (source.new ≡ source.old)) }
         ensures answers { self.old.fault ≡ None → (bytes : List ℕ) × Consumes (S.left source.old) (S.left source.new) bytes
-            × Answers result self.old self.new bytes (S.left source.new) }
+            × Answers result self.old self.new bytes (S.left source.new) × ReadsOn self.old.held bytes }
         ensures over { self.old.fault ≡ None → self.old.ended ≡ true → (result ≡ Ok false) × (source.new ≡ source.old) }
         ensures reads { (source.new ≡ source.old) ⊎ IsUnbroken self.old.held }
         ensures never_falls { S.faults source.old ≤ S.faults source.new }
+        ensures kept { Keeps result (S.faults source.old) (S.faults source.new) }
         ensures failed { self.old.fault ≡ None → IsErrOf result LineFault.Failed → Rose (S.faults source.old) (S.faults source.new) }
     {
         if let Some(fault) = self.fault {
@@ -138,9 +141,10 @@ fn gather<S: Source>(
     source: &mut S,
 ) -> Result<Found, LineFault>
     ensures gathers { (bytes : List ℕ) × Consumes (S.left source.old) (S.left source.new) bytes
-        × Gathers result (chunk.old ++ bytes) line.new.items chunk.new given (S.left source.new) }
+        × Gathers result (chunk.old ++ bytes) line.new.items chunk.new given (S.left source.new) × ReadsOn chunk.old bytes }
     ensures reads { (source.new ≡ source.old) ⊎ IsUnbroken chunk.old }
     ensures never_falls { S.faults source.old ≤ S.faults source.new }
+    ensures kept { Keeps result (S.faults source.old) (S.faults source.new) }
     ensures failed { IsErrOf result LineFault.Failed → Rose (S.faults source.old) (S.faults source.new) }
 {
     line.clear();

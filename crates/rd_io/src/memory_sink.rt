@@ -19,6 +19,7 @@ impl MemSink {
     /// A sink with room for so many bytes. All of it is taken by this call, so that a write takes no memory.
     pub fn with_room(alloc: Global, bytes: u64) -> Result<MemSink, Memory>
         ensures written { IfOk result (λ sink. ⟦<MemSink as Sink>⟧.written sink ≡ Some []) }
+        ensures faults { IfOk result (λ sink. ⟦<MemSink as Sink>⟧.faults sink ≡ 0) }
         ensures room { IfOk result (λ sink. length sink.room.items ≡ bytes) }
     {
         Ok(MemSink {

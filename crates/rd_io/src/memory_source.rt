@@ -17,7 +17,8 @@ pub struct MemSource {
 impl MemSource {
     /// A source of these bytes that never fails.
     pub fn new(bytes: Vec<u8>) -> MemSource
-        ensures { ⟦<MemSource as Source>⟧.left result ≡ Some bytes.items }
+        ensures left { ⟦<MemSource as Source>⟧.left result ≡ Some bytes.items }
+        ensures faults { ⟦<MemSource as Source>⟧.faults result ≡ 0 }
     {
         let none = Vec::new(*bytes.allocator());
         MemSource {

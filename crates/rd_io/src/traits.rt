@@ -1,5 +1,5 @@
 //! What a source, files and a sink are, and the writing of whole pieces and of characters.
-ghost use Rattle.std.specs.Prelude.{◌≡◌, ◌≤◌, ◌<◌, IfOk, OnErr, length};
+ghost use Rattle.std.specs.Prelude.{◌≡◌, ◌≤◌, ◌<◌, IfOk, OnOk, OnErr, length};
 ghost use Rattle.std.specs.Io.{ReadsAtMost, WritesAtMost};
 ghost use Rattle.std.specs.Io.KnownBytes.{ReadConsumes, WriteAppends};
 ghost use Rattle.rd_base.specs.Chars.{encoded};
@@ -22,7 +22,7 @@ pub(crate) fn failure(faults: &mut u64) -> Failed
     Failed
 }
 
-/// Where bytes come from, one after the other.
+/// Where bytes come from, one after the other. Its count of faults rises in a call that fails, and in no other.
 pub trait Source {
     ghost use Rattle.std.specs.Prelude.{ℕ, List, Option};
 
@@ -38,10 +38,11 @@ pub trait Source {
         ensures bound { ReadsAtMost result buf.new }
         ensures bytes { ReadConsumes (left self.old) (left self.new) result buf.new }
         ensures never_falls { faults self.old ≤ faults self.new }
+        ensures kept { OnOk result (faults self.new ≡ faults self.old) }
         ensures failed { OnErr result (Rose (faults self.old) (faults self.new)) };
 }
 
-/// Files by name.
+/// Files by name. The count of faults of a name rises in a call for it that fails, and none rises in a call that does not fail.
 pub trait Files {
     ghost use Rattle.std.specs.Prelude.{ℕ, List, Option};
 
@@ -58,10 +59,11 @@ pub trait Files {
         ensures bytes { Fetches (contents self.old name.now) from result buf.new }
         ensures contents { (file : List ℕ) → contents self.new file ≡ contents self.old file }
         ensures never_falls { (file : List ℕ) → faults self.old file ≤ faults self.new file }
+        ensures kept { OnOk result ((file : List ℕ) → faults self.new file ≡ faults self.old file) }
         ensures failed { OnErr result (Rose (faults self.old name.now) (faults self.new name.now)) };
 }
 
-/// Where bytes go to, one after the other.
+/// Where bytes go to, one after the other. Its count of faults rises in a call that fails, and in no other.
 pub trait Sink {
     ghost use Rattle.std.specs.Prelude.{ℕ, List, Option};
 
@@ -78,10 +80,11 @@ pub trait Sink {
         ensures bytes { WriteAppends (written self.old) (written self.new) result piece.now }
         ensures some { 0 < length piece.now → IfOk result (λ n. 0 < n) }
         ensures never_falls { faults self.old ≤ faults self.new }
+        ensures kept { OnOk result (faults self.new ≡ faults self.old) }
         ensures failed { OnErr result (Rose (faults self.old) (faults self.new)) };
 }
 
-/// Writes all the bytes. After a failure a front of them was written.
+/// Writes all the bytes. After a failure a front of them was written, and not all.
 pub fn write_whole<K: Sink>(sink: &mut K, bytes: &[u8]) -> Result<(), Failed>
     ensures { Prints (K.written sink.old) (K.written sink.new) (K.faults sink.old) (K.faults sink.new) bytes.now result }
 {

@@ -1,5 +1,5 @@
 //! An update that may begin with a shift, prepared before any of it is sent, so that sending takes no memory.
-ghost use Rattle.std.specs.Prelude.{◌≡◌, ℕ, ◌≤◌, List, length, Option, None, Some, IfOk, IfSome, OnErr};
+ghost use Rattle.std.specs.Prelude.{◌≡◌, ℕ, ◌≤◌, List, length, Option, None, Some, IfOk, IfSome, OnOk, OnErr};
 ghost use Rattle.rd_io.specs.Devices.{Rose};
 ghost use Rattle.rd_term.specs.Pictures.{IsWellFormed, Picture};
 ghost use Rattle.rd_update.specs.Plans.{HaveOneSize, Sends, sent_of, shown};
@@ -116,6 +116,7 @@ impl Shifted {
         ensures sends { (current : Option Picture) (target : Picture) (bands : List Band) → self.now ≡ shifted_planned current target bands
             → Sends (K.written sink.old) (K.written sink.new) (shifted_update current target bands rows_at_most) result }
         ensures never_falls { K.faults sink.old ≤ K.faults sink.new }
+        ensures kept { OnOk result (K.faults sink.new ≡ K.faults sink.old) }
         ensures failed { OnErr result (Rose (K.faults sink.old) (K.faults sink.new)) }
     {
         let Ok(()) = write_whole(sink, self.opening.as_slice()) else {

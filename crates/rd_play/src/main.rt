@@ -10,7 +10,7 @@ ghost use Rattle.std.specs.Prelude.{◌≡◌, ◌<◌};
 
 use rd_base::Steps;
 use rd_io::{HostFiles, StdSink, StdSource, host_words};
-use rd_player::{Status, play, tell_status};
+use rd_player::run_program;
 use std::io;
 use std::marker::Brand;
 use std::process::ExitCode;
@@ -20,24 +20,19 @@ fn main(rt: HostRuntime) -> io::Result<ExitCode> {
     Ok(ExitCode::from(start::<Brand>(&rt, Blank::new(1))))
 }
 
-/// Runs the script on a new ledger, and answers the exit status.
+/// Runs the program on the system's devices and a new ledger, and answers the exit status.
 fn start<L: Ledger>(rt: &HostRuntime, blank: Blank) -> u8
     requires name { blank.name ≡ L.name }
     requires parts { blank.parts ≡ L.parts }
     requires some { 0 < L.parts }
 {
-    let mut report = StdSink::new(rt.stderr());
-    let status = match host_words(rt) {
-        Ok(words) => play(
-            rt.alloc(),
-            words,
-            &mut StdSource::new(rt.stdin()),
-            &mut HostFiles::new(rt),
-            &mut StdSink::new(rt.stdout()),
-            &mut report,
-            &mut Steps::<L>::new(blank),
-        ),
-        Err(_starved) => tell_status(&mut report, Status::NoMemory, 0),
-    };
-    status.code()
+    run_program(
+        rt.alloc(),
+        host_words(rt),
+        &mut StdSource::new(rt.stdin()),
+        &mut HostFiles::new(rt),
+        &mut StdSink::new(rt.stdout()),
+        &mut StdSink::new(rt.stderr()),
+        &mut Steps::<L>::new(blank),
+    )
 }

@@ -1,5 +1,5 @@
 -- What a reader has read: the lines that it gave, and the bytes that it took for them.
-use Rattle.std.proofs.Common.{◌≡◌, ℕ, ◌+◌, ◌<◌, ◌≤◌, inl, inr, Bool, true, false, List, [], ◌∷◌, ◌++◌, length, Option, None, Result, Ok, Err, refl, sym, ap, ◌∙◌, subst, append_assoc, append-nil, arith}
+use Rattle.std.proofs.Common.{◌≡◌, ℕ, ◌+◌, ◌<◌, ◌≤◌, inl, inr, Bool, true, false, List, [], ◌∷◌, ◌++◌, length, Option, None, Result, Ok, Err, refl, sym, ap, ◌∙◌, subst, append_assoc, append-nil, arith, length-append}
 use Rattle.std.specs.List.{AllByRecursion}
 use Rattle.std.specs.Io.KnownBytes.{Consumes, IsAtEnd}
 use Rattle.std.proofs.KnownBytes.{Consumes-nil, Consumes-trans}
@@ -69,6 +69,11 @@ read-line lines bytes more l0 l1 l2 old new h p off (inr (found, g)) =
 pub line-given : (old new : Reading) (more : List ℕ) (l2 : Option (List ℕ)) → Answers (Ok true) old new more l2 → (new.given ≡ old.given + 1) × (old.given < 1000000)
 line-given old new more l2 (inl (found, g)) = (g.count, found.fits.few)
 line-given old new more l2 (inr (found, g)) = (g.count, found.fits.few)
+
+-- a byte of a line that is given has come
+pub line-comes : (old new : Reading) (more : List ℕ) (l2 : Option (List ℕ)) → Answers (Ok true) old new more l2 → 0 < length (old.held ++ more)
+line-comes old new more l2 (inl (found, g)) = rw found.split (omega (arith, length-append new.line (10 ∷ new.held)))
+line-comes old new more l2 (inr (found, g)) = rw found.split found.some
 
 -- the lines given pass no limit
 pub in-limits : (lines : List (List ℕ)) (bytes : List ℕ) (l0 l1 : Option (List ℕ)) (r : Reading) → HasRead lines bytes l0 l1 r → AreInLimits lines

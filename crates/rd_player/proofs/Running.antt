@@ -5,25 +5,38 @@ use Rattle.std.proofs.KnownBytes.{Appends-nil, Appends-trans}
 use Rattle.std.proofs.lemmas.List.{length_push}
 use Rattle.rd_base.proofs.Choices.{either}
 use Rattle.rd_io.proofs.Bytes.{rose-after}
-use Rattle.rd_run.specs.Ends.{Drawn, drawn, Sunk, sunk, Took, Broke, AreAll, AreScript, Comes, IsTaken, allowed_in, done_of, last_in, lines_in, sent_in, told_in, IsBad, IsInHand}
-use Rattle.rd_run.specs.Given.{Given, IsMode}
+use Rattle.rd_run.specs.Ends.{Drawn, drawn, Sunk, sunk, Took, Broke, AreAll, AreScript, IsCalm, IsGivenUp, allowed_in, done_of, lines_in, placed, IsBad, IsInHand}
+use Rattle.rd_run.specs.Given.{Given, IsMode, NoneFailed}
 use Rattle.rd_run.specs.Runs.{Mode, Input, Standing, Effect, World, opened, run, after, effect, is_sent, redisplayed, unshown, input_of}
 use Rattle.rd_run.specs.declared.status.Status.TheVariants.{Done}
 use Rattle.rd_run.proofs.Effects.{effect-is, effects-pair}
 use Rattle.rd_run.proofs.Inputs.{lines-push, run-push, run_line-goes}
-use Rattle.rd_player.specs.Acts.{Acts, ComesTo, IsToldOf, Places, SpentBy, halted_by}
+use Rattle.rd_player.specs.Acts.{Acts, ComesTo, ComesWith, IsToldOf, Places, halted_by}
 use Rattle.rd_player.specs.declared.halt.Halt.{Halt}
 use Rattle.rd_player.specs.declared.halt.Halt.TheVariants as halts
 use Rattle.rd_player.specs.declared.halt.Ending.{Ending}
 
--- ---- what broke
+-- ---- what was written, and what broke
+
+pub took-none : (b : Option (List ℕ)) (n : ℕ) → Took (sunk b b n n) []
+took-none b n = record { wrote = Appends-nil b; kept = refl }
+
+-- bytes were written, and then others
+pub took-then : (a b c : Option (List ℕ)) (m n o : ℕ) (bytes more : List ℕ) → Took (sunk a b m n) bytes → Took (sunk b c n o) more → Took (sunk a c m o) (bytes ++ more)
+took-then a b c m n o bytes more p q = record { wrote = Appends-trans a b c bytes more p.wrote q.wrote; kept = q.kept ∙ p.kept }
+
+-- bytes were written, and then none
+pub took-still : (a b c : Option (List ℕ)) (m n o : ℕ) (bytes : List ℕ) → Took (sunk a b m n) bytes → Took (sunk b c n o) [] → Took (sunk a c m o) bytes
+took-still a b c m n o bytes p q = subst (Took (sunk a c m o)) (append-nil bytes) (took-then a b c m n o bytes [] p q)
 
 -- what broke behind bytes that were written
-pub broke-after : (a b c : Option (List ℕ)) (m n o : ℕ) (bytes more : List ℕ) → Appends a b bytes → m ≤ n → Broke (sunk b c n o) [] more → Broke (sunk a c m o) bytes more
-broke-after a b c m n o bytes more p q h = record {
-  rose = rose-after m n o q h.rose;
-  front = (h.front.0, h.front.1, Appends-trans a b c bytes (take h.front.0 more) p h.front.2);
-}
+pub broke-after : (a b c : Option (List ℕ)) (m n o : ℕ) (bytes more : List ℕ) → Took (sunk a b m n) bytes → Broke (sunk b c n o) [] more → Broke (sunk a c m o) bytes more
+broke-after a b c m n o bytes more p h =
+    let low : m ≤ n = let same = p.kept in omega arith in
+    record {
+      rose = rose-after m n o low h.rose;
+      front = (h.front.0, h.front.1, Appends-trans a b c bytes (take h.front.0 more) p.wrote h.front.2);
+    }
 
 -- ---- each line
 
@@ -62,8 +75,8 @@ has-begun mode place s p m n c e = record {
   stands = sym e;
   under = ap (λ (x : Standing). x.mode) e;
   counted = ap (λ (x : Standing). x.lines) e;
-  sent = Appends-nil s;
-  told = Appends-nil p;
+  sent = took-none s m;
+  told = took-none p n;
   spent = omega arith;
 }
 
@@ -88,8 +101,8 @@ has-run mode inputs line place next s0 s1 s2 p0 p1 p2 m0 m1 m2 n0 n1 n2 c0 c1 c2
       stands = ap (λ (x : World). x.now) world ∙ sym a.2;
       under = ap (λ (x : Standing). x.mode) a.2 ∙ (effect-goes place t).1 ∙ k.under;
       counted = ap (λ (x : Standing). x.lines) a.2 ∙ (effect-goes place t).0 ∙ ap (λ n. n + 1) k.counted ∙ sym (length_push inputs t);
-      sent = subst (Appends s0 s2) (sym (ap (λ (x : World). x.sent) world)) (Appends-trans s0 s1 s2 w.sent e.sent k.sent a.3);
-      told = subst (Appends p0 p2) (sym (ap (λ (x : World). x.told) world)) (Appends-trans p0 p1 p2 w.told e.told k.told a.4);
+      sent = subst (Took (sunk s0 s2 m0 m2)) (sym (ap (λ (x : World). x.sent) world)) (took-then s0 s1 s2 m0 m1 m2 w.sent e.sent k.sent a.3);
+      told = subst (Took (sunk p0 p2 n0 n2)) (sym (ap (λ (x : World). x.told) world)) (took-then p0 p1 p2 n0 n1 n2 w.told e.told k.told a.4);
       spent = let before = k.spent in omega (arith, effect-allows place line a.0);
     }
 
@@ -97,17 +110,23 @@ has-run mode inputs line place next s0 s1 s2 p0 p1 p2 m0 m1 m2 n0 n1 n2 c0 c1 c2
 
 -- what comes of a run over all lines of its script
 pub all-ran : (given : Given) (mode : Mode) (o : Option ℕ) (inputs : List Input) (bytes : List ℕ) (source : Drawn) (place : Standing) (screen report : Sunk) (c0 c1 : ℕ) (line : List ℕ) → IsMode given mode
-    → mode.generated ≡ o → HasRun mode inputs place screen report c0 c1 → AreAll o inputs bytes source.left → done_of o place ≡ line
-    → Comes given (Some mode) Done inputs bytes source × (last_in (Some mode) Done inputs ≡ line) × Took screen (sent_in (Some mode) inputs) × Took report (told_in (Some mode) inputs)
-all-ran given mode o inputs bytes source place screen report c0 c1 line begun is k all last =
-    ((begun, (k.whole, subst (λ x. AreAll x inputs bytes source.left) (sym is) all)), ap (λ x. done_of x (run (opened mode) inputs).now) is ∙ (ap (done_of o) k.stands ∙ last), k.sent, k.told)
+    → NoneFailed given × IsCalm source → mode.generated ≡ o → HasRun mode inputs place screen report c0 c1 → AreAll o inputs bytes source.left → done_of o place ≡ line
+    → ComesWith Done line given (Some mode) inputs bytes source screen report (placed c0 c1)
+all-ran given mode o inputs bytes source place screen report c0 c1 line begun calm is k all last = record {
+  comes = (begun, (k.whole, subst (λ x. AreAll x inputs bytes source.left) (sym is) all));
+  calm = calm;
+  line = ap (λ x. done_of x (run (opened mode) inputs).now) is ∙ (ap (done_of o) k.stands ∙ last);
+  sent = k.sent;
+  told = k.told;
+  spent = k.spent;
+}
 
 -- ---- how a run halts
 
 -- the ending of a run over these lines
 abbrev pub Halts : Ending → Given → Mode → List ℕ → Drawn → Sunk → Sunk → ℕ → ℕ → Type 0
 Halts ending given mode bytes source screen report c0 c1 =
-    (inputs : List Input) × ComesTo ending given (Some mode) inputs bytes source screen report × SpentBy ending given (Some mode) inputs bytes source.left c0 c1
+    (inputs : List Input) × ComesTo ending given (Some mode) inputs bytes source screen report (placed c0 c1)
 
 -- a redisplay is the line in hand
 in-hand : (given : Given) (mode : Mode) (inputs : List Input) (place : Standing) (line bytes : List ℕ) (left : Option (List ℕ)) → IsMode given mode → (run (opened mode) inputs).fault ≡ None
@@ -122,20 +141,20 @@ in-hand given mode inputs place line bytes left begun whole stands lines sent = 
 }
 
 -- what the line in hand may place counts for the run
-hand-spent : (mode : Mode) (inputs : List Input) (place : Standing) (line : List ℕ) (c0 c1 c2 : ℕ) → (run (opened mode) inputs).fault ≡ None → (run (opened mode) inputs).now ≡ place
-    → c1 ≤ c0 + (run (opened mode) inputs).allowed → c2 ≤ c1 + (effect place (input_of line false)).allowed → c2 ≤ c0 + allowed_in (Some mode) (inputs ++ input_of line false ∷ [])
-hand-spent mode inputs place line c0 c1 c2 whole stands one other =
-    let t = input_of line false in
+hand-spent : (mode : Mode) (inputs : List Input) (place : Standing) (line : List ℕ) (starved : Bool) (c0 c1 c2 : ℕ) → (run (opened mode) inputs).fault ≡ None → (run (opened mode) inputs).now ≡ place
+    → c1 ≤ c0 + (run (opened mode) inputs).allowed → c2 ≤ c1 + (effect place (input_of line false)).allowed → c2 ≤ c0 + allowed_in (Some mode) (inputs ++ input_of line starved ∷ [])
+hand-spent mode inputs place line starved c0 c1 c2 whole stands one other =
+    let t = input_of line starved in
     let allowed : (run (opened mode) (inputs ++ t ∷ [])).allowed ≡ (run (opened mode) inputs).allowed + (effect place t).allowed =
     ap (λ (x : World). x.allowed) (world-behind mode inputs t place whole stands) in
-    omega arith
+    omega (arith, effect-allows place line starved)
 
 pub halts-at : (given : Given) (mode : Mode) (inputs : List Input) (line bytes : List ℕ) (left : Option (List ℕ)) (q0 q1 : ℕ) (halt : Halt) (place next : Standing) (s0 s1 s2 p0 p1 p2 : Option (List ℕ))
-    (m0 m1 m2 n0 n1 n2 c0 c1 c2 : ℕ) → IsMode given mode → m0 ≤ m1 → n0 ≤ n1 → HasRun mode inputs place (sunk s0 s1 m0 m1) (sunk p0 p1 n0 n1) c0 c1
-    → AreScript mode.generated (lines_in inputs ++ line ∷ []) bytes left → IsTaken mode.generated inputs bytes
+    (m0 m1 m2 n0 n1 n2 c0 c1 c2 : ℕ) → IsMode given mode → NoneFailed given × (q1 ≡ q0) → HasRun mode inputs place (sunk s0 s1 m0 m1) (sunk p0 p1 n0 n1) c0 c1
+    → AreScript mode.generated (lines_in inputs ++ line ∷ []) bytes left → IsGivenUp mode.generated inputs bytes
     → Acts (Err halt) (λ starved. effect place (input_of line starved)) next (sunk s1 s2 m1 m2) (sunk p1 p2 n1 n2) → Places (Err halt) (effect place (input_of line false)) c1 c2
     → Halts (halted_by halt place.lines) given mode bytes (drawn left q0 q1) (sunk s0 s2 m0 m2) (sunk p0 p2 n0 n2) c0 c2
-halts-at given mode inputs line bytes left q0 q1 (halts.Bad fault) place next s0 s1 s2 p0 p1 p2 m0 m1 m2 n0 n1 n2 c0 c1 c2 begun m n k lines before a places =
+halts-at given mode inputs line bytes left q0 q1 (halts.Bad fault) place next s0 s1 s2 p0 p1 p2 m0 m1 m2 n0 n1 n2 c0 c1 c2 begun calm k lines before a places =
     let t = input_of line false in
     let w = run (opened mode) inputs in
     let e = effect place t in
@@ -151,50 +170,54 @@ halts-at given mode inputs line bytes left q0 q1 (halts.Bad fault) place next s0
       lines = subst (λ ls. AreScript mode.generated ls bytes left) (sym (lines-push inputs t)) lines;
     } in (
       inputs ++ t ∷ [],
-      (
-        (begun, inl bad),
-        refl,
-        subst (Appends s0 s2) (sym (ap (λ (x : World). x.sent) world)) (Appends-trans s0 s1 s2 w.sent e.sent k.sent a.1),
-        subst (Appends p0 p2) (sym (ap (λ (x : World). x.told) world)) (Appends-trans p0 p1 p2 w.told e.told k.told a.2),
-      ),
-      hand-spent mode inputs place line c0 c1 c2 k.whole k.stands k.spent places,
+      record {
+        comes = (begun, inl bad);
+        calm = calm;
+        line = refl;
+        sent = subst (Took (sunk s0 s2 m0 m2)) (sym (ap (λ (x : World). x.sent) world)) (took-then s0 s1 s2 m0 m1 m2 w.sent e.sent k.sent a.1);
+        told = subst (Took (sunk p0 p2 n0 n2)) (sym (ap (λ (x : World). x.told) world)) (took-then p0 p1 p2 n0 n1 n2 w.told e.told k.told a.2);
+        spent = hand-spent mode inputs place line false c0 c1 c2 k.whole k.stands k.spent places;
+      },
     )
-halts-at given mode inputs line bytes left q0 q1 halts.NoMemory place next s0 s1 s2 p0 p1 p2 m0 m1 m2 n0 n1 n2 c0 c1 c2 begun m n k lines before a places =
+halts-at given mode inputs line bytes left q0 q1 halts.NoMemory place next s0 s1 s2 p0 p1 p2 m0 m1 m2 n0 n1 n2 c0 c1 c2 begun calm k lines before a places =
     let w = run (opened mode) inputs in (
       inputs,
-      (
-        (begun, (k.whole, before)),
-        refl,
-        subst (Appends s0 s2) (append-nil w.sent) (Appends-trans s0 s1 s2 w.sent [] k.sent a.0),
-        subst (Appends p0 p2) (append-nil w.told) (Appends-trans p0 p1 p2 w.told [] k.told a.1),
-      ),
-      (let one = k.spent in let other = places in omega arith),
+      record {
+        comes = (begun, (k.whole, before));
+        calm = calm;
+        line = refl;
+        sent = took-still s0 s1 s2 m0 m1 m2 w.sent k.sent a.0;
+        told = took-still p0 p1 p2 n0 n1 n2 w.told k.told a.1;
+        spent = let one = k.spent in let other = places in omega arith;
+      },
     )
-halts-at given mode inputs line bytes left q0 q1 halts.ScreenBroke place next s0 s1 s2 p0 p1 p2 m0 m1 m2 n0 n1 n2 c0 c1 c2 begun m n k lines before a places =
+halts-at given mode inputs line bytes left q0 q1 halts.ScreenBroke place next s0 s1 s2 p0 p1 p2 m0 m1 m2 n0 n1 n2 c0 c1 c2 begun calm k lines before a places =
     let w = run (opened mode) inputs in
     let t = input_of line false in
     let hand = in-hand given mode inputs place line bytes left begun k.whole k.stands lines a.0 in (
       inputs,
-      (
-        line,
-        hand,
-        subst (λ (x : Standing). Broke (sunk s0 s2 m0 m2) w.sent (effect x t).sent) (sym k.stands) (broke-after s0 s1 s2 m0 m1 m2 w.sent (effect place t).sent k.sent m a.1),
-        subst (Appends p0 p2) (append-nil w.told) (Appends-trans p0 p1 p2 w.told [] k.told a.2),
-      ),
-      (line, hand, hand-spent mode inputs place line c0 c1 c2 k.whole k.stands k.spent places),
+      record {
+        line = line;
+        hand = hand;
+        calm = calm;
+        sent = subst (λ (x : Standing). Broke (sunk s0 s2 m0 m2) w.sent (effect x t).sent) (sym k.stands) (broke-after s0 s1 s2 m0 m1 m2 w.sent (effect place t).sent k.sent a.1);
+        told = took-still p0 p1 p2 n0 n1 n2 w.told k.told a.2;
+        spent = hand-spent mode inputs place line false c0 c1 c2 k.whole k.stands k.spent places;
+      },
     )
-halts-at given mode inputs line bytes left q0 q1 halts.ReportBroke place next s0 s1 s2 p0 p1 p2 m0 m1 m2 n0 n1 n2 c0 c1 c2 begun m n k lines before a places =
+halts-at given mode inputs line bytes left q0 q1 halts.ReportBroke place next s0 s1 s2 p0 p1 p2 m0 m1 m2 n0 n1 n2 c0 c1 c2 begun calm k lines before a places =
     let w = run (opened mode) inputs in
     let t = input_of line a.0 in
     let hand = in-hand given mode inputs place line bytes left begun k.whole k.stands lines a.1 in
     let mode_is : (effect place t).now.mode ≡ mode = (effect-goes place t).1 ∙ k.under in (
       inputs,
-      (
-        t,
-        hand,
-        subst (λ (x : Standing). Appends s0 s2 (w.sent ++ (effect x t).sent)) (sym k.stands) (Appends-trans s0 s1 s2 w.sent (effect place t).sent k.sent a.2),
-        subst (λ (x : Standing). Broke (sunk p0 p2 n0 n2) w.told (effect x t).told) (sym k.stands) (broke-after p0 p1 p2 n0 n1 n2 w.told (effect place t).told k.told n a.3),
-        subst (λ (x : Mode). IsToldOf x.generated a.0) mode_is a.4,
-      ),
-      (line, hand, hand-spent mode inputs place line c0 c1 c2 k.whole k.stands k.spent places),
+      record {
+        t = t;
+        hand = hand;
+        calm = calm;
+        sent = subst (λ (x : Standing). Took (sunk s0 s2 m0 m2) (w.sent ++ (effect x t).sent)) (sym k.stands) (took-then s0 s1 s2 m0 m1 m2 w.sent (effect place t).sent k.sent a.2);
+        told = subst (λ (x : Standing). Broke (sunk p0 p2 n0 n2) w.told (effect x t).told) (sym k.stands) (broke-after p0 p1 p2 n0 n1 n2 w.told (effect place t).told k.told a.3);
+        tells = subst (λ (x : Mode). IsToldOf x.generated a.0) mode_is a.4;
+        spent = hand-spent mode inputs place line a.0 c0 c1 c2 k.whole k.stands k.spent places;
+      },
     )

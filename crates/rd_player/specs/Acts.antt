@@ -1,5 +1,5 @@
 -- What the steps of a run do, by what they answer.
-use Rattle.std.specs.Prelude.{◌≡◌, ℕ, ◌+◌, ◌<◌, ◌≤◌, ◌⊎◌, Bool, true, false, List, [], ◌++◌, Option, None, Some, Result, Ok, Err}
+use Rattle.std.specs.Prelude.{◌≡◌, ℕ, ◌+◌, ◌<◌, ◌≤◌, ◌⊎◌, Bool, true, false, List, [], ◌∷◌, ◌++◌, Option, None, Some, Result, Ok, Err}
 use Rattle.rd_base.specs.declared.limits.TheConstants.{LINES}
 use Rattle.rd_files.specs.declared.fault.DataFault.{DataFault}
 use Rattle.rd_files.specs.declared.fault.DataFault.TheVariants as data_faults
@@ -7,16 +7,17 @@ use Rattle.rd_io.specs.declared.lines.LineFault.{LineFault}
 use Rattle.rd_io.specs.declared.lines.LineFault.TheVariants as reader
 use Rattle.rd_io.specs.declared.traits.Failed.{Failed}
 use Rattle.rd_layout.specs.Copies.{without_copies}
-use Rattle.rd_run.specs.Ends.{Broke, Comes, Drawn, IsInHand, Sunk, Took, allowed_in, drawn, last_in, sent_in, told_in}
-use Rattle.rd_run.specs.Given.{Given, IsMode}
+use Rattle.rd_run.specs.Ends.{Broke, Comes, Drawn, IsCalm, IsInHand, IsWithin, KeepsCounts, Placed, Sunk, Took, allowed_in, drawn, last_in, sent_in, told_in}
+use Rattle.rd_run.specs.Given.{Given, IsMode, NoneFailed}
 use Rattle.rd_run.specs.Reports.{last_line, summary_lines}
-use Rattle.rd_run.specs.Runs.{Effect, Input, Mode, Standing, effect, is_sent, opened, run, input_of}
+use Rattle.rd_run.specs.Runs.{Effect, Input, Mode, Standing, asked, effect, is_sent, opened, run, input_of}
 use Rattle.rd_run.specs.declared.status.ScriptFault.TheVariants.{TooLong, TooMany}
 use Rattle.rd_run.specs.declared.status.Status.{Status}
 use Rattle.rd_run.specs.declared.status.Status.TheVariants.{BadData, BadScript, Done, NoMemory, ReadFault, WriteFault}
+use Rattle.rd_script.specs.declared.op.Op.{Op}
+use Rattle.rd_state.specs.Answers.{takes_memory}
 use Rattle.rd_ucd.specs.Data.{Data}
 use Rattle.rd_words.specs.Words.{WordValues}
-use Rattle.rd_player.specs.Played.{SpentInHand}
 use Rattle.rd_player.specs.declared.act.Playing.{Playing}
 use Rattle.rd_player.specs.declared.halt.Halt.{Halt}
 use Rattle.rd_player.specs.declared.halt.Halt.TheVariants as halts
@@ -37,10 +38,10 @@ standing r = record { mode = mode_of r; session = without_copies r.session; line
 abbrev pub IsNew : Playing → Type 0
 IsNew r = standing r ≡ (opened (mode_of r)).now
 
--- a run begins by what is given, or a status comes before the first line
+-- a run begins by what is given, or a status comes before the first line, when the source has not failed
 abbrev pub Begins : Result Playing Status → Given → Type 0
-Begins (Ok r) given = IsMode given (mode_of r) × IsNew r
-Begins (Err status) given = (source : Drawn) → Comes given None status [] [] source
+Begins (Ok r) given = IsMode given (mode_of r) × IsNew r × NoneFailed given
+Begins (Err status) given = (source : Drawn) → IsCalm source → Comes given None status [] [] source × KeepsCounts given None status source
 
 -- the status that a fault of the data files gives
 abbrev pub status_of : DataFault → Status
@@ -83,6 +84,16 @@ Acts (Err halts.ScreenBroke) does next screen report =
 Acts (Err halts.ReportBroke) does next screen report = (starved : Bool) × (is_sent (does false).outcome ≡ true) × Took screen (does starved).sent
     × Broke report [] (does starved).told × IsToldOf (does starved).now.mode.generated starved
 
+-- want of memory ends the run at an op other than a redisplay, and one that takes memory
+abbrev pub GivesUp : Result Unit Halt → Op → Type 0
+GivesUp (Err halts.NoMemory) op = (asked op ≡ None) × (takes_memory op ≡ true)
+GivesUp result op = Unit {0}
+
+-- want of memory does not end the run
+abbrev pub BearsIt : Result Unit Halt → Type 0
+BearsIt (Err halts.NoMemory) = ⊥
+BearsIt result = Unit {0}
+
 -- how many elements a line placed, whose effect is this: none where memory ended the run
 abbrev pub Places : Result Unit Halt → Effect → ℕ → ℕ → Type 0
 Places (Ok _) e before after = after ≤ before + e.allowed
@@ -96,31 +107,46 @@ Places (Err halts.ReportBroke) e before after = after ≤ before + e.allowed
 abbrev pub summary_of : Summary → List ℕ
 summary_of s = summary_lines s.lines s.shown s.characters s.start
 
--- What was written before the last line of the report. Where no run has begun no line is run, so none breaks.
-abbrev pub ComesTo : Ending → Given → Option Mode → List Input → List ℕ → Drawn → Sunk → Sunk → Type 0
-ComesTo (endings.Ends status lines) given mode inputs bytes source screen report =
-    Comes given mode status inputs bytes source × (last_in mode status inputs ≡ last_line status lines) × Took screen (sent_in mode inputs) × Took report (told_in mode inputs)
-ComesTo (endings.Sums s) given mode inputs bytes source screen report =
-    Comes given mode Done inputs bytes source × (last_in mode Done inputs ≡ summary_of s) × Took screen (sent_in mode inputs) × Took report (told_in mode inputs)
-ComesTo ending given None inputs bytes source screen report = ⊥
-ComesTo endings.ScreenBroke given (Some mode) inputs bytes source screen report =
-    (line : List ℕ) × IsInHand given mode inputs line bytes source.left
-    × Broke screen (run (opened mode) inputs).sent (effect (run (opened mode) inputs).now (input_of line false)).sent × Took report (run (opened mode) inputs).told
-ComesTo endings.ReportBroke given (Some mode) inputs bytes source screen report =
-    (t : Input) × IsInHand given mode inputs t.line bytes source.left × Took screen ((run (opened mode) inputs).sent ++ (effect (run (opened mode) inputs).now t).sent)
-    × Broke report (run (opened mode) inputs).told (effect (run (opened mode) inputs).now t).told × IsToldOf mode.generated t.starved
+-- what a status that ends a run came of, and what was written before its last line, which is this
+pub record ComesWith (status : Status) (last : List ℕ) (given : Given) (mode : Option Mode) (inputs : List Input) (bytes : List ℕ) (source : Drawn) (screen report : Sunk) (steps : Placed) : Type 0 where
+  pub comes : Comes given mode status inputs bytes source
+  pub calm : KeepsCounts given mode status source
+  pub line : last_in mode status inputs ≡ last
+  pub sent : Took screen (sent_in mode inputs)
+  pub told : Took report (told_in mode inputs)
+  pub spent : IsWithin steps (allowed_in mode inputs)
 
--- once a run came to this ending, the count of placed elements rose by no more than is allowed for its lines, the one in hand among them
-abbrev pub SpentBy : Ending → Given → Option Mode → List Input → List ℕ → Option (List ℕ) → ℕ → ℕ → Type 0
-SpentBy (endings.Ends status lines) given mode inputs bytes left before after = after ≤ before + allowed_in mode inputs
-SpentBy (endings.Sums s) given mode inputs bytes left before after = after ≤ before + allowed_in mode inputs
-SpentBy endings.ScreenBroke given mode inputs bytes left before after = SpentInHand given mode inputs bytes left before after
-SpentBy endings.ReportBroke given mode inputs bytes left before after = SpentInHand given mode inputs bytes left before after
+-- the screen broke at the line in hand, or the report did
+pub record ScreenBreaks (given : Given) (mode : Mode) (inputs : List Input) (bytes : List ℕ) (source : Drawn) (screen report : Sunk) (steps : Placed) : Type 0 where
+  pub line : List ℕ
+  pub hand : IsInHand given mode inputs line bytes source.left
+  pub calm : NoneFailed given × IsCalm source
+  pub sent : Broke screen (run (opened mode) inputs).sent (effect (run (opened mode) inputs).now (input_of line false)).sent
+  pub told : Took report (run (opened mode) inputs).told
+  pub spent : IsWithin steps (allowed_in (Some mode) (inputs ++ input_of line false ∷ []))
+
+pub record ReportBreaks (given : Given) (mode : Mode) (inputs : List Input) (bytes : List ℕ) (source : Drawn) (screen report : Sunk) (steps : Placed) : Type 0 where
+  pub t : Input
+  pub hand : IsInHand given mode inputs t.line bytes source.left
+  pub calm : NoneFailed given × IsCalm source
+  pub sent : Took screen ((run (opened mode) inputs).sent ++ (effect (run (opened mode) inputs).now t).sent)
+  pub told : Broke report (run (opened mode) inputs).told (effect (run (opened mode) inputs).now t).told
+  pub tells : IsToldOf mode.generated t.starved
+  pub spent : IsWithin steps (allowed_in (Some mode) (inputs ++ t ∷ []))
+
+-- What was written before the last line of the report. Where no run has begun no line is run, so none breaks.
+abbrev pub ComesTo : Ending → Given → Option Mode → List Input → List ℕ → Drawn → Sunk → Sunk → Placed → Type 0
+ComesTo (endings.Ends status lines) given mode inputs bytes source screen report steps =
+    ComesWith status (last_line status lines) given mode inputs bytes source screen report steps
+ComesTo (endings.Sums s) given mode inputs bytes source screen report steps = ComesWith Done (summary_of s) given mode inputs bytes source screen report steps
+ComesTo ending given None inputs bytes source screen report steps = ⊥
+ComesTo endings.ScreenBroke given (Some mode) inputs bytes source screen report steps = ScreenBreaks given mode inputs bytes source screen report steps
+ComesTo endings.ReportBroke given (Some mode) inputs bytes source screen report steps = ReportBreaks given mode inputs bytes source screen report steps
 
 -- the lines of a generated script came to this ending: nothing was read for them
-abbrev pub MadeComeTo : Ending → Given → Mode → Option (List ℕ) → ℕ → Sunk → Sunk → ℕ → ℕ → Type 0
-MadeComeTo ending given mode left faults screen report before after = (inputs : List Input)
-    × ComesTo ending given (Some mode) inputs [] (drawn left faults faults) screen report × SpentBy ending given (Some mode) inputs [] left before after
+abbrev pub MadeComeTo : Ending → Given → Mode → Option (List ℕ) → ℕ → Sunk → Sunk → Placed → Type 0
+MadeComeTo ending given mode left faults screen report steps =
+    (inputs : List Input) × ComesTo ending given (Some mode) inputs [] (drawn left faults faults) screen report steps
 
 -- a line was written to the report, and this status is answered, or the report broke
 abbrev pub Tells : Status → List ℕ → Status → Sunk → Type 0

@@ -1,3 +1,4 @@
 pub mod Acts
 pub mod Devices
 pub mod Played
+pub mod Programs

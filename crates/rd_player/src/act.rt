@@ -7,7 +7,7 @@ ghost use Rattle.rd_layout.specs.Facts.{facts_of};
 ghost use Rattle.rd_layout.specs.Sessions.{length_of, session_step};
 ghost use Rattle.rd_state.specs.States.{main_name};
 ghost use Rattle.rd_state.specs.Windows.{selected_window};
-ghost use Rattle.rd_player.specs.Acts.{Acts, CanGoOn, IsNew, IsTold, Places, mode_of, standing, summary_of};
+ghost use Rattle.rd_player.specs.Acts.{Acts, BearsIt, CanGoOn, GivesUp, IsNew, IsTold, Places, mode_of, standing, summary_of};
 ghost use Rattle.rd_player.specs.Devices.{sunk_by};
 ghost use Rattle.rd_run.specs.Ends.{summary, sunk};
 ghost use Rattle.rd_run.specs.Runs.{asked, dump_lines, effect, effect_of_op, is_blank, redisplayed, stepped, told_of, unshown, input_of};
@@ -92,7 +92,7 @@ impl Playing {
         }
     }
 
-    /// Runs an op.
+    /// Runs an op. Want of memory ends the run only at one that takes memory, and at no redisplay.
     fn act<K: Sink, R: Sink, L: Ledger>(
         &mut self,
         op: Op,
@@ -105,6 +105,7 @@ impl Playing {
         ensures acts { Acts result (λ starved. effect_of_op starved (standing self.old) op) (standing self.new)
             (sunk_by K.written K.faults screen.old screen.new) (sunk_by R.written R.faults report.old report.new) }
         ensures places { Places result (effect_of_op false (standing self.old) op) steps.old steps.new }
+        ensures free { GivesUp result op }
         ensures counted { self.new.shown ≤ self.new.lines }
         ensures screen { K.faults screen.old ≤ K.faults screen.new }
         ensures report { R.faults report.old ≤ R.faults report.new }
@@ -122,6 +123,7 @@ impl Playing {
         requires applied { asked op ≡ None }
         ensures acts { (sent told : Option (List ℕ)) (m n : ℕ) → Acts result (λ starved. stepped (standing self.old) op (session_step (without_copies self.old.session) op)) (standing self.new)
             (sunk sent sent m m) (sunk told told n n) }
+        ensures free { GivesUp result op }
         ensures counted { self.new.shown ≤ self.new.lines }
     {
         copies_change_no_op();
@@ -135,7 +137,8 @@ impl Playing {
         }
     }
 
-    /// Redisplays, up to so many rows where a stop is given, and writes its lines to the report.
+    /// Redisplays, up to so many rows where a stop is given, and writes its lines to the report. Want of memory is reported and does
+    /// not end the run.
     fn show<K: Sink, R: Sink, L: Ledger>(
         &mut self,
         stop: Option<u32>,
@@ -147,6 +150,7 @@ impl Playing {
         ensures acts { Acts result (λ starved. if starved then unshown (standing self.old) else redisplayed (standing self.old) stop) (standing self.new)
             (sunk_by K.written K.faults screen.old screen.new) (sunk_by R.written R.faults report.old report.new) }
         ensures places { Places result (redisplayed (standing self.old) stop) steps.old steps.new }
+        ensures free { BearsIt result }
         ensures counted { self.new.shown ≤ self.new.lines }
         ensures screen { K.faults screen.old ≤ K.faults screen.new }
         ensures report { R.faults report.old ≤ R.faults report.new }

@@ -11,10 +11,13 @@ mod act;
 mod halt;
 mod last_line;
 mod names;
+mod program;
 mod report;
 mod run;
 mod top;
 mod windows;
 
+pub use names::{op_key, op_kind, refused_kind};
+pub use program::{ToReport, ToScreen, run_program};
 pub use rd_run::Status;
 pub use top::{play, tell_status};

@@ -22,7 +22,7 @@ pub fn kind_of(fault: &ScriptFault) -> &'static str
 }
 
 /// The name of the kind of a line that is no op.
-fn op_kind(fault: &OpFault) -> &'static str
+pub fn op_kind(fault: &OpFault) -> &'static str
     ensures { result.now ≡ op_kind fault.now }
 {
     match fault {
@@ -37,7 +37,7 @@ fn op_kind(fault: &OpFault) -> &'static str
 }
 
 /// The name of a refusal.
-fn refused_kind(refused: Refused) -> &'static str
+pub fn refused_kind(refused: Refused) -> &'static str
     ensures { result.now ≡ refused_kind refused }
 {
     match refused {

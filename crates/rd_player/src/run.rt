@@ -2,9 +2,10 @@
 ghost use Rattle.std.specs.Prelude.{◌≡◌, ℕ, ◌≤◌, length, List, None, Option, Some};
 ghost use Rattle.std.specs.Io.KnownBytes.{Consumes};
 ghost use Rattle.rd_generate.specs.Generated.{script};
-ghost use Rattle.rd_player.specs.Acts.{ComesTo, IsNew, MadeComeTo, SpentBy, ended_by, halted_by, mode_of};
+ghost use Rattle.rd_player.specs.Acts.{ComesTo, IsNew, MadeComeTo, ended_by, halted_by, mode_of};
 ghost use Rattle.rd_player.specs.Devices.{drawn_by, sunk_by};
-ghost use Rattle.rd_run.specs.Given.{Given, IsMode};
+ghost use Rattle.rd_run.specs.Ends.{placed};
+ghost use Rattle.rd_run.specs.Given.{Given, IsMode, NoneFailed};
 ghost use Rattle.rd_run.specs.Runs.{Input};
 
 use crate::act::Playing;
@@ -28,9 +29,9 @@ pub fn run_script<S: Source, K: Sink, R: Sink, L: Ledger>(
 ) -> Ending
     requires read { run.old.generated ≡ None }
     requires begun { IsNew run.old }
-    ensures comes { (given : Given) → IsMode given (mode_of run.old) → (inputs : List Input) × (bytes : List ℕ) × Consumes (S.left script.old) (S.left script.new) bytes
+    ensures comes { (given : Given) → IsMode given (mode_of run.old) → NoneFailed given → (inputs : List Input) × (bytes : List ℕ) × Consumes (S.left script.old) (S.left script.new) bytes
         × ComesTo result given (Some (mode_of run.old)) inputs bytes (drawn_by S.left S.faults script.old script.new) (sunk_by K.written K.faults screen.old screen.new) (sunk_by R.written R.faults report.old report.new)
-        × SpentBy result given (Some (mode_of run.old)) inputs bytes (S.left script.new) steps.old steps.new }
+        (placed steps.old steps.new) }
     ensures script { S.faults script.old ≤ S.faults script.new }
     ensures screen { K.faults screen.old ≤ K.faults screen.new }
     ensures report { R.faults report.old ≤ R.faults report.new }
@@ -63,8 +64,8 @@ pub fn run_generated<K: Sink, R: Sink, L: Ledger>(
 ) -> Ending
     requires generated { run.old.generated ≡ Some number }
     requires begun { IsNew run.old }
-    ensures comes { (given : Given) (left : Option (List ℕ)) (faults : ℕ) → IsMode given (mode_of run.old)
-        → MadeComeTo result given (mode_of run.old) left faults (sunk_by K.written K.faults screen.old screen.new) (sunk_by R.written R.faults report.old report.new) steps.old steps.new }
+    ensures comes { (given : Given) (left : Option (List ℕ)) (faults : ℕ) → IsMode given (mode_of run.old) → NoneFailed given
+        → MadeComeTo result given (mode_of run.old) left faults (sunk_by K.written K.faults screen.old screen.new) (sunk_by R.written R.faults report.old report.new) (placed steps.old steps.new) }
     ensures screen { K.faults screen.old ≤ K.faults screen.new }
     ensures report { R.faults report.old ≤ R.faults report.new }
 {
@@ -85,8 +86,8 @@ fn run_lines<K: Sink, R: Sink, L: Ledger>(
 ) -> Ending
     requires few { length lines.now ≤ LINES }
     requires begun { IsNew run.old }
-    ensures comes { (given : Given) (number : ℕ) (left : Option (List ℕ)) (faults : ℕ) → IsMode given (mode_of run.old) → run.old.generated ≡ Some number → lines.now ≡ script number
-        → MadeComeTo result given (mode_of run.old) left faults (sunk_by K.written K.faults screen.old screen.new) (sunk_by R.written R.faults report.old report.new) steps.old steps.new }
+    ensures comes { (given : Given) (number : ℕ) (left : Option (List ℕ)) (faults : ℕ) → IsMode given (mode_of run.old) → NoneFailed given → run.old.generated ≡ Some number → lines.now ≡ script number
+        → MadeComeTo result given (mode_of run.old) left faults (sunk_by K.written K.faults screen.old screen.new) (sunk_by R.written R.faults report.old report.new) (placed steps.old steps.new) }
     ensures screen { K.faults screen.old ≤ K.faults screen.new }
     ensures report { R.faults report.old ≤ R.faults report.new }
 {

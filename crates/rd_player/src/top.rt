@@ -8,9 +8,9 @@ ghost use Rattle.rd_files.specs.DataFiles.{meaning as files_meaning};
 ghost use Rattle.rd_io.specs.Devices.{Prints};
 ghost use Rattle.rd_player.specs.Acts.{Begins, Finishes, IsOpened, IsNew, Tells, mode_of, status_of};
 ghost use Rattle.rd_player.specs.Devices.{drawn_by, given_by, sunk_by};
-ghost use Rattle.rd_player.specs.Played.{HasReadFault, Played};
+ghost use Rattle.rd_player.specs.Played.{CountsFaults, HasReadFault, Played};
 ghost use Rattle.rd_run.specs.Ends.{sunk};
-ghost use Rattle.rd_run.specs.Given.{Given, IsMode};
+ghost use Rattle.rd_run.specs.Given.{Given, IsMode, NoneFailed};
 ghost use Rattle.rd_run.specs.Reports.{last_line};
 ghost use Rattle.rd_run.specs.Statuses.{TellsNoMemory};
 ghost use Rattle.rd_words.specs.Command.{meaning, texts};
@@ -41,10 +41,10 @@ use std::sync::ledger::Ledger;
 /// many, no op, or refused gives BadScript.
 ///
 /// A redisplay sends its bytes to `screen` before the report gets its line. One that finds no memory is reported, and the run goes
-/// on; want of memory anywhere else gives NoMemory, and nothing of the op in hand stands. ReadFault comes only where the count of
-/// `script` rose, or that of a file that the words name, and WriteFault only where that of `screen` or `report` did. After a fault
-/// of the screen the report still gets its last line, and after one of the report nothing more is written. No line of the report
-/// takes memory.
+/// on; want of memory anywhere else gives NoMemory, and nothing of the op in hand stands. ReadFault comes where the count of
+/// `script` rose, or that of a file that the words name, and WriteFault where that of `screen` or `report` did. With every other
+/// status no count rose: a fault ends the run (`faults`). After a fault of the screen the report still gets its last line, and after
+/// one of the report nothing more is written. No line of the report takes memory.
 ///
 /// `ran` says, by the lines that were run and the bytes that were taken from `script`, what holds where each status comes, what was
 /// written then, that behind each redisplay that was shown the written terminal shows what the rules give from nothing, that behind
@@ -68,6 +68,8 @@ pub fn play<S: Source, F: Files, K: Sink, R: Sink, L: Ledger>(
     ensures ran { Played (given_by (values_of (texts words.items)) F.contents F.faults files.old files.new) result (S.left script.old)
         (drawn_by S.left S.faults script.old script.new) (sunk_by K.written K.faults screen.old screen.new) (sunk_by R.written R.faults report.old report.new) steps.old steps.new }
     ensures read { HasReadFault (given_by (values_of (texts words.items)) F.contents F.faults files.old files.new) result (drawn_by S.left S.faults script.old script.new) }
+    ensures faults { CountsFaults (given_by (values_of (texts words.items)) F.contents F.faults files.old files.new) result
+        (drawn_by S.left S.faults script.old script.new) (sunk_by K.written K.faults screen.old screen.new) (sunk_by R.written R.faults report.old report.new) }
     ensures no_memory_told { TellsNoMemory result }
     ensures unread { (w : WordValues) → values_of (texts words.items) ≡ Some w → IsSome w.generate → script.new ≡ script.old }
     ensures script { S.faults script.old ≤ S.faults script.new }
@@ -145,7 +147,7 @@ fn run_whole<S: Source, K: Sink, R: Sink, L: Ledger>(
     steps: &mut Steps<L>,
 ) -> Status
     requires { IsNew run.old }
-    ensures played { (given : Given) → IsMode given (mode_of run.old) → Played given result (S.left script.old) (drawn_by S.left S.faults script.old script.new) (sunk_by K.written K.faults screen.old screen.new) (sunk_by R.written R.faults report.old report.new) steps.old steps.new }
+    ensures played { (given : Given) → IsMode given (mode_of run.old) → NoneFailed given → Played given result (S.left script.old) (drawn_by S.left S.faults script.old script.new) (sunk_by K.written K.faults screen.old screen.new) (sunk_by R.written R.faults report.old report.new) steps.old steps.new }
     ensures unread { IsSome run.old.generated → script.new ≡ script.old }
     ensures script { S.faults script.old ≤ S.faults script.new }
     ensures screen { K.faults screen.old ≤ K.faults screen.new }

@@ -281,8 +281,8 @@ came-alike script a b (Some m) (Some n) h alike p q c d =
     (comes-stops m script b.status b.inputs b.bytes b.source second q.faultless.read q.found other) in
     (ap (λ k. Some k) same, both.0, both.1)
 
-whole-end : (script : List ℕ) (e : End) → IsUndisturbed script e → IsWhole e.given e.mode e.status e.inputs e.bytes e.source e.screen e.report
-whole-end script e h = whole-of e.given e.mode e.status e.inputs e.bytes e.source e.screen e.report h.faultless.sent h.faultless.told h.faultless.ended
+whole-end : (script : List ℕ) (e : End) → IsUndisturbed script e → IsWhole e.given e.mode e.status e.inputs e.bytes e.source e.screen e.report e.steps
+whole-end script e h = whole-of e.given e.mode e.status e.inputs e.bytes e.source e.screen e.report e.steps h.faultless.sent h.faultless.told h.faultless.ended
 
 sent-alike : (mode : Option Mode) (ts us : List Input) → HaveRunAlike mode ts us → sent_in mode ts ≡ sent_in mode us
 sent-alike None ts us h = refl
@@ -303,11 +303,11 @@ all_told mode status inputs = told_in mode inputs ++ last_in mode status inputs
 all-alike : (mode : Option Mode) (s : Status) (ts us : List Input) → HaveRunAlike mode ts us → all_told mode s ts ≡ all_told mode s us
 all-alike mode s ts us h = ap (λ front. front ++ last_in mode s ts) (told-alike mode ts us h) ∙ ap (λ last. told_in mode us ++ last) (last-alike mode s ts us h)
 
-pub ends-alike : (script : List ℕ) (a b : End) → AreGivenAlike a.given b.given → IsUndisturbed script a → IsUndisturbed script b → AreStarvedAlikeIn a.mode a.inputs b.inputs → AreAlike a b
-ends-alike script a b given p q h =
-    let one = whole-end script a p in
-    let other = whole-end script b q in
-    let same = came-alike script a b a.mode b.mode given h p q one.comes other.comes in
+-- two runs in which all was written are alike where they have begun alike, have run alike and have one status
+pub wholes-alike : (a b : End) → IsWhole a.given a.mode a.status a.inputs a.bytes a.source a.screen a.report a.steps
+    → IsWhole b.given b.mode b.status b.inputs b.bytes b.source b.screen b.report b.steps
+    → (a.mode ≡ b.mode) × HaveRunAlike a.mode a.inputs b.inputs × (a.status ≡ b.status) → AreAlike a b
+wholes-alike a b one other same =
     let sent : Took b.screen (sent_in a.mode a.inputs) =
     subst (Took b.screen) (sym (sent-alike a.mode a.inputs b.inputs same.1)) (subst (λ m. Took b.screen (sent_in m b.inputs)) (sym same.0) other.sent) in
     let told : Took b.report (all_told a.mode a.status a.inputs) = subst (Took b.report) (sym (all-alike a.mode a.status a.inputs b.inputs same.1))
@@ -317,3 +317,9 @@ ends-alike script a b given p q h =
       screen = (sent_in a.mode a.inputs, one.sent, sent);
       report = (all_told a.mode a.status a.inputs, one.told, told);
     }
+
+pub ends-alike : (script : List ℕ) (a b : End) → AreGivenAlike a.given b.given → IsUndisturbed script a → IsUndisturbed script b → AreStarvedAlikeIn a.mode a.inputs b.inputs → AreAlike a b
+ends-alike script a b given p q h =
+    let one = whole-end script a p in
+    let other = whole-end script b q in
+    wholes-alike a b one other (came-alike script a b a.mode b.mode given h p q one.comes other.comes)

@@ -1,4 +1,5 @@
 mod Alike
+mod Fed
 pub mod Begun
 pub mod Effects
 pub mod Free

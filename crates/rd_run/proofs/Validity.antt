@@ -43,5 +43,5 @@ begun-well given (Some other) mode script status inputs bytes source m told fetc
 
 pub ends-well : (script : List ℕ) (mode : Mode) (e : End) → IsMode e.given mode → IsValidScript mode e.inputs script → IsFaultless script e → EndsWell e.status
 ends-well script mode e m h whole =
-    let all = whole-of e.given e.mode e.status e.inputs e.bytes e.source e.screen e.report whole.sent whole.told whole.ended in
+    let all = whole-of e.given e.mode e.status e.inputs e.bytes e.source e.screen e.report e.steps whole.sent whole.told whole.ended in
     begun-well e.given e.mode mode script e.status e.inputs e.bytes e.source m whole.files whole.fetched h whole.taken whole.read all.comes

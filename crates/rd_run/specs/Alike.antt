@@ -1,10 +1,10 @@
 -- What determines how a run ends.
-use Rattle.std.specs.Prelude.{◌≡◌, ◌≢◌, ℕ, true, is_some, List, [], ◌∷◌, Option, None, Some}
+use Rattle.std.specs.Prelude.{◌≡◌, ◌≢◌, ℕ, ◌-◌, ◌^◌, ◌<◌, ◌⊎◌, true, is_some, List, [], ◌∷◌, Option, None, Some}
 use Rattle.std.specs.Io.KnownBytes.{Consumes}
 use Rattle.rd_files.specs.DataFiles.{Named, told_or_empty}
 use Rattle.rd_io.specs.Devices.{Rose}
-use Rattle.rd_run.specs.Ends.{Drawn, Sunk, Took, Ended}
-use Rattle.rd_run.specs.Given.{Given, AreTold, HasFailed, ReadsScript, names_of}
+use Rattle.rd_run.specs.Ends.{Drawn, IsCalm, Placed, Sunk, Took, Ended}
+use Rattle.rd_run.specs.Given.{Given, AreTold, HasFailed, NoneFailed, ReadsScript, names_of}
 use Rattle.rd_run.specs.Runs.{Input, Mode, World, opened, outcome_at, run_line}
 use Rattle.rd_run.specs.declared.status.Status.{Status}
 use Rattle.rd_run.specs.declared.status.Status.TheVariants.{NoMemory}
@@ -19,7 +19,8 @@ AreToldAlike one other names = (one names.class_file ≡ other names.class_file)
 abbrev pub AreGivenAlike : Given → Given → Type 0
 AreGivenAlike a b = (a.words ≡ b.words) × ((w : WordValues) → a.words ≡ Some w → AreToldAlike a.contents b.contents (names_of w))
 
--- an end of a run: how it began, its status, the lines that were run, the bytes taken from the source, and what was done to each device
+-- an end of a run: how it began, its status, the lines that were run, the bytes taken from the source, what was done to each device, and
+-- how many elements were placed
 pub record End : Type 0 where
   pub given : Given
   pub mode : Option Mode
@@ -29,12 +30,13 @@ pub record End : Type 0 where
   pub source : Drawn
   pub screen : Sunk
   pub report : Sunk
+  pub steps : Placed
 
 -- a run over the bytes of this script, which are known where it is read, ended so; the bytes of the files that its words name are
 -- known, and no device failed in it
 pub record IsFaultless (script : List ℕ) (e : End) : Type 0 where
   pub taken : ReadsScript e.given → Consumes (Some script) e.source.left e.bytes
-  pub ended : Ended e.given e.mode e.status e.inputs e.bytes e.source e.screen e.report
+  pub ended : Ended e.given e.mode e.status e.inputs e.bytes e.source e.screen e.report e.steps
   pub files : AreTold e.given
   pub fetched : ¬ HasFailed e.given
   pub read : ¬ Rose e.source.faults_before e.source.faults_after
@@ -44,6 +46,31 @@ pub record IsFaultless (script : List ℕ) (e : End) : Type 0 where
 -- a run over the bytes of a script as `IsFaultless` says it, in which no device failed, and that no want of memory ended
 pub record IsUndisturbed (script : List ℕ) (e : End) : Type 0 where
   pub faultless : IsFaultless script e
+  pub found : e.status ≢ NoMemory
+
+-- a file failed: the count of a name rose
+abbrev pub SomeFailed : Given → Type 0
+SomeFailed given = (file : List ℕ) × (given.faults_before file < given.faults_after file)
+
+-- a source failed: its count rose
+abbrev pub SourceFailed : Drawn → Type 0
+SourceFailed source = source.faults_before < source.faults_after
+
+-- what two runs read answered alike: files failed in both or in none, and the source failed in both, behind the same bytes, or in none
+pub record AreFedAlike (a b : End) : Type 0 where
+  pub files : (NoneFailed a.given × NoneFailed b.given) ⊎ (SomeFailed a.given × SomeFailed b.given)
+  pub source : (IsCalm a.source × IsCalm b.source) ⊎ (SourceFailed a.source × SourceFailed b.source × (a.bytes ≡ b.bytes))
+
+-- a run over the bytes of a script as `IsFaultless` says it, in which no sink failed, but files or the source may have, whose counts were
+-- below their last value before it; and that no want of memory ended
+pub record IsFed (script : List ℕ) (e : End) : Type 0 where
+  pub taken : ReadsScript e.given → Consumes (Some script) e.source.left e.bytes
+  pub ended : Ended e.given e.mode e.status e.inputs e.bytes e.source e.screen e.report e.steps
+  pub files : AreTold e.given
+  pub low_files : (file : List ℕ) → e.given.faults_before file < 2 ^ 64 - 1
+  pub low_source : e.source.faults_before < 2 ^ 64 - 1
+  pub sent : ¬ Rose e.screen.faults_before e.screen.faults_after
+  pub told : ¬ Rose e.report.faults_before e.report.faults_after
   pub found : e.status ≢ NoMemory
 
 -- of the redisplays that both run from here the same find no memory

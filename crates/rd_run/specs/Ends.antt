@@ -9,7 +9,7 @@ use Rattle.rd_generate.specs.Generated.{script as generated}
 use Rattle.rd_state.specs.States.{main_name}
 use Rattle.rd_state.specs.Windows.{selected_window}
 use Rattle.rd_layout.specs.Sessions.{length_of}
-use Rattle.rd_run.specs.Given.{Given, IsMode, IsBadData, FileFailed}
+use Rattle.rd_run.specs.Given.{Given, IsMode, IsBadData, FileFailed, NoneFailed}
 use Rattle.rd_run.specs.Reports.{last_line, summary_lines}
 use Rattle.rd_run.specs.Runs.{Mode, Standing, Input, input_of, opened, effect, run, outcome_at, is_sent, ShowsEach}
 use Rattle.rd_run.specs.declared.status.ScriptFault.{ScriptFault}
@@ -39,14 +39,31 @@ abbrev pub sunk : Option (List ℕ) → Option (List ℕ) → ℕ → ℕ → Su
 sunk before after faults_before faults_after =
     record { before = before; after = after; faults_before = faults_before; faults_after = faults_after }
 
--- these bytes were written to a sink
-abbrev pub Took : Sunk → List ℕ → Type 0
-Took s bytes = Appends s.before s.after bytes
+-- a source did not fail: its count is as it was
+abbrev pub IsCalm : Drawn → Type 0
+IsCalm source = source.faults_after ≡ source.faults_before
 
--- a sink's count of faults rose, and these bytes and then a front of others were written to it
+-- these bytes were written to a sink, which did not fail: its count is as it was
+pub record Took (s : Sunk) (bytes : List ℕ) : Type 0 where
+  pub wrote : Appends s.before s.after bytes
+  pub kept : s.faults_after ≡ s.faults_before
+
+-- a sink's count of faults rose, and these bytes and then a front of others, not all, were written to it
 pub record Broke (s : Sunk) (bytes others : List ℕ) : Type 0 where
   pub rose : Rose s.faults_before s.faults_after
-  pub front : (n : ℕ) × (n ≤ length others) × Appends s.before s.after (bytes ++ take n others)
+  pub front : (n : ℕ) × (n < length others) × Appends s.before s.after (bytes ++ take n others)
+
+-- how many elements were placed before a run and behind it
+pub record Placed : Type 0 where
+  pub before : ℕ
+  pub after : ℕ
+
+abbrev pub placed : ℕ → ℕ → Placed
+placed before after = record { before = before; after = after }
+
+-- no more than so many elements were placed
+abbrev pub IsWithin : Placed → ℕ → Type 0
+IsWithin steps allowance = steps.after ≤ steps.before + allowance
 
 -- ---- the lines that were run
 
@@ -93,10 +110,11 @@ abbrev pub AreScript : Option ℕ → List (List ℕ) → List ℕ → Option (L
 AreScript None lines bytes left = AreFirst lines bytes left
 AreScript (Some number) lines bytes left = AreFirstOf number lines bytes
 
--- lines that have ended are the first ones
-abbrev pub IsTaken : Option ℕ → List Input → List ℕ → Type 0
-IsTaken None inputs bytes = (rest : List ℕ) × GoesOn inputs bytes rest
-IsTaken (Some number) inputs bytes = AreFirstOf number (lines_in inputs) bytes
+-- The op in hand was given up: the lines that were run have ended and are the first ones, and of the next one, which was to be run, a byte
+-- was taken; a generated script has a next one. Or nothing was taken, where the reader of lines had no memory.
+abbrev pub IsGivenUp : Option ℕ → List Input → List ℕ → Type 0
+IsGivenUp None inputs bytes = ((rest : List ℕ) × GoesOn inputs bytes rest × (0 < length rest)) ⊎ ((inputs ≡ []) × (bytes ≡ []))
+IsGivenUp (Some number) inputs bytes = AreFirstOf number (lines_in inputs) bytes × (length inputs < length (generated number))
 
 -- lines are all of the script
 abbrev pub AreAll : Option ℕ → List Input → List ℕ → Option (List ℕ) → Type 0
@@ -137,8 +155,7 @@ ComesIn mode (BadScript number fault) inputs bytes source = IsBad mode fault num
 -- the source failed, and the lines that end with a newline among the bytes taken were run
 ComesIn mode ReadFault inputs bytes source =
     Ran mode inputs × (mode.generated ≡ None) × Rose source.faults_before source.faults_after × ((rest : List ℕ) × GoesOn inputs bytes rest × IsBegun inputs rest)
--- the op in hand was given up
-ComesIn mode NoMemory inputs bytes source = Ran mode inputs × IsTaken mode.generated inputs bytes
+ComesIn mode NoMemory inputs bytes source = Ran mode inputs × IsGivenUp mode.generated inputs bytes
 ComesIn mode status inputs bytes source = ⊥
 
 -- What holds where a status comes that is no write fault. A run begins where the words are those of the command and the data files were
@@ -150,6 +167,13 @@ Comes given None ReadFault inputs bytes source = FileFailed given × IsNothing i
 Comes given None NoMemory inputs bytes source = IsNothing inputs bytes
 Comes given None status inputs bytes source = ⊥
 Comes given (Some mode) status inputs bytes source = IsMode given mode × ComesIn mode status inputs bytes source
+
+-- Which counts are as they were where a status comes, of those of the files and of the source: all, but that a read fault has one that
+-- rose, of a file before the run began and of the source in it.
+abbrev pub KeepsCounts : Given → Option Mode → Status → Drawn → Type 0
+KeepsCounts given None ReadFault source = IsCalm source
+KeepsCounts given (Some mode) ReadFault source = NoneFailed given
+KeepsCounts given mode status source = NoneFailed given × IsCalm source
 
 -- ---- what was written
 
@@ -180,11 +204,14 @@ abbrev pub last_in : Option Mode → Status → List Input → List ℕ
 last_in (Some mode) Done inputs = done_of mode.generated (run (opened mode) inputs).now
 last_in mode status inputs = last_line status (length inputs)
 
--- all was written, and behind it the last line of the status
-pub record IsWhole (given : Given) (mode : Option Mode) (status : Status) (inputs : List Input) (bytes : List ℕ) (source : Drawn) (screen report : Sunk) : Type 0 where
+-- All was written, and behind it the last line of the status; no sink failed. No more elements were placed than the redisplays of the
+-- lines that were run may place.
+pub record IsWhole (given : Given) (mode : Option Mode) (status : Status) (inputs : List Input) (bytes : List ℕ) (source : Drawn) (screen report : Sunk) (steps : Placed) : Type 0 where
   pub comes : Comes given mode status inputs bytes source
+  pub calm : KeepsCounts given mode status source
   pub sent : Took screen (sent_in mode inputs)
   pub told : Took report (told_in mode inputs ++ last_in mode status inputs)
+  pub spent : IsWithin steps (allowed_in mode inputs)
 
 -- a redisplay is the line in hand, behind those that were run
 pub record IsInHand (given : Given) (mode : Mode) (inputs : List Input) (line bytes : List ℕ) (left : Option (List ℕ)) : Type 0 where
@@ -198,40 +225,47 @@ abbrev pub TellsFault : Sunk → List ℕ → List Input → Type 0
 TellsFault report told inputs =
     Took report (told ++ last_line WriteFault (length inputs)) ⊎ Broke report told (last_line WriteFault (length inputs))
 
--- the screen failed at an update
-pub record ScreenBroke (given : Given) (mode : Mode) (inputs : List Input) (line bytes : List ℕ) (source : Drawn) (screen report : Sunk) : Type 0 where
+-- The screen failed at an update, and no file and no source did. Its redisplay may have placed as many elements as it is allowed, beside
+-- those of the lines before it.
+pub record ScreenBroke (given : Given) (mode : Mode) (inputs : List Input) (line bytes : List ℕ) (source : Drawn) (screen report : Sunk) (steps : Placed) : Type 0 where
   pub hand : IsInHand given mode inputs line bytes source.left
+  pub calm : NoneFailed given × IsCalm source
   pub sent : Broke screen (run (opened mode) inputs).sent (effect (run (opened mode) inputs).now (input_of line false)).sent
   pub told : TellsFault report (run (opened mode) inputs).told inputs
+  pub spent : IsWithin steps (allowed_in (Some mode) (inputs ++ input_of line false ∷ []))
 
 -- The report failed at the lines of a redisplay, whose update, where it found memory, was sent whole: the terminal shows it,
--- though the report does not say so whole. That of a generated script has lines of want of memory alone.
-pub record ReportBroke (given : Given) (mode : Mode) (inputs : List Input) (t : Input) (bytes : List ℕ) (source : Drawn) (screen report : Sunk) : Type 0 where
+-- though the report does not say so whole. No other device failed. That of a generated script has lines of want of memory alone.
+pub record ReportBroke (given : Given) (mode : Mode) (inputs : List Input) (t : Input) (bytes : List ℕ) (source : Drawn) (screen report : Sunk) (steps : Placed) : Type 0 where
   pub hand : IsInHand given mode inputs t.line bytes source.left
+  pub calm : NoneFailed given × IsCalm source
   pub sent : Took screen ((run (opened mode) inputs).sent ++ (effect (run (opened mode) inputs).now t).sent)
   pub told : Broke report (run (opened mode) inputs).told (effect (run (opened mode) inputs).now t).told
   pub shows : ShowsEach (opened mode) (inputs ++ t ∷ [])
   pub tells : (mode.generated ≡ None) ⊎ (t.starved ≡ true)
+  pub spent : IsWithin steps (allowed_in (Some mode) (inputs ++ t ∷ []))
 
 -- the report failed at the last line of the status that would have come
-pub record LastBroke (given : Given) (mode : Option Mode) (status : Status) (inputs : List Input) (bytes : List ℕ) (source : Drawn) (screen report : Sunk) : Type 0 where
+pub record LastBroke (given : Given) (mode : Option Mode) (status : Status) (inputs : List Input) (bytes : List ℕ) (source : Drawn) (screen report : Sunk) (steps : Placed) : Type 0 where
   pub comes : Comes given mode status inputs bytes source
+  pub calm : KeepsCounts given mode status source
   pub sent : Took screen (sent_in mode inputs)
   pub told : Broke report (told_in mode inputs) (last_in mode status inputs)
+  pub spent : IsWithin steps (allowed_in mode inputs)
 
 -- One of the writes broke, all before it are whole, and nothing was written behind it but `write fault`. Where no run has begun there
 -- is no write but the last line.
-abbrev pub IsBroken : Given → Option Mode → List Input → List ℕ → Drawn → Sunk → Sunk → Type 0
-IsBroken given None inputs bytes source screen report = (status : Status) × LastBroke given None status inputs bytes source screen report
-IsBroken given (Some mode) inputs bytes source screen report =
-    ((line : List ℕ) × ScreenBroke given mode inputs line bytes source screen report)
-    ⊎ (((t : Input) × ReportBroke given mode inputs t bytes source screen report)
-    ⊎ ((status : Status) × LastBroke given (Some mode) status inputs bytes source screen report))
+abbrev pub IsBroken : Given → Option Mode → List Input → List ℕ → Drawn → Sunk → Sunk → Placed → Type 0
+IsBroken given None inputs bytes source screen report steps = (status : Status) × LastBroke given None status inputs bytes source screen report steps
+IsBroken given (Some mode) inputs bytes source screen report steps =
+    ((line : List ℕ) × ScreenBroke given mode inputs line bytes source screen report steps)
+    ⊎ (((t : Input) × ReportBroke given mode inputs t bytes source screen report steps)
+    ⊎ ((status : Status) × LastBroke given (Some mode) status inputs bytes source screen report steps))
 
 -- The run of these lines ended with this status: all was written, or the status is that of a write fault and a write broke.
-abbrev pub Ended : Given → Option Mode → Status → List Input → List ℕ → Drawn → Sunk → Sunk → Type 0
-Ended given mode status inputs bytes source screen report =
-    IsWhole given mode status inputs bytes source screen report ⊎ ((status ≡ WriteFault) × IsBroken given mode inputs bytes source screen report)
+abbrev pub Ended : Given → Option Mode → Status → List Input → List ℕ → Drawn → Sunk → Sunk → Placed → Type 0
+Ended given mode status inputs bytes source screen report steps =
+    IsWhole given mode status inputs bytes source screen report steps ⊎ ((status ≡ WriteFault) × IsBroken given mode inputs bytes source screen report steps)
 
 -- behind each redisplay that was shown the terminal shows what the rules give from nothing
 abbrev pub ShowsIn : Option Mode → List Input → Type 0

@@ -46,6 +46,10 @@ abbrev pub HasFailed : Given → Type 0
 HasFailed given = (w : WordValues) × (given.words ≡ Some w) × (FailedAt given.faults_before given.faults_after w.class_file
     ⊎ (FailedAt given.faults_before given.faults_after w.mirror_file ⊎ FailedAtSome given.faults_before given.faults_after w.bracket_file))
 
+-- no file failed: each count is as it was
+abbrev pub NoneFailed : Given → Type 0
+NoneFailed given = (file : List ℕ) → given.faults_after file ≡ given.faults_before file
+
 -- the bytes of the files that the words name are known
 abbrev pub AreTold : Given → Type 0
 AreTold given = (w : WordValues) → given.words ≡ Some w

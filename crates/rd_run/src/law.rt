@@ -1,7 +1,7 @@
 //! The laws of a run: what stands behind its lines, what the terminal shows behind each redisplay, when two ends are alike, and how runs
 //! over valid scripts end.
 ghost use Rattle.std.specs.Prelude.{ℕ, List, Option};
-ghost use Rattle.rd_run.specs.Alike.{AreAlike, AreGivenAlike, AreStarvedAlikeIn, End, IsFaultless, IsUndisturbed};
+ghost use Rattle.rd_run.specs.Alike.{AreAlike, AreFedAlike, AreGivenAlike, AreStarvedAlikeIn, End, IsFaultless, IsFed, IsUndisturbed};
 ghost use Rattle.rd_run.specs.Ends.{Comes, Drawn};
 ghost use Rattle.rd_run.specs.Given.{Given, IsMode};
 ghost use Rattle.rd_run.specs.Runs.{Input, KnowsEach, Mode, ShowsEach, StandLaws, opened};
@@ -49,6 +49,14 @@ pub fn each_slice_is_known()
 /// no memory, both ends have the same status, and the same bytes went to both screens and to both reports. The call does nothing.
 pub fn two_runs_of_one_script_end_alike()
     ensures { (script : List ℕ) (a b : End) → AreGivenAlike a.given b.given → IsUndisturbed script a → IsUndisturbed script b
+        → AreStarvedAlikeIn a.mode a.inputs b.inputs → AreAlike a b }
+{}
+
+/// The run is determined where what it reads fails, too. Take two ends of runs as above, in which no sink failed, but files or the source
+/// may have: files in both or in none, and the source in both behind the same bytes, or in none. Both ends have the same status, and the
+/// same bytes went to both screens and to both reports. The call does nothing.
+pub fn runs_that_are_fed_alike_end_alike()
+    ensures { (script : List ℕ) (a b : End) → AreGivenAlike a.given b.given → IsFed script a → IsFed script b → AreFedAlike a b
         → AreStarvedAlikeIn a.mode a.inputs b.inputs → AreAlike a b }
 {}
 

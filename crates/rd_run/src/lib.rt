@@ -10,6 +10,7 @@ mod status;
 
 pub use law::{
     a_session_stands_behind_each_line, each_redisplay_is_shown, each_slice_is_known,
-    no_kind_is_want_of_memory, two_runs_of_one_script_end_alike, valid_scripts_end_well,
+    no_kind_is_want_of_memory, runs_that_are_fed_alike_end_alike, two_runs_of_one_script_end_alike,
+    valid_scripts_end_well,
 };
 pub use status::{ScriptFault, Status};

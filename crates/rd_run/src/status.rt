@@ -5,17 +5,22 @@ ghost use Rattle.rd_run.specs.Statuses.{code_of};
 use rd_files::{DataFile, DataKind};
 use rd_script::OpFault;
 use rd_state::Refused;
+use thiserror::Error;
 
 /// Why a line of a script is bad.
-#[derive(Debug, Drop)]
+#[derive(Debug, Drop, Error)]
 pub enum ScriptFault {
     /// The line has more than 1,048,576 bytes.
+    #[error("the line is too long")]
     TooLong,
     /// The line is the 1,000,001st.
+    #[error("there are too many lines")]
     TooMany,
     /// The line is no op.
+    #[error("the line is no op")]
     Op(OpFault),
     /// The line's op was refused.
+    #[error("the op was refused")]
     Refused(Refused),
 }
 

@@ -1,5 +1,5 @@
 //! Redisplay: the windows are laid out, the target is painted and the update is prepared; then it is sent, and what was laid out is kept.
-ghost use Rattle.std.specs.Prelude.{◌≡◌, ◌≤◌, ◌+◌, None, IfOk};
+ghost use Rattle.std.specs.Prelude.{◌≡◌, ◌≢◌, ◌≤◌, ◌+◌, None, IfOk};
 ghost use Rattle.rd_io.specs.Devices.{Rose};
 ghost use Rattle.rd_layout.specs.Redisplays.{Redisplayed, allowed, bands_of, outcome_of};
 ghost use Rattle.rd_layout.specs.Screens.{laid_out};
@@ -38,7 +38,7 @@ impl Session {
     /// Lays the windows out, brings the screen to what they show, and settles their starts and points. Where `stop` is given at most so
     /// many of the rows that differ are sent: Stopped says that more differ, and Shown that these were all; both have the number of rows
     /// that were sent. NoMemory may be answered at any time, and then no byte was sent: all memory is taken before the first byte.
-    /// WriteFault comes only where the sink's count of faults rose: a front of the bytes was sent. After either the frame is garbaged, and
+    /// WriteFault comes exactly where the sink's count of faults rose: a front of the bytes was sent, not all. After either the frame is garbaged, and
     /// all else is as it was. A window whose last layout stands and whose start suits its point costs nothing; another one costs at most
     /// three times what the rows of the blocks near it take that keep none: their elements, and those of a prefix once for each row.
     pub fn redisplay<K: Sink, L: Ledger>(
@@ -49,6 +49,7 @@ impl Session {
     ) -> Outcome
         ensures redisplayed { Redisplayed result stop self.old self.new (K.written sink.old) (K.written sink.new) }
         ensures never_falls { K.faults sink.old ≤ K.faults sink.new }
+        ensures kept { result ≢ Fault → K.faults sink.new ≡ K.faults sink.old }
         ensures failed { result ≡ Fault → Rose (K.faults sink.old) (K.faults sink.new) }
         ensures steps { steps.new ≤ steps.old + allowed self.old }
     {
@@ -137,6 +138,7 @@ fn send<K: Sink>(
     requires update { prepared.update ≡ shifted_planned screen.old (laid_out views.old.files views.old.state).picture (bands_of views.old.state) }
     ensures redisplayed { Redisplayed result stop (with_screen views.old screen.old) (with_screen views.new screen.new) (K.written sink.old) (K.written sink.new) }
     ensures never_falls { K.faults sink.old ≤ K.faults sink.new }
+    ensures kept { result ≢ Fault → K.faults sink.new ≡ K.faults sink.old }
     ensures failed { result ≡ Fault → Rose (K.faults sink.old) (K.faults sink.new) }
 {
     redisplays_keep_states();

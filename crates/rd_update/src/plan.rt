@@ -33,7 +33,7 @@ pub struct Sent {
     pub done: bool,
 }
 
-/// The sink failed. A front of the bytes was written.
+/// The sink failed. A front of the bytes was written, not all of them.
 #[derive(Clone, Copy, Debug, PartialEq, Eq, Error)]
 #[error("write fault")]
 pub struct WriteFault;
@@ -95,6 +95,7 @@ impl Plan {
         ensures sends { (current : Option Picture) (target : Picture) → self.now ≡ planned current target
             → Sends (K.written sink.old) (K.written sink.new) (update current target rows_at_most) result }
         ensures never_falls { K.faults sink.old ≤ K.faults sink.new }
+        ensures kept { OnOk result (K.faults sink.new ≡ K.faults sink.old) }
         ensures failed { OnErr result (Rose (K.faults sink.old) (K.faults sink.new)) }
     {
         let (length, sent) = self.front(rows_at_most);
@@ -246,6 +247,7 @@ fn push_parts(
 fn send_front<K: Sink>(sink: &mut K, bytes: &[u8], sent: Sent) -> Result<Sent, WriteFault>
     ensures sends { (u : Update) → bytes.now ≡ u.bytes → sent ≡ sent_of u → Sends (K.written sink.old) (K.written sink.new) u result }
     ensures never_falls { K.faults sink.old ≤ K.faults sink.new }
+    ensures kept { OnOk result (K.faults sink.new ≡ K.faults sink.old) }
     ensures failed { OnErr result (Rose (K.faults sink.old) (K.faults sink.new)) }
 {
     let Ok(()) = write_whole(sink, bytes) else {

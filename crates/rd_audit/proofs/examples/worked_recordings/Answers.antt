@@ -1,4 +1,4 @@
-use Rattle.std.proofs.Common.{◌≡◌, [], inl, true, false, refl}
+use Rattle.std.proofs.Common.{◌≡◌, [], inl, true, false, refl, arith}
 use Rattle.std.proofs.lemmas.Bool.{leb-true}
 use Rattle.rd_run.proofs.OnRuns.{on_lines}
 use Rattle.rd_run.specs.Ends.{AreInLimits, IsWhole, lines_in}
@@ -15,9 +15,15 @@ begun = record { words = _; said = refl; files = ([], [], [], refl, refl, refl, 
 limits : AreInLimits (lines_in short_inputs)
 limits = record { short = (leb-true _ _ refl, (leb-true _ _ refl, (leb-true _ _ refl, tt))); few = leb-true _ _ refl }
 
-whole : let e = short_end true short_report in IsWhole e.given e.mode Done e.inputs e.bytes e.source e.screen e.report
+whole : let e = short_end true short_report in IsWhole e.given e.mode Done e.inputs e.bytes e.source e.screen e.report e.steps
 unfolding on_lines
-whole = record { comes = (begun, (refl, (limits, refl, refl))); sent = refl; told = refl }
+whole = record {
+  comes = (begun, (refl, (limits, refl, refl)));
+  calm = (λ file. refl, refl);
+  sent = record { wrote = refl; kept = refl };
+  told = record { wrote = refl; kept = refl };
+  spent = omega arith;
+}
 
 shown : EndsShown (opened (short_mode true)) short_inputs
 unfolding on_lines
@@ -29,8 +35,7 @@ returns-clause-dumped c = record {
   begun = refl;
   dumps = refl;
   read = refl;
-  status = refl;
-  ended = inl whole;
+  ended = inl (tt, whole);
   ends = shown;
   sent = refl;
   told = refl;

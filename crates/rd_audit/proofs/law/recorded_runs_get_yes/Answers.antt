@@ -1,10 +1,10 @@
 use Rattle.std.proofs.Common.{◌≡◌, ◌∷◌, [], List, Option, Some, ℕ, refl, sym, subst}
 use Rattle.std.specs.Prelude.{IfSome}
 use Rattle.rd_run.specs.Alike.{End}
-use Rattle.rd_run.specs.Runs.{Mode}
+use Rattle.rd_run.specs.Runs.{Mode, opened}
 use Rattle.rd_audit.proofs.Judging.{only-yes}
 use Rattle.rd_audit.proofs.Recorded.{Agree, recording-agrees, recording-sent}
-use Rattle.rd_audit.proofs.Since.{recorded-read}
+use Rattle.rd_audit.proofs.Since.{recorded-read, run-all}
 use Rattle.rd_audit.specs.Recorded.{IsRecording}
 use Rattle.rd_audit.specs.Verdicts.{IsSound}
 use Rattle.rd_audit.proofs.law.recorded_runs_get_yes.Goals as goal
@@ -28,7 +28,7 @@ sound stream file name told e mode h t a = record {
 }
 
 pub returns-clause-terminal : goal.returns-clause-terminal
-returns-clause-terminal c mode inputs ran = recorded-read mode inputs ran (c.a_session_stands_behind_each_line.ensures.leads mode)
+returns-clause-terminal c mode inputs ran = recorded-read mode inputs (run-all (opened mode) inputs ran) (c.a_session_stands_behind_each_line.ensures.leads mode)
 
 pub returns-clause-screen : goal.returns-clause-screen
 returns-clause-screen c e mode stream file h = recording-sent e mode stream file h

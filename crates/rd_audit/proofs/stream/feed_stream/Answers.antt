@@ -1,4 +1,4 @@
-use Rattle.std.proofs.Common.{◌≡◌, ◌<◌, ◌+◌, ◌++◌, length, take, arith, length-append}
+use Rattle.std.proofs.Common.{◌≡◌, ◌<◌, ◌+◌, ◌++◌, length, take, ◌∙◌, arith, length-append}
 use Rattle.std.proofs.KnownBytes.{Consumes-trans}
 use Rattle.rd_audit.proofs.Streams.{fed-more}
 use Rattle.rd_audit.proofs.stream.feed_stream.Goals as goal
@@ -22,5 +22,5 @@ loop-n-preserved g c =
     record {
       read = (r.0 ++ piece, Consumes-trans _ _ _ r.0 piece r.1 c.in_ok-n.ensures.bytes.0, fed-more _ _ _ r.0 _ piece r.2 c.feed.ensures c.split_at.ensures.front, size);
       few = omega (arith, c.if-n-taken.false, c.loop-n.invariant.few);
-      never_falls = omega (arith, c.loop-n.invariant.never_falls, c.in_ok-n.ensures.never_falls);
+      kept = c.in_ok-n.ensures.kept ∙ c.loop-n.invariant.kept;
     }

@@ -8,7 +8,7 @@ abbrev pub invariant-loop-n : goal.invariant-loop-n
 invariant-loop-n g l = record {
   read : (bytes : List ℕ) × Consumes (g.S.Source.left l.fn.stream) (g.S.Source.left l.stream) bytes × (l.terminal ≡ feed_bytes l.fn.terminal bytes) × (length bytes ≡ l.taken);
   few : l.taken ≤ STREAM_BYTES;
-  never_falls : g.S.Source.faults l.fn.stream ≤ g.S.Source.faults l.stream;
+  kept : g.S.Source.faults l.stream ≡ g.S.Source.faults l.fn.stream;
 }
 
 abbrev pub decreases-loop-n : goal.decreases-loop-n

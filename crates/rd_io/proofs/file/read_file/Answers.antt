@@ -9,7 +9,7 @@ loop-n-init g c = record {
   small = none-fits c.new-bytes.result.items c.new-bytes.ensures.items;
   front = front-begins _ c.new-bytes.result.items c.new-bytes.ensures.items;
   same = λ file. refl;
-  count = λ file. omega arith;
+  count = λ file. refl;
 }
 
 pub loop-n-preserved : goal.loop-n-preserved
@@ -31,5 +31,5 @@ loop-n-preserved g c =
           (front-grows told bytes c.put_within.new.bytes.items came from n at (fetched-told _ told from n came c.in-Ok.ensures.bytes)
           (put.0 ∙ ap (λ (l : List ℕ). bytes ++ l) c.split_at.ensures.front) (subst (IsFront bytes) (sym alike) before.front));
       same = λ file. c.fetch.ensures.contents file ∙ before.same file;
-      count = λ file. omega (arith, before.count file, c.fetch.ensures.never_falls file);
+      count = λ file. c.in-Ok.ensures.kept file ∙ before.count file;
     }

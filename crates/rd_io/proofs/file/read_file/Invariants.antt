@@ -12,7 +12,7 @@ invariant-loop-n g l =
       small : length l.bytes.items ≤ FILE_BYTES;
       front : IsFront l.bytes.items (contents l.fn.files l.name);
       same : (file : List ℕ) → contents l.files file ≡ contents l.fn.files file;
-      count : (file : List ℕ) → faults l.fn.files file ≤ faults l.files file;
+      count : (file : List ℕ) → faults l.files file ≡ faults l.fn.files file;
     }
 
 abbrev pub decreases-loop-n : goal.decreases-loop-n

@@ -4,11 +4,11 @@ use Rattle.rd_player.proofs.Making.{no-memory, script-length}
 use Rattle.rd_player.proofs.run.run_generated.Goals as goal
 
 pub returns-in-Ok-clause-comes : goal.returns-in-Ok-clause-comes
-returns-in-Ok-clause-comes g c given left faults mode = c.run_lines.ensures.comes given c.args.number left faults mode c.requires.generated (c.as_slice.ensures ∙ c.in-Ok.ensures)
+returns-in-Ok-clause-comes g c given left faults mode none = c.run_lines.ensures.comes given c.args.number left faults mode none c.requires.generated (c.as_slice.ensures ∙ c.in-Ok.ensures)
 
 pub returns-in-Err-clause-comes : goal.returns-in-Err-clause-comes
-returns-in-Err-clause-comes g c given left faults mode =
-    no-memory given (mode_of c.args.run.now) c.args.number left _ _ faults (g.K.Sink.faults c.args.screen.now) (g.R.Sink.faults c.args.report.now) c.args.steps.now mode c.requires.generated
+returns-in-Err-clause-comes g c given left faults mode none =
+    no-memory given (mode_of c.args.run.now) c.args.number left _ _ faults (g.K.Sink.faults c.args.screen.now) (g.R.Sink.faults c.args.report.now) c.args.steps.now mode none c.requires.generated
 
 pub run_lines-requires-clause-few : goal.run_lines-requires-clause-few
 run_lines-requires-clause-few g c =

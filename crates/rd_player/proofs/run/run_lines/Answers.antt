@@ -24,14 +24,14 @@ each_line-preserved g c = record {
 }
 
 pub returns-in-Err-clause-comes : goal.returns-in-Err-clause-comes
-returns-in-Err-clause-comes g c given number left faults mode made is =
+returns-in-Err-clause-comes g c given number left faults mode none made is =
     halts-as c.halted_by.result (halted_by c.in-Err.halt c.each_line.run.lines) given (mode_of c.args.run.now) _ _ _ _ _ c.halted_by.ensures
     (makes-halt given (mode_of c.args.run.now) number c.args.lines.now c.each_line.line-index c.as_slice.result.now c.line-item.result left faults c.in-Err.halt (standing c.each_line.run) (standing c.line.new.self)
-    _ _ _ _ _ _ _ _ _ _ _ _ c.args.steps.now c.each_line.steps c.line.new.steps mode made is c.each_line-test.true (c.as_slice.ensures ∙ c.line-item.is) c.each_line.invariant.screen c.each_line.invariant.report c.each_line.invariant.making
+    _ _ _ _ _ _ _ _ _ _ _ _ c.args.steps.now c.each_line.steps c.line.new.steps mode none made is c.each_line-test.true (c.as_slice.ensures ∙ c.line-item.is) c.each_line.invariant.making
     c.in-Err.ensures.acts c.in-Err.ensures.places)
 
 pub returns-clause-comes : goal.returns-clause-comes
-returns-clause-comes g c given number left faults mode made is =
+returns-clause-comes g c given number left faults mode none made is =
     let over : c.each_line.line-index ≡ length c.args.lines.now = omega (arith, c.each_line-test.false, c.each_line.auto.line-index-end) in
-    makes-done given (mode_of c.args.run.now) number c.args.lines.now c.each_line.line-index left faults c.summary.result (standing c.each_line.run) _ _ c.args.steps.now c.each_line.steps mode made is over c.each_line.invariant.making
+    makes-done given (mode_of c.args.run.now) number c.args.lines.now c.each_line.line-index left faults c.summary.result (standing c.each_line.run) _ _ c.args.steps.now c.each_line.steps mode none made is over c.each_line.invariant.making
     c.summary.ensures

@@ -1,4 +1,4 @@
-use Rattle.std.proofs.Common.{◌≤◌, ◌-◌}
+use Rattle.std.proofs.Common.{◌≡◌, ◌≤◌, ◌-◌}
 use Rattle.rd_base.specs.declared.limits.TheConstants.{LINES}
 use Rattle.rd_player.specs.Devices.{sunk_by}
 use Rattle.rd_player.specs.Acts.{mode_of, standing}
@@ -11,7 +11,7 @@ invariant-each_line g l = record {
       (sunk_by g.K.Sink.written g.K.Sink.faults l.fn.screen l.screen)
       (sunk_by g.R.Sink.written g.R.Sink.faults l.fn.report l.report) l.fn.steps l.steps;
   counted : l.run.shown ≤ l.run.lines;
-  script : g.S.Source.faults l.fn.script ≤ g.S.Source.faults l.script;
+  script : g.S.Source.faults l.script ≡ g.S.Source.faults l.fn.script;
   screen : g.K.Sink.faults l.fn.screen ≤ g.K.Sink.faults l.screen;
   report : g.R.Sink.faults l.fn.report ≤ g.R.Sink.faults l.report;
 }

@@ -12,5 +12,5 @@ returns-in-Ok-clause-begins g c =
 
 pub returns-in-Err-Usage-clause-begins : goal.returns-in-Err-Usage-clause-begins
 returns-in-Err-Usage-clause-begins g c =
-    faulty-begins c.in-Err-Usage.field-0 (values_of (texts c.args.words.items)) (g.F.Files.contents c.args.files.now) (g.F.Files.faults c.args.files.now) (g.F.Files.faults c.args.files.now) c.in-Err-Usage.field-0-is
+    faulty-begins c.in-Err-Usage.field-0 (values_of (texts c.args.words.items)) (g.F.Files.contents c.args.files.now) (g.F.Files.faults c.args.files.now) c.in-Err-Usage.field-0-is
     (subst (λ words. ReadsWords (Err c.in-Err-Usage.field-0) (values_of (texts words))) c.as_slice.ensures.value c.in-Err-Usage.ensures)
