@@ -7,6 +7,7 @@ mod Fitting
 mod Keeping
 pub mod Known
 mod Leading
+mod Numbering
 mod Over
 pub mod Placed
 mod Placing
@@ -14,4 +15,5 @@ mod Positions
 pub mod Sending
 mod Settling
 mod Soundness
+mod Spotting
 pub mod Standing

@@ -1,5 +1,5 @@
 -- Sessions on which the definitions are worked out.
-use Rattle.std.specs.Prelude.{ℕ, ◌+◌, ◌-◌, true, false, Option, None, Result, Ok, Err, List, [], ◌∷◌, ◌++◌, length, slice_get, codes}
+use Rattle.std.specs.Prelude.{ℕ, ◌+◌, ◌-◌, true, false, Option, None, Some, Result, Ok, Err, List, [], ◌∷◌, ◌++◌, length, slice_get, codes}
 use Rattle.std.specs.FinMap as map
 use Rattle.rd_base.specs.Faces.{plain}
 use Rattle.rd_base.specs.Glyphs.{blanks}
@@ -12,13 +12,14 @@ use Rattle.rd_props.specs.Examples.{whole_text}
 use Rattle.rd_reuse.specs.Changes.{edit}
 use Rattle.rd_rows.specs.Examples.{text, twelve_truncated}
 use Rattle.rd_script.specs.declared.op.Op.{Op}
-use Rattle.rd_script.specs.declared.op.Op.TheVariants.{Frame, Insert, Redisplay}
+use Rattle.rd_script.specs.declared.op.Op.TheVariants.{Frame, Insert, Split, ModeLine, Redisplay, Margin}
 use Rattle.rd_start.specs.Examples.{items_from}
 use Rattle.rd_state.specs.Examples.{all_by, then_by}
 use Rattle.rd_state.specs.States.{ContentValue, StateValue, main_name, opening, values_on}
 use Rattle.rd_state.specs.Windows.{selected_window}
 use Rattle.rd_state.specs.declared.refused.Refused.{Refused}
 use Rattle.rd_tree.specs.Calls as tree
+use Rattle.rd_tree.specs.declared.side.Side.TheVariants.{Right}
 use Rattle.rd_window.specs.declared.layout.Layout.{Layout}
 use Rattle.rd_layout.specs.Copies.{redisplayed}
 use Rattle.rd_layout.specs.Facts.{cursor_since}
@@ -65,6 +66,12 @@ point_and_cursor v =
 -- a row of the target screen
 abbrev pub row_of : ℕ → SessionValue → Option (List Cell)
 row_of row v = slice_get (laid_out v.files v.state).picture.rows row
+
+-- ---- cells of a frame
+
+-- two windows side by side on two letters, each with four columns of line numbers and a mode line, the left one with a border
+abbrev pub side_by_side : List Op
+side_by_side = Frame 36 5 ∷ Insert main_name 1 (codes "ab") ∷ ModeLine 0 (Some (codes "%b")) ∷ Margin 0 4 0 ∷ Split 0 Right 18 ∷ []
 
 -- ---- a paragraph that turns
 

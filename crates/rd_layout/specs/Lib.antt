@@ -7,6 +7,9 @@ pub mod Pointing
 pub mod Redisplays
 pub mod Since
 pub mod Facts
+pub mod Readings
+pub mod Numbers
+pub mod Spots
 pub mod Copies
 pub mod Laws
 pub mod Examples

@@ -1,5 +1,5 @@
 //! Laws of the definitions: redisplays and ops lead from a session to a session, and every target screen is sound and fits its frame.
-ghost use Rattle.std.specs.Prelude.{◌≡◌, ℕ, Bool, List, Option, Some, Ok};
+ghost use Rattle.std.specs.Prelude.{◌≡◌, ◌+◌, ◌<◌, ℕ, Bool, List, Option, Some, Ok};
 ghost use Rattle.rd_frame.specs.Fits.{FitsFrame};
 ghost use Rattle.rd_lineshift.specs.Choices.{AreWithin};
 ghost use Rattle.rd_matrix.specs.Entries.{shown_entries};
@@ -7,7 +7,9 @@ ghost use Rattle.rd_reuse.specs.Keeping.{AreRight};
 ghost use Rattle.rd_rows.specs.Shapes.{ShapeValues, IsShape};
 ghost use Rattle.rd_script.specs.Forms.{IsInForm};
 ghost use Rattle.rd_script.specs.declared.op.Op.{Op};
+ghost use Rattle.rd_script.specs.declared.op.Op.TheVariants.{Hit};
 ghost use Rattle.rd_state.specs.States.{StateValue};
+ghost use Rattle.rd_state.specs.Steps.{step};
 ghost use Rattle.rd_state.specs.Valid.{IsValid};
 ghost use Rattle.rd_state.specs.Windows.{window_of};
 ghost use Rattle.rd_state.specs.declared.window.WindowState.{WindowState};
@@ -23,9 +25,13 @@ ghost use Rattle.rd_layout.specs.Facts.{facts_of};
 ghost use Rattle.rd_layout.specs.Laws.{ChosenLaw, FitLaws, LeadLaw, ViewLaws};
 ghost use Rattle.rd_layout.specs.Redisplays.{IsSent, allowed, bands_of};
 ghost use Rattle.rd_layout.specs.Screens.{frame_in, laid_out};
+ghost use Rattle.rd_layout.specs.Numbers.{IsMade, number_made};
 ghost use Rattle.rd_layout.specs.Sessions.{IsStep, SessionValue, behind, layout_of, opened, session_step};
 ghost use Rattle.rd_layout.specs.Since.{IsSession};
+ghost use Rattle.rd_layout.specs.Spots.{hit_by, spot_at};
 ghost use Rattle.rd_layout.specs.Windows.{place_of, window_shape, window_source};
+ghost use Rattle.rd_layout.specs.declared.spot.Shows.{Shows};
+ghost use Rattle.rd_layout.specs.declared.spot.Spot.TheVariants.{EchoArea, Text};
 
 use rd_blocks::{
     accessible_positions_lie_in_blocks, buffers_are_sources, changes_lead_on, kept_rows_are_fresh,
@@ -126,6 +132,20 @@ pub fn targets_are_sound()
     mode_lines_are_whole();
     rows_of_buffers_are_coloured();
 }
+
+/// What an accepted op makes has the number that is told of the op: it is there behind the op, and was not before. The call does nothing.
+pub fn numbers_are_new()
+    ensures { (s t : StateValue) (op : Op) (number : ℕ) → IsValid s → step s op ≡ Ok t → number_made s op ≡ Some number → IsMade s op number t }
+{}
+
+/// In the frame's last row stands the echo area, and in no other row. At a cell of a window's text the op `hit` does what the cell shows:
+/// it moves point to the position, leaves point, or is refused. The call does nothing.
+pub fn spots_are_exact()
+    ensures echo { (v : SessionValue) (row column : ℕ) → IsSession v → column < v.state.width → row + 1 ≡ v.state.height → spot_at v row column ≡ Some EchoArea }
+    ensures windows { (v : SessionValue) (row column : ℕ) → IsSession v → spot_at v row column ≡ Some EchoArea → row + 1 ≡ v.state.height }
+    ensures hits { (v : SessionValue) (row column window r k : ℕ) (shows : Shows) → IsSession v → spot_at v row column ≡ Some (Text window r k shows)
+        → session_step v (Hit window r k) ≡ hit_by v.state window shows }
+{}
 
 /// What the proofs here take from the laws below of what a window shows. The call does nothing.
 fn view_laws()

@@ -1,2 +1,3 @@
 mod Banding
 mod Leading
+mod Reading

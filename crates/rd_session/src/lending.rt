@@ -1,8 +1,10 @@
-//! What a session lends: its windows, its frame and its screen.
+//! What a session lends: its windows, its buffers, its frame and its screen, and what stands at a cell.
 ghost use Rattle.std.specs.Prelude.{◌≡◌, ◌<◌, IsSome, not, is_some, option_map, slice_get};
 ghost use Rattle.rd_base.specs.declared.limits.TheConstants.{WINDOWS};
 ghost use Rattle.rd_layout.specs.Facts.{cursor_since, facts_of, rows_of};
+ghost use Rattle.rd_layout.specs.Readings.{buffer_shown, text_named};
 ghost use Rattle.rd_layout.specs.Sessions.{layout_of, length_of};
+ghost use Rattle.rd_layout.specs.Spots.{spot_at};
 ghost use Rattle.rd_state.specs.Windows.{window_of};
 ghost use Rattle.rd_tree.specs.Calls.{rect_of};
 ghost use Rattle.rd_tree.specs.Windows.{leaves};
@@ -10,8 +12,10 @@ ghost use Rattle.rd_tree.specs.Windows.{leaves};
 use crate::session::Session;
 use rd_base::{Anchor, Pos};
 use rd_dump::WindowFacts;
+use rd_layout::Spot;
 use rd_matrix::Matrix;
 use rd_term::Screen;
+use rd_text::Buffer;
 use rd_tree::Rect;
 
 impl Session {
@@ -116,5 +120,55 @@ impl Session {
         let state = self.views.state();
         let number = state.number_of(buffer)?;
         state.buffer(number).map(|found| found.text.length())
+    }
+
+    /// The name of the buffer that the window with a number shows; None exactly where no such window lives.
+    pub fn buffer(&self, w: u32) -> Option<&str>
+        ensures { option_map (λ name. name.now) result ≡ buffer_shown w self.now.state }
+    {
+        let state = self.views.state();
+        state.states_are_valid();
+        let window = state.window(w)?;
+        state.name(window.buffer)
+    }
+
+    /// The name of the buffer with a number, from 0 in order of making; None exactly past the last.
+    pub fn buffer_name(&self, i: u32) -> Option<&str>
+        ensures { option_map (λ name. name.now) result ≡ option_map (λ b. b.name) (slice_get self.now.state.buffers i) }
+    {
+        self.views.state().name(i)
+    }
+
+    /// The text of the buffer with a name; None exactly where no buffer has it.
+    pub fn text(&self, buffer: &str) -> Option<&Buffer>
+        ensures { option_map (λ text. text.now) result ≡ text_named buffer.now self.now.state.buffers }
+    {
+        let state = self.views.state();
+        let number = state.number_of(buffer)?;
+        let found = state.buffer(number)?;
+        Some(&found.text)
+    }
+
+    /// The number of the buffer that the window with a number shows, from 0 in order of making; None exactly where no such window lives.
+    pub fn buffer_number(&self, w: u32) -> Option<u32>
+        ensures { result ≡ option_map (λ window. window.buffer) (window_of w self.now.state.windows) }
+    {
+        self.views.state().window(w).map(|window| window.buffer)
+    }
+
+    /// The text of the buffer with a number, from 0 in order of making; None exactly past the last.
+    pub fn numbered_text(&self, i: u32) -> Option<&Buffer>
+        ensures { option_map (λ text. text.now) result ≡ option_map (λ b. b.content.text) (slice_get self.now.state.buffers i) }
+    {
+        let found = self.views.state().buffer(i)?;
+        Some(&found.text)
+    }
+
+    /// What stands at a row and a column of the frame, both from 0: the echo area or a part of a window, with the position that a cell of
+    /// its text shows, to which the op `hit` would move the window's point. None exactly outside of the frame. No point moves.
+    pub fn under(&self, row: u32, column: u32) -> Option<Spot>
+        ensures { result ≡ spot_at self.now row column }
+    {
+        self.views.under(row, column)
     }
 }

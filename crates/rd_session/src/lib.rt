@@ -3,7 +3,8 @@
 //! What goes in: the Unicode data at the beginning, then one op after the other (`Session::apply`), and for a redisplay a sink and, where
 //! it is to stop early, the most rows that it may send (`Session::redisplay`). What comes out: the bytes in the sink, and an `Outcome`,
 //! which says whether the frame was shown or the redisplay stopped, and how many rows were sent, or that memory was wanting or the sink
-//! failed. In between the session lends what it knows (`lending`): starts, points, rows and cursors of windows, and the current screen.
+//! failed. In between the session lends what it knows (`lending`): starts, points, rows and cursors of windows, the buffers with their
+//! texts, the current screen, and what stands at a cell.
 //!
 //! A redisplay takes these steps, as Emacs's `redisplay_internal` (xdisp.c) and, from step 2 on, `update_frame` (dispnew.c) do:
 //!
@@ -35,5 +36,5 @@ mod lending;
 mod redisplay;
 mod session;
 
-pub use rd_layout::Outcome;
+pub use rd_layout::{Outcome, Shows, Spot};
 pub use session::Session;

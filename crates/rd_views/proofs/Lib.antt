@@ -1,5 +1,6 @@
 mod Answering
 mod Desiring
+mod Holding
 mod Kept
 mod Passing
 mod Premises

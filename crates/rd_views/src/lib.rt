@@ -5,7 +5,8 @@
 //!
 //! What goes in: ops (`Views::apply`), and the wish to lay out all windows (`Views::lay_out`). What comes out: what an op refuses; and a
 //! `Desired`, which has for each window the start and the point that were chosen, and its new layout if the last one does not stay.
-//! `shown` says what the windows then show, for the painting, `adopt` keeps it, and `facts` has what a dump says of them.
+//! `shown` says what the windows then show, for the painting, `adopt` keeps it, and `facts` has what a dump says of them. `spots` tells what
+//! stands at a cell of the frame (Emacs: `window_from_coordinates`, `coordinates_in_window`).
 //!
 //! An op:
 //!
@@ -38,6 +39,7 @@ mod laying;
 mod looking;
 mod noting;
 mod pointing;
+mod spots;
 mod views;
 
 pub use desired::Desired;

@@ -111,7 +111,7 @@ fn number_of(state: &State, window: u64) -> Result<u32, Refused>
 }
 
 /// Whether a layout is what a window still shows: nothing changed since, and it has the window's shape and height.
-fn is_shown(layout: &Layout, shape: Shape, height: u32) -> bool
+pub(crate) fn is_shown(layout: &Layout, shape: Shape, height: u32) -> bool
     ensures { result ≡ is_shown layout.now shape height }
 {
     layout.change.is_none() && layout.shape.is_same(shape) && layout.height == height

@@ -1,4 +1,4 @@
-use Rattle.std.proofs.Common.{subst₂, sym}
+use Rattle.std.proofs.Common.{refl, subst₂, sym}
 use Rattle.rd_layout.specs.Screens.{laid_out}
 use Rattle.rd_layout.proofs.Sending.{sized}
 use Rattle.rd_update.specs.Plans.{HaveOneSize}
@@ -12,3 +12,7 @@ after-requires-clause-size g c =
     let frame = valid.frame in
     let both = sized v.state c.args.screen.now (laid_out v.files v.state).picture frame.narrow frame.low c.requires.current size in
     subst₂ HaveOneSize (sym c.take-current.ensures.value) (sym c.requires.target) both.0
+
+-- a fault is the one outcome that is left out
+pub returns-in-Err-clause-kept : goal.returns-in-Err-clause-kept
+returns-in-Err-clause-kept g c = λ no. absurd (no refl)
