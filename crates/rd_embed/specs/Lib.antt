@@ -1,0 +1,14 @@
+pub mod Statuses
+pub mod Endings
+pub mod Fills
+pub mod Waiting
+pub mod Openings
+pub mod Calls
+pub mod Choices
+pub mod Asked
+pub mod Arguments
+pub mod Spelling
+pub mod ToldCells
+pub mod Windows
+pub mod Texts
+pub mod Screens
