@@ -3,6 +3,7 @@
 A front end writes the screen, as the library reads it back, to the file that its word --screen names. `settle` waits until the terminal
 shows just that, and what the test itself asks for.
 """
+import itertools
 import os
 import shutil
 import subprocess
@@ -14,6 +15,8 @@ WORK = os.environ["WORK"]
 EXAMPLES = os.path.join(TOP, "examples", "c")
 RELEASE = os.path.join(TOP, "release")
 BEFORE = "what stood here before"
+
+terminals = itertools.count()
 
 
 def need(command, package):
@@ -62,7 +65,8 @@ class Terminal:
     def __init__(self, words, width=80, height=24):
         need("tmux", "tmux")
         need("pgrep", "procps")
-        self.socket = f"redisplay-{os.getpid()}"
+        # one of its own for each terminal: the server of the one before may still be ending
+        self.socket = f"redisplay-{os.getpid()}-{next(terminals)}"
         self.copy = os.path.join(WORK, "copy")
         for name in ("copy", "ended"):
             if os.path.exists(os.path.join(WORK, name)):
